@@ -1,0 +1,17 @@
+pub mod Adder
+pub mod AdderExample
+pub mod Both
+pub mod CanonicalReads
+pub mod CanonicalSpells
+pub mod Completion
+pub mod FaultExamples
+pub mod FirstTokens
+pub mod InitialExamples
+pub mod LastToken
+pub mod Lexing
+pub mod OneProgram
+pub mod OneReading
+pub mod OperatorFaults
+pub mod PrefixLaws
+pub mod SpelledWritable
+pub mod TokenRules

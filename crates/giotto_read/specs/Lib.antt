@@ -1,0 +1,9 @@
+pub mod Bytes
+pub mod Canonical
+pub mod Grammar
+pub mod Program
+pub mod Reading
+pub mod Sound
+pub mod Spelling
+pub mod Tokens
+pub mod Writable

@@ -1,0 +1,52 @@
+use super::*;
+use std::test::Fail;
+
+const ADDER: &str =
+    "sensor s := 0 line 0; actuator a := 0; output o := 0; task T(i) output o { o := i + 1; } \
+    mode m period 2 { actfreq 1 do a := o; taskfreq 1 do T(s); } start m;";
+
+#[test]
+fn places_the_tokens_of_a_program(rt: HostRuntime) -> Result<(), Fail> {
+    let found = tokens(rt.alloc(), ADDER.as_bytes())?;
+    assert_eq!(rt; found.len(), 56);
+    let mut ends = 0;
+    for token in &found {
+        assert!(rt; ends <= token.offset);
+        ends = token.offset;
+    }
+    assert_eq!(rt; ends, 157);
+    Ok(())
+}
+
+#[test]
+fn says_where_no_token_begins(rt: HostRuntime) {
+    let cases = [
+        ("start m@;", 7),
+        ("a : = 0", 2),
+        ("00000000000000000007", 0),
+        ("x := 9223372036854775809;", 5),
+        ("5abcdefghijklmnopqrstuvwxyz_123456", 1),
+        ("a \u{e4}", 2),
+    ];
+    for (text, offset) in cases {
+        let fault = tokens(rt.alloc(), text.as_bytes()).err();
+        assert_eq!(rt; fault, Some(ReadFault::Syntax(offset)), "at {text}");
+    }
+}
+
+#[test]
+fn takes_each_token_as_long_as_possible(rt: HostRuntime) -> Result<(), Fail> {
+    let cases = [
+        ("", 0),
+        (" \t\r\n", 0),
+        ("1do", 2),
+        ("a<=b<c==-1", 8),
+        ("a:=b", 3),
+        ("9223372036854775808", 1),
+    ];
+    for (text, count) in cases {
+        let found = tokens(rt.alloc(), text.as_bytes())?;
+        assert_eq!(rt; found.len(), count, "at {text}");
+    }
+    Ok(())
+}

@@ -1,0 +1,34 @@
+-- The trees that the program's own types stand for.
+use Rattle.std.specs.Prelude.{List, [], ◌∷◌, map}
+use Rattle.giotto_tasks.specs.Syntax.{Expression, number, port, unary, binary, Statement, assign, branch, repeat, Block, finished, step}
+use Rattle.giotto_tasks.specs.declared.bodies.Expr.{Expr}
+use Rattle.giotto_tasks.specs.declared.bodies.Expr.TheVariants.{Number, Port, Unary', Binary'}
+use Rattle.giotto_tasks.specs.declared.bodies.Stmt.{Stmt}
+use Rattle.giotto_tasks.specs.declared.bodies.Stmt.TheOpen.{Stmt-F, Assign, If, Repeat}
+use Rattle.giotto_tasks.specs.declared.bodies.Stmt.TheFolds.{fold-Stmt}
+
+-- an expression without the boxes that hold its parts
+abbrev pub expression_of : Expr → Expression
+expression_of (Number z) = number z
+expression_of (Port x) = port x
+expression_of (Unary' o p e) = unary o (expression_of e)
+expression_of (Binary' o p a q b) = binary o (expression_of a) (expression_of b)
+
+-- the block of these statements
+abbrev pub in_order : List Statement → Block
+in_order [] = finished
+in_order (s ∷ ss) = step s (in_order ss)
+
+-- one statement, with the tree of each statement below in its place
+abbrev pub statement_with : Stmt-F Statement → Statement
+statement_with (Assign x e) = assign x (expression_of e)
+statement_with (If c a b) = branch (expression_of c) (in_order a.items) (in_order b.items)
+statement_with (Repeat n b) = repeat n (in_order b.items)
+
+-- a statement without the lists and boxes that hold its parts
+abbrev pub statement_of : Stmt → Statement
+statement_of = fold-Stmt Statement statement_with
+
+-- the block that a list of statements stands for
+abbrev pub block_of : List Stmt → Block
+block_of ss = in_order (map statement_of ss)

@@ -1,0 +1,75 @@
+//! Names of ports, tasks, modes and tenants.
+
+ghost use Rattle.std.specs.Prelude.{◌≡◌, ◌≤◌, ◌↔◌, [], List, length, IsSome, IfSome, IsTrue, nat_eq};
+ghost use Rattle.std.specs.Cmp.Lexicographic.{pointwise, nat_list_eq_equiv};
+ghost use Rattle.std.specs.Cmp.{partial_equiv_from_equiv};
+
+use arrayvec::ArrayString;
+use std::marker::Model;
+
+/// A name of at most 32 bytes, as it stands in a program's text. It lies in the value itself and
+/// takes no memory besides. Contracts see it as the list of its bytes.
+#[derive(Drop)]
+pub struct Name {
+    text: ArrayString<32>,
+}
+
+impl Model for Name {
+    ghost use Rattle.std.specs.Prelude.{List, ℕ};
+
+    ghost Value = { List ℕ };
+
+    ghost view = { λ n. n.text.bytes };
+}
+
+impl Name {
+    /// The name with this text, or `None` where the text is longer than 32 bytes. Which bytes a
+    /// program's names may have is for its reader to say.
+    pub fn new(text: &str) -> Option<Name>
+        ensures fits { IsSome result ↔ (length text.now ≤ 32) }
+        ensures bytes { IfSome result (λ n. n ≡ text.now) }
+    {
+        match ArrayString::from(text) {
+            Ok(text) => Some(Name { text }),
+            Err(_) => None,
+        }
+    }
+
+    /// An equal name.
+    pub fn copy(&self) -> Name
+        ensures { result ≡ self.now }
+    {
+        Name { text: self.text }
+    }
+
+    /// The name as text: at most 32 bytes.
+    pub fn as_str(&self) -> &str
+        ensures { result.now ≡ self.now }
+    {
+        self.text.as_str()
+    }
+}
+
+impl PartialEq for Name {
+    ghost eq = { pointwise nat_eq };
+
+    ghost laws = { partial_equiv_from_equiv nat_list_eq_equiv };
+
+    fn eq(&self, other: &Name) -> bool {
+        self.text == other.text
+    }
+}
+
+impl Eq for Name {
+    ghost laws = { nat_list_eq_equiv };
+}
+
+impl Default for Name {
+    ghost is_default = { λ n. n ≡ [] };
+
+    fn default() -> Name {
+        Name {
+            text: ArrayString::new(),
+        }
+    }
+}

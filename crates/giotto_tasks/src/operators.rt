@@ -1,0 +1,104 @@
+//! The operations of expressions.
+
+ghost use Rattle.std.specs.Prelude.{◌≡◌};
+ghost use Rattle.giotto_tasks.specs.Arithmetic.{unary, binary, truncated_div, remainder};
+
+/// An operation of one operand.
+#[derive(Clone, Copy, Debug, PartialEq, Eq)]
+pub enum UnaryOperator {
+    /// `-x`
+    Negate,
+    /// `!x`
+    Not,
+}
+
+/// An operation of two operands.
+#[derive(Clone, Copy, Debug, PartialEq, Eq)]
+pub enum BinaryOperator {
+    /// `x + y`
+    Add,
+    /// `x - y`
+    Subtract,
+    /// `x * y`
+    Multiply,
+    /// `x / y`
+    Divide,
+    /// `x % y`
+    Remainder,
+    /// `x == y`
+    Equal,
+    /// `x != y`
+    NotEqual,
+    /// `x < y`
+    Less,
+    /// `x <= y`
+    AtMost,
+    /// `x > y`
+    Greater,
+    /// `x >= y`
+    AtLeast,
+    /// `x && y`
+    And,
+    /// `x || y`
+    Or,
+}
+
+impl UnaryOperator {
+    /// The value of the operation. `-x` is exact, but `i64::MAX` for the least number, whose
+    /// negation doesn't fit; `!x` is 1 where x is 0, and 0 elsewhere.
+    pub fn apply(self, x: i64) -> i64
+        ensures { result ≡ unary self x }
+    {
+        match self {
+            UnaryOperator::Negate => 0i64.saturating_sub(x),
+            UnaryOperator::Not => i64::from(x == 0),
+        }
+    }
+}
+
+impl BinaryOperator {
+    /// The value of the operation.
+    ///
+    /// Sums, differences and products are exact, or the nearest of `i64::MIN` and `i64::MAX` where
+    /// they don't fit. `x / y` is rounded towards zero, and `x % y` is what it leaves, with the sign
+    /// of x; both are 0 where y is 0, and `i64::MIN / -1` is `i64::MAX`. Comparisons, `&&` and `||`
+    /// are 1 for true and 0 for false, and any value but 0 counts as true.
+    pub fn apply(self, x: i64, y: i64) -> i64
+        ensures { result ≡ binary self x y }
+    {
+        match self {
+            BinaryOperator::Add => x.saturating_add(y),
+            BinaryOperator::Subtract => x.saturating_sub(y),
+            BinaryOperator::Multiply => x.saturating_mul(y),
+            BinaryOperator::Divide => divided(x, y),
+            BinaryOperator::Remainder => remainder_of(x, y),
+            BinaryOperator::Equal => i64::from(x == y),
+            BinaryOperator::NotEqual => i64::from(x != y),
+            BinaryOperator::Less => i64::from(x < y),
+            BinaryOperator::AtMost => i64::from(x <= y),
+            BinaryOperator::Greater => i64::from(x > y),
+            BinaryOperator::AtLeast => i64::from(x >= y),
+            BinaryOperator::And => i64::from(x != 0 && y != 0),
+            BinaryOperator::Or => i64::from(x != 0 || y != 0),
+        }
+    }
+}
+
+// Only MIN / -1 doesn't fit.
+fn divided(x: i64, y: i64) -> i64
+    ensures { result ≡ truncated_div x y }
+{
+    if y == 0 {
+        return 0;
+    }
+    x.checked_div(y).unwrap_or(i64::MAX)
+}
+
+fn remainder_of(x: i64, y: i64) -> i64
+    ensures { result ≡ remainder x y }
+{
+    if y == 0 {
+        return 0;
+    }
+    x.wrapping_rem(y)
+}

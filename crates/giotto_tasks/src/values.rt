@@ -1,0 +1,92 @@
+//! The values of one task's ports.
+
+ghost use Rattle.std.specs.Prelude.{◌≡◌, ◌<◌, ◌≤◌, ◌↔◌, [], ◌∷◌, ◌++◌, length, IsTrue};
+
+use arrayvec::ArrayVec;
+use std::marker::Model;
+
+/// The values of one task's inputs, outputs or states, in the order in which these are declared:
+/// at most 16. They lie in the value itself and take no memory besides. Contracts see them as a
+/// list of numbers.
+#[derive(Drop)]
+pub struct Values {
+    items: ArrayVec<i64, 16>,
+}
+
+impl Model for Values {
+    ghost use Rattle.std.specs.Prelude.{List, ℤ, ◌≤◌, length};
+
+    ghost Value = { List ℤ };
+
+    ghost view = { λ v. v.items.items };
+
+    ghost invariant = { λ v. length v.items.items ≤ 16 };
+}
+
+impl Default for Values {
+    ghost is_default = { λ v. v ≡ [] };
+
+    fn default() -> Values {
+        Values::new()
+    }
+}
+
+impl Values {
+    /// No value.
+    pub fn new() -> Values
+        ensures { result ≡ [] }
+    {
+        Values {
+            items: ArrayVec::new(),
+        }
+    }
+
+    /// Adds a value behind the others, of which there are fewer than 16.
+    pub fn push(&mut self, value: i64)
+        requires { length self.old < 16 }
+        ensures { self.new ≡ self.old ++ value ∷ [] }
+    {
+        self.items.push(value);
+    }
+
+    /// How many values there are: at most 16.
+    pub fn len(&self) -> usize
+        ensures value { result ≡ length self.now }
+        ensures fits { length self.now ≤ 16 }
+    {
+        self.items.len()
+    }
+
+    /// Whether there is no value.
+    pub fn is_empty(&self) -> bool
+        ensures { IsTrue result ↔ (length self.now ≡ 0) }
+    {
+        self.items.is_empty()
+    }
+
+    /// The values, in their order: at most 16.
+    pub fn as_slice(&self) -> &[i64]
+        ensures value { result.now ≡ self.now }
+        ensures fits { length self.now ≤ 16 }
+    {
+        self.items.as_slice()
+    }
+
+    /// Equal values.
+    pub fn copy(&self) -> Values
+        ensures { result ≡ self.now }
+    {
+        let mut copy = Values::new();
+        for value in self.as_slice() {
+            copy.push(*value);
+        }
+        copy
+    }
+
+    /// Whether the values are the same, in the same order.
+    pub fn is_same(&self, other: &Values) -> bool
+        ensures { IsTrue result ↔ (self.now ≡ other.now) }
+    {
+        self.as_slice() == other.as_slice()
+    }
+}

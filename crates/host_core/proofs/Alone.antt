@@ -1,0 +1,147 @@
+-- The whole host, tenant by tenant: each row is that of the one-tenant machine over the tenant's own view.
+use Rattle.std.proofs.Common.{◌≡◌, ℕ, zero, ◌+◌, ◌<◌, ◌≤◌, ◌≢◌, ⊎_elim, Bool, true, false, cond, not, ◌&&◌, ◌||◌, eqb, ltb, ℤ, List, [], ◌∷◌, ◌++◌, length, map, filter, get_or, set, Option, Some, None, refl, sym, ap, ◌∙◌, subst, zero-add, length-set, arith}
+use Rattle.std.specs.List.{cons_option, list_any, filter_map, flat_map, position, enumerate_from, AllByRecursion}
+use Rattle.std.specs.Option.{option_map_or, option_map, option_and_then}
+use Rattle.std.proofs.lemmas.Bool.{cases_eq, cases_lt}
+use Rattle.std.proofs.lemmas.Bool.Decides.{nat_tests}
+use Rattle.std.proofs.lemmas.List.{length-map, get_or-map, get_or-set_same, get_or-set_other}
+use Rattle.std.proofs.lemmas.List.FromFn.{length-enumerate_from, get_or-enumerate_from}
+use Rattle.std.proofs.lemmas.List.Quantifiers.{position-Some}
+use Rattle.std.proofs.lemmas.Map.Views.{any-filter_same}
+use Rattle.giotto_tasks.specs.declared.names.Name.{Name}
+use Rattle.giotto_tasks.specs.Names.{Valuation, same_name}
+use Rattle.giotto_read.specs.Program.{TaskInvocation, ModeDeclaration, GiottoProgram}
+use Rattle.host_core.specs.declared.events.Event.{Event}
+use Rattle.host_core.specs.declared.events.Event.TheVariants.{Own, Tick, Done}
+use Rattle.host_core.specs.declared.rig_config.TenantConfig.{TenantConfig}
+use Rattle.host_core.specs.declared.tenant_grants.Bind.{Bind}
+use Rattle.host_core.specs.declared.tenant_state.jobs.JobId.{JobId}
+use Rattle.host_core.specs.declared.tenant_state.commands.Command.{Command}
+use Rattle.host_core.specs.giotto_check.Declarations.{mode_of}
+use Rattle.host_core.specs.rig_config.Roster.{place_of, budgets_at, name_at}
+use Rattle.host_core.specs.tenant_state.Jobs.{job_of, same_job, is_active}
+use Rattle.host_core.specs.tenant_state.Row.{ActiveTask, Row, empty_row, is_running}
+use Rattle.host_core.specs.tenant_state.FirstHalf.{is_due_at, due_in_mode, due_in_program, due_tasks, first_half_of}
+use Rattle.host_core.specs.instant_engine.Grants.{offers, actuator_value, granted_by, granted_along, granted_to}
+use Rattle.host_core.specs.Completions.{has_completion}
+use Rattle.host_core.specs.Host.{HostState, is_counted, row_at, unfinished_at, instant_of, awaits, with_rows, empty_host, after_event, host_after}
+use Rattle.host_core.specs.Legal.{next_tick, is_legal}
+use Rattle.host_core.specs.Setting.{Setting}
+use Rattle.host_core.specs.Views.{LocalInstant, after_command, after_instant, unfinished_of, readings_of, run_of, view_of, row_of}
+use Rattle.host_core.proofs.ActiveTasks.{Keeps, kept_by_instant, kept_by_command, all_filter, all_append}
+use Rattle.host_core.proofs.Histories.{own_instant, own_row, releases, completed_is_early}
+use Rattle.host_core.proofs.JobNames.{both, either, or_true, and_true, not_true, same_job_is, same_job_self, all_map, own_jobs_active, same_number}
+
+pub all_zip : {X : Type 0} (P Q : X → Type 0) (xs : List X) → AllByRecursion P xs → AllByRecursion Q xs → AllByRecursion (λ x. P x × Q x) xs
+all_zip P Q [] ps qs = tt
+all_zip P Q (x ∷ xs) ps qs = ((ps.0, qs.0), all_zip P Q xs ps.1 qs.1)
+
+all_flat : {X Y : Type 0} (P : Y → Type 0) (f : X → List Y) (xs : List X) → ((x : X) → AllByRecursion P (f x)) → AllByRecursion P (flat_map f xs)
+all_flat P f [] each = tt
+all_flat P f (x ∷ xs) each = all_append P (f x) (flat_map f xs) (each x) (all_flat P f xs each)
+
+all_option : {X Y : Type 0} (P : Y → Type 0) (f : X → List Y) (o : Option X) → ((x : X) → AllByRecursion P (f x)) → AllByRecursion P (option_map_or f o [])
+all_option P f None each = tt
+all_option P f (Some x) each = each x
+
+all_if : {Y : Type 0} (P : Y → Type 0) (b : Bool) (xs : List Y) → AllByRecursion P xs → AllByRecursion P (cond b xs [])
+all_if P true xs all = all
+all_if P false xs all = tt
+
+-- due tasks are active tasks
+pub all_due : (P : ActiveTask → Type 0) (row : Row) → AllByRecursion P row.active → AllByRecursion P (due_tasks row)
+all_due P row all =
+    all_if P (is_running row) (option_map_or (due_in_program row) row.program [])
+    (all_option P (due_in_program row) row.program (λ p.
+    all_option P (due_in_mode row) (mode_of p row.mode) (λ m.
+    all_flat P (λ (i : TaskInvocation). filter (λ (a : ActiveTask). same_name a.task i.task && is_due_at row.mode_time m i.frequency) row.active) m.invocations (λ i. all_filter P _ row.active all))))
+
+pub same_filter : {X : Type 0} (f g : X → Bool) (xs : List X) → AllByRecursion (λ x. f x ≡ g x) xs → filter f xs ≡ filter g xs
+same_filter f g [] all = refl
+same_filter f g (x ∷ xs) all = ap (λ b. cond b (x ∷ filter f xs) (filter f xs)) all.0 ∙ ap (λ ys. cond (g x) (x ∷ ys) ys) (same_filter f g xs all.1)
+
+pub same_filter_map : {X Y : Type 0} (f g : X → Option Y) (xs : List X) → ((x : X) → f x ≡ g x) → filter_map f xs ≡ filter_map g xs
+same_filter_map f g [] each = refl
+same_filter_map f g (x ∷ xs) each = ap (λ o. cons_option o (filter_map f xs)) (each x) ∙ ap (cons_option (g x)) (same_filter_map f g xs each)
+
+module _ (setting : Setting) where
+  -- a job that is active behind the event is counted exactly if it was
+  counted_of_active : (host : HostState) (rows : List Row) (j : JobId) → is_active (get_or rows j.tenant (empty_row setting.first_tick)) j ≡ true
+      → is_counted (with_rows setting host rows) j ≡ is_counted host j
+  counted_of_active host rows j active =
+      let rest : HostState = with_rows setting host rows in
+      any-filter_same (λ i. same_job i j) (λ (i : JobId). is_active (get_or rows i.tenant (empty_row setting.first_tick)) i) true
+      (λ i e. ap (λ (k : JobId). is_active (get_or rows k.tenant (empty_row setting.first_tick)) k) (same_job_is i j e) ∙ active) host.counted
+
+  any_of_filter : (p q : JobId → Bool) (js : List JobId) → list_any p (filter q js) ≡ true → list_any p js ≡ true
+  any_of_filter p q [] e = e
+  any_of_filter p q (j ∷ js) e = kept (q j) e (any_of_filter p q js)
+    where
+      kept : (b : Bool) → list_any p (cond b (j ∷ filter q js) (filter q js)) ≡ true → (list_any p (filter q js) ≡ true → list_any p js ≡ true) → (p j || list_any p js) ≡ true
+      kept true e rest = either (p j) (list_any p (filter q js)) _ e (λ h. ap (λ b. b || list_any p js) h) (λ h. ap (λ b. p j || b) (rest h) ∙ or_true (p j))
+      kept false e rest = ap (λ b. p j || b) (rest e) ∙ or_true (p j)
+
+  tenants : ℕ
+  tenants = length setting.config.tenants
+
+  -- an active task's job is counted exactly if it was completed
+  abbrev IsMarked : HostState → List Event → ℕ → ActiveTask → Type 0
+  IsMarked host past t a = is_counted host (job_of t a) ≡ has_completion past (job_of t a)
+
+  -- the host agrees with the views
+  pub record Agrees (host : HostState) (past : List Event) : Type 0 where
+    pub long : length host.rows ≡ length setting.config.tenants
+    pub rows : (t : ℕ) → t < length setting.config.tenants → row_at setting host t ≡ row_of setting past t
+    pub marks : (t : ℕ) → t < length setting.config.tenants → AllByRecursion (λ a. is_counted host (job_of t a) ≡ has_completion past (job_of t a)) (row_of setting past t).active
+    pub known : (j : JobId) → is_counted host j ≡ true → has_completion past j ≡ true
+
+  -- marks stay where the rows change
+  pub marks_after : (host : HostState) (past : List Event) (t : ℕ) (rows : List Row) (row : Row) → get_or rows t (empty_row setting.first_tick) ≡ row
+      → AllByRecursion (IsMarked host past t) row.active → AllByRecursion (IsMarked (with_rows setting host rows) past t) row.active
+  marks_after host past t rows row at marked =
+      all_map (λ a. IsMarked host past t a × (is_active row (job_of t a) ≡ true)) (IsMarked (with_rows setting host rows) past t) row.active
+      (λ a h. counted_of_active host rows (job_of t a) (ap (λ r. is_active r (job_of t a)) at ∙ h.1) ∙ h.0)
+      (all_zip (IsMarked host past t) (λ a. is_active row (job_of t a) ≡ true) row.active marked (own_jobs_active t row))
+
+  pub known_after : (host : HostState) (past : List Event) (rows : List Row) → ((j : JobId) → is_counted host j ≡ true → has_completion past j ≡ true)
+      → (j : JobId) → is_counted (with_rows setting host rows) j ≡ true → has_completion past j ≡ true
+  known_after host past rows known j e = known j (any_of_filter _ _ host.counted e)
+
+  -- a command
+  pub own_event : (host : HostState) (past : List Event) (u : ℕ) (c : Command) → u < length setting.config.tenants → Agrees host past → Agrees (after_event setting host (Own u c)) (Own u c ∷ past)
+  own_event host past u c within agrees =
+      record {
+        long = length-set host.rows u _ ∙ agrees.long;
+        rows = rows_after;
+        marks = λ t lt. marks_after host past t rows (row_of setting (Own u c ∷ past) t) (rows_after t lt)
+            (own_row setting (λ row. AllByRecursion (IsMarked host past t) row.active) past c t (eqb u t) (own_marks t lt).each (agrees.marks t lt));
+        known = known_after host past rows agrees.known;
+      }
+    where
+      new : Row
+      new = (after_command setting u c (row_at setting host u)).row
+
+      rows : List Row
+      rows = set host.rows u new
+
+      own_marks : (t : ℕ) → t < length setting.config.tenants → Keeps (IsMarked host past t) (next_tick setting past) (after_command setting t c (row_of setting past t)).row
+      own_marks t lt = kept_by_command (IsMarked host past t) (next_tick setting past) setting.reader (budgets_at setting.config t) c (row_of setting past t)
+          (record { each = agrees.marks t lt; at = (releases setting past t).at })
+
+      same_row : (t : ℕ) → u ≡ t → t < length setting.config.tenants → (after_command setting u c (row_at setting host u)).row ≡ (after_command setting t c (row_of setting past t)).row
+      same_row t e lt = ap (λ k. (after_command setting k c (row_at setting host k)).row) e ∙ ap (λ r. (after_command setting t c r).row) (agrees.rows t lt)
+
+      rows_after : (t : ℕ) → t < length setting.config.tenants → get_or rows t (empty_row setting.first_tick) ≡ row_of setting (Own u c ∷ past) t
+      rows_after t lt = ⊎_elim
+          (λ (same : u ≡ t).
+          let is : eqb u t ≡ true = grind (arith, nat_tests) in
+          ap (λ k. get_or rows k (empty_row setting.first_tick)) (sym same)
+          ∙ (get_or-set_same host.rows u new (empty_row setting.first_tick) (omega (arith, agrees.long))
+          ∙ (same_row t same lt
+          ∙ sym (ap (λ b. run_of setting t (cond b (Rattle.host_core.specs.Views.command c ∷ view_of setting past t) (view_of setting past t))) is))))
+          (λ (differ : u ≢ t).
+          let is : eqb u t ≡ false = grind (arith, nat_tests) in
+          get_or-set_other host.rows u t new (empty_row setting.first_tick) (λ e. differ (sym e))
+          ∙ (agrees.rows t lt
+          ∙ sym (ap (λ b. run_of setting t (cond b (Rattle.host_core.specs.Views.command c ∷ view_of setting past t) (view_of setting past t))) is)))
+          (cases_eq u t)

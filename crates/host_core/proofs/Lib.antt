@@ -1,0 +1,12 @@
+pub mod ActiveTasks
+pub mod Alone
+pub mod AloneAlong
+pub mod FirstRun
+pub mod Histories
+pub mod JobNames
+pub mod Overrun
+pub mod Rig
+pub mod Rules
+pub mod Switch
+pub mod WholeHost
+pub mod WordLemmas

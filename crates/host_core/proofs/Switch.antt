@@ -1,0 +1,65 @@
+-- Switches, installation and grants, computed from the definitions; no command of today reaches them.
+use Rattle.std.proofs.Common.{◌≡◌, ℕ, pos, negsuc, ℤ, List, [], ◌∷◌, ◌++◌, refl, true, false, reverse, Some, None}
+use Rattle.std.specs.Prelude.{codes, if◌then◌else◌, nat_eq}
+use Rattle.host_core.specs.declared.events.Event.{Event}
+use Rattle.host_core.specs.declared.events.Event.TheVariants.{Own}
+use Rattle.host_core.specs.declared.tenant_state.commands.Command.TheVariants.{Load, Start}
+use Rattle.host_core.specs.declared.tenant_trace.Happening.TheVariants as happening
+use Rattle.host_core.specs.instant_engine.Grants.{granted_to}
+use Rattle.host_core.specs.rig_config.BuiltIn.{built_in_config}
+use Rattle.host_core.specs.Views.{row_of}
+use Rattle.host_core.specs.tenant_state.FirstHalf.{first_half_of}
+use Rattle.host_core.specs.tenant_state.Row.{Row, empty_row}
+use Rattle.host_core.specs.tenant_state.SecondHalf.{second_half_of}
+use Rattle.host_core.proofs.FirstRun.{tick, completed, first_run}
+use Rattle.host_core.proofs.Rig.{rig, switcher_text, two_constants}
+
+-- T of period 3 is released at instant 0. The switch at mode time 2 finds it unfinished, one tick before its deadline, and so enters mode n, of
+-- period 9, at mode time 8, one tick before its end.
+abbrev switched_run : List Event
+switched_run = Own 0 (Load switcher_text) ∷ Own 0 Start ∷ tick 1 ∷ tick 2 ∷ tick 5 ∷ []
+
+pub switched_mode : (row_of rig (reverse switched_run) 0).mode ≡ codes "n"
+switched_mode = refl
+
+pub switched_time : (row_of rig (reverse switched_run) 0).mode_time ≡ 0
+switched_time = refl
+
+pub switched_records : (row_of rig (reverse switched_run) 0).records
+    ≡ record { tick = 2; happening = happening.Mode (codes "n") } ∷ record { tick = 0; happening = happening.Start (codes "m") } ∷ []
+switched_records = refl
+
+-- T goes on in n and ends there, with what it read at its release.
+pub switched_output : (row_of rig (reverse (switched_run ++ completed 0 0 ∷ tick 3 ∷ [])) 0).ports
+    ≡ (codes "s", pos 3) ∷ (codes "o", pos 2) ∷ (codes "T.i", pos 3) ∷ []
+switched_output = refl
+
+-- A program that waits while the adder runs is installed when the adder's period ends: the old outputs are written first, and the actuator of the same name keeps its value.
+abbrev waiting : Row
+waiting = record (row_of rig (reverse (first_run ++ tick 3 ∷ completed 0 2 ∷ [])) 0) { waiting = Some two_constants }
+
+pub installed_ports : (second_half_of ((0, pos 4) ∷ []) [] (first_half_of [] waiting)).ports ≡ (codes "a", pos 10) ∷ (codes "b", pos 7) ∷ []
+installed_ports = refl
+
+pub installed_mode : (second_half_of ((0, pos 4) ∷ []) [] (first_half_of [] waiting)).mode ≡ codes "k"
+installed_mode = refl
+
+-- alpha runs the adder and offers a to beta; beta has bound its sensor g to it
+abbrev supplier : Row
+supplier = record (row_of rig (reverse first_run) 0) { offers = record { actuator = codes "a"; tenant = codes "beta" } ∷ [] }
+
+abbrev consumer : Row
+consumer = record (empty_row 0) { binds = record { sensor = codes "g"; tenant = codes "alpha"; actuator = codes "a" } ∷ [] }
+
+abbrev both : ℕ → Row
+both t = if nat_eq t 0 then supplier else consumer
+
+pub granted : granted_to built_in_config both both 1 ≡ (codes "g", pos 6) ∷ []
+granted = refl
+
+-- without the offer nothing is granted
+abbrev without_offer : ℕ → Row
+without_offer t = if nat_eq t 0 then record supplier { offers = [] } else consumer
+
+pub granted_without_offer : granted_to built_in_config without_offer without_offer 1 ≡ []
+granted_without_offer = refl

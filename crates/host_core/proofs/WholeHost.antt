@@ -1,0 +1,13 @@
+-- The whole host on the first run beside beta, computed from the definitions.
+use Rattle.std.proofs.Common.{◌≡◌, ℕ, pos, ℤ, List, [], ◌∷◌, refl, reverse, map}
+use Rattle.std.specs.Prelude.{codes}
+use Rattle.giotto_tasks.specs.Names.{Valuation}
+use Rattle.host_core.specs.tenant_state.Row.{Row}
+use Rattle.host_core.specs.Host.{host_after}
+use Rattle.host_core.proofs.FirstRun.{beside_beta}
+use Rattle.host_core.proofs.Rig.{rig}
+
+pub ports_beside_beta : map (λ (row : Row). row.ports) (host_after rig (reverse beside_beta)).rows
+    ≡ ((codes "s", pos 9) ∷ (codes "a", pos 6) ∷ (codes "o", pos 6) ∷ (codes "T.i", pos 9) ∷ [])
+    ∷ ((codes "s", pos 9) ∷ (codes "a", pos 6) ∷ (codes "o", pos 6) ∷ (codes "T.i", pos 9) ∷ []) ∷ []
+ports_beside_beta = refl

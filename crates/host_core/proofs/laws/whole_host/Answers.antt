@@ -1,0 +1,8 @@
+use Rattle.host_core.proofs.AloneAlong.{same_rows, same_awaits}
+use Rattle.host_core.proofs.laws.whole_host.Goals as goal
+
+pub returns-clause-rows : goal.returns-clause-rows
+returns-clause-rows c = same_rows
+
+pub returns-clause-completions : goal.returns-clause-completions
+returns-clause-completions c = same_awaits

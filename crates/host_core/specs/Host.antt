@@ -1,0 +1,60 @@
+-- What the host is, and how each event changes it.
+use Rattle.std.specs.Prelude.{ℕ, Bool, not, ◌&&◌, if◌then◌else◌, ℤ, List, [], ◌∷◌, map, filter, length, slice_set, slice_index_or}
+use Rattle.std.specs.List.{list_any, enumerate_from}
+use Rattle.giotto_tasks.specs.declared.names.Name.{Name}
+use Rattle.host_core.specs.declared.events.Event.{Event}
+use Rattle.host_core.specs.declared.events.Event.TheVariants.{Own, Tick, Done}
+use Rattle.host_core.specs.declared.rig_config.TenantConfig.{TenantConfig}
+use Rattle.host_core.specs.declared.tenant_state.jobs.JobId.{JobId}
+use Rattle.host_core.specs.instant_engine.Grants.{granted_to}
+use Rattle.host_core.specs.tenant_state.FirstHalf.{due_tasks, first_half_of}
+use Rattle.host_core.specs.tenant_state.Jobs.{job_of, same_job, is_active}
+use Rattle.host_core.specs.tenant_state.Row.{ActiveTask, Row, empty_row}
+use Rattle.host_core.specs.Setting.{Setting}
+use Rattle.host_core.specs.Views.{LocalInstant, after_command, after_instant, readings_of}
+
+-- a row for each tenant, by its place, and the jobs that were completed and are still active
+pub record HostState : Type 0 where
+  pub rows : List Row
+  pub counted : List JobId
+
+abbrev pub is_counted : HostState → JobId → Bool
+is_counted host j = list_any (λ i. same_job i j) host.counted
+
+module _ (setting : Setting) where
+  abbrev pub row_at : HostState → ℕ → Row
+  row_at host t = slice_index_or host.rows t (empty_row setting.first_tick)
+
+  -- the due tasks of a tenant whose jobs aren't counted
+  abbrev pub unfinished_at : HostState → ℕ → List Name
+  unfinished_at host t = map (λ (a : ActiveTask). a.task) (filter (λ a. not (is_counted host (job_of t a))) (due_tasks (row_at host t)))
+
+  -- what the instant is for a tenant: granted values are taken behind the first half of all, and before the second half of any
+  abbrev pub instant_of : HostState → List ℤ → ℕ → LocalInstant
+  instant_of host frame t = record {
+    readings = readings_of setting t frame;
+    unfinished = unfinished_at host t;
+    granted = granted_to setting.config (row_at host) (λ u. first_half_of (unfinished_at host u) (row_at host u)) t;
+  }
+
+  -- the host awaits a completion: the job is active, and not counted yet
+  abbrev pub awaits : HostState → JobId → Bool
+  awaits host j = is_active (row_at host j.tenant) j && not (is_counted host j)
+
+  -- the rows, with those counted jobs that are still active
+  abbrev pub with_rows : HostState → List Row → HostState
+  with_rows host rows = record { rows = rows; counted = filter (λ j. is_active (slice_index_or rows j.tenant (empty_row setting.first_tick)) j) host.counted }
+
+  abbrev pub empty_host : HostState
+  empty_host = record { rows = map (λ (t : TenantConfig). empty_row setting.first_tick) setting.config.tenants; counted = [] }
+
+  -- a command changes its tenant's row alone, an instant all rows, a completion that is awaited the counted jobs, and another one nothing
+  abbrev pub after_event : HostState → Event → HostState
+  after_event host (Own t c) = with_rows host (slice_set host.rows t (after_command setting t c (row_at host t)).row)
+  after_event host (Tick frame) = with_rows host (map (λ (place : ℕ × Row). after_instant (instant_of host frame place.0) place.1) (enumerate_from 0 host.rows))
+  after_event host (Done j) = if awaits host j then record { rows = host.rows; counted = j ∷ host.counted } else host
+
+  -- the host after these events, the newest first
+  abbrev pub host_after : List Event → HostState
+  host_after [] = empty_host
+  host_after (e ∷ past) = after_event (host_after past) e

@@ -1,0 +1,37 @@
+-- Which lists of events can happen, and which completions count.
+use Rattle.std.specs.Prelude.{ℕ, ◌+◌, ◌-◌, ◌^◌, nat_lt, Bool, true, false, not, ◌&&◌, ◌||◌, ◌==◌, List, [], ◌∷◌, length}
+use Rattle.host_core.specs.declared.events.Event.{Event}
+use Rattle.host_core.specs.declared.events.Event.TheVariants.{Own, Tick, Done}
+use Rattle.host_core.specs.declared.tenant_state.jobs.JobId.{JobId}
+use Rattle.host_core.specs.rig_config.Roster.{is_tenant}
+use Rattle.host_core.specs.Completions.{has_completion}
+use Rattle.host_core.specs.tenant_state.Jobs.{is_active}
+use Rattle.host_core.specs.Setting.{Setting}
+use Rattle.host_core.specs.Views.{row_of}
+
+module _ (setting : Setting) where
+  -- the number of the next instant
+  abbrev pub next_tick : List Event → ℕ
+  next_tick [] = setting.first_tick
+  next_tick (Own t c ∷ past) = next_tick past
+  next_tick (Tick frame ∷ past) = next_tick past + 1
+  next_tick (Done j ∷ past) = next_tick past
+
+  -- the job was active at some place of the list, which is so exactly from its release on
+  abbrev pub was_released : List Event → JobId → Bool
+  was_released [] j = false
+  was_released (e ∷ past) j = is_active (row_of setting (e ∷ past) j.tenant) j || was_released past j
+
+  -- this event may come next: a command of a tenant of the roster, a frame with a value for each line at a tick below the greatest, or the completion of a job that was released
+  abbrev pub may_follow : List Event → Event → Bool
+  may_follow past (Own t c) = is_tenant setting.config t
+  may_follow past (Tick frame) = length frame == setting.config.lines && nat_lt (next_tick past) (2 ^ 64 - 1)
+  may_follow past (Done j) = was_released past j
+
+  abbrev pub is_legal : List Event → Bool
+  is_legal [] = true
+  is_legal (e ∷ past) = may_follow past e && is_legal past
+
+  -- a completion counts if its task is active with its release, and no completion of it came before
+  abbrev pub counts : List Event → JobId → Bool
+  counts past j = is_active (row_of setting past j.tenant) j && not (has_completion past j)

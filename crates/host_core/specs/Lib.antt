@@ -1,0 +1,10 @@
+pub mod Answers
+pub mod Completions
+pub mod Host
+pub mod Legal
+pub mod Setting
+pub mod Views
+pub mod giotto_check
+pub mod instant_engine
+pub mod rig_config
+pub mod tenant_state

@@ -1,0 +1,69 @@
+-- The one-tenant machine, and each tenant's view of what happens to all tenants. Lists have the newest first.
+use Rattle.std.specs.Prelude.{ℕ, nat_eq, not, ◌==◌, if◌then◌else◌, ℤ, List, [], ◌∷◌, map, filter}
+use Rattle.std.specs.List.{enumerate_from}
+use Rattle.giotto_tasks.specs.declared.names.Name.{Name}
+use Rattle.giotto_tasks.specs.Names.{Valuation}
+use Rattle.host_core.specs.declared.events.Event.{Event}
+use Rattle.host_core.specs.declared.events.Event.TheVariants.{Own, Tick, Done}
+use Rattle.host_core.specs.declared.tenant_state.commands.Command.{Command}
+use Rattle.host_core.specs.rig_config.Roster.{budgets_at, may_use}
+use Rattle.host_core.specs.tenant_state.Row.{ActiveTask, Row, empty_row}
+use Rattle.host_core.specs.tenant_state.Commands.{Outcome, commanded}
+use Rattle.host_core.specs.tenant_state.FirstHalf.{due_tasks, first_half_of}
+use Rattle.host_core.specs.tenant_state.Jobs.{job_of}
+use Rattle.host_core.specs.tenant_state.SecondHalf.{Readings, second_half_of}
+use Rattle.host_core.specs.instant_engine.Grants.{granted_to}
+use Rattle.host_core.specs.Completions.{has_completion}
+use Rattle.host_core.specs.Setting.{Setting}
+
+-- what an instant is for one tenant: the values of its lines, its due tasks that were not completed, and the values granted to its sensors
+pub record LocalInstant : Type 0 where
+  pub readings : Readings
+  pub unfinished : List Name
+  pub granted : Valuation
+
+pub data LocalEvent : Type 0 where
+  command : Command → LocalEvent
+  instant : LocalInstant → LocalEvent
+
+-- the row behind both halves of an instant
+abbrev pub after_instant : LocalInstant → Row → Row
+after_instant i row = second_half_of i.readings i.granted (first_half_of i.unfinished row)
+
+-- the due tasks of the tenant at place t whose jobs have no completion
+abbrev pub unfinished_of : List Event → ℕ → Row → List Name
+unfinished_of past t row = map (λ (a : ActiveTask). a.task) (filter (λ a. not (has_completion past (job_of t a))) (due_tasks row))
+
+module _ (setting : Setting) where
+  -- the step of a command of the tenant at place t: its row after it, and its reply
+  abbrev pub after_command : ℕ → Command → Row → Outcome
+  after_command t c row = commanded setting.reader (budgets_at setting.config t) c row
+
+  -- the one-tenant machine: the row after the tenant's own events
+  abbrev pub run_of : ℕ → List LocalEvent → Row
+  run_of t [] = empty_row setting.first_tick
+  run_of t (command c ∷ past) = (after_command t c (run_of t past)).row
+  run_of t (instant i ∷ past) = after_instant i (run_of t past)
+
+  -- the values of the lines that the tenant may read
+  abbrev pub readings_of : ℕ → List ℤ → Readings
+  readings_of t frame = filter (λ (r : ℕ × ℤ). may_use (budgets_at setting.config t).reads r.0) (enumerate_from 0 frame)
+
+  -- A tenant's view: its own commands, and at each instant the values of its lines, its due tasks that were not completed, and the
+  -- values granted to it. Of other tenants it has no more than these.
+  abbrev pub view_of : List Event → ℕ → List LocalEvent
+  view_of [] t = []
+  view_of (Own u c ∷ past) t = if u == t then command c ∷ view_of past t else view_of past t
+  view_of (Done j ∷ past) t = view_of past t
+  view_of (Tick frame ∷ past) t =
+      let rows : ℕ → Row = λ u. run_of u (view_of past u) in
+      let unfinished : ℕ → List Name = λ u. unfinished_of past u (rows u) in
+      instant (record {
+        readings = readings_of t frame;
+        unfinished = unfinished t;
+        granted = granted_to setting.config rows (λ u. first_half_of (unfinished u) (rows u)) t;
+      }) ∷ view_of past t
+
+  -- the row of the tenant at place t after these events
+  abbrev pub row_of : List Event → ℕ → Row
+  row_of past t = run_of t (view_of past t)

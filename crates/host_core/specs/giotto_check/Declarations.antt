@@ -1,0 +1,65 @@
+-- What a program declares, looked up by name.
+use Rattle.std.specs.Prelude.{ℕ, ◌/◌, Bool, not, ◌&&◌, nat_eq, List, [], ◌∷◌, ◌++◌, map, Option, Some, None, codes}
+use Rattle.std.specs.List.{find, filter_map, flat_map}
+use Rattle.giotto_tasks.specs.declared.names.Name.{Name}
+use Rattle.giotto_tasks.specs.Names.{same_name, is_among}
+use Rattle.giotto_tasks.specs.Syntax.{Expression, number, port, unary, binary}
+use Rattle.giotto_read.specs.Program.{Source, from_line, from_grant, SensorDeclaration, ActuatorDeclaration, OutputDeclaration, TaskDeclaration, TaskInvocation, ModeDeclaration, GiottoProgram}
+
+abbrev pub sensor_names : GiottoProgram → List Name
+sensor_names p = map (λ s. s.name) p.sensors
+
+abbrev pub actuator_names : GiottoProgram → List Name
+actuator_names p = map (λ a. a.name) p.actuators
+
+abbrev pub output_names : GiottoProgram → List Name
+output_names p = map (λ o. o.name) p.outputs
+
+abbrev pub task_names : GiottoProgram → List Name
+task_names p = map (λ t. t.name) p.tasks
+
+abbrev pub mode_names : GiottoProgram → List Name
+mode_names p = map (λ m. m.name) p.modes
+
+abbrev pub task_of : GiottoProgram → Name → Option TaskDeclaration
+task_of p x = find (λ t. same_name t.name x) p.tasks
+
+abbrev pub mode_of : GiottoProgram → Name → Option ModeDeclaration
+mode_of p x = find (λ m. same_name m.name x) p.modes
+
+abbrev pub outputs_of_task : GiottoProgram → Name → List Name
+outputs_of_task p x = outputs (task_of p x)
+  where
+    outputs : Option TaskDeclaration → List Name
+    outputs None = []
+    outputs (Some t) = t.outputs
+
+-- the mode ports of a mode: the outputs of the tasks that it invokes
+abbrev pub mode_ports : GiottoProgram → ModeDeclaration → List Name
+mode_ports p m = flat_map (λ (i : TaskInvocation). outputs_of_task p i.task) m.invocations
+
+-- how many ticks lie between two invocations of a task in a mode, if the mode invokes it
+abbrev pub period_of_task : ModeDeclaration → Name → Option ℕ
+period_of_task m x = period (find (λ (i : TaskInvocation). same_name i.task x) m.invocations)
+  where
+    period : Option TaskInvocation → Option ℕ
+    period None = None
+    period (Some i) = Some (m.period / i.frequency)
+
+-- the names that an expression reads
+abbrev pub names_read : Expression → List Name
+names_read (number z) = []
+names_read (port x) = x ∷ []
+names_read (unary o e) = names_read e
+names_read (binary o a b) = names_read a ++ names_read b
+
+-- the lines that sensors read, and those that actuators drive
+abbrev pub lines_read : GiottoProgram → List ℕ
+lines_read p = filter_map (λ (s : SensorDeclaration). line s.source) p.sensors
+  where
+    line : Source → Option ℕ
+    line (from_line k) = Some k
+    line from_grant = None
+
+abbrev pub lines_written : GiottoProgram → List ℕ
+lines_written p = filter_map (λ (a : ActuatorDeclaration). a.line) p.actuators

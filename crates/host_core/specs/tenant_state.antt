@@ -1,0 +1,9 @@
+pub mod CommandLine
+pub mod Commands
+pub mod FirstHalf
+pub mod Jobs
+pub mod Ports
+pub mod Replies
+pub mod Row
+pub mod SecondHalf
+pub mod Words

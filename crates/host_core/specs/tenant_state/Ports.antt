@@ -1,0 +1,42 @@
+-- The ports of a program and their values.
+use Rattle.std.specs.Prelude.{ℕ, Bool, ℤ, pos, List, [], ◌∷◌, ◌++◌, map, fold, Option, Some, None, unwrap_or, codes, if◌then◌else◌}
+use Rattle.std.specs.List.{flat_map, zip}
+use Rattle.giotto_tasks.specs.declared.names.Name.{Name}
+use Rattle.giotto_tasks.specs.Arithmetic.{is_true}
+use Rattle.giotto_tasks.specs.Names.{Valuation, value_at, with_value, values_of, is_among}
+use Rattle.giotto_tasks.specs.Syntax.{Expression}
+use Rattle.giotto_tasks.specs.Meaning.{value_of}
+use Rattle.giotto_read.specs.Program.{SensorDeclaration, ActuatorDeclaration, OutputDeclaration, TaskDeclaration, GiottoProgram, names_of}
+
+-- an input or a state of a task, as it is shown: no other port has such a name, since a dot is in no name
+abbrev pub own_port : Name → Name → Name
+own_port task x = task ++ (codes "." ++ x)
+
+abbrev pub own_ports : Name → List Name → List Name
+own_ports task xs = map (own_port task) xs
+
+-- every port with its initial value: sensors, actuators, outputs, then for each task its inputs and its states, each in text order
+abbrev pub initial_ports : GiottoProgram → Valuation
+initial_ports p =
+    map (λ (s : SensorDeclaration). (s.name, s.initial)) p.sensors
+    ++ (map (λ (a : ActuatorDeclaration). (a.name, a.initial)) p.actuators
+    ++ (map (λ (o : OutputDeclaration). (o.name, o.initial)) p.outputs
+    ++ flat_map of_task p.tasks))
+  where
+    of_task : TaskDeclaration → Valuation
+    of_task t = map (λ x. (own_port t.name x, pos 0)) t.inputs ++ map (λ (s : Name × ℤ). (own_port t.name s.0, s.1)) t.states
+
+-- the map with these values for these names
+abbrev pub with_values : Valuation → List Name → List ℤ → Valuation
+with_values ports [] zs = ports
+with_values ports (x ∷ xs) [] = ports
+with_values ports (x ∷ xs) (z ∷ zs) = with_values (with_value ports x z) xs zs
+
+-- every actuator with its initial value, all other ports as they are
+abbrev pub actuators_reset : GiottoProgram → Valuation → Valuation
+actuators_reset p ports = with_values ports (map (λ (a : ActuatorDeclaration). a.name) p.actuators) (map (λ (a : ActuatorDeclaration). a.initial) p.actuators)
+
+-- a driver's guard: absent, or not 0
+abbrev pub holds : Option Expression → Valuation → Bool
+holds None ports = Bool.true
+holds (Some e) ports = is_true (value_of e ports)

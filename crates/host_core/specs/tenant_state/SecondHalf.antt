@@ -1,0 +1,129 @@
+-- The second half of an instant: a waiting program is installed, sensors are read, a switch may be taken, tasks are invoked, and the mode time moves on.
+use Rattle.std.specs.Prelude.{ℕ, zero, suc, ◌+◌, ◌-◌, ◌%◌, ◌==◌, Bool, true, false, ◌&&◌, ◌||◌, if◌then◌else◌, ℤ, List, [], ◌∷◌, ◌++◌, map, Option, Some, None, unwrap_or}
+use Rattle.std.specs.List.{find, filter_map, list_all}
+use Rattle.giotto_tasks.specs.declared.names.Name.{Name}
+use Rattle.giotto_tasks.specs.Names.{Valuation, value_at, with_value, values_of, is_among}
+use Rattle.giotto_tasks.specs.Syntax.{Expression}
+use Rattle.giotto_tasks.specs.Meaning.{value_of}
+use Rattle.giotto_read.specs.Program.{Source, from_line, from_grant, SensorDeclaration, ActuatorDeclaration, TaskDeclaration, ModeSwitch, TaskInvocation, ModeDeclaration, GiottoProgram, names_of}
+use Rattle.host_core.specs.declared.tenant_trace.Happening.TheVariants as happening
+use Rattle.host_core.specs.giotto_check.Declarations.{sensor_names, actuator_names, task_of, mode_of, period_of_task}
+use Rattle.host_core.specs.tenant_state.Row.{ActiveTask, Row, is_running, where_some, in_program, in_mode, recorded}
+use Rattle.host_core.specs.tenant_state.Ports.{own_ports, initial_ports, with_values, holds}
+use Rattle.host_core.specs.tenant_state.FirstHalf.{is_due_at}
+
+-- the input value of each line that the tenant may read
+abbrev pub Readings : Type 0
+Readings = List (ℕ × ℤ)
+
+abbrev pub reading_of : Readings → ℕ → Option ℤ
+reading_of [] k = None
+reading_of (r ∷ rs) k = if r.0 == k then Some r.1 else reading_of rs k
+
+-- a port of this name stands in both programs, among these names of each
+abbrev pub stands_in_both : (GiottoProgram → List Name) → GiottoProgram → GiottoProgram → Name → Bool
+stands_in_both names old new x = is_among (names old) x && is_among (names new) x
+
+-- A sensor keeps the value of the old sensor of its name, and an actuator that of the old actuator; every other port is initial.
+abbrev pub carried_over : Valuation → GiottoProgram → GiottoProgram → Name → ℤ → ℤ
+carried_over ports old new x z =
+    if stands_in_both sensor_names old new x || stands_in_both actuator_names old new x then unwrap_or (value_at ports x) z else z
+
+-- installation: the new program in its start mode, with the values that are carried over
+abbrev pub installed : GiottoProgram → Row → Row
+installed new row = in_program (λ old row.
+    recorded (happening.Replaced new.start)
+    (record row {
+      program = Some new;
+      waiting = None;
+      mode = new.start;
+      mode_time = 0;
+      active = [];
+      ports = map (λ (v : Name × ℤ). (v.0, carried_over row.ports old new v.0 v.1)) (initial_ports new);
+    })) row
+
+-- a waiting program is installed when the mode's period ends
+abbrev pub replaced_if_due : Row → Row
+replaced_if_due row = if row.mode_time == 0 then where_some installed row.waiting row else row
+
+-- A sensor takes its reading: its line's value, or what is granted to it, or else its initial value.
+abbrev pub reading_from : Readings → Valuation → SensorDeclaration → Source → Option ℤ
+reading_from readings granted s (from_line k) = reading_of readings k
+reading_from readings granted s from_grant = value_at granted s.name
+
+abbrev pub reading_taken : Readings → Valuation → SensorDeclaration → ℤ
+reading_taken readings granted s = unwrap_or (reading_from readings granted s s.source) s.initial
+
+abbrev pub sensed : Readings → Valuation → GiottoProgram → Row → Row
+sensed readings granted p row = record row { ports = with_values row.ports (sensor_names p) (map (reading_taken readings granted) p.sensors) }
+
+-- the first number from n on that all of these divide, looked for among the next `more` numbers
+abbrev pub common_multiple_from : ℕ → ℕ → List ℕ → ℕ
+common_multiple_from zero n ks = n
+common_multiple_from (suc more) n ks = if list_all (λ k. n % k == 0) ks then n else common_multiple_from more (n + 1) ks
+
+-- the least common multiple of numbers that divide the period
+abbrev pub least_common_multiple : ℕ → List ℕ → ℕ
+least_common_multiple period ks = common_multiple_from period 1 ks
+
+-- as far from the end of the target's period as tasks of these periods are from their next common deadline
+abbrev pub time_before_end : ModeDeclaration → ModeDeclaration → ℕ → List ℕ → ℕ
+time_before_end from target time [] = 0
+time_before_end from target time (k ∷ ks) = let l = least_common_multiple from.period (k ∷ ks) in target.period - (l - time % l)
+
+-- The mode time behind a switch: 0 if no task is unfinished.
+abbrev pub entry_time : ModeDeclaration → ModeDeclaration → Row → ℕ
+entry_time from target row = time_before_end from target row.mode_time (filter_map (λ (a : ActiveTask). period_of_task from a.task) row.active)
+
+-- the first switch that is due and whose guard holds
+abbrev pub switch_taken : ModeDeclaration → Row → Option ModeSwitch
+switch_taken m row = find (λ (s : ModeSwitch). is_due_at row.mode_time m s.frequency && holds s.guard row.ports) m.switches
+
+-- a switch: its destinations take their values, and the target mode is entered
+abbrev pub entered : ModeDeclaration → ModeSwitch → ModeDeclaration → Row → Row
+entered m s target row =
+    recorded (happening.Mode s.target)
+    (record row {
+      mode = s.target;
+      mode_time = entry_time m target row;
+      ports = with_values row.ports (map (λ (d : Name × Expression). d.0) s.destinations) (map (λ (d : Name × Expression). value_of d.1 row.ports) s.destinations);
+    })
+
+abbrev pub switched : GiottoProgram → ModeDeclaration → Row → Row
+switched p m row = where_some (λ s. where_some (entered m s) (mode_of p s.target)) (switch_taken m row) row
+
+-- a release: the inputs take the driver's values, and the task becomes active with these and its states
+abbrev pub released : TaskInvocation → TaskDeclaration → Row → Row
+released i t row =
+    let inputs = map (λ e. value_of e row.ports) i.arguments in
+    let states = values_of row.ports (own_ports t.name (names_of t.states)) in
+    record row {
+      ports = with_values row.ports (own_ports t.name t.inputs) inputs;
+      active = row.active ++ record { task = t.name; release = row.count; inputs = inputs; states = states } ∷ [];
+    }
+
+-- an invocation that is due, where its guard holds
+abbrev pub invoked : GiottoProgram → ModeDeclaration → TaskInvocation → Row → Row
+invoked p m i row = if is_due_at row.mode_time m i.frequency && holds i.guard row.ports then where_some (released i) (task_of p i.task) row else row
+
+abbrev pub all_invoked : GiottoProgram → ModeDeclaration → List TaskInvocation → Row → Row
+all_invoked p m [] row = row
+all_invoked p m (i ∷ is) row = all_invoked p m is (invoked p m i row)
+
+-- the mode time of the next instant
+abbrev pub moved_on : ModeDeclaration → Row → Row
+moved_on m row = record row { mode_time = (row.mode_time + 1) % m.period }
+
+abbrev pub counted : Row → Row
+counted row = record row { count = row.count + 1 }
+
+-- the steps of a running tenant: sensors and a switch in the mode that stands, invocations in the mode behind it
+abbrev pub second_half_running : Readings → Valuation → Row → Row
+second_half_running readings granted row =
+    in_mode (λ p m row. moved_on m (all_invoked p m m.invocations row))
+    (in_mode (λ p m row. switched p m (sensed readings granted p row))
+    (replaced_if_due row))
+
+-- The second half: a running tenant goes through these steps, and every tenant counts the instant.
+abbrev pub second_half_of : Readings → Valuation → Row → Row
+second_half_of readings granted row = counted (if is_running row then second_half_running readings granted row else row)

@@ -1,0 +1,17 @@
+//! What happens to a host.
+
+use crate::rig_config::TenantId;
+use crate::tenant_state::commands::Command;
+use crate::tenant_state::jobs::JobId;
+use giotto_tasks::lists::List;
+
+/// An event of the host.
+#[derive(Drop)]
+pub enum Event {
+    /// A command of one tenant.
+    Own(TenantId, Command),
+    /// An instant of all tenants, with the input value of each line.
+    Tick(List<i64>),
+    /// The completion of a job.
+    Done(JobId),
+}

@@ -1,0 +1,26 @@
+//! Laws of the definitions, each a function without a body that carries it.
+
+ghost use Rattle.std.specs.Prelude.{◌≡◌, ℕ, List, true};
+ghost use Rattle.host_core.specs.declared.tenant_state.jobs.JobId.{JobId};
+ghost use Rattle.host_core.specs.rig_config.Roster.{is_tenant};
+ghost use Rattle.host_core.specs.Host.{host_after, row_at, awaits};
+ghost use Rattle.host_core.specs.Legal.{is_legal, counts};
+ghost use Rattle.host_core.specs.declared.events.Event.{Event};
+ghost use Rattle.host_core.specs.Answers.{answers_of};
+ghost use Rattle.host_core.specs.Setting.{Setting};
+ghost use Rattle.host_core.specs.Views.{row_of, view_of};
+
+/// Two lists of events, the newest first, that give a tenant equal views give it equal answers.
+pub fn equal_views_give_equal_answers()
+    ensures { (setting : Setting) (past others : List Event) (t : ℕ) →
+        view_of setting past t ≡ view_of setting others t → answers_of setting past t ≡ answers_of setting others t }
+{}
+
+/// After every legal list of events, the newest first, each tenant's row in the whole host is that of the one-tenant machine
+/// over the tenant's own view, and the host awaits just the completions that count.
+pub fn whole_host()
+    ensures rows { (setting : Setting) (past : List Event) (t : ℕ) → is_legal setting past ≡ true → is_tenant setting.config t ≡ true →
+        row_at setting (host_after setting past) t ≡ row_of setting past t }
+    ensures completions { (setting : Setting) (past : List Event) (j : JobId) → is_legal setting past ≡ true → is_tenant setting.config j.tenant ≡ true →
+        awaits setting (host_after setting past) j ≡ counts setting past j }
+{}

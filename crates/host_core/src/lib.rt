@@ -1,0 +1,9 @@
+//! The host core: tenants, their commands, instants and completions, and what each tenant is answered.
+#![tactic(auto)]
+
+pub mod events;
+pub mod laws;
+pub mod rig_config;
+pub mod tenant_grants;
+pub mod tenant_state;
+pub mod tenant_trace;

@@ -1,0 +1,7 @@
+//! One tenant: its commands and replies.
+
+pub mod commands;
+pub mod jobs;
+pub mod replies;
+pub mod texts;
+pub mod words;

@@ -1,0 +1,23 @@
+-- How bytes are cut into lines.
+use Rattle.std.specs.Prelude.{ℕ, nat_le, Bool, ◌&&◌, ◌==◌, if◌then◌else◌, List, [], ◌∷◌, length, Option, Some, None}
+use Rattle.std.specs.Str.{is_utf8}
+
+-- the byte in front of the first piece
+abbrev pub joined_to_first : ℕ → List (List ℕ) → List (List ℕ)
+joined_to_first c [] = (c ∷ []) ∷ []
+joined_to_first c (p ∷ ps) = (c ∷ p) ∷ ps
+
+-- the bytes up to each LF; what follows the last LF is a line too, unless it is empty
+abbrev pub cut : List ℕ → List (List ℕ)
+cut [] = []
+cut (c ∷ cs) = if c == 10 then [] ∷ cut cs else joined_to_first c (cut cs)
+
+-- one CR at the end taken off
+abbrev pub without_last_cr : List ℕ → List ℕ
+without_last_cr [] = []
+without_last_cr (c ∷ []) = if c == 13 then [] else c ∷ []
+without_last_cr (c ∷ d ∷ cs) = c ∷ without_last_cr (d ∷ cs)
+
+-- the text of a line of at most 16,384 bytes in UTF-8, and of no other
+abbrev pub text_of_line : List ℕ → Option (List ℕ)
+text_of_line line = if nat_le (length line) 16384 && is_utf8 line then Some (without_last_cr line) else None

@@ -1,0 +1,144 @@
+-- The text that a script is answered.
+use Rattle.std.specs.Prelude.{ℕ, ◌+◌, ◌-◌, ◌^◌, nat_lt, Bool, true, false, not, ◌==◌, if◌then◌else◌, ℤ, List, [], ◌∷◌, ◌++◌, length, map, filter, Option, Some, None, codes}
+use Rattle.std.specs.List.{flat_map, enumerate_from}
+use Rattle.std.specs.Fmt.{decimal}
+use Rattle.std.specs.Option.{option_map}
+use Rattle.giotto_tasks.specs.declared.names.Name.{Name}
+use Rattle.giotto_tasks.specs.Names.{same_name}
+use Rattle.host_core.specs.declared.events.Event.{Event}
+use Rattle.host_core.specs.declared.events.Event.TheVariants.{Own, Tick, Done}
+use Rattle.host_core.specs.declared.tenant_state.jobs.JobId.{JobId}
+use Rattle.host_core.specs.declared.rig_config.Config.{Config}
+use Rattle.host_core.specs.declared.rig_config.TenantConfig.{TenantConfig}
+use Rattle.host_core.specs.declared.tenant_state.commands.Command.{Command}
+use Rattle.host_core.specs.declared.tenant_state.replies.Refusal.TheVariants.{BadCommand}
+use Rattle.host_core.specs.rig_config.Roster.{place_of}
+use Rattle.host_core.specs.tenant_state.CommandLine.{command_of_line}
+use Rattle.host_core.specs.tenant_state.Replies.{text_of_reply, text_of_refusal}
+use Rattle.host_core.specs.tenant_state.Row.{ActiveTask, Row}
+use Rattle.host_core.specs.tenant_state.Words.{words_of, first_word_of, behind_first_word, value_of_word}
+use Rattle.host_core.specs.Completions.{has_completion}
+use Rattle.host_core.specs.tenant_state.Jobs.{job_of}
+use Rattle.host_core.specs.Legal.{next_tick}
+use Rattle.host_core.specs.Setting.{Setting}
+use Rattle.host_core.specs.Views.{after_command, row_of}
+use Rattle.rig_host.specs.declared.speakers.Speaker.{Speaker}
+use Rattle.rig_host.specs.declared.speakers.Speaker.TheVariants.{Nobody, Operator, Tenant, Unknown}
+use Rattle.rig_host.specs.Lines.{cut, text_of_line}
+
+-- a reply line: who is answered, a space, the reply, and LF
+abbrev pub reply_line : List ℕ → List ℕ → List ℕ
+reply_line who reply = who ++ (32 ∷ reply ++ 10 ∷ [])
+
+-- the word with which the operator's lines begin
+abbrev pub operator : List ℕ
+operator = codes "op"
+
+-- A line begins with who speaks: the operator, or a tenant by its name.
+abbrev pub speaker_of : Config → List ℕ → Speaker
+speaker_of config line = by (first_word_of line)
+  where
+    of_place : Option ℕ → Speaker
+    of_place None = Unknown
+    of_place (Some t) = Tenant t
+
+    by : List ℕ → Speaker
+    by [] = Nobody
+    by (c ∷ cs) = if same_name (c ∷ cs) operator then Operator else of_place (place_of config (c ∷ cs))
+
+abbrev pub operator_refusal : List ℕ → List ℕ
+operator_refusal why = reply_line operator (codes "err " ++ why)
+
+-- an operator line
+pub data OperatorLine : Type 0 where
+  -- one input value for each line of the rig
+  tick : List ℤ → OperatorLine
+  work : OperatorLine
+
+-- each word is a value
+abbrev pub values_of_words : List (List ℕ) → Option (List ℤ)
+values_of_words [] = Some []
+values_of_words (w ∷ ws) = by (value_of_word w) (values_of_words ws)
+  where
+    by : Option ℤ → Option (List ℤ) → Option (List ℤ)
+    by None zs = None
+    by (Some z) None = None
+    by (Some z) (Some zs) = Some (z ∷ zs)
+
+-- "tick V .." or "work"
+abbrev pub operator_line_of : List (List ℕ) → Option OperatorLine
+operator_line_of [] = None
+operator_line_of (w ∷ ws) = if same_name w (codes "tick") then ticks (values_of_words ws) else works ws
+  where
+    ticks : Option (List ℤ) → Option OperatorLine
+    ticks None = None
+    ticks (Some zs) = Some (tick zs)
+
+    works : List (List ℕ) → Option OperatorLine
+    works [] = if same_name w (codes "work") then Some work else None
+    works (v ∷ vs) = None
+
+-- what a line does: the events that it adds, the newest first, and its reply
+pub record Step : Type 0 where
+  pub events : List Event
+  pub reply : List ℕ
+
+abbrev pub only_answered : List ℕ → Step
+only_answered reply = record { events = []; reply = reply }
+
+module _ (setting : Setting) where
+  -- the jobs of a tenant's active tasks that have no completion yet
+  abbrev pub outstanding_of : List Event → ℕ → List JobId
+  outstanding_of past t = filter (λ j. not (has_completion past j)) (map (job_of t) (row_of setting past t).active)
+
+  abbrev pub all_outstanding : List Event → List JobId
+  all_outstanding past = flat_map (λ (place : ℕ × TenantConfig). outstanding_of past place.0) (enumerate_from 0 setting.config.tenants)
+
+  abbrev pub tick_step : List Event → List ℤ → Step
+  tick_step past frame =
+      if not (length frame == setting.config.lines) then only_answered (operator_refusal (codes "bad-frame"))
+      else (if not (nat_lt (next_tick setting past) (2 ^ 64 - 1)) then only_answered (operator_refusal (codes "clock-ended"))
+      else record { events = Tick frame ∷ []; reply = reply_line operator (codes "ok tick " ++ decimal (next_tick setting past)) })
+
+  -- runs and completes the jobs that are outstanding
+  abbrev pub work_step : List JobId → Step
+  work_step jobs = record { events = map Done jobs; reply = reply_line operator (codes "ok work " ++ decimal (length jobs)) }
+
+  abbrev pub operator_step : List Event → List (List ℕ) → Step
+  operator_step past words = by (operator_line_of words)
+    where
+      by : Option OperatorLine → Step
+      by None = only_answered (operator_refusal (text_of_refusal BadCommand))
+      by (Some (tick frame)) = tick_step past frame
+      by (Some work) = work_step (all_outstanding past)
+
+  -- a tenant's line: its command, answered as the one-tenant machine answers it
+  abbrev pub tenant_step : List Event → ℕ → Name → List ℕ → Step
+  tenant_step past t who line = by (command_of_line line)
+    where
+      by : Option Command → Step
+      by None = only_answered (reply_line who (codes "err " ++ text_of_refusal BadCommand))
+      by (Some c) = record { events = Own t c ∷ []; reply = reply_line who (text_of_reply (after_command setting t c (row_of setting past t)).reply) }
+
+  -- a blank line has no reply
+  abbrev pub line_step : List Event → List ℕ → Step
+  line_step past line = by (speaker_of setting.config line)
+    where
+      by : Speaker → Step
+      by Nobody = only_answered []
+      by Operator = operator_step past (words_of (behind_first_word line))
+      by (Tenant t) = tenant_step past t (first_word_of line) (behind_first_word line)
+      by Unknown = only_answered (reply_line (codes "host") (codes "err who"))
+
+  -- line by line; a line that is too long or no text ends the script
+  abbrev pub script_from : List Event → List (List ℕ) → List ℕ
+  script_from past [] = []
+  script_from past (line ∷ lines) = goes_on (option_map (line_step past) (text_of_line line)) (λ s. s.reply ++ script_from (s.events ++ past) lines)
+    where
+      goes_on : Option Step → (Step → List ℕ) → List ℕ
+      goes_on None rest = reply_line (codes "host") (codes "bye bad-line")
+      goes_on (Some s) rest = rest s
+
+  -- what is written for these bytes
+  abbrev pub script_text_of : List ℕ → List ℕ
+  script_text_of bytes = script_from [] (cut bytes)
