@@ -1,5 +1,5 @@
 -- What holds of each active task is kept by each step, if it holds of what is released at the instant's number.
-use Rattle.std.proofs.Common.{◌≡◌, ℕ, ◌+◌, Bool, true, false, cond, List, [], ◌∷◌, ◌++◌, filter, Option, Some, None, refl}
+use Rattle.std.proofs.Common.{◌≡◌, ℕ, ◌+◌, Bool, true, false, cond, List, [], ◌∷◌, ◌++◌, filter, Option, Some, None}
 use Rattle.std.specs.Prelude.{Result, Ok, Err}
 use Rattle.std.specs.List.{AllByRecursion}
 use Rattle.giotto_tasks.specs.declared.names.Name.{Name}
@@ -13,10 +13,9 @@ use Rattle.host_core.specs.declared.tenant_state.replies.Budget.{Budget}
 use Rattle.host_core.specs.giotto_check.Declarations.{task_of, mode_of}
 use Rattle.host_core.specs.giotto_check.Rules.{first_broken_rule}
 use Rattle.host_core.specs.tenant_state.Row.{ActiveTask, Row, StopReason, overrun, is_running, where_some, in_program, in_mode}
-use Rattle.host_core.specs.tenant_state.Ports.{holds}
 use Rattle.host_core.specs.tenant_state.Commands.{Reader, Outcome, load_within, load_checked, load_read, broken_budget, start_program, show_value, show_port, commanded}
-use Rattle.host_core.specs.tenant_state.FirstHalf.{is_due_at, due_tasks, names_due, stopped_with, recorded_outputs, written_outputs, with_results, ended_with, ended, all_ended, still_active, with_update, updated, all_updated, completed_in_mode, first_half_with, first_half_of}
-use Rattle.host_core.specs.tenant_state.SecondHalf.{Readings, installed, replaced_if_due, sensed, entered, switch_taken, switched, released, invoked, all_invoked, moved_on, second_half_running, second_half_of}
+use Rattle.host_core.specs.tenant_state.FirstHalf.{due_tasks, stopped_with, recorded_outputs, written_outputs, with_results, ended_with, ended, all_ended, with_update, updated, all_updated, completed_in_mode, first_half_with, first_half_of}
+use Rattle.host_core.specs.tenant_state.SecondHalf.{Readings, installed, replaced_if_due, sensed, entered, switch_taken, switched, released, invoked, all_invoked, second_half_running}
 use Rattle.host_core.specs.Views.{LocalInstant, after_instant}
 
 pub all_filter : {X : Type 0} (P : X → Type 0) (test : X → Bool) (xs : List X) → AllByRecursion P xs → AllByRecursion P (filter test xs)

@@ -1,36 +1,30 @@
 -- The whole host, tenant by tenant: each row is that of the one-tenant machine over the tenant's own view.
-use Rattle.std.proofs.Common.{◌≡◌, ℕ, zero, ◌+◌, ◌<◌, ◌≤◌, ◌≢◌, ⊎_elim, Bool, true, false, cond, not, ◌&&◌, ◌||◌, eqb, ltb, ℤ, List, [], ◌∷◌, ◌++◌, length, map, filter, get_or, set, Option, Some, None, refl, sym, ap, ◌∙◌, subst, zero-add, length-set, arith}
-use Rattle.std.specs.List.{cons_option, list_any, filter_map, flat_map, position, enumerate_from, AllByRecursion}
-use Rattle.std.specs.Option.{option_map_or, option_map, option_and_then}
-use Rattle.std.proofs.lemmas.Bool.{cases_eq, cases_lt}
+use Rattle.std.proofs.Common.{◌≡◌, ℕ, ◌<◌, ◌≢◌, ⊎_elim, Bool, true, false, cond, ◌&&◌, ◌||◌, eqb, List, [], ◌∷◌, length, filter, get_or, set, Option, Some, None, refl, sym, ap, ◌∙◌, length-set, arith}
+use Rattle.std.specs.List.{cons_option, list_any, filter_map, flat_map, AllByRecursion}
+use Rattle.std.specs.Option.{option_map_or}
+use Rattle.std.proofs.lemmas.Bool.{cases_eq}
 use Rattle.std.proofs.lemmas.Bool.Decides.{nat_tests}
-use Rattle.std.proofs.lemmas.List.{length-map, get_or-map, get_or-set_same, get_or-set_other}
-use Rattle.std.proofs.lemmas.List.FromFn.{length-enumerate_from, get_or-enumerate_from}
-use Rattle.std.proofs.lemmas.List.Quantifiers.{position-Some}
+use Rattle.std.proofs.lemmas.List.{get_or-set_same, get_or-set_other}
 use Rattle.std.proofs.lemmas.Map.Views.{any-filter_same}
-use Rattle.giotto_tasks.specs.declared.names.Name.{Name}
-use Rattle.giotto_tasks.specs.Names.{Valuation, same_name}
-use Rattle.giotto_read.specs.Program.{TaskInvocation, ModeDeclaration, GiottoProgram}
+use Rattle.giotto_tasks.specs.Names.{same_name}
+use Rattle.giotto_read.specs.Program.{TaskInvocation}
 use Rattle.host_core.specs.declared.events.Event.{Event}
-use Rattle.host_core.specs.declared.events.Event.TheVariants.{Own, Tick, Done}
-use Rattle.host_core.specs.declared.rig_config.TenantConfig.{TenantConfig}
-use Rattle.host_core.specs.declared.tenant_grants.Bind.{Bind}
+use Rattle.host_core.specs.declared.events.Event.TheVariants.{Own}
 use Rattle.host_core.specs.declared.tenant_state.jobs.JobId.{JobId}
 use Rattle.host_core.specs.declared.tenant_state.commands.Command.{Command}
 use Rattle.host_core.specs.giotto_check.Declarations.{mode_of}
-use Rattle.host_core.specs.rig_config.Roster.{place_of, budgets_at, name_at}
+use Rattle.host_core.specs.rig_config.Roster.{budgets_at}
 use Rattle.host_core.specs.tenant_state.Jobs.{job_of, same_job, is_active}
 use Rattle.host_core.specs.tenant_state.Row.{ActiveTask, Row, empty_row, is_running}
-use Rattle.host_core.specs.tenant_state.FirstHalf.{is_due_at, due_in_mode, due_in_program, due_tasks, first_half_of}
-use Rattle.host_core.specs.instant_engine.Grants.{offers, actuator_value, granted_by, granted_along, granted_to}
+use Rattle.host_core.specs.tenant_state.FirstHalf.{is_due_at, due_in_mode, due_in_program, due_tasks}
 use Rattle.host_core.specs.Completions.{has_completion}
-use Rattle.host_core.specs.Host.{HostState, is_counted, row_at, unfinished_at, instant_of, awaits, with_rows, empty_host, after_event, host_after}
-use Rattle.host_core.specs.Legal.{next_tick, is_legal}
+use Rattle.host_core.specs.Host.{HostState, is_counted, row_at, with_rows, after_event}
+use Rattle.host_core.specs.Legal.{next_tick}
 use Rattle.host_core.specs.Setting.{Setting}
 use Rattle.host_core.specs.Views.{LocalInstant, after_command, after_instant, unfinished_of, readings_of, run_of, view_of, row_of}
-use Rattle.host_core.proofs.ActiveTasks.{Keeps, kept_by_instant, kept_by_command, all_filter, all_append}
-use Rattle.host_core.proofs.Histories.{own_instant, own_row, releases, completed_is_early}
-use Rattle.host_core.proofs.JobNames.{both, either, or_true, and_true, not_true, same_job_is, same_job_self, all_map, own_jobs_active, same_number}
+use Rattle.host_core.proofs.ActiveTasks.{Keeps, kept_by_command, all_filter, all_append}
+use Rattle.host_core.proofs.Histories.{own_row, releases}
+use Rattle.host_core.proofs.JobNames.{either, or_true, same_job_is, all_map, own_jobs_active}
 
 pub all_zip : {X : Type 0} (P Q : X → Type 0) (xs : List X) → AllByRecursion P xs → AllByRecursion Q xs → AllByRecursion (λ x. P x × Q x) xs
 all_zip P Q [] ps qs = tt

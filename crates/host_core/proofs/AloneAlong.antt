@@ -1,13 +1,12 @@
 -- The whole host, tenant by tenant, along every legal list of events.
-use Rattle.std.proofs.Common.{◌≡◌, ℕ, ◌+◌, ◌<◌, ◌≤◌, ◌≢◌, Bool, true, false, cond, not, ◌&&◌, ◌||◌, ltb, ℤ, List, [], ◌∷◌, length, map, filter, get_or, Option, Some, None, refl, sym, ap, ◌∙◌, subst, zero-add, arith}
-use Rattle.std.specs.List.{list_any, filter_map, position, enumerate_from, AllByRecursion}
+use Rattle.std.proofs.Common.{◌≡◌, ℕ, ◌<◌, Bool, true, false, cond, not, ◌&&◌, ◌||◌, ℤ, List, [], ◌∷◌, length, map, filter, get_or, Option, Some, None, refl, sym, ap, ◌∙◌, subst, zero-add, arith}
+use Rattle.std.specs.List.{list_any, filter_map, enumerate_from, AllByRecursion}
 use Rattle.std.specs.Option.{option_map, option_and_then}
 use Rattle.std.proofs.lemmas.Bool.Decides.{nat_tests}
 use Rattle.std.proofs.lemmas.List.{length-map, get_or-map}
 use Rattle.std.proofs.lemmas.List.FromFn.{length-enumerate_from, get_or-enumerate_from}
 use Rattle.std.proofs.lemmas.List.Quantifiers.{position-Some}
-use Rattle.giotto_tasks.specs.declared.names.Name.{Name}
-use Rattle.giotto_tasks.specs.Names.{Valuation, same_name}
+use Rattle.giotto_tasks.specs.Names.{same_name}
 use Rattle.host_core.specs.declared.events.Event.{Event}
 use Rattle.host_core.specs.declared.events.Event.TheVariants.{Own, Tick, Done}
 use Rattle.host_core.specs.declared.rig_config.TenantConfig.{TenantConfig}
@@ -19,11 +18,11 @@ use Rattle.host_core.specs.tenant_state.Row.{ActiveTask, Row, empty_row}
 use Rattle.host_core.specs.tenant_state.FirstHalf.{due_tasks, first_half_of}
 use Rattle.host_core.specs.instant_engine.Grants.{offers, actuator_value, to_sensor, granted_by, granted_along, granted_to}
 use Rattle.host_core.specs.Completions.{has_completion}
-use Rattle.host_core.specs.Host.{HostState, is_counted, row_at, unfinished_at, instant_of, awaits, with_rows, empty_host, after_event, host_after}
+use Rattle.host_core.specs.Host.{HostState, is_counted, row_at, unfinished_at, instant_of, awaits, empty_host, after_event, host_after}
 use Rattle.host_core.specs.Legal.{next_tick, may_follow, is_legal, counts}
 use Rattle.host_core.specs.Setting.{Setting}
-use Rattle.host_core.specs.Views.{LocalInstant, after_instant, unfinished_of, readings_of, row_of}
-use Rattle.host_core.proofs.ActiveTasks.{Keeps, kept_by_instant}
+use Rattle.host_core.specs.Views.{after_instant, unfinished_of, readings_of, row_of}
+use Rattle.host_core.proofs.ActiveTasks.{kept_by_instant}
 use Rattle.host_core.proofs.Alone.{Agrees, all_due, all_zip, same_filter, same_filter_map, marks_after, known_after, own_event}
 use Rattle.host_core.proofs.Histories.{own_instant, releases, completed_is_early}
 use Rattle.host_core.proofs.JobNames.{both, either, or_true, and_true, not_true, same_job_is, all_map, own_jobs_active}

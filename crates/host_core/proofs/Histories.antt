@@ -1,8 +1,6 @@
 -- What holds along every list of events: counts of instants, releases, and completions.
-use Rattle.std.proofs.Common.{◌≡◌, ℕ, ◌+◌, ◌<◌, ◌≤◌, ◌≢◌, ⊎_elim, Bool, true, false, cond, ◌&&◌, ◌||◌, eqb, ℤ, List, [], ◌∷◌, refl, sym, ap, ◌∙◌, subst, arith}
+use Rattle.std.proofs.Common.{◌≡◌, ℕ, ◌+◌, ◌<◌, Bool, true, false, cond, eqb, ℤ, List, [], ◌∷◌, refl, ap, subst, arith}
 use Rattle.std.specs.List.{list_any, AllByRecursion}
-use Rattle.std.proofs.lemmas.Bool.{cases_eq}
-use Rattle.std.proofs.lemmas.Bool.Decides.{nat_tests}
 use Rattle.host_core.specs.declared.events.Event.{Event}
 use Rattle.host_core.specs.declared.events.Event.TheVariants.{Own, Tick, Done}
 use Rattle.host_core.specs.declared.tenant_state.jobs.JobId.{JobId}
@@ -13,7 +11,7 @@ use Rattle.host_core.specs.tenant_state.Row.{ActiveTask, Row}
 use Rattle.host_core.specs.instant_engine.Grants.{granted_to}
 use Rattle.host_core.specs.tenant_state.FirstHalf.{first_half_of}
 use Rattle.host_core.specs.Completions.{has_completion}
-use Rattle.host_core.specs.Legal.{next_tick, was_released, may_follow, is_legal}
+use Rattle.host_core.specs.Legal.{next_tick, was_released, is_legal}
 use Rattle.host_core.specs.Setting.{Setting}
 use Rattle.host_core.specs.Views.{LocalInstant, command, after_command, unfinished_of, readings_of, run_of, view_of, row_of}
 use Rattle.host_core.proofs.ActiveTasks.{Keeps, kept_by_instant, kept_by_command}

@@ -1,5 +1,5 @@
 -- Overruns, and completions that come late or never were asked for, computed from the definitions.
-use Rattle.std.proofs.Common.{◌≡◌, ℕ, pos, ℤ, List, [], ◌∷◌, ◌++◌, refl, true, false, reverse}
+use Rattle.std.proofs.Common.{◌≡◌, ℕ, pos, List, [], ◌∷◌, ◌++◌, refl, true, false, reverse}
 use Rattle.std.specs.Prelude.{codes}
 use Rattle.std.specs.Fmt.{digits}
 use Rattle.host_core.specs.declared.events.Event.{Event}
@@ -8,7 +8,7 @@ use Rattle.host_core.specs.declared.tenant_trace.Happening.TheVariants as happen
 use Rattle.host_core.specs.Answers.{answers_of}
 use Rattle.host_core.specs.Legal.{is_legal, counts}
 use Rattle.host_core.specs.Views.{row_of}
-use Rattle.host_core.specs.tenant_state.Row.{State, running, stopped, overrun}
+use Rattle.host_core.specs.tenant_state.Row.{running, stopped, overrun}
 use Rattle.host_core.proofs.FirstRun.{answered, tick, completed, shown, loaded_and_started, first_run}
 use Rattle.host_core.proofs.Rig.{rig}
 

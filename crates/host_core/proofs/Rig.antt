@@ -1,6 +1,6 @@
 -- The rig of the examples: the built-in configuration, and a reader that knows two texts.
-use Rattle.std.proofs.Common.{ℕ, pos, ℤ, List, [], ◌∷◌, ◌++◌, map, Option, Some, None}
-use Rattle.std.specs.Prelude.{codes, Result, Ok, Err, if◌then◌else◌}
+use Rattle.std.proofs.Common.{ℕ, pos, List, [], ◌∷◌, map, Some, None}
+use Rattle.std.specs.Prelude.{codes, Ok, Err, if◌then◌else◌}
 use Rattle.giotto_tasks.specs.Names.{same_name}
 use Rattle.giotto_tasks.specs.Syntax.{number, port, binary, assign, finished, step}
 use Rattle.giotto_tasks.specs.declared.operators.BinaryOperator.TheVariants.{Add, Greater}

@@ -1,6 +1,5 @@
 -- The rules of well-formedness on the example programs.
-use Rattle.std.proofs.Common.{◌≡◌, [], ◌∷◌, refl, Some, None, pos}
-use Rattle.std.specs.Prelude.{codes}
+use Rattle.std.proofs.Common.{◌≡◌, refl, Some, None}
 use Rattle.host_core.specs.giotto_check.Rules.{first_broken_rule}
 use Rattle.giotto_read.proofs.Adder.{adder}
 use Rattle.host_core.proofs.Rig.{switcher, two_constants, broken_switcher}

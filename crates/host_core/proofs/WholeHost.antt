@@ -1,7 +1,6 @@
 -- The whole host on the first run beside beta, computed from the definitions.
-use Rattle.std.proofs.Common.{◌≡◌, ℕ, pos, ℤ, List, [], ◌∷◌, refl, reverse, map}
+use Rattle.std.proofs.Common.{◌≡◌, pos, [], ◌∷◌, refl, reverse, map}
 use Rattle.std.specs.Prelude.{codes}
-use Rattle.giotto_tasks.specs.Names.{Valuation}
 use Rattle.host_core.specs.tenant_state.Row.{Row}
 use Rattle.host_core.specs.Host.{host_after}
 use Rattle.host_core.proofs.FirstRun.{beside_beta}

@@ -1,5 +1,5 @@
 -- What the host is, and how each event changes it.
-use Rattle.std.specs.Prelude.{ℕ, Bool, not, ◌&&◌, if◌then◌else◌, ℤ, List, [], ◌∷◌, map, filter, length, slice_set, slice_index_or}
+use Rattle.std.specs.Prelude.{ℕ, Bool, not, ◌&&◌, if◌then◌else◌, ℤ, List, [], ◌∷◌, map, filter, slice_set, slice_index_or}
 use Rattle.std.specs.List.{list_any, enumerate_from}
 use Rattle.giotto_tasks.specs.declared.names.Name.{Name}
 use Rattle.host_core.specs.declared.events.Event.{Event}

@@ -1,5 +1,5 @@
 -- The one-tenant machine, and each tenant's view of what happens to all tenants. Lists have the newest first.
-use Rattle.std.specs.Prelude.{ℕ, nat_eq, not, ◌==◌, if◌then◌else◌, ℤ, List, [], ◌∷◌, map, filter}
+use Rattle.std.specs.Prelude.{ℕ, not, ◌==◌, if◌then◌else◌, ℤ, List, [], ◌∷◌, map, filter}
 use Rattle.std.specs.List.{enumerate_from}
 use Rattle.giotto_tasks.specs.declared.names.Name.{Name}
 use Rattle.giotto_tasks.specs.Names.{Valuation}

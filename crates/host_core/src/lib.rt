@@ -7,3 +7,5 @@ pub mod rig_config;
 pub mod tenant_grants;
 pub mod tenant_state;
 pub mod tenant_trace;
+#[cfg(test)]
+mod tests;

@@ -58,13 +58,13 @@ pub struct Config {
 
 impl Config {
     /// The place of the tenant with this name, or `None` where the roster has no such tenant.
-    pub fn place_of(&self, name: &[u8]) -> Option<TenantId>
+    pub fn place_of(&self, name: &str) -> Option<TenantId>
         ensures { result ≡ place_of self.now name.now }
     {
         self.tenants
             .as_slice()
             .iter()
-            .position(|tenant| tenant.name.as_str().as_bytes() == name)
+            .position(|tenant| tenant.name.as_str() == name)
     }
 }
 

@@ -1,5 +1,5 @@
 -- The text that a script is answered.
-use Rattle.std.specs.Prelude.{ℕ, ◌+◌, ◌-◌, ◌^◌, nat_lt, Bool, true, false, not, ◌==◌, if◌then◌else◌, ℤ, List, [], ◌∷◌, ◌++◌, length, map, filter, Option, Some, None, codes}
+use Rattle.std.specs.Prelude.{ℕ, ◌-◌, ◌^◌, nat_lt, not, ◌==◌, if◌then◌else◌, ℤ, List, [], ◌∷◌, ◌++◌, length, map, filter, Option, Some, None, codes}
 use Rattle.std.specs.List.{flat_map, enumerate_from}
 use Rattle.std.specs.Fmt.{decimal}
 use Rattle.std.specs.Option.{option_map}
@@ -15,7 +15,6 @@ use Rattle.host_core.specs.declared.tenant_state.replies.Refusal.TheVariants.{Ba
 use Rattle.host_core.specs.rig_config.Roster.{place_of}
 use Rattle.host_core.specs.tenant_state.CommandLine.{command_of_line}
 use Rattle.host_core.specs.tenant_state.Replies.{text_of_reply, text_of_refusal}
-use Rattle.host_core.specs.tenant_state.Row.{ActiveTask, Row}
 use Rattle.host_core.specs.tenant_state.Words.{words_of, first_word_of, behind_first_word, value_of_word}
 use Rattle.host_core.specs.Completions.{has_completion}
 use Rattle.host_core.specs.tenant_state.Jobs.{job_of}

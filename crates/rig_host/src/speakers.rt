@@ -23,11 +23,11 @@ pub enum Speaker {
 pub fn who_speaks(config: &Config, line: &str) -> Speaker
     ensures { result ≡ speaker_of config.now line.now }
 {
-    let word = words::first_word(line.as_bytes());
+    let word = words::first_word(line);
     if word.is_empty() {
         return Speaker::Nobody;
     }
-    if word == b"op".as_slice() {
+    if word == "op" {
         return Speaker::Operator;
     }
     match config.place_of(word) {

@@ -1,10 +1,10 @@
 -- What a program declares, looked up by name.
-use Rattle.std.specs.Prelude.{ℕ, ◌/◌, Bool, not, ◌&&◌, nat_eq, List, [], ◌∷◌, ◌++◌, map, Option, Some, None, codes}
+use Rattle.std.specs.Prelude.{ℕ, ◌/◌, List, [], ◌∷◌, ◌++◌, map, Option, Some, None}
 use Rattle.std.specs.List.{find, filter_map, flat_map}
 use Rattle.giotto_tasks.specs.declared.names.Name.{Name}
-use Rattle.giotto_tasks.specs.Names.{same_name, is_among}
+use Rattle.giotto_tasks.specs.Names.{same_name}
 use Rattle.giotto_tasks.specs.Syntax.{Expression, number, port, unary, binary}
-use Rattle.giotto_read.specs.Program.{Source, from_line, from_grant, SensorDeclaration, ActuatorDeclaration, OutputDeclaration, TaskDeclaration, TaskInvocation, ModeDeclaration, GiottoProgram}
+use Rattle.giotto_read.specs.Program.{Source, from_line, from_grant, SensorDeclaration, ActuatorDeclaration, TaskDeclaration, TaskInvocation, ModeDeclaration, GiottoProgram}
 
 abbrev pub sensor_names : GiottoProgram → List Name
 sensor_names p = map (λ s. s.name) p.sensors

@@ -1,19 +1,17 @@
 -- When a program is well-formed: eleven rules, each a test, read in their order.
-use Rattle.std.specs.Prelude.{ℕ, ◌+◌, ◌/◌, ◌%◌, nat_eq, nat_le, ◌==◌, Bool, true, false, not, ◌&&◌, ◌||◌, if◌then◌else◌, List, [], ◌∷◌, ◌++◌, map, length, Option, Some, None, is_some}
+use Rattle.std.specs.Prelude.{ℕ, ◌+◌, ◌/◌, ◌%◌, nat_eq, nat_le, ◌==◌, Bool, true, false, not, ◌&&◌, ◌||◌, if◌then◌else◌, List, [], ◌∷◌, ◌++◌, map, length, Option, Some, None}
 use Rattle.std.specs.List.{list_all, list_any, flat_map}
 use Rattle.giotto_tasks.specs.declared.names.Name.{Name}
-use Rattle.giotto_tasks.specs.Names.{same_name, is_among}
-use Rattle.giotto_tasks.specs.Syntax.{Expression, Statement, assign, branch, repeat, Block, finished, step}
-use Rattle.giotto_read.specs.Program.{OutputDeclaration, TaskDeclaration, ActuatorUpdate, ModeSwitch, TaskInvocation, ModeDeclaration, GiottoProgram, names_of}
-use Rattle.host_core.specs.giotto_check.Declarations.{sensor_names, actuator_names, output_names, task_names, mode_names, task_of, mode_of, outputs_of_task, mode_ports, period_of_task, names_read, lines_written}
+use Rattle.giotto_tasks.specs.Names.{is_among}
+use Rattle.giotto_tasks.specs.Sound.{all_different, block_reads_only, block_assigns_only}
+use Rattle.giotto_tasks.specs.Syntax.{Expression}
+use Rattle.giotto_read.specs.Program.{TaskDeclaration, ActuatorUpdate, ModeSwitch, TaskInvocation, ModeDeclaration, GiottoProgram, names_of}
+use Rattle.host_core.specs.giotto_check.Declarations.{sensor_names, actuator_names, output_names, task_names, mode_names, task_of, mode_of, mode_ports, period_of_task, names_read, lines_written}
 
-abbrev pub is_distinct : List Name → Bool
-is_distinct [] = true
-is_distinct (x ∷ xs) = not (is_among xs x) && is_distinct xs
-
-abbrev pub is_distinct_number : List ℕ → Bool
-is_distinct_number [] = true
-is_distinct_number (n ∷ ns) = not (list_any (nat_eq n) ns) && is_distinct_number ns
+-- no number stands twice
+abbrev pub all_different_numbers : List ℕ → Bool
+all_different_numbers [] = true
+all_different_numbers (n ∷ ns) = not (list_any (nat_eq n) ns) && all_different_numbers ns
 
 abbrev pub are_among : List Name → List Name → Bool
 are_among names xs = list_all (is_among names) xs
@@ -45,13 +43,13 @@ each_mode test p = list_all test p.modes
 -- 1: names and lines are declared once
 abbrev pub declares_once : GiottoProgram → Bool
 declares_once p =
-    is_distinct declared && list_all declares_own p.tasks && is_distinct_number (lines_written p)
+    all_different declared && list_all declares_own p.tasks && all_different_numbers (lines_written p)
   where
     declared : List Name
     declared = sensor_names p ++ (actuator_names p ++ (output_names p ++ (task_names p ++ mode_names p)))
 
     declares_own : TaskDeclaration → Bool
-    declares_own t = is_distinct t.outputs && is_distinct (t.inputs ++ names_of t.states) && share_none declared (t.inputs ++ names_of t.states)
+    declares_own t = all_different t.outputs && all_different (t.inputs ++ names_of t.states) && share_none declared (t.inputs ++ names_of t.states)
 
 -- 2: names stand for what they are used as
 abbrev pub uses_right_kinds : GiottoProgram → Bool
@@ -72,20 +70,12 @@ uses_right_kinds p = list_all (λ t. are_among (output_names p) t.outputs) p.tas
     in_mode : ModeDeclaration → Bool
     in_mode m = list_all in_update m.updates && list_all in_switch m.switches && list_all in_invocation m.invocations
 
--- the block assigns only the second list's names, and reads only the first list's
-abbrev mutual
-  pub statement_uses : List Name → List Name → Statement → Bool
-  statement_uses read written (assign x e) = is_among written x && are_among read (names_read e)
-  statement_uses read written (branch c a b) = are_among read (names_read c) && (block_uses read written a && block_uses read written b)
-  statement_uses read written (repeat n b) = block_uses read written b
-
-  pub block_uses : List Name → List Name → Block → Bool
-  block_uses read written finished = true
-  block_uses read written (step s b) = statement_uses read written s && block_uses read written b
-
 -- 3: a body uses its task's own ports alone
 abbrev pub bodies_use_own_ports : GiottoProgram → Bool
-bodies_use_own_ports p = list_all (λ t. block_uses (t.inputs ++ (names_of t.states ++ t.outputs)) (t.outputs ++ names_of t.states) t.block) p.tasks
+bodies_use_own_ports p = list_all uses_own p.tasks
+  where
+    uses_own : TaskDeclaration → Bool
+    uses_own t = block_reads_only (is_among (t.inputs ++ (names_of t.states ++ t.outputs))) t.block && block_assigns_only (is_among (t.outputs ++ names_of t.states)) t.block
 
 -- 4: a period is 1 to 1,000,000 ticks, and a frequency is at least 1 and divides it
 abbrev pub frequencies_divide : GiottoProgram → Bool
@@ -102,15 +92,15 @@ frequencies_divide p = each_mode in_mode p
 
 -- 5: a mode invokes a task once
 abbrev pub invokes_once : GiottoProgram → Bool
-invokes_once p = each_mode (λ m. is_distinct (map (λ (i : TaskInvocation). i.task) m.invocations)) p
+invokes_once p = each_mode (λ m. all_different (map (λ (i : TaskInvocation). i.task) m.invocations)) p
 
 -- 6: two tasks of a mode share no output
 abbrev pub tasks_share_no_output : GiottoProgram → Bool
-tasks_share_no_output p = each_mode (λ m. is_distinct (mode_ports p m)) p
+tasks_share_no_output p = each_mode (λ m. all_different (mode_ports p m)) p
 
 -- 7: a mode updates an actuator once
 abbrev pub updates_once : GiottoProgram → Bool
-updates_once p = each_mode (λ m. is_distinct (map (λ (u : ActuatorUpdate). u.actuator) m.updates)) p
+updates_once p = each_mode (λ m. all_different (map (λ (u : ActuatorUpdate). u.actuator) m.updates)) p
 
 -- 8: an invocation has an argument for each input
 abbrev pub arguments_fit : GiottoProgram → Bool
@@ -130,7 +120,7 @@ drivers_read_mode_ports p = each_mode in_mode p
 
     in_switch : ModeDeclaration → ModeSwitch → Bool
     in_switch m s = are_among (mode_ports p m ++ sensor_names p) (names_in_switch s)
-        && are_among (ports_of (mode_of p s.target)) (destinations_of s) && is_distinct (destinations_of s)
+        && are_among (ports_of (mode_of p s.target)) (destinations_of s) && all_different (destinations_of s)
 
     in_mode : ModeDeclaration → Bool
     in_mode m = list_all (λ u. are_among (mode_ports p m) (names_in_update u)) m.updates

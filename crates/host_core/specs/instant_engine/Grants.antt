@@ -1,10 +1,9 @@
 -- The values that tenants grant each other, taken between the two halves of an instant.
-use Rattle.std.specs.Prelude.{ℕ, Bool, ◌&&◌, if◌then◌else◌, ℤ, List, Option, Some, None}
+use Rattle.std.specs.Prelude.{ℕ, Bool, ◌&&◌, if◌then◌else◌, ℤ, Option, None}
 use Rattle.std.specs.List.{filter_map, list_any}
 use Rattle.std.specs.Option.{option_and_then, option_map, option_map_or}
 use Rattle.giotto_tasks.specs.declared.names.Name.{Name}
 use Rattle.giotto_tasks.specs.Names.{Valuation, same_name, value_at, is_among}
-use Rattle.giotto_read.specs.Program.{GiottoProgram}
 use Rattle.host_core.specs.declared.rig_config.Config.{Config}
 use Rattle.host_core.specs.declared.tenant_grants.Offer.{Offer}
 use Rattle.host_core.specs.declared.tenant_grants.Bind.{Bind}

@@ -1,6 +1,5 @@
 -- The built-in configuration: one line, and two tenants.
 use Rattle.std.specs.Prelude.{ℕ, List, [], ◌∷◌, codes}
-use Rattle.host_core.specs.declared.rig_config.Budgets.{Budgets}
 use Rattle.host_core.specs.declared.rig_config.TenantConfig.{TenantConfig}
 use Rattle.host_core.specs.declared.rig_config.Config.{Config}
 

@@ -1,5 +1,5 @@
 -- The command that a line spells.
-use Rattle.std.specs.Prelude.{ℕ, Bool, if◌then◌else◌, List, [], ◌∷◌, drop, Option, Some, None, codes, ◌&&◌}
+use Rattle.std.specs.Prelude.{ℕ, if◌then◌else◌, List, [], ◌∷◌, drop, Option, Some, None, codes, ◌&&◌}
 use Rattle.giotto_tasks.specs.Names.{same_name}
 use Rattle.host_core.specs.declared.tenant_state.commands.Command.{Command}
 use Rattle.host_core.specs.declared.tenant_state.commands.Command.TheVariants.{Load, Start, ShowPort}

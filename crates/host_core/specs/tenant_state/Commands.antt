@@ -1,5 +1,5 @@
 -- What a command does, and its reply. A refusal changes nothing; the first that applies is given.
-use Rattle.std.specs.Prelude.{ℕ, Bool, true, false, ◌&&◌, if◌then◌else◌, ℤ, List, [], ◌∷◌, Option, Some, None, Result, Ok, Err}
+use Rattle.std.specs.Prelude.{ℕ, ◌&&◌, if◌then◌else◌, ℤ, List, [], Option, Some, None, Result, Ok, Err}
 use Rattle.std.specs.List.{list_all}
 use Rattle.giotto_tasks.specs.declared.names.Name.{Name}
 use Rattle.giotto_tasks.specs.Names.{value_at}
@@ -19,7 +19,7 @@ use Rattle.host_core.specs.declared.tenant_trace.Happening.TheVariants as happen
 use Rattle.host_core.specs.giotto_check.Declarations.{lines_read, lines_written}
 use Rattle.host_core.specs.giotto_check.Rules.{first_broken_rule}
 use Rattle.host_core.specs.rig_config.Roster.{may_use}
-use Rattle.host_core.specs.tenant_state.Row.{State, empty, loaded, running, Row, is_running, recorded}
+use Rattle.host_core.specs.tenant_state.Row.{State, loaded, running, Row, is_running, recorded}
 use Rattle.host_core.specs.tenant_state.Ports.{initial_ports}
 
 -- what each program text reads as

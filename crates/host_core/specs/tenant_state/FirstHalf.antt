@@ -1,10 +1,9 @@
 -- The first half of an instant: the due tasks end, and the due actuators are updated; or the tenant is stopped, if a due task isn't completed.
-use Rattle.std.specs.Prelude.{ℕ, ◌/◌, ◌%◌, ◌==◌, Bool, true, false, not, ◌&&◌, if◌then◌else◌, ℤ, List, [], ◌∷◌, ◌++◌, map, filter, reverse, Option, Some, None}
+use Rattle.std.specs.Prelude.{ℕ, ◌/◌, ◌%◌, ◌==◌, Bool, not, ◌&&◌, if◌then◌else◌, ℤ, List, [], ◌∷◌, map, filter, None}
 use Rattle.std.specs.List.{flat_map, zip}
 use Rattle.std.specs.Option.{option_map_or}
 use Rattle.giotto_tasks.specs.declared.names.Name.{Name}
-use Rattle.giotto_tasks.specs.Names.{Valuation, same_name, is_among, with_value}
-use Rattle.giotto_tasks.specs.Syntax.{TaskBody}
+use Rattle.giotto_tasks.specs.Names.{same_name, is_among, with_value}
 use Rattle.giotto_tasks.specs.Meaning.{value_of, outputs_of, states_of}
 use Rattle.giotto_read.specs.Program.{TaskDeclaration, ActuatorUpdate, TaskInvocation, ModeDeclaration, GiottoProgram, body_of, names_of}
 use Rattle.host_core.specs.declared.tenant_trace.Happening.{Happening}

@@ -1,5 +1,5 @@
 -- Jobs, by their names.
-use Rattle.std.specs.Prelude.{ℕ, nat_eq, Bool, ◌&&◌, ◌==◌, List}
+use Rattle.std.specs.Prelude.{ℕ, Bool, ◌&&◌, ◌==◌}
 use Rattle.std.specs.List.{list_any}
 use Rattle.giotto_tasks.specs.Names.{same_name}
 use Rattle.host_core.specs.declared.tenant_state.jobs.JobId.{JobId}

@@ -1,12 +1,12 @@
 -- The ports of a program and their values.
-use Rattle.std.specs.Prelude.{ℕ, Bool, ℤ, pos, List, [], ◌∷◌, ◌++◌, map, fold, Option, Some, None, unwrap_or, codes, if◌then◌else◌}
-use Rattle.std.specs.List.{flat_map, zip}
+use Rattle.std.specs.Prelude.{Bool, ℤ, pos, List, [], ◌∷◌, ◌++◌, map, Option, Some, None, codes}
+use Rattle.std.specs.List.{flat_map}
 use Rattle.giotto_tasks.specs.declared.names.Name.{Name}
 use Rattle.giotto_tasks.specs.Arithmetic.{is_true}
-use Rattle.giotto_tasks.specs.Names.{Valuation, value_at, with_value, values_of, is_among}
+use Rattle.giotto_tasks.specs.Names.{Valuation, with_value}
 use Rattle.giotto_tasks.specs.Syntax.{Expression}
 use Rattle.giotto_tasks.specs.Meaning.{value_of}
-use Rattle.giotto_read.specs.Program.{SensorDeclaration, ActuatorDeclaration, OutputDeclaration, TaskDeclaration, GiottoProgram, names_of}
+use Rattle.giotto_read.specs.Program.{SensorDeclaration, ActuatorDeclaration, OutputDeclaration, TaskDeclaration, GiottoProgram}
 
 -- an input or a state of a task, as it is shown: no other port has such a name, since a dot is in no name
 abbrev pub own_port : Name → Name → Name

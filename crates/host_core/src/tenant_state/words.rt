@@ -5,22 +5,22 @@ ghost use Rattle.std.specs.List.{prefix_len};
 ghost use Rattle.host_core.specs.tenant_state.Words.{is_blank, is_word_byte, from_first_word, first_word_of, behind_first_word};
 
 /// The first word of a line, or no byte where the line is blank.
-pub fn first_word(line: &[u8]) -> &[u8]
+pub fn first_word(line: &str) -> &str
     ensures { result.now ≡ first_word_of line.now }
 {
     let rest = skip_blanks(line);
-    &rest[..word_len(rest)]
+    &rest[..word_len(rest.as_bytes())]
 }
 
 /// What stands behind the first word of a line, its blanks included.
-pub fn behind_first_word(line: &[u8]) -> &[u8]
+pub fn behind_first_word(line: &str) -> &str
     ensures { result.now ≡ behind_first_word line.now }
 {
     let rest = skip_blanks(line);
-    &rest[word_len(rest)..]
+    &rest[word_len(rest.as_bytes())..]
 }
 
-/// Whether a byte of a line is a blank: space, tab or CR.
+/// Whether a byte of a line is a blank: space, tab or CR. A line has no LF.
 pub fn blank(byte: u8) -> bool
     ensures { result ≡ is_blank byte }
 {
@@ -28,10 +28,10 @@ pub fn blank(byte: u8) -> bool
 }
 
 // The line from its first word on.
-fn skip_blanks(line: &[u8]) -> &[u8]
+fn skip_blanks(line: &str) -> &str
     ensures { result.now ≡ from_first_word line.now }
 {
-    &line[blank_len(line)..]
+    &line[blank_len(line.as_bytes())..]
 }
 
 // How many blanks stand at the front.
