@@ -3,6 +3,7 @@ pub mod AdderExample
 pub mod Both
 pub mod CanonicalReads
 pub mod CanonicalSpells
+pub mod CombinedForms
 pub mod Completion
 pub mod FaultExamples
 pub mod FirstTokens
@@ -13,5 +14,14 @@ pub mod OneProgram
 pub mod OneReading
 pub mod OperatorFaults
 pub mod PrefixLaws
+pub mod ReaderFaults
+pub mod ReaderLines
+pub mod ReaderLists
+pub mod ReaderModeLines
+pub mod ReaderSteps
+pub mod ReaderTaskLines
+pub mod ReaderTokens
+pub mod SmallTasks
 pub mod SpelledWritable
+pub mod TextReading
 pub mod TokenRules

@@ -11,21 +11,24 @@
 //! start m;
 //! ```
 //!
-//! It has 56 tokens, each found with its offset:
+//! [`reading::read`] reads a text as a [`programs::Program`], or says in [`faults`] why it spells none:
 //!
 //! ```text
-//! let found = tokens(alloc, text)?;
-//! assert_eq!(rt; found.len(), 56);
+//! let program = read(alloc, text)?;
+//! assert_eq!(rt; program.start.as_str(), "m");
 //! ```
 //!
-//! Where to go next: [`lexer::tokens`] cuts a text into [`tokens`], [`faults`] says why a text is refused, and [`laws`]
-//! states what holds of the definitions. The definitions stand in `specs/`: `Tokens` and `Grammar` first, then
-//! `Spelling` (what tokens spell, and what they begin to spell), `Canonical` and `Reading`; `Writable` and `Sound` say of
-//! which programs the laws on canonical texts hold. `proofs/TokenRules` and `proofs/FaultExamples` show the rules by
-//! example.
+//! Where to go next: [`lexer::tokens`] cuts a text into [`tokens`], the private module `reader` has one function for each
+//! line of the grammar, and [`laws`] states what holds of the definitions. These stand in `specs/`: `Tokens` and `Grammar`
+//! first, then `Spelling` (what tokens spell, and what they begin to spell), `Canonical` and `Reading`; `Writable` and
+//! `Sound` say of which programs the laws on canonical texts hold. `proofs/TokenRules` and `proofs/FaultExamples` show the
+//! rules by example.
 #![tactic(auto)]
 
 pub mod faults;
 pub mod laws;
 pub mod lexer;
+pub mod programs;
+mod reader;
+pub mod reading;
 pub mod tokens;

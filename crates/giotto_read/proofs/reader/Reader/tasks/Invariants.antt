@@ -1,0 +1,13 @@
+use Rattle.std.proofs.Common.{◌≡◌, ◌-◌, length, map}
+use Rattle.giotto_read.specs.declared.tokens.Keyword.TheVariants as keyword
+use Rattle.giotto_read.specs.declared.tokens.Token.TheVariants as token
+use Rattle.giotto_read.specs.ProgramTrees.{task_of}
+use Rattle.giotto_read.specs.ReaderForms.{a_task}
+use Rattle.giotto_read.proofs.ReaderSteps.{SomeRead}
+use Rattle.giotto_read.proofs.reader.Reader.tasks.Given as goal
+
+abbrev pub invariant-loop-self : goal.invariant-loop-self
+invariant-loop-self l = SomeRead a_task (λ t. t ≡ token.Keyword keyword.Task) l.initial.self (map task_of l.tasks.items) l.self
+
+abbrev pub decreases-loop-self : goal.decreases-loop-self
+decreases-loop-self l = length l.self.tokens.now - l.self.at

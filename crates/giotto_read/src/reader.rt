@@ -1,0 +1,279 @@
+//! Reads a program from its tokens: one function for each line of the grammar, from left to right, with one token of
+//! lookahead.
+
+ghost use Rattle.std.specs.Prelude.{◌≡◌, ℕ, pos, neg_ℤ, List, ◌≤◌, ◌^◌, ◌<◌, ◌↔◌, length, IsTrue, IfSome, IfNone, IfOk, IfErr};
+ghost use Rattle.std.specs.Bool.{OnTrue, OnFalse};
+
+mod declarations;
+mod expressions;
+mod modes;
+mod tasks;
+
+use crate::programs::Program;
+use crate::tokens::{Keyword, PlacedToken, Symbol, Token};
+use giotto_tasks::names::Name;
+use std::alloc::{AllocError, AllocFailed, Global};
+
+/// Why a reader stopped where it stands.
+#[derive(Clone, Copy, Debug, PartialEq, Eq)]
+pub(crate) enum Stop {
+    /// The next token, or the end, fits no grammar line here.
+    Unexpected,
+    /// Want of memory.
+    Memory,
+}
+
+impl<T: Drop> From<AllocFailed<T>> for Stop {
+    ghost use Rattle.std.specs.Prelude.{◌≡◌};
+    ghost use Rattle.giotto_read.specs.declared.reader.Stop.TheVariants.{Memory};
+
+    ghost from_gives = { λ _ e. e ≡ Memory };
+
+    fn from(_failed: AllocFailed<T>) -> Stop {
+        Stop::Memory
+    }
+}
+
+impl From<AllocError> for Stop {
+    ghost use Rattle.std.specs.Prelude.{◌≡◌};
+    ghost use Rattle.giotto_read.specs.declared.reader.Stop.TheVariants.{Memory};
+
+    ghost from_gives = { λ _ e. e ≡ Memory };
+
+    fn from(_failed: AllocError) -> Stop {
+        Stop::Memory
+    }
+}
+
+/// The tokens of a text, and how many of them are read.
+#[derive(Drop)]
+pub(crate) struct Reader<'a> {
+    alloc: Global,
+    tokens: &'a [PlacedToken],
+    at: usize,
+    ghost within: { at ≤ length tokens.now },
+}
+
+impl<'a> Reader<'a> {
+    /// A reader of these tokens, at the first.
+    pub(crate) fn new(alloc: Global, tokens: &'a [PlacedToken]) -> Reader<'a>
+        ensures tokens { result.tokens.now ≡ tokens.now }
+        ensures start { result.at ≡ 0 }
+    {
+        Reader {
+            alloc,
+            tokens,
+            at: 0,
+        }
+    }
+}
+
+impl Reader<'_> {
+    ghost use Rattle.giotto_read.specs.Progress.{Accepts, ComesNext, Halts, IsRead, ReadsAs, end_mark, mark};
+    ghost use Rattle.giotto_read.specs.ReaderForms.{a_name, an_int, a_size, an_initial, a_program, a_start};
+    ghost use Rattle.giotto_read.specs.TokenReading.{offset_at};
+    ghost use Rattle.giotto_read.specs.declared.tokens.Token.TheVariants as token;
+
+    // program = {sensor} {actuator} {output} {task} {mode} "start" NAME ";"
+    pub(crate) fn program(&mut self) -> Result<Program, Stop>
+        ensures { ReadsAs (λ p. p) a_program self.old result self.new }
+    {
+        let sensors = self.sensors()?;
+        let actuators = self.actuators()?;
+        let outputs = self.outputs()?;
+        let tasks = self.tasks()?;
+        let modes = self.modes()?;
+        let start = self.start()?;
+        Ok(Program {
+            sensors,
+            actuators,
+            outputs,
+            tasks,
+            modes,
+            start,
+        })
+    }
+
+    /// Whether all tokens are read.
+    pub(crate) fn is_at_end(&self) -> bool
+        ensures { IsTrue result ↔ (self.now.at ≡ length self.now.tokens.now) }
+    {
+        self.at == self.tokens.len()
+    }
+
+    /// The offset of the next token, or the end.
+    pub(crate) fn offset(&self, end: usize) -> usize
+        ensures { result ≡ offset_at self.now.tokens.now self.now.at end }
+    {
+        match self.tokens.get(self.at) {
+            Some(token) => token.offset,
+            None => end,
+        }
+    }
+
+    // "start" NAME ";"
+    fn start(&mut self) -> Result<Name, Stop>
+        ensures { ReadsAs (λ x. x) a_start self.old result self.new }
+    {
+        self.keyword(Keyword::Start)?;
+        let name = self.name()?;
+        self.symbol(Symbol::Semicolon)?;
+        Ok(name)
+    }
+
+    // The next token.
+    fn next(&self) -> Option<&Token>
+        ensures token { IfSome result (λ t. ComesNext self.now t.now) }
+        ensures end { IfNone result (ComesNext self.now end_mark) }
+    {
+        match self.tokens.get(self.at) {
+            Some(placed) => Some(&placed.token),
+            None => None,
+        }
+    }
+
+    fn next_is(&self, symbol: Symbol) -> bool
+        ensures yes { OnTrue result (ComesNext self.now (token.Symbol symbol)) }
+        ensures no { OnFalse result (¬ ComesNext self.now (token.Symbol symbol)) }
+    {
+        match self.next() {
+            Some(Token::Symbol(found)) => *found == symbol,
+            _ => false,
+        }
+    }
+
+    fn next_is_keyword(&self, keyword: Keyword) -> bool
+        ensures yes { OnTrue result (ComesNext self.now (token.Keyword keyword)) }
+        ensures no { OnFalse result (¬ ComesNext self.now (token.Keyword keyword)) }
+    {
+        match self.next() {
+            Some(Token::Keyword(found)) => *found == keyword,
+            _ => false,
+        }
+    }
+
+    fn next_name(&self) -> Option<&Name>
+        ensures some { IfSome result (λ x. ComesNext self.now (token.Name x.now)) }
+        ensures none { IfNone result ((x : List ℕ) → ¬ ComesNext self.now (token.Name x)) }
+    {
+        match self.next() {
+            Some(Token::Name(name)) => Some(name),
+            _ => None,
+        }
+    }
+
+    fn next_number(&self) -> Option<u64>
+        ensures some { IfSome result (λ n. ComesNext self.now (token.Number n)) }
+        ensures none { IfNone result ((n : ℕ) → n ≤ 2 ^ 63 → ¬ ComesNext self.now (token.Number n)) }
+    {
+        match self.next() {
+            Some(Token::Number(number)) => Some(*number),
+            _ => None,
+        }
+    }
+
+    // Takes the symbol if it comes next.
+    fn accept(&mut self, symbol: Symbol) -> bool
+        ensures { Accepts (token.Symbol symbol) self.old result self.new }
+    {
+        if !self.next_is(symbol) {
+            return false;
+        }
+        self.at += 1;
+        true
+    }
+
+    // Takes the keyword if it comes next.
+    fn accept_keyword(&mut self, keyword: Keyword) -> bool
+        ensures { Accepts (token.Keyword keyword) self.old result self.new }
+    {
+        if !self.next_is_keyword(keyword) {
+            return false;
+        }
+        self.at += 1;
+        true
+    }
+
+    fn symbol(&mut self, symbol: Symbol) -> Result<(), Stop>
+        ensures { ReadsAs (λ _. tt) (mark (token.Symbol symbol)) self.old result self.new }
+    {
+        if !self.accept(symbol) {
+            return Err(Stop::Unexpected);
+        }
+        Ok(())
+    }
+
+    fn keyword(&mut self, keyword: Keyword) -> Result<(), Stop>
+        ensures { ReadsAs (λ _. tt) (mark (token.Keyword keyword)) self.old result self.new }
+    {
+        if !self.accept_keyword(keyword) {
+            return Err(Stop::Unexpected);
+        }
+        Ok(())
+    }
+
+    fn name(&mut self) -> Result<Name, Stop>
+        ensures { ReadsAs (λ x. x) a_name self.old result self.new }
+    {
+        let Some(name) = self.next_name() else {
+            return Err(Stop::Unexpected);
+        };
+        let name = name.copy();
+        self.at += 1;
+        Ok(name)
+    }
+
+    // INT: at most 9223372036854775807
+    fn int(&mut self) -> Result<u64, Stop>
+        ensures read { ReadsAs (λ n. n) an_int self.old result self.new }
+        ensures small { IfOk result (λ n. n < 2 ^ 63) }
+    {
+        let Some(number) = self.next_number() else {
+            return Err(Stop::Unexpected);
+        };
+        if number >= 1 << 63 {
+            return Err(Stop::Unexpected);
+        }
+        self.at += 1;
+        Ok(number)
+    }
+
+    // INT behind "-": at most 9223372036854775808
+    fn size(&mut self) -> Result<u64, Stop>
+        ensures read { IfOk result (λ n. (small : n ≤ 2 ^ 63) × IsRead a_size self.old (n, small) self.new) }
+        ensures stopped { IfErr result (λ e. Halts a_size self.old e self.new) }
+    {
+        let Some(number) = self.next_number() else {
+            return Err(Stop::Unexpected);
+        };
+        if number > 1 << 63 {
+            return Err(Stop::Unexpected);
+        }
+        self.at += 1;
+        Ok(number)
+    }
+
+    // init = ["-"] INT
+    fn initial(&mut self) -> Result<i64, Stop>
+        ensures { ReadsAs (λ z. z) an_initial self.old result self.new }
+    {
+        if self.accept(Symbol::Minus) {
+            let size = self.size()?;
+            return Ok(negated(size));
+        }
+        let number = self.int()?;
+        Ok(number as i64)
+    }
+}
+
+// The number with a "-" before it.
+fn negated(size: u64) -> i64
+    requires { size ≤ 2 ^ 63 }
+    ensures { result ≡ neg_ℤ (pos size) }
+{
+    if size == 1 << 63 {
+        i64::MIN
+    } else {
+        -(size as i64)
+    }
+}

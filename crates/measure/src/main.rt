@@ -1,0 +1,70 @@
+//! Work for the stopwatch of `bench/`: a text read many times, a body with many turns, and a plain loop.
+#![tactic(auto)]
+
+pub mod turns;
+
+use giotto_read::lexer::tokens;
+use giotto_read::reading::read;
+use std::alloc::Global;
+use std::io;
+use std::io::Read;
+use std::process::ExitCode;
+
+fn main(rt: HostRuntime) -> anyhow::Result<ExitCode> {
+    let words: Vec<String> = std::env::args(&rt)?.collect(rt.alloc())?;
+    let [_, work, times] = words.as_slice() else {
+        eprintln!(rt;
+            "usage: measure tokens|read TIMES < TEXT, measure evaluate TURNS or measure loop TURNS"
+        )?;
+        return Ok(ExitCode::from(2));
+    };
+    let times: u64 = times.as_str().parse()?;
+    let done = match work.as_str() {
+        "tokens" => tokens_many_times(rt.alloc(), rt.reader(), times)?,
+        "read" => read_many_times(rt.alloc(), rt.reader(), times)?,
+        "evaluate" => turns::evaluated(rt.alloc(), times)?,
+        "loop" => turns::plain(times),
+        _ => {
+            eprintln!(rt; "measure: no such work")?;
+            return Ok(ExitCode::from(2));
+        }
+    };
+    println!(rt; "{done}")?;
+    Ok(ExitCode::SUCCESS)
+}
+
+// How many tokens the text of a reader has, counted anew each time; -1 where it has a fault.
+fn tokens_many_times<R: Read + Drop>(
+    alloc: Global,
+    mut reader: R,
+    times: u64,
+) -> anyhow::Result<i64> {
+    let mut text = Vec::new(alloc);
+    reader.read_to_end(&mut text)?;
+    let mut found = 0i64;
+    for _time in 0..times {
+        match tokens(alloc, &text) {
+            Ok(tokens) => found = found.saturating_add(tokens.len() as i64),
+            Err(_) => return Ok(-1),
+        }
+    }
+    Ok(found)
+}
+
+// How many tasks the program of a reader's text has, counted anew each time; -1 where the text spells none.
+fn read_many_times<R: Read + Drop>(
+    alloc: Global,
+    mut reader: R,
+    times: u64,
+) -> anyhow::Result<i64> {
+    let mut text = String::new(alloc);
+    reader.read_to_string(&mut text)?;
+    let mut found = 0i64;
+    for _time in 0..times {
+        match read(alloc, text.as_str()) {
+            Ok(program) => found = found.saturating_add(program.tasks.as_slice().len() as i64),
+            Err(_) => return Ok(-1),
+        }
+    }
+    Ok(found)
+}
