@@ -1,7 +1,7 @@
 //! Work for the stopwatch of `bench/`: a text read many times, a body with many turns, and a plain loop.
 #![tactic(auto)]
 
-pub mod turns;
+mod turns;
 
 use giotto_read::lexer::tokens;
 use giotto_read::reading::read;
