@@ -1,1 +1,5 @@
-pub mod FirstScript
+pub mod AnsweredLines
+mod FirstScript
+pub mod LineCuts
+mod LineRows
+pub mod NextLine

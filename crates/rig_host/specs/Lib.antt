@@ -1,2 +1,5 @@
+pub mod Answered
+pub mod Faults
 pub mod Lines
+pub mod Reading
 pub mod Script

@@ -1,8 +1,7 @@
 -- The text that a script is answered.
-use Rattle.std.specs.Prelude.{ℕ, ◌-◌, ◌^◌, nat_lt, not, ◌==◌, if◌then◌else◌, ℤ, List, [], ◌∷◌, ◌++◌, length, map, filter, Option, Some, None, codes}
+use Rattle.std.specs.Prelude.{ℕ, ◌-◌, ◌^◌, nat_lt, not, ◌==◌, if◌then◌else◌, ℤ, List, [], ◌∷◌, ◌++◌, length, slice_get, map, filter, Option, Some, None, codes}
 use Rattle.std.specs.List.{flat_map, enumerate_from}
 use Rattle.std.specs.Fmt.{decimal}
-use Rattle.std.specs.Option.{option_map}
 use Rattle.giotto_tasks.specs.declared.names.Name.{Name}
 use Rattle.giotto_tasks.specs.Names.{same_name}
 use Rattle.host_core.specs.declared.events.Event.{Event}
@@ -23,11 +22,8 @@ use Rattle.host_core.specs.Setting.{Setting}
 use Rattle.host_core.specs.Views.{after_command, row_of}
 use Rattle.rig_host.specs.declared.speakers.Speaker.{Speaker}
 use Rattle.rig_host.specs.declared.speakers.Speaker.TheVariants.{Nobody, Operator, Tenant, Unknown}
-use Rattle.rig_host.specs.Lines.{cut, text_of_line}
-
--- a reply line: who is answered, a space, the reply, and LF
-abbrev pub reply_line : List ℕ → List ℕ → List ℕ
-reply_line who reply = who ++ (32 ∷ reply ++ 10 ∷ [])
+use Rattle.rig_host.specs.Answered.{reply_line, answered}
+use Rattle.rig_host.specs.Lines.{cut}
 
 -- the word with which the operator's lines begin
 abbrev pub operator : List ℕ
@@ -47,6 +43,27 @@ speaker_of config line = by (first_word_of line)
 
 abbrev pub operator_refusal : List ℕ → List ℕ
 operator_refusal why = reply_line operator (codes "err " ++ why)
+
+abbrev pub err_who : List ℕ
+err_who = reply_line (codes "host") (codes "err who")
+
+-- what a line is answered where no command stands: none of its forms fits
+abbrev pub refusal_of_line : Config → List ℕ → List ℕ
+refusal_of_line config line = by (speaker_of config line)
+  where
+    of_tenant : Option TenantConfig → List ℕ
+    of_tenant None = err_who
+    of_tenant (Some tenant) = reply_line tenant.name (codes "err " ++ text_of_refusal BadCommand)
+
+    by : Speaker → List ℕ
+    by Nobody = []
+    by Operator = operator_refusal (text_of_refusal BadCommand)
+    by (Tenant t) = of_tenant (slice_get config.tenants t)
+    by Unknown = err_who
+
+-- what is written for these bytes where no command stands
+abbrev pub refusals_of : Config → List ℕ → List ℕ
+refusals_of config bytes = answered refusal_of_line (λ c line. c) config (cut bytes)
 
 -- an operator line
 pub data OperatorLine : Type 0 where
@@ -127,16 +144,11 @@ module _ (setting : Setting) where
       by Nobody = only_answered []
       by Operator = operator_step past (words_of (behind_first_word line))
       by (Tenant t) = tenant_step past t (first_word_of line) (behind_first_word line)
-      by Unknown = only_answered (reply_line (codes "host") (codes "err who"))
+      by Unknown = only_answered err_who
 
-  -- line by line; a line that is too long or no text ends the script
+  -- what is written for these lines behind the events of the past
   abbrev pub script_from : List Event → List (List ℕ) → List ℕ
-  script_from past [] = []
-  script_from past (line ∷ lines) = goes_on (option_map (line_step past) (text_of_line line)) (λ s. s.reply ++ script_from (s.events ++ past) lines)
-    where
-      goes_on : Option Step → (Step → List ℕ) → List ℕ
-      goes_on None rest = reply_line (codes "host") (codes "bye bad-line")
-      goes_on (Some s) rest = rest s
+  script_from past lines = answered (λ p line. (line_step p line).reply) (λ p line. (line_step p line).events ++ p) past lines
 
   -- what is written for these bytes
   abbrev pub script_text_of : List ℕ → List ℕ

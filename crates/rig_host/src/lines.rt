@@ -1,9 +1,15 @@
 //! Lines of a reader: at most 16,384 bytes before each LF, one CR at the end taken off, and UTF-8.
 
+ghost use Rattle.std.specs.Prelude.{◌≡◌, ◌≢◌, ℕ, true, false, List, IfSome, IfErr, OnOk};
+ghost use Rattle.std.specs.Io.KnownBytes.{Keeps};
+ghost use Rattle.tokio_util.specs.Codec.Lines.{IsOutOfMemory};
+ghost use Rattle.rig_host.specs.Reading.{IsReading, IsLeft, IsNextLine};
+
+use crate::faults::ScriptFault;
 use bytes::BytesMut;
 use std::alloc::Global;
 use std::io;
-use std::io::Read;
+use std::io::{Read, Write};
 use tokio_util::codec::{Decoder, LinesCodec, LinesCodecError};
 
 /// How many bytes a line may have before its LF.
@@ -12,7 +18,7 @@ pub const MAX_LINE: usize = 16384;
 /// How many reads may go by without the end of the input.
 pub const MAX_READS: u32 = 1048576;
 
-/// What reading the next line gave.
+/// What the next line is.
 #[derive(Drop)]
 pub enum Line {
     /// A line, without its LF and without one CR before it.
@@ -21,15 +27,12 @@ pub enum Line {
     Bad,
     /// The input has ended.
     End,
-    /// A read failed, or there was want of memory for the line.
-    ReadFailed,
-    /// The input hasn't ended after 1,048,576 reads.
-    Turns,
 }
 
 /// The lines of a reader.
 #[derive(Drop)]
 pub struct Lines<R: Read + Drop> {
+    alloc: Global,
     reader: R,
     codec: LinesCodec,
     buffer: BytesMut,
@@ -39,8 +42,11 @@ pub struct Lines<R: Read + Drop> {
 
 impl<R: Read + Drop> Lines<R> {
     /// The lines of a reader from which nothing was read yet.
-    pub fn new(alloc: Global, reader: R) -> Lines<R> {
+    pub fn new(alloc: Global, reader: R) -> Lines<R>
+        ensures { IfSome (R.remaining reader) (IsLeft R.remaining result) }
+    {
         Lines {
+            alloc,
             reader,
             codec: LinesCodec::new_with_max_length(MAX_LINE),
             buffer: BytesMut::new(alloc),
@@ -49,52 +55,94 @@ impl<R: Read + Drop> Lines<R> {
         }
     }
 
-    /// The next line. What the reader has is read only where no line is left of what was read before.
-    pub fn next_line(&mut self) -> Line {
-        for _read in self.reads..=MAX_READS {
+    /// The next line. What the reader has is read only where no line is left of what was read
+    /// before, and the writer is flushed before each read.
+    ///
+    /// # Errors
+    /// `Read` where a read failed or a line found no memory, `Write` where a flush failed, and
+    /// `Turns` where 1,048,576 reads went by and none of them found the end.
+    pub fn next_line<W: Write>(&mut self, writer: &mut W) -> Result<Line, ScriptFault>
+        ensures line { (bytes : List ℕ) → IsLeft R.remaining self.old bytes → IsNextLine bytes result (IsLeft R.remaining self.new) }
+        ensures faults { IfErr result (λ fault. fault ≢ ScriptFault.Memory) }
+        ensures written { Keeps (W.contents writer.old) (W.contents writer.new) }
+    {
+        for _read in 0..=MAX_READS {
             if self.at_end {
-                return match self.codec.decode_eof(&mut self.buffer) {
-                    Ok(None) => Line::End,
-                    Ok(Some(line)) => Line::Whole(line),
-                    Err(error) => fault(error),
-                };
+                return self.last_line();
             }
             match self.codec.decode(&mut self.buffer) {
                 Ok(None) => {}
-                Ok(Some(line)) => return Line::Whole(line),
-                Err(error) => return fault(error),
+                Ok(Some(text)) => return Ok(Line::Whole(text)),
+                Err(error) => return unread(error),
             }
-            if !self.fill() {
-                return Line::ReadFailed;
-            }
+            let Ok(()) = writer.flush() else {
+                return Err(ScriptFault::Write);
+            };
+            self.fill()?;
         }
-        Line::Turns
+        Err(ScriptFault::Turns)
     }
 
-    // Reads what there is, up to a page; answers whether that went well.
-    fn fill(&mut self) -> bool {
+    // The next line where the reader has ended.
+    fn last_line(&mut self) -> Result<Line, ScriptFault>
+        requires { self.old.at_end ≡ true }
+        ensures line { (bytes : List ℕ) → IsReading bytes self.old.codec self.old.buffer.items (R.remaining self.old.reader) self.old.at_end → IsNextLine bytes result (IsLeft R.remaining self.new) }
+        ensures faults { IfErr result (λ fault. fault ≢ ScriptFault.Memory) }
+    {
+        match self.codec.decode_eof(&mut self.buffer) {
+            Ok(Some(text)) => Ok(Line::Whole(text)),
+            Ok(None) => {
+                if self.buffer.is_empty() {
+                    return Ok(Line::End);
+                }
+                // A CR alone is a blank line.
+                self.buffer.clear();
+                Ok(Line::Whole(String::new(self.alloc)))
+            }
+            Err(error) => unread(error),
+        }
+    }
+
+    // Reads what there is, up to a page.
+    fn fill(&mut self) -> Result<(), ScriptFault>
+        requires { self.old.at_end ≡ false }
+        ensures filled { OnOk result ((bytes : List ℕ) → IsReading bytes self.old.codec self.old.buffer.items (R.remaining self.old.reader) false
+            → IsReading bytes self.new.codec self.new.buffer.items (R.remaining self.new.reader) self.new.at_end) }
+        ensures faults { IfErr result (λ fault. fault ≢ ScriptFault.Memory) }
+    {
+        if self.reads >= MAX_READS {
+            return Err(ScriptFault::Turns);
+        }
+        self.reads += 1;
         let mut page = [0u8; 4096];
-        self.reads = self.reads.saturating_add(1);
         match self.reader.read(&mut page) {
-            Err(_) => false,
+            Err(_) => Err(ScriptFault::Read),
             Ok(0) => {
                 self.at_end = true;
-                true
+                Ok(())
             }
-            Ok(len) => self.buffer.extend_from_slice(&page[..len]).is_ok(),
+            Ok(len) => {
+                let Ok(()) = self.buffer.extend_from_slice(&page[..len]) else {
+                    return Err(ScriptFault::Read);
+                };
+                Ok(())
+            }
         }
     }
 }
 
 // What a line that the codec refuses is.
-fn fault(error: LinesCodecError) -> Line {
+fn unread(error: LinesCodecError) -> Result<Line, ScriptFault>
+    ensures memory { IsOutOfMemory {T = ℕ} (Err error) → result ≡ Err ScriptFault.Read }
+    ensures other { ¬ IsOutOfMemory {T = ℕ} (Err error) → result ≡ Ok Line.Bad }
+{
     match error {
-        LinesCodecError::MaxLineLengthExceeded => Line::Bad,
+        LinesCodecError::MaxLineLengthExceeded => Ok(Line::Bad),
         LinesCodecError::Io(error) => {
             if error.kind() == io::ErrorKind::OutOfMemory {
-                Line::ReadFailed
+                Err(ScriptFault::Read)
             } else {
-                Line::Bad
+                Ok(Line::Bad)
             }
         }
     }

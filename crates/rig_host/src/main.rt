@@ -1,13 +1,18 @@
 //! The program `rig_host`: its arguments, and the statuses with which it ends.
 #![tactic(auto)]
 
+pub mod answers;
+pub mod faults;
 pub mod lines;
 pub mod script;
 pub mod speakers;
+#[cfg(test)]
+mod tests;
 
 use clap::Command;
 use host_core::rig_config::built_in;
 use std::io;
+use std::io::BufWriter;
 use std::process::ExitCode;
 
 fn main(rt: HostRuntime) -> anyhow::Result<ExitCode> {
@@ -29,7 +34,8 @@ fn main(rt: HostRuntime) -> anyhow::Result<ExitCode> {
         }
     }
     let config = built_in(rt.alloc())?;
-    match script::script(rt.alloc(), rt.reader(), io::writer(&rt), &config) {
+    let mut writer = BufWriter::new(rt.alloc(), io::writer(&rt))?;
+    match script::script(rt.alloc(), rt.reader(), &mut writer, &config) {
         Ok(()) => Ok(ExitCode::SUCCESS),
         Err(fault) => {
             let why = fault.as_str();

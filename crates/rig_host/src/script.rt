@@ -1,74 +1,53 @@
 //! A script: each line is answered before the next one is read.
 
-ghost use Rattle.std.specs.Prelude.{◌≡◌, IfOk, string_bytes};
-ghost use Rattle.rig_host.specs.Script.{reply_line};
+ghost use Rattle.std.specs.Prelude.{◌≡◌, IfOk, IfSome, OnOk, string_bytes};
+ghost use Rattle.std.specs.Io.KnownBytes.{Appends};
+ghost use Rattle.rig_host.specs.Answered.{reply_line};
+ghost use Rattle.rig_host.specs.Script.{refusal_of_line, refusals_of};
 
-use crate::lines::{Line, Lines};
+use crate::answers::{Answers, answer_lines};
+use crate::faults::ScriptFault;
+use crate::lines::Lines;
 use crate::speakers::{Speaker, who_speaks};
 use host_core::rig_config::Config;
 use host_core::tenant_state::replies::{Refusal, Reply, print_reply};
 use std::alloc::{AllocError, Global};
 use std::io::{Read, Write};
 
-/// Why a script ended before its input did.
-#[derive(Clone, Copy, Debug, PartialEq, Eq)]
-pub enum ScriptFault {
-    /// A read failed, or there was want of memory for a line.
-    Read,
-    /// A write failed.
-    Write,
-    /// The input had not ended after 1,048,576 reads.
-    Turns,
-    /// Want of memory for a reply.
-    Memory,
+// Knows who speaks, and no command.
+#[derive(Drop)]
+struct NoCommands<'a> {
+    config: &'a Config,
 }
 
-impl ScriptFault {
-    /// The line that the program writes to standard error.
-    pub fn as_str(self) -> &'static str {
-        match self {
-            ScriptFault::Read => "io: read",
-            ScriptFault::Write => "io: write",
-            ScriptFault::Turns => "io: turns",
-            ScriptFault::Memory => "io: memory",
-        }
+impl Answers for NoCommands<'_> {
+    ghost reply = { λ it line. refusal_of_line it.config.now line };
+
+    ghost after = { λ it line. it };
+
+    fn answer(&mut self, alloc: Global, line: &str) -> Result<String, AllocError> {
+        answer_to(alloc, self.config, line)
     }
 }
 
 /// Answers the lines of a reader, in their order, until the input or the script ends.
-pub fn script<R: Read + Drop, W: Write + Drop>(
+pub fn script<R: Read + Drop, W: Write>(
     alloc: Global,
     reader: R,
-    mut writer: W,
+    writer: &mut W,
     config: &Config,
-) -> Result<(), ScriptFault> {
+) -> Result<(), ScriptFault>
+    ensures { OnOk result (IfSome (R.remaining reader) (λ bytes. Appends (W.contents writer.old) (W.contents writer.new) (refusals_of config.now bytes))) }
+{
     let mut lines = Lines::new(alloc, reader);
-    for _line in 0..u64::MAX {
-        let (answer, goes_on) = match lines.next_line() {
-            Line::Whole(line) => (answer_to(alloc, config, line.as_str()), true),
-            Line::Bad => (reply_line(alloc, "host", "bye bad-line"), false),
-            Line::End => return Ok(()),
-            Line::ReadFailed => return Err(ScriptFault::Read),
-            Line::Turns => return Err(ScriptFault::Turns),
-        };
-        let Ok(answer) = answer else {
-            return Err(ScriptFault::Memory);
-        };
-        let Ok(()) = writer.write_all(answer.as_str().as_bytes()) else {
-            return Err(ScriptFault::Write);
-        };
-        let Ok(()) = writer.flush() else {
-            return Err(ScriptFault::Write);
-        };
-        if !goes_on {
-            return Ok(());
-        }
-    }
-    Err(ScriptFault::Turns)
+    let mut answers = NoCommands { config };
+    answer_lines(alloc, &mut lines, writer, &mut answers)
 }
 
 // What a line is answered: no command stands yet, so each is none of the forms.
-fn answer_to(alloc: Global, config: &Config, line: &str) -> Result<String, AllocError> {
+fn answer_to(alloc: Global, config: &Config, line: &str) -> Result<String, AllocError>
+    ensures { IfOk result (λ text. string_bytes text ≡ refusal_of_line config.now line.now) }
+{
     match who_speaks(config, line) {
         Speaker::Nobody => Ok(String::new(alloc)),
         Speaker::Operator => reply_line(alloc, "op", "err bad-command"),

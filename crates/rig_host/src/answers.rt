@@ -1,0 +1,123 @@
+//! A script's lines and who answers them.
+
+ghost use Rattle.std.specs.Prelude.{◌≡◌, ℕ, List, [], string_bytes, codes, All, IfOk, IfErr, OnOk, ◌⊎◌};
+ghost use Rattle.std.specs.Io.KnownBytes.{Appends, Keeps};
+ghost use Rattle.host_core.specs.tenant_state.Words.{first_word_of};
+ghost use Rattle.rig_host.specs.Answered.{reply_line, bye_bad_line, err_memory, IsText, answered, state_after, IsBrokenOff};
+ghost use Rattle.rig_host.specs.Lines.{cut};
+ghost use Rattle.rig_host.specs.Reading.{IsLeft};
+
+use crate::faults::ScriptFault;
+use crate::lines::{Line, Lines};
+use host_core::tenant_state::words;
+use std::alloc::{AllocError, Global};
+use std::io::{Read, Write};
+
+/// Who answers the lines of a script.
+pub trait Answers {
+    // the bytes that are written for a line's text
+    ghost reply: { Self → List ℕ → List ℕ };
+    // the state behind a line's text
+    ghost after: { Self → List ℕ → Self };
+
+    /// The bytes that are written for a line, and no byte for a line that has no reply.
+    ///
+    /// # Errors
+    /// Where there is want of memory for the reply.
+    fn answer(&mut self, alloc: Global, line: &str) -> Result<String, AllocError>
+        ensures reply { IfOk result (λ text. string_bytes text ≡ reply self.old line.now) }
+        ensures after { OnOk result (self.new ≡ after self.old line.now) };
+}
+
+/// Answers the lines, in their order, until the input ends or a line is too long or no text. Such a
+/// line is answered `host bye bad-line`, and what stands behind it isn't read.
+///
+/// The writer is flushed before each read and at the end.
+///
+/// # Errors
+/// `Read`, `Write` and `Turns` as `Lines::next_line`. `Memory` where there is want of memory for a
+/// reply: `err memory` behind the line's first word is written in its place.
+pub fn answer_lines<R: Read + Drop, W: Write, A: Answers>(
+    alloc: Global,
+    lines: &mut Lines<R>,
+    writer: &mut W,
+    answers: &mut A,
+) -> Result<(), ScriptFault>
+    ensures written { OnOk result ((bytes : List ℕ) → IsLeft R.remaining lines.old bytes
+        → Appends (W.contents writer.old) (W.contents writer.new) (answered A.reply A.after answers.old (cut bytes))) }
+    ensures state { OnOk result ((bytes : List ℕ) → IsLeft R.remaining lines.old bytes
+        → answers.new ≡ state_after A.reply A.after answers.old (cut bytes)) }
+    ensures end { OnOk result ((bytes : List ℕ) → IsLeft R.remaining lines.old bytes
+        → All IsText (cut bytes) → IsLeft R.remaining lines.new []) }
+    ensures fault { IfErr result (λ fault. (bytes : List ℕ) → IsLeft R.remaining lines.old bytes
+        → IsBrokenOff A.reply A.after answers.old (cut bytes) (Appends (W.contents writer.old) (W.contents writer.new)) fault) }
+{
+    for _line in 0..u64::MAX {
+        match lines.next_line(writer)? {
+            Line::Whole(line) => answer_line(alloc, writer, answers, line.as_str())?,
+            Line::Bad => return say_bye(writer),
+            Line::End => return flush(writer),
+        }
+    }
+    Err(ScriptFault::Turns)
+}
+
+// Writes the reply to a line.
+fn answer_line<W: Write, A: Answers>(
+    alloc: Global,
+    writer: &mut W,
+    answers: &mut A,
+    line: &str,
+) -> Result<(), ScriptFault>
+    ensures after { OnOk result (answers.new ≡ A.after answers.old line.now) }
+    ensures written { OnOk result (Appends (W.contents writer.old) (W.contents writer.new) (A.reply answers.old line.now)) }
+    ensures fault { IfErr result (λ fault. (fault ≡ ScriptFault.Write)
+        ⊎ ((fault ≡ ScriptFault.Memory) × Appends (W.contents writer.old) (W.contents writer.new) (err_memory line.now))) }
+{
+    match answers.answer(alloc, line) {
+        Ok(reply) => write(writer, reply.as_str().as_bytes()),
+        Err(_) => {
+            say_memory(writer, words::first_word(line).as_bytes())?;
+            Err(ScriptFault::Memory)
+        }
+    }
+}
+
+// Writes that a line is too long or no text.
+fn say_bye<W: Write>(writer: &mut W) -> Result<(), ScriptFault>
+    ensures written { OnOk result (Appends (W.contents writer.old) (W.contents writer.new) bye_bad_line) }
+    ensures fault { IfErr result (λ fault. fault ≡ ScriptFault.Write) }
+{
+    write(writer, b"host bye bad-line\n")?;
+    flush(writer)
+}
+
+// Writes that there is want of memory for a reply to who speaks.
+fn say_memory<W: Write>(writer: &mut W, who: &[u8]) -> Result<(), ScriptFault>
+    ensures written { OnOk result (Appends (W.contents writer.old) (W.contents writer.new) (reply_line who.now (codes "err memory"))) }
+    ensures fault { IfErr result (λ fault. fault ≡ ScriptFault.Write) }
+{
+    write(writer, who)?;
+    write(writer, b" err memory\n")?;
+    flush(writer)
+}
+
+fn write<W: Write>(writer: &mut W, bytes: &[u8]) -> Result<(), ScriptFault>
+    ensures written { OnOk result (Appends (W.contents writer.old) (W.contents writer.new) bytes.now) }
+    ensures fault { IfErr result (λ fault. fault ≡ ScriptFault.Write) }
+{
+    match writer.write_all(bytes) {
+        Ok(()) => Ok(()),
+        Err(_) => Err(ScriptFault::Write),
+    }
+}
+
+fn flush<W: Write>(writer: &mut W) -> Result<(), ScriptFault>
+    ensures kept { Keeps (W.contents writer.old) (W.contents writer.new) }
+    ensures fault { IfErr result (λ fault. fault ≡ ScriptFault.Write) }
+{
+    match writer.flush() {
+        Ok(()) => Ok(()),
+        Err(_) => Err(ScriptFault::Write),
+    }
+}
