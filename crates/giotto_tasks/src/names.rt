@@ -42,6 +42,21 @@ impl Name {
         Name { text: self.text }
     }
 
+    /// How many bytes the name has: at most 32.
+    pub fn len(&self) -> usize
+        ensures value { result ≡ length self.now }
+        ensures fits { length self.now ≤ 32 }
+    {
+        self.text.len()
+    }
+
+    /// Whether the name has no byte, as no name of a program.
+    pub fn is_empty(&self) -> bool
+        ensures { IsTrue result ↔ (length self.now ≡ 0) }
+    {
+        self.text.is_empty()
+    }
+
     /// The name as text: at most 32 bytes.
     pub fn as_str(&self) -> &str
         ensures { result.now ≡ self.now }

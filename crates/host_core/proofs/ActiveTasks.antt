@@ -1,11 +1,12 @@
 -- What holds of each active task is kept by each step, if it holds of what is released at the instant's number.
 use Rattle.std.proofs.Common.{◌≡◌, ℕ, ◌+◌, Bool, true, false, cond, List, [], ◌∷◌, ◌++◌, filter, Option, Some, None}
-use Rattle.std.specs.Prelude.{Result, Ok, Err}
+use Rattle.std.specs.Prelude.{Result, Ok, Err, option_to_list}
+use Rattle.std.specs.Option.{option_map}
 use Rattle.std.specs.List.{AllByRecursion}
 use Rattle.giotto_tasks.specs.declared.names.Name.{Name}
 use Rattle.giotto_tasks.specs.Names.{Valuation}
 use Rattle.giotto_read.specs.declared.faults.ReadFault.{ReadFault}
-use Rattle.giotto_read.specs.Program.{ActuatorUpdate, TaskInvocation, ModeDeclaration, GiottoProgram}
+use Rattle.giotto_read.specs.Program.{TaskDeclaration, TaskInvocation, ModeDeclaration, GiottoProgram}
 use Rattle.host_core.specs.declared.rig_config.Budgets.{Budgets}
 use Rattle.host_core.specs.declared.tenant_state.commands.Command.{Command}
 use Rattle.host_core.specs.declared.tenant_state.commands.Command.TheVariants.{Load, Start, ShowPort}
@@ -14,8 +15,8 @@ use Rattle.host_core.specs.giotto_check.Declarations.{task_of, mode_of}
 use Rattle.host_core.specs.giotto_check.Rules.{first_broken_rule}
 use Rattle.host_core.specs.tenant_state.Row.{ActiveTask, Row, StopReason, overrun, is_running, where_some, in_program, in_mode}
 use Rattle.host_core.specs.tenant_state.Commands.{Reader, Outcome, load_within, load_checked, load_read, broken_budget, start_program, show_value, show_port, commanded}
-use Rattle.host_core.specs.tenant_state.FirstHalf.{due_tasks, stopped_with, recorded_outputs, written_outputs, with_results, ended_with, ended, all_ended, with_update, updated, all_updated, completed_in_mode, first_half_with, first_half_of}
-use Rattle.host_core.specs.tenant_state.SecondHalf.{Readings, installed, replaced_if_due, sensed, entered, switch_taken, switched, released, invoked, all_invoked, second_half_running}
+use Rattle.host_core.specs.tenant_state.FirstHalf.{stopped_with, completed_in_mode, first_half_with, first_half_of}
+use Rattle.host_core.specs.tenant_state.SecondHalf.{Readings, installed, replaced_if_due, sensed, entered, switch_taken, switched, is_invoked, released, invoked, all_released, invoked_in_mode, second_half_running}
 use Rattle.host_core.specs.Views.{LocalInstant, after_instant}
 
 pub all_filter : {X : Type 0} (P : X → Type 0) (test : X → Bool) (xs : List X) → AllByRecursion P xs → AllByRecursion P (filter test xs)
@@ -57,28 +58,8 @@ module _ (P : ActiveTask → Type 0) (n : ℕ) where
       stop None = record { each = tt; at = k.at }
       stop (Some p) = record { each = tt; at = k.at }
 
-  keeps_outputs : (os : List (Name × _)) (row : Row) → Keeps row → Keeps (recorded_outputs os row)
-  keeps_outputs [] row k = k
-  keeps_outputs (o ∷ os) row k = keeps_outputs os _ (record { each = k.each; at = k.at })
-
-  keeps_ended : (p : GiottoProgram) (a : ActiveTask) (row : Row) → Keeps row → Keeps (ended p a row)
-  keeps_ended p a row k = keeps_where_some (ended_with a) (task_of p a.task) row (λ t r kr. keeps_outputs (written_outputs a t) (with_results a t r) (record { each = kr.each; at = kr.at })) k
-
-  keeps_all_ended : (p : GiottoProgram) (tasks : List ActiveTask) (row : Row) → Keeps row → Keeps (all_ended p tasks row)
-  keeps_all_ended p [] row k = k
-  keeps_all_ended p (a ∷ rest) row k = keeps_all_ended p rest (ended p a row) (keeps_ended p a row k)
-
-  keeps_updated : (m : ModeDeclaration) (u : ActuatorUpdate) (row : Row) → Keeps row → Keeps (updated m u row)
-  keeps_updated m u row k = keeps_if _ (with_update u row) row (record { each = k.each; at = k.at }) k
-
-  keeps_all_updated : (m : ModeDeclaration) (us : List ActuatorUpdate) (row : Row) → Keeps row → Keeps (all_updated m us row)
-  keeps_all_updated m [] row k = k
-  keeps_all_updated m (u ∷ us) row k = keeps_all_updated m us (updated m u row) (keeps_updated m u row k)
-
   keeps_completed : (p : GiottoProgram) (m : ModeDeclaration) (row : Row) → Keeps row → Keeps (completed_in_mode p m row)
-  keeps_completed p m row k =
-      let e = keeps_all_ended p (due_tasks row) row k in
-      keeps_all_updated m m.updates _ (record { each = all_filter P _ _ e.each; at = e.at })
+  keeps_completed p m row k = record { each = all_filter P _ row.active k.each; at = k.at }
 
   pub keeps_first_half : (unfinished : List Name) (row : Row) → Keeps row → Keeps (first_half_of unfinished row)
   keeps_first_half unfinished row k = by _
@@ -99,18 +80,23 @@ module _ (P : ActiveTask → Type 0) (n : ℕ) where
       (record { each = k.each; at = k.at })
 
   module _ (fresh : (a : ActiveTask) → a.release ≡ n → P a) where
-    keeps_invoked : (p : GiottoProgram) (m : ModeDeclaration) (i : TaskInvocation) (row : Row) → Keeps row → Keeps (invoked p m i row)
-    keeps_invoked p m i row k =
-        keeps_if _ (where_some (released i) (task_of p i.task) row) row
-        (keeps_where_some (released i) (task_of p i.task) row (λ t r kr. record { each = all_append P r.active _ kr.each (fresh _ kr.at, tt); at = kr.at }) k) k
+    fresh_if : (b : Bool) (i : TaskInvocation) (ports : Valuation) (c : ℕ) → c ≡ n → (o : Option TaskDeclaration) → AllByRecursion P (cond b (option_to_list (option_map (released c i ports) o)) [])
+    fresh_if false i ports c at o = tt
+    fresh_if true i ports c at None = tt
+    fresh_if true i ports c at (Some t) = (fresh _ at, tt)
 
-    keeps_all_invoked : (p : GiottoProgram) (m : ModeDeclaration) (is : List TaskInvocation) (row : Row) → Keeps row → Keeps (all_invoked p m is row)
-    keeps_all_invoked p m [] row k = k
-    keeps_all_invoked p m (i ∷ is) row k = keeps_all_invoked p m is (invoked p m i row) (keeps_invoked p m i row k)
+    pub all_fresh : (p : GiottoProgram) (m : ModeDeclaration) (time c : ℕ) → c ≡ n → (is : List TaskInvocation) (ports : Valuation) → AllByRecursion P (all_released p m time c is ports)
+    all_fresh p m time c at [] ports = tt
+    all_fresh p m time c at (i ∷ is) ports =
+        all_append P (cond (is_invoked m time i ports) (option_to_list (option_map (released c i ports) (task_of p i.task))) []) (all_released p m time c is (invoked p m time i ports))
+        (fresh_if (is_invoked m time i ports) i ports c at (task_of p i.task)) (all_fresh p m time c at is (invoked p m time i ports))
+
+    keeps_invoked : (p : GiottoProgram) (m : ModeDeclaration) (row : Row) → Keeps row → Keeps (invoked_in_mode p m row)
+    keeps_invoked p m row k = record { each = all_append P row.active _ k.each (all_fresh p m row.mode_time row.count k.at m.invocations row.ports); at = k.at }
 
     keeps_running : (readings : Readings) (granted : Valuation) (row : Row) → Keeps row → Keeps (second_half_running readings granted row)
     keeps_running readings granted row k =
-        keeps_in_mode _ _ (λ p m r kr. let all = keeps_all_invoked p m m.invocations r kr in record { each = all.each; at = all.at })
+        keeps_in_mode _ _ (λ p m r kr. let all = keeps_invoked p m r kr in record { each = all.each; at = all.at })
         (keeps_in_mode _ _ (λ p m r kr. keeps_switched readings granted p m r kr) (keeps_replaced row k))
 
     -- the second half, but for the count that it moves on

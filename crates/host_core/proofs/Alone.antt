@@ -60,14 +60,14 @@ same_filter_map f g (x ∷ xs) each = ap (λ o. cons_option o (filter_map f xs))
 
 module _ (setting : Setting) where
   -- a job that is active behind the event is counted exactly if it was
-  counted_of_active : (host : HostState) (rows : List Row) (j : JobId) → is_active (get_or rows j.tenant (empty_row setting.first_tick)) j ≡ true
+  pub counted_of_active : (host : HostState) (rows : List Row) (j : JobId) → is_active (get_or rows j.tenant (empty_row setting.first_tick)) j ≡ true
       → is_counted (with_rows setting host rows) j ≡ is_counted host j
   counted_of_active host rows j active =
       let rest : HostState = with_rows setting host rows in
       any-filter_same (λ i. same_job i j) (λ (i : JobId). is_active (get_or rows i.tenant (empty_row setting.first_tick)) i) true
       (λ i e. ap (λ (k : JobId). is_active (get_or rows k.tenant (empty_row setting.first_tick)) k) (same_job_is i j e) ∙ active) host.counted
 
-  any_of_filter : (p q : JobId → Bool) (js : List JobId) → list_any p (filter q js) ≡ true → list_any p js ≡ true
+  pub any_of_filter : (p q : JobId → Bool) (js : List JobId) → list_any p (filter q js) ≡ true → list_any p js ≡ true
   any_of_filter p q [] e = e
   any_of_filter p q (j ∷ js) e = kept (q j) e (any_of_filter p q js)
     where

@@ -1,5 +1,5 @@
 -- The whole host, tenant by tenant, along every legal list of events.
-use Rattle.std.proofs.Common.{◌≡◌, ℕ, ◌<◌, Bool, true, false, cond, not, ◌&&◌, ◌||◌, ℤ, List, [], ◌∷◌, length, map, filter, get_or, Option, Some, None, refl, sym, ap, ◌∙◌, subst, zero-add, arith}
+use Rattle.std.proofs.Common.{◌≡◌, ℕ, ◌+◌, ◌<◌, Bool, true, false, cond, not, ◌&&◌, ◌||◌, ℤ, List, [], ◌∷◌, length, map, filter, get_or, Option, Some, None, refl, sym, ap, ◌∙◌, subst, zero-add, arith}
 use Rattle.std.specs.List.{list_any, filter_map, enumerate_from, AllByRecursion}
 use Rattle.std.specs.Option.{option_map, option_and_then}
 use Rattle.std.proofs.lemmas.Bool.Decides.{nat_tests}
@@ -37,7 +37,7 @@ module _ (setting : Setting) where
   done_event host past j agrees = by (awaits setting host j) refl
     where
       counting : HostState
-      counting = record { rows = host.rows; counted = j ∷ host.counted }
+      counting = record host { counted = j ∷ host.counted }
 
       -- a job that is active and isn't awaited is counted, if it is this one
       not_awaited : awaits setting host j ≡ false → (k : JobId) → is_active (row_at setting host k.tenant) k ≡ true → is_counted host k ≡ has_completion past k
@@ -194,3 +194,17 @@ module _ (setting : Setting) where
       by : (b : Bool) → is_active (row_of setting past j.tenant) j ≡ b → (b && not (is_counted host j)) ≡ (b && not (has_completion past j))
       by false e = refl
       by true e = ap not (marked_of_any host past j (row_of setting past j.tenant).active (agrees.marks j.tenant (within j.tenant is)) e)
+
+  -- the clock is the number of the next instant
+  pub same_clock : (past : List Event) → (host_after setting past).clock ≡ next_tick setting past
+  same_clock [] = refl
+  same_clock (Own u c ∷ past) = same_clock past
+  same_clock (Tick frame ∷ past) = ap (λ n. n + 1) (same_clock past)
+  same_clock (Done j ∷ past) = by (awaits setting host j) (same_clock past)
+    where
+      host : HostState
+      host = host_after setting past
+
+      by : (b : Bool) → host.clock ≡ next_tick setting past → (cond b (record host { counted = j ∷ host.counted }) host).clock ≡ next_tick setting past
+      by true e = e
+      by false e = e

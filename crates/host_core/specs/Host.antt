@@ -1,5 +1,5 @@
 -- What the host is, and how each event changes it.
-use Rattle.std.specs.Prelude.{ℕ, Bool, not, ◌&&◌, if◌then◌else◌, ℤ, List, [], ◌∷◌, map, filter, slice_set, slice_index_or}
+use Rattle.std.specs.Prelude.{ℕ, ◌+◌, Bool, not, ◌&&◌, if◌then◌else◌, ℤ, List, [], ◌∷◌, map, filter, slice_set, slice_index_or}
 use Rattle.std.specs.List.{list_any, enumerate_from}
 use Rattle.giotto_tasks.specs.declared.names.Name.{Name}
 use Rattle.host_core.specs.declared.events.Event.{Event}
@@ -13,10 +13,11 @@ use Rattle.host_core.specs.tenant_state.Row.{ActiveTask, Row, empty_row}
 use Rattle.host_core.specs.Setting.{Setting}
 use Rattle.host_core.specs.Views.{LocalInstant, after_command, after_instant, readings_of}
 
--- a row for each tenant, by its place, and the jobs that were completed and are still active
+-- a row for each tenant, by its place; the jobs that were completed and are still active; and the number of the next instant
 pub record HostState : Type 0 where
   pub rows : List Row
   pub counted : List JobId
+  pub clock : ℕ
 
 abbrev pub is_counted : HostState → JobId → Bool
 is_counted host j = list_any (λ i. same_job i j) host.counted
@@ -41,18 +42,19 @@ module _ (setting : Setting) where
   abbrev pub awaits : HostState → JobId → Bool
   awaits host j = is_active (row_at host j.tenant) j && not (is_counted host j)
 
-  -- the rows, with those counted jobs that are still active
+  -- these rows, with those counted jobs that are still active
   abbrev pub with_rows : HostState → List Row → HostState
-  with_rows host rows = record { rows = rows; counted = filter (λ j. is_active (slice_index_or rows j.tenant (empty_row setting.first_tick)) j) host.counted }
+  with_rows host rows = record host { rows = rows; counted = filter (λ j. is_active (slice_index_or rows j.tenant (empty_row setting.first_tick)) j) host.counted }
 
   abbrev pub empty_host : HostState
-  empty_host = record { rows = map (λ (t : TenantConfig). empty_row setting.first_tick) setting.config.tenants; counted = [] }
+  empty_host = record { rows = map (λ (t : TenantConfig). empty_row setting.first_tick) setting.config.tenants; counted = []; clock = setting.first_tick }
 
   -- a command changes its tenant's row alone, an instant all rows, a completion that is awaited the counted jobs, and another one nothing
   abbrev pub after_event : HostState → Event → HostState
   after_event host (Own t c) = with_rows host (slice_set host.rows t (after_command setting t c (row_at host t)).row)
-  after_event host (Tick frame) = with_rows host (map (λ (place : ℕ × Row). after_instant (instant_of host frame place.0) place.1) (enumerate_from 0 host.rows))
-  after_event host (Done j) = if awaits host j then record { rows = host.rows; counted = j ∷ host.counted } else host
+  after_event host (Tick frame) =
+      with_rows (record host { clock = host.clock + 1 }) (map (λ (place : ℕ × Row). after_instant (instant_of host frame place.0) place.1) (enumerate_from 0 host.rows))
+  after_event host (Done j) = if awaits host j then record host { counted = j ∷ host.counted } else host
 
   -- the host after these events, the newest first
   abbrev pub host_after : List Event → HostState

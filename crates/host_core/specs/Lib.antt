@@ -1,7 +1,11 @@
 pub mod Answers
 pub mod Completions
+pub mod Halves
 pub mod Host
+pub mod HostStanding
 pub mod Legal
+pub mod Playing
+pub mod Plays
 pub mod Setting
 pub mod Views
 pub mod giotto_check

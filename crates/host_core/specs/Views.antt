@@ -1,17 +1,16 @@
 -- The one-tenant machine, and each tenant's view of what happens to all tenants. Lists have the newest first.
 use Rattle.std.specs.Prelude.{ℕ, not, ◌==◌, if◌then◌else◌, ℤ, List, [], ◌∷◌, map, filter}
-use Rattle.std.specs.List.{enumerate_from}
 use Rattle.giotto_tasks.specs.declared.names.Name.{Name}
 use Rattle.giotto_tasks.specs.Names.{Valuation}
 use Rattle.host_core.specs.declared.events.Event.{Event}
 use Rattle.host_core.specs.declared.events.Event.TheVariants.{Own, Tick, Done}
 use Rattle.host_core.specs.declared.tenant_state.commands.Command.{Command}
-use Rattle.host_core.specs.rig_config.Roster.{budgets_at, may_use}
+use Rattle.host_core.specs.rig_config.Roster.{budgets_at}
 use Rattle.host_core.specs.tenant_state.Row.{ActiveTask, Row, empty_row}
 use Rattle.host_core.specs.tenant_state.Commands.{Outcome, commanded}
 use Rattle.host_core.specs.tenant_state.FirstHalf.{due_tasks, first_half_of}
 use Rattle.host_core.specs.tenant_state.Jobs.{job_of}
-use Rattle.host_core.specs.tenant_state.SecondHalf.{Readings, second_half_of}
+use Rattle.host_core.specs.tenant_state.SecondHalf.{Readings, readings_within, second_half_of}
 use Rattle.host_core.specs.instant_engine.Grants.{granted_to}
 use Rattle.host_core.specs.Completions.{has_completion}
 use Rattle.host_core.specs.Setting.{Setting}
@@ -47,7 +46,7 @@ module _ (setting : Setting) where
 
   -- the values of the lines that the tenant may read
   abbrev pub readings_of : ℕ → List ℤ → Readings
-  readings_of t frame = filter (λ (r : ℕ × ℤ). may_use (budgets_at setting.config t).reads r.0) (enumerate_from 0 frame)
+  readings_of t frame = readings_within (budgets_at setting.config t).reads frame
 
   -- A tenant's view: its own commands, and at each instant the values of its lines, its due tasks that were not completed, and the
   -- values granted to it. Of other tenants it has no more than these.

@@ -4,7 +4,7 @@ ghost use Rattle.std.specs.Prelude.{◌≡◌, ℕ, List, true};
 ghost use Rattle.host_core.specs.declared.tenant_state.jobs.JobId.{JobId};
 ghost use Rattle.host_core.specs.rig_config.Roster.{is_tenant};
 ghost use Rattle.host_core.specs.Host.{host_after, row_at, awaits};
-ghost use Rattle.host_core.specs.Legal.{is_legal, counts};
+ghost use Rattle.host_core.specs.Legal.{next_tick, is_legal, counts};
 ghost use Rattle.host_core.specs.declared.events.Event.{Event};
 ghost use Rattle.host_core.specs.Answers.{answers_of};
 ghost use Rattle.host_core.specs.Setting.{Setting};
@@ -17,10 +17,11 @@ pub fn equal_views_give_equal_answers()
 {}
 
 /// After every legal list of events, the newest first, each tenant's row in the whole host is that of the one-tenant machine
-/// over the tenant's own view, and the host awaits just the completions that count.
+/// over the tenant's own view, the host awaits just the completions that count, and its clock is the number of the next instant.
 pub fn whole_host()
     ensures rows { (setting : Setting) (past : List Event) (t : ℕ) → is_legal setting past ≡ true → is_tenant setting.config t ≡ true →
         row_at setting (host_after setting past) t ≡ row_of setting past t }
     ensures completions { (setting : Setting) (past : List Event) (j : JobId) → is_legal setting past ≡ true → is_tenant setting.config j.tenant ≡ true →
         awaits setting (host_after setting past) j ≡ counts setting past j }
+    ensures clock { (setting : Setting) (past : List Event) → (host_after setting past).clock ≡ next_tick setting past }
 {}

@@ -2,7 +2,10 @@
 #![tactic(auto)]
 
 pub mod events;
+pub mod giotto_check;
+pub mod hosts;
 pub mod laws;
+pub mod plays;
 pub mod rig_config;
 pub mod tenant_grants;
 pub mod tenant_state;

@@ -36,6 +36,26 @@ pub struct Budgets {
     pub binds: usize,
 }
 
+impl Budgets {
+    // Equal budgets.
+    fn copy(&self, alloc: Global) -> Result<Budgets, AllocError>
+        ensures { IfOk result (λ budgets. budgets ≡ self.now) }
+    {
+        Ok(Budgets {
+            reads: List::from_vec(Vec::from_slice(alloc, self.reads.as_slice())?),
+            writes: List::from_vec(Vec::from_slice(alloc, self.writes.as_slice())?),
+            bytes: self.bytes,
+            ports: self.ports,
+            tasks: self.tasks,
+            modes: self.modes,
+            steps: self.steps,
+            trace: self.trace,
+            offers: self.offers,
+            binds: self.binds,
+        })
+    }
+}
+
 /// One tenant of the rig.
 #[derive(Drop)]
 pub struct TenantConfig {
@@ -45,6 +65,19 @@ pub struct TenantConfig {
     pub key: List<u8>,
     /// What the tenant may use.
     pub budgets: Budgets,
+}
+
+impl TenantConfig {
+    // An equal tenant.
+    fn copy(&self, alloc: Global) -> Result<TenantConfig, AllocError>
+        ensures { IfOk result (λ tenant. tenant ≡ self.now) }
+    {
+        Ok(TenantConfig {
+            name: self.name.copy(),
+            key: List::from_vec(Vec::from_slice(alloc, self.key.as_slice())?),
+            budgets: self.budgets.copy(alloc)?,
+        })
+    }
 }
 
 /// The configuration of a rig.
@@ -57,6 +90,23 @@ pub struct Config {
 }
 
 impl Config {
+    /// An equal configuration.
+    ///
+    /// # Errors
+    /// Want of memory.
+    pub fn copy(&self, alloc: Global) -> Result<Config, AllocError>
+        ensures { IfOk result (λ config. config ≡ self.now) }
+    {
+        let mut tenants = Vec::new(alloc);
+        for tenant in self.tenants.as_slice() {
+            tenants.push(tenant.copy(alloc)?)?;
+        }
+        Ok(Config {
+            lines: self.lines,
+            tenants: List::from_vec(tenants),
+        })
+    }
+
     /// The place of the tenant with this name, or `None` where the roster has no such tenant.
     pub fn place_of(&self, name: &str) -> Option<TenantId>
         ensures { result ≡ place_of self.now name.now }

@@ -50,7 +50,7 @@ module _ {S : Type 0} (reply : S → List ℕ → List ℕ) (after : S → List 
   abbrev pub HasCome : S → List (List ℕ) → Option (List ℕ) → S → List (List ℕ) → Option (List ℕ) → Type 0
   HasCome s lines w t rest v =
       (said : List ℕ) × Appends w v said × (answered reply after s lines ≡ said ++ answered reply after t rest)
-      × (state_after reply after s lines ≡ state_after reply after t rest) × (All IsText lines → All IsText rest) × HasSaid s lines t rest said
+      × (state_after reply after s lines ≡ state_after reply after t rest) × HasSaid s lines t rest said
 
   module _ (s : S) (lines : List (List ℕ)) (w : Option (List ℕ)) (t : S) (rest : List (List ℕ)) (v : Option (List ℕ)) (come : HasCome s lines w t rest v) (flushed : Option (List ℕ)) (kept : Keeps v flushed) where
     pub come_further : (line : List ℕ) (later : List (List ℕ)) (text : List ℕ) (u : S) (written : Option (List ℕ)) → rest ≡ line ∷ later → text_of_line line ≡ Some text → u ≡ after t text → Appends flushed written (reply t text) → HasCome s lines w u later written
@@ -62,12 +62,16 @@ module _ {S : Type 0} (reply : S → List ℕ → List ℕ) (after : S → List 
           Appends-trans w flushed written said (reply t text) (Appends-kept w v flushed said come.1 kept) grown,
           come.2 ∙ ap (λ l. said ++ l) here ∙ sym (append_assoc said (reply t text) (answered reply after u later)),
           come.3 ∙ state,
-          λ all. All-tail IsText line later (subst (All IsText) front (come.4 all)),
-          subst (λ st. HasSaid s lines st later (said ++ reply t text)) (sym next) (said_more s lines t rest said line later text come.5 front is_text),
+          subst (λ st. HasSaid s lines st later (said ++ reply t text)) (sym next) (said_more s lines t rest said line later text come.4 front is_text),
         )
 
-    pub bad_is_no_text : (line : List ℕ) (later : List (List ℕ)) → rest ≡ line ∷ later → text_of_line line ≡ None → ¬ (All IsText lines)
-    bad_is_no_text line later front no_text all = let wrong = rw no_text at (All-head IsText line later (subst (All IsText) front (come.4 all))) in cc
+-- where all lines are text, those still to come are
+module _ (lines rest : List (List ℕ)) (texts : All IsText lines → All IsText rest) (line : List ℕ) (later : List (List ℕ)) (front : rest ≡ line ∷ later) where
+  pub texts_further : All IsText lines → All IsText later
+  texts_further all = All-tail IsText line later (subst (All IsText) front (texts all))
+
+  pub bad_is_no_text : text_of_line line ≡ None → ¬ (All IsText lines)
+  bad_is_no_text no_text all = let wrong = rw no_text at (All-head IsText line later (subst (All IsText) front (texts all))) in cc
 
 pub on_ok : {T E : Type 0} (r : Result T E) (P : Type 0) → P → OnOk r P
 on_ok (Ok x) P h = h
@@ -78,13 +82,3 @@ pub where_known : {T E : Type 0} (r : Result T E) (known : Option (List ℕ)) (L
 where_known (Err e) known Left P Q left h f = tt
 where_known (Ok x) None Left P Q left h f = tt
 where_known (Ok x) (Some bytes) Left P Q left h f = f bytes (h bytes left)
-
--- two states that answer alike
-module _ {S T : Type 0} (reply : S → List ℕ → List ℕ) (after : S → List ℕ → S) (told : T → List ℕ → List ℕ) (next : T → List ℕ → T) (f : S → T) (same_reply : (s : S) (line : List ℕ) → reply s line ≡ told (f s) line) (same_after : (s : S) (line : List ℕ) → f (after s line) ≡ next (f s) line) where
-  pub answered_alike : (s : S) (lines : List (List ℕ)) → answered reply after s lines ≡ answered told next (f s) lines
-  answered_alike s [] = refl
-  answered_alike s (line ∷ later) = by (text_of_line line) refl (λ text. answered_alike (after s text) later)
-    where
-      by : (text : Option (List ℕ)) → text_of_line line ≡ text → ((t : List ℕ) → answered reply after (after s t) later ≡ answered told next (f (after s t)) later) → answered reply after s (line ∷ later) ≡ answered told next (f s) (line ∷ later)
-      by None e rest = rw e refl
-      by (Some text) e rest = rw (e, same_reply s text, rest text, same_after s text) refl

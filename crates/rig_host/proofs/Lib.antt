@@ -1,5 +1,10 @@
-pub mod AnsweredLines
 mod FirstScript
-pub mod LineCuts
 mod LineRows
+pub mod AnsweredLines
+pub mod Completing
+pub mod LineCuts
+pub mod NewScript
 pub mod NextLine
+pub mod Outstanding
+pub mod Speaking
+pub mod Steps

@@ -1,11 +1,7 @@
 -- How bytes are cut into lines.
 use Rattle.std.specs.Prelude.{ℕ, nat_le, ◌&&◌, ◌==◌, if◌then◌else◌, List, [], ◌∷◌, length, Option, Some, None}
 use Rattle.std.specs.Str.{is_utf8}
-
--- the byte in front of the first piece
-abbrev pub joined_to_first : ℕ → List (List ℕ) → List (List ℕ)
-joined_to_first c [] = (c ∷ []) ∷ []
-joined_to_first c (p ∷ ps) = (c ∷ p) ∷ ps
+use Rattle.host_core.specs.tenant_state.Words.{joined_to_first}
 
 -- the bytes up to each LF; what follows the last LF is a line too, unless it is empty
 abbrev pub cut : List ℕ → List (List ℕ)

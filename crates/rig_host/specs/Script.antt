@@ -1,5 +1,7 @@
 -- The text that a script is answered.
-use Rattle.std.specs.Prelude.{ℕ, ◌-◌, ◌^◌, nat_lt, not, ◌==◌, if◌then◌else◌, ℤ, List, [], ◌∷◌, ◌++◌, length, slice_get, map, filter, Option, Some, None, codes}
+use Rattle.std.specs.Prelude.{◌≡◌, ◌⊎◌, ℕ, ◌-◌, ◌^◌, nat_lt, not, ◌==◌, if◌then◌else◌, ℤ, List, [], ◌∷◌, ◌++◌, length, map, filter, reverse, Option, Some, None, Result, Ok, Err, String, string_bytes, codes}
+use Rattle.std.specs.declared.alloc.AllocError.{AllocError}
+use Rattle.std.specs.declared.alloc.Global.{Global}
 use Rattle.std.specs.List.{flat_map, enumerate_from}
 use Rattle.std.specs.Fmt.{decimal}
 use Rattle.giotto_tasks.specs.declared.names.Name.{Name}
@@ -14,7 +16,7 @@ use Rattle.host_core.specs.declared.tenant_state.replies.Refusal.TheVariants.{Ba
 use Rattle.host_core.specs.rig_config.Roster.{place_of}
 use Rattle.host_core.specs.tenant_state.CommandLine.{command_of_line}
 use Rattle.host_core.specs.tenant_state.Replies.{text_of_reply, text_of_refusal}
-use Rattle.host_core.specs.tenant_state.Words.{words_of, first_word_of, behind_first_word, value_of_word}
+use Rattle.host_core.specs.tenant_state.Words.{words_of, first_word_of, behind_first_word, values_of_words}
 use Rattle.host_core.specs.Completions.{has_completion}
 use Rattle.host_core.specs.tenant_state.Jobs.{job_of}
 use Rattle.host_core.specs.Legal.{next_tick}
@@ -22,7 +24,9 @@ use Rattle.host_core.specs.Setting.{Setting}
 use Rattle.host_core.specs.Views.{after_command, row_of}
 use Rattle.rig_host.specs.declared.speakers.Speaker.{Speaker}
 use Rattle.rig_host.specs.declared.speakers.Speaker.TheVariants.{Nobody, Operator, Tenant, Unknown}
-use Rattle.rig_host.specs.Answered.{reply_line, answered}
+use Rattle.rig_host.specs.declared.faults.ScriptFault.{ScriptFault}
+use Rattle.rig_host.specs.declared.faults.ScriptFault.TheVariants.{Memory}
+use Rattle.rig_host.specs.Answered.{reply_line, answered, IsBrokenOff}
 use Rattle.rig_host.specs.Lines.{cut}
 
 -- the word with which the operator's lines begin
@@ -47,39 +51,11 @@ operator_refusal why = reply_line operator (codes "err " ++ why)
 abbrev pub err_who : List ℕ
 err_who = reply_line (codes "host") (codes "err who")
 
--- what a line is answered where no command stands: none of its forms fits
-abbrev pub refusal_of_line : Config → List ℕ → List ℕ
-refusal_of_line config line = by (speaker_of config line)
-  where
-    of_tenant : Option TenantConfig → List ℕ
-    of_tenant None = err_who
-    of_tenant (Some tenant) = reply_line tenant.name (codes "err " ++ text_of_refusal BadCommand)
-
-    by : Speaker → List ℕ
-    by Nobody = []
-    by Operator = operator_refusal (text_of_refusal BadCommand)
-    by (Tenant t) = of_tenant (slice_get config.tenants t)
-    by Unknown = err_who
-
--- what is written for these bytes where no command stands
-abbrev pub refusals_of : Config → List ℕ → List ℕ
-refusals_of config bytes = answered refusal_of_line (λ c line. c) config (cut bytes)
-
 -- an operator line
 pub data OperatorLine : Type 0 where
-  -- one input value for each line of the rig
+  -- the input value of each line of the rig
   tick : List ℤ → OperatorLine
   work : OperatorLine
-
--- each word is a value
-abbrev pub values_of_words : List (List ℕ) → Option (List ℤ)
-values_of_words [] = Some []
-values_of_words (w ∷ ws) = by (value_of_word w) (values_of_words ws)
-  where
-    by : Option ℤ → Option (List ℤ) → Option (List ℤ)
-    by None zs = None
-    by (Some z) None = None
-    by (Some z) (Some zs) = Some (z ∷ zs)
 
 -- "tick V .." or "work"
 abbrev pub operator_line_of : List (List ℕ) → Option OperatorLine
@@ -99,8 +75,17 @@ pub record Step : Type 0 where
   pub events : List Event
   pub reply : List ℕ
 
+-- The step's reply was given, and behind its events `Stands` holds. Want of memory says nothing.
+abbrev pub IsStep : Step → List Event → Result (String Global) AllocError → (List Event → Type 0) → Type 0
+IsStep step past (Ok text) Stands = (string_bytes text ≡ step.reply) × Stands (step.events ++ past)
+IsStep step past (Err e) Stands = Unit {0}
+
 abbrev pub only_answered : List ℕ → Step
 only_answered reply = record { events = []; reply = reply }
+
+-- runs and completes the jobs that are outstanding, in their order
+abbrev pub work_step : List JobId → Step
+work_step jobs = record { events = reverse (map Done jobs); reply = reply_line operator (codes "ok work " ++ decimal (length jobs)) }
 
 module _ (setting : Setting) where
   -- the jobs of a tenant's active tasks that have no completion yet
@@ -115,10 +100,6 @@ module _ (setting : Setting) where
       if not (length frame == setting.config.lines) then only_answered (operator_refusal (codes "bad-frame"))
       else (if not (nat_lt (next_tick setting past) (2 ^ 64 - 1)) then only_answered (operator_refusal (codes "clock-ended"))
       else record { events = Tick frame ∷ []; reply = reply_line operator (codes "ok tick " ++ decimal (next_tick setting past)) })
-
-  -- runs and completes the jobs that are outstanding
-  abbrev pub work_step : List JobId → Step
-  work_step jobs = record { events = map Done jobs; reply = reply_line operator (codes "ok work " ++ decimal (length jobs)) }
 
   abbrev pub operator_step : List Event → List (List ℕ) → Step
   operator_step past words = by (operator_line_of words)
@@ -146,10 +127,21 @@ module _ (setting : Setting) where
       by (Tenant t) = tenant_step past t (first_word_of line) (behind_first_word line)
       by Unknown = only_answered err_who
 
+  abbrev pub reply_to_line : List Event → List ℕ → List ℕ
+  reply_to_line past line = (line_step past line).reply
+
+  -- the events behind a line, the newest first
+  abbrev pub past_behind : List Event → List ℕ → List Event
+  past_behind past line = (line_step past line).events ++ past
+
   -- what is written for these lines behind the events of the past
   abbrev pub script_from : List Event → List (List ℕ) → List ℕ
-  script_from past lines = answered (λ p line. (line_step p line).reply) (λ p line. (line_step p line).events ++ p) past lines
+  script_from past lines = answered reply_to_line past_behind past lines
 
   -- what is written for these bytes
   abbrev pub script_text_of : List ℕ → List ℕ
   script_text_of bytes = script_from [] (cut bytes)
+
+  -- what was written for these bytes before a fault: nothing, where there was no memory for the host
+  abbrev pub IsScriptBrokenOff : List ℕ → (List ℕ → Type 0) → ScriptFault → Type 0
+  IsScriptBrokenOff bytes Written fault = ((fault ≡ Memory) × Written []) ⊎ IsBrokenOff reply_to_line past_behind [] (cut bytes) Written fault

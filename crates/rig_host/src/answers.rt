@@ -1,11 +1,13 @@
 //! A script's lines and who answers them.
 
-ghost use Rattle.std.specs.Prelude.{◌≡◌, ℕ, List, [], string_bytes, codes, All, IfOk, IfErr, OnOk, ◌⊎◌};
+ghost use Rattle.std.specs.Prelude.{◌≡◌, ℕ, List, [], codes, All, IfErr, OnOk, ◌⊎◌};
 ghost use Rattle.std.specs.Io.KnownBytes.{Appends, Keeps};
-ghost use Rattle.host_core.specs.tenant_state.Words.{first_word_of};
-ghost use Rattle.rig_host.specs.Answered.{reply_line, bye_bad_line, err_memory, IsText, answered, state_after, IsBrokenOff};
+ghost use Rattle.host_core.specs.Setting.{Setting};
+ghost use Rattle.host_core.specs.declared.events.Event.{Event};
+ghost use Rattle.rig_host.specs.Answered.{reply_line, bye_bad_line, err_memory, IsText, state_after, IsBrokenOff};
 ghost use Rattle.rig_host.specs.Lines.{cut};
 ghost use Rattle.rig_host.specs.Reading.{IsLeft};
+ghost use Rattle.rig_host.specs.Script.{IsStep, line_step, reply_to_line, past_behind, script_from};
 
 use crate::faults::ScriptFault;
 use crate::lines::{Line, Lines};
@@ -15,18 +17,15 @@ use std::io::{Read, Write};
 
 /// Who answers the lines of a script.
 pub trait Answers {
-    // the bytes that are written for a line's text
-    ghost reply: { Self → List ℕ → List ℕ };
-    // the state behind a line's text
-    ghost after: { Self → List ℕ → Self };
+    // it stands for what these events, the newest first, make of a rig
+    ghost stands: { Self → Setting → List Event → Type 0 };
 
     /// The bytes that are written for a line, and no byte for a line that has no reply.
     ///
     /// # Errors
     /// Where there is want of memory for the reply.
     fn answer(&mut self, alloc: Global, line: &str) -> Result<String, AllocError>
-        ensures reply { IfOk result (λ text. string_bytes text ≡ reply self.old line.now) }
-        ensures after { OnOk result (self.new ≡ after self.old line.now) };
+        ensures { (setting : Setting) (past : List Event) → stands self.old setting past → IsStep (line_step setting past line.now) past result (stands self.new setting) };
 }
 
 /// Answers the lines, in their order, until the input ends or a line is too long or no text. Such a
@@ -43,14 +42,14 @@ pub fn answer_lines<R: Read + Drop, W: Write, A: Answers>(
     writer: &mut W,
     answers: &mut A,
 ) -> Result<(), ScriptFault>
-    ensures written { OnOk result ((bytes : List ℕ) → IsLeft R.remaining lines.old bytes
-        → Appends (W.contents writer.old) (W.contents writer.new) (answered A.reply A.after answers.old (cut bytes))) }
-    ensures state { OnOk result ((bytes : List ℕ) → IsLeft R.remaining lines.old bytes
-        → answers.new ≡ state_after A.reply A.after answers.old (cut bytes)) }
+    ensures written { OnOk result ((setting : Setting) (past : List Event) (bytes : List ℕ) → A.stands answers.old setting past → IsLeft R.remaining lines.old bytes
+        → Appends (W.contents writer.old) (W.contents writer.new) (script_from setting past (cut bytes))) }
+    ensures state { OnOk result ((setting : Setting) (past : List Event) (bytes : List ℕ) → A.stands answers.old setting past → IsLeft R.remaining lines.old bytes
+        → A.stands answers.new setting (state_after (reply_to_line setting) (past_behind setting) past (cut bytes))) }
     ensures end { OnOk result ((bytes : List ℕ) → IsLeft R.remaining lines.old bytes
         → All IsText (cut bytes) → IsLeft R.remaining lines.new []) }
-    ensures fault { IfErr result (λ fault. (bytes : List ℕ) → IsLeft R.remaining lines.old bytes
-        → IsBrokenOff A.reply A.after answers.old (cut bytes) (Appends (W.contents writer.old) (W.contents writer.new)) fault) }
+    ensures fault { IfErr result (λ fault. (setting : Setting) (past : List Event) (bytes : List ℕ) → A.stands answers.old setting past → IsLeft R.remaining lines.old bytes
+        → IsBrokenOff (reply_to_line setting) (past_behind setting) past (cut bytes) (Appends (W.contents writer.old) (W.contents writer.new)) fault) }
 {
     for _line in 0..u64::MAX {
         match lines.next_line(writer)? {
@@ -69,8 +68,8 @@ fn answer_line<W: Write, A: Answers>(
     answers: &mut A,
     line: &str,
 ) -> Result<(), ScriptFault>
-    ensures after { OnOk result (answers.new ≡ A.after answers.old line.now) }
-    ensures written { OnOk result (Appends (W.contents writer.old) (W.contents writer.new) (A.reply answers.old line.now)) }
+    ensures stands { OnOk result ((setting : Setting) (past : List Event) → A.stands answers.old setting past → A.stands answers.new setting (past_behind setting past line.now)) }
+    ensures written { OnOk result ((setting : Setting) (past : List Event) → A.stands answers.old setting past → Appends (W.contents writer.old) (W.contents writer.new) (reply_to_line setting past line.now)) }
     ensures fault { IfErr result (λ fault. (fault ≡ ScriptFault.Write)
         ⊎ ((fault ≡ ScriptFault.Memory) × Appends (W.contents writer.old) (W.contents writer.new) (err_memory line.now))) }
 {

@@ -1,65 +1,150 @@
 //! A script: each line is answered before the next one is read.
 
-ghost use Rattle.std.specs.Prelude.{◌≡◌, IfOk, IfSome, OnOk, string_bytes};
+ghost use Rattle.std.specs.Prelude.{◌≡◌, ◌↔◌, ◌∷◌, ◌<◌, List, codes, length, IsTrue, IfOk, IfErr, IfSome, OnOk, string_bytes};
 ghost use Rattle.std.specs.Io.KnownBytes.{Appends};
+ghost use Rattle.host_core.specs.Setting.{Setting, IsTrueReader};
+ghost use Rattle.host_core.specs.declared.events.Event.{Event};
+ghost use Rattle.host_core.specs.declared.tenant_state.replies.Refusal.TheVariants as refusals;
+ghost use Rattle.host_core.specs.declared.tenant_state.replies.Reply.TheVariants as code;
+ghost use Rattle.host_core.specs.tenant_state.Words.{words_of};
 ghost use Rattle.rig_host.specs.Answered.{reply_line};
-ghost use Rattle.rig_host.specs.Script.{refusal_of_line, refusals_of};
+ghost use Rattle.rig_host.specs.HostAnswers.{IsHostAfter};
+ghost use Rattle.rig_host.specs.Script.{IsStep, tenant_step, operator_step, work_step, all_outstanding, script_text_of, IsScriptBrokenOff};
 
 use crate::answers::{Answers, answer_lines};
 use crate::faults::ScriptFault;
 use crate::lines::Lines;
 use crate::speakers::{Speaker, who_speaks};
-use host_core::rig_config::Config;
+use host_core::hosts::{Host, TickFault, complete};
+use host_core::rig_config::{Config, TenantId};
+use host_core::tenant_state::command_lines::{LineFault, command_of};
 use host_core::tenant_state::replies::{Refusal, Reply, print_reply};
+use host_core::tenant_state::words;
 use std::alloc::{AllocError, Global};
 use std::io::{Read, Write};
 
-// Knows who speaks, and no command.
-#[derive(Drop)]
-struct NoCommands<'a> {
-    config: &'a Config,
-}
-
-impl Answers for NoCommands<'_> {
-    ghost reply = { λ it line. refusal_of_line it.config.now line };
-
-    ghost after = { λ it line. it };
+impl Answers for Host {
+    ghost stands = { λ host setting past. IsHostAfter setting host past };
 
     fn answer(&mut self, alloc: Global, line: &str) -> Result<String, AllocError> {
-        answer_to(alloc, self.config, line)
+        let rest = words::behind_first_word(line);
+        match who_speaks(self.config(), line) {
+            Speaker::Nobody => Ok(String::new(alloc)),
+            Speaker::Operator => operator_line(alloc, self, rest),
+            Speaker::Tenant(tenant) => {
+                tenant_line(alloc, self, tenant, words::first_word(line), rest)
+            }
+            Speaker::Unknown => reply_line(alloc, "host", "err who"),
+        }
     }
 }
 
-/// Answers the lines of a reader, in their order, until the input or the script ends.
+/// Answers the lines of a reader, in their order, until the input or the script ends: a tenant's by
+/// its command, and the operator's by `tick` and `work`. The host is new, and its first tick is 0.
+///
+/// # Errors
+/// `Read`, `Write`, `Turns` and `Memory` as `answer_lines`; `Memory` also where there is want of memory for the host.
 pub fn script<R: Read + Drop, W: Write>(
     alloc: Global,
     reader: R,
     writer: &mut W,
     config: &Config,
 ) -> Result<(), ScriptFault>
-    ensures { OnOk result (IfSome (R.remaining reader) (λ bytes. Appends (W.contents writer.old) (W.contents writer.new) (refusals_of config.now bytes))) }
+    ensures written { OnOk result ((setting : Setting) → setting.config ≡ config.now → setting.first_tick ≡ 0 → IsTrueReader setting.reader
+        → IfSome (R.remaining reader) (λ bytes. Appends (W.contents writer.old) (W.contents writer.new) (script_text_of setting bytes))) }
+    ensures fault { IfErr result (λ fault. (setting : Setting) → setting.config ≡ config.now → setting.first_tick ≡ 0 → IsTrueReader setting.reader
+        → IfSome (R.remaining reader) (λ bytes. IsScriptBrokenOff setting bytes (Appends (W.contents writer.old) (W.contents writer.new)) fault)) }
 {
+    let Ok(mut host) = Host::new(alloc, config, 0) else {
+        return Err(ScriptFault::Memory);
+    };
     let mut lines = Lines::new(alloc, reader);
-    let mut answers = NoCommands { config };
-    answer_lines(alloc, &mut lines, writer, &mut answers)
+    answer_lines(alloc, &mut lines, writer, &mut host)
 }
 
-// What a line is answered: no command stands yet, so each is none of the forms.
-fn answer_to(alloc: Global, config: &Config, line: &str) -> Result<String, AllocError>
-    ensures { IfOk result (λ text. string_bytes text ≡ refusal_of_line config.now line.now) }
+// The step of a tenant's line, which stands behind its name.
+fn tenant_line(
+    alloc: Global,
+    host: &mut Host,
+    tenant: TenantId,
+    name: &str,
+    line: &str,
+) -> Result<String, AllocError>
+    requires { tenant < length host.old.config.tenants }
+    ensures { (setting : Setting) (past : List Event) → IsHostAfter setting host.old past
+        → IsStep (tenant_step setting past tenant name.now line.now) past result (IsHostAfter setting host.new) }
 {
-    match who_speaks(config, line) {
-        Speaker::Nobody => Ok(String::new(alloc)),
-        Speaker::Operator => reply_line(alloc, "op", "err bad-command"),
-        Speaker::Tenant(tenant) => match config.tenants.as_slice().get(tenant) {
-            Some(tenant) => {
-                let reply = print_reply(alloc, &Reply::Refused(Refusal::BadCommand))?;
-                reply_line(alloc, tenant.name.as_str(), reply.as_str())
-            }
-            None => reply_line(alloc, "host", "err who"),
-        },
-        Speaker::Unknown => reply_line(alloc, "host", "err who"),
+    let command = match command_of(alloc, line) {
+        Ok(command) => command,
+        Err(LineFault::BadCommand) => return reply_line(alloc, name, "err bad-command"),
+        Err(LineFault::Memory) => return Err(AllocError),
+    };
+    let reply = host.command(tenant, command);
+    if is_memory(&reply) {
+        return Err(AllocError);
     }
+    let text = print_reply(alloc, &reply)?;
+    reply_line(alloc, name, text.as_str())
+}
+
+// Whether the reply is that a command found no memory.
+fn is_memory(reply: &Reply) -> bool
+    ensures { IsTrue result ↔ (reply.now ≡ code.Refused refusals.Memory) }
+{
+    matches!(reply, Reply::Refused(Refusal::Memory))
+}
+
+// The step of an operator's line, which stands behind `op`.
+fn operator_line(alloc: Global, host: &mut Host, line: &str) -> Result<String, AllocError>
+    ensures { (setting : Setting) (past : List Event) → IsHostAfter setting host.old past
+        → IsStep (operator_step setting past (words_of line.now)) past result (IsHostAfter setting host.new) }
+{
+    let rest = words::behind_first_word(line);
+    match words::first_word(line) {
+        "tick" => tick(alloc, host, rest),
+        "work" => work(alloc, host, rest),
+        _ => reply_line(alloc, "op", "err bad-command"),
+    }
+}
+
+// The step of `tick` with these words behind it.
+fn tick(alloc: Global, host: &mut Host, line: &str) -> Result<String, AllocError>
+    ensures { (setting : Setting) (past : List Event) → IsHostAfter setting host.old past
+        → IsStep (operator_step setting past (codes "tick" ∷ words_of line.now)) past result (IsHostAfter setting host.new) }
+{
+    let Some(frame) = words::values_of_words(alloc, line)? else {
+        return reply_line(alloc, "op", "err bad-command");
+    };
+    let number = host.clock();
+    match host.tick(frame.as_slice()) {
+        Ok(_) => format!(in alloc; "op ok tick {number}\n"),
+        Err(TickFault::BadFrame) => reply_line(alloc, "op", "err bad-frame"),
+        Err(TickFault::ClockEnded) => reply_line(alloc, "op", "err clock-ended"),
+        Err(TickFault::Memory) => Err(AllocError),
+    }
+}
+
+// The step of `work` with these words behind it.
+fn work(alloc: Global, host: &mut Host, line: &str) -> Result<String, AllocError>
+    ensures { (setting : Setting) (past : List Event) → IsHostAfter setting host.old past
+        → IsStep (operator_step setting past (codes "work" ∷ words_of line.now)) past result (IsHostAfter setting host.new) }
+{
+    if words::first_word(line).is_empty() {
+        return complete_all(alloc, host);
+    }
+    reply_line(alloc, "op", "err bad-command")
+}
+
+// Runs and completes all outstanding jobs, and says how many they were.
+fn complete_all(alloc: Global, host: &mut Host) -> Result<String, AllocError>
+    ensures { (setting : Setting) (past : List Event) → IsHostAfter setting host.old past
+        → IsStep (work_step (all_outstanding setting past)) past result (IsHostAfter setting host.new) }
+{
+    let number = host.outstanding();
+    while let Some(id) = host.first_outstanding() {
+        complete(host, &id)?;
+    }
+    format!(in alloc; "op ok work {number}\n")
 }
 
 /// A reply as it is written: who is answered, a space, the reply, and LF.

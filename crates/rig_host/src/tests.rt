@@ -13,11 +13,8 @@ use std::test::Fail;
 struct Echo;
 
 impl Answers for Echo {
-    ghost use Rattle.std.specs.Prelude.{ℕ, List, [], ◌∷◌, ◌++◌, length, ◌==◌, if◌then◌else◌};
-
-    ghost reply = { λ it line. if length line == 0 then [] else line ++ 10 ∷ [] };
-
-    ghost after = { λ it line. it };
+    // no host
+    ghost stands = { λ it setting past. ⊥ };
 
     fn answer(&mut self, alloc: Global, line: &str) -> Result<String, AllocError> {
         if line.is_empty() {
@@ -32,11 +29,7 @@ impl Answers for Echo {
 struct NoMemory;
 
 impl Answers for NoMemory {
-    ghost use Rattle.std.specs.Prelude.{[]};
-
-    ghost reply = { λ it line. [] };
-
-    ghost after = { λ it line. it };
+    ghost stands = { λ it setting past. ⊥ };
 
     fn answer(&mut self, _alloc: Global, _line: &str) -> Result<String, AllocError> {
         Err(AllocError)

@@ -1,15 +1,15 @@
 -- The first half of an instant: the due tasks end, and the due actuators are updated; or the tenant is stopped, if a due task isn't completed.
-use Rattle.std.specs.Prelude.{ℕ, ◌/◌, ◌%◌, ◌==◌, Bool, not, ◌&&◌, if◌then◌else◌, ℤ, List, [], ◌∷◌, map, filter, None}
+use Rattle.std.specs.Prelude.{ℕ, ◌/◌, ◌%◌, ◌==◌, Bool, not, ◌&&◌, if◌then◌else◌, ℤ, List, [], ◌∷◌, ◌++◌, map, filter, None}
 use Rattle.std.specs.List.{flat_map, zip}
 use Rattle.std.specs.Option.{option_map_or}
 use Rattle.giotto_tasks.specs.declared.names.Name.{Name}
-use Rattle.giotto_tasks.specs.Names.{same_name, is_among, with_value}
+use Rattle.giotto_tasks.specs.Names.{Valuation, same_name, is_among, with_value}
 use Rattle.giotto_tasks.specs.Meaning.{value_of, outputs_of, states_of}
 use Rattle.giotto_read.specs.Program.{TaskDeclaration, ActuatorUpdate, TaskInvocation, ModeDeclaration, GiottoProgram, body_of, names_of}
 use Rattle.host_core.specs.declared.tenant_trace.Happening.{Happening}
 use Rattle.host_core.specs.declared.tenant_trace.Happening.TheVariants as happening
 use Rattle.host_core.specs.giotto_check.Declarations.{task_of, mode_of}
-use Rattle.host_core.specs.tenant_state.Row.{StopReason, asked, overrun, stopped, ActiveTask, Row, is_running, where_some, in_program, in_mode, recorded}
+use Rattle.host_core.specs.tenant_state.Row.{StopReason, asked, overrun, stopped, ActiveTask, Row, is_running, in_program, in_mode, recorded, with_happenings}
 use Rattle.host_core.specs.tenant_state.Ports.{own_ports, with_values, actuators_reset, holds}
 
 -- what has frequency w in a mode happens at the mode times that are multiples of P / w
@@ -40,50 +40,55 @@ stopped_with reason row =
     recorded (happening_of reason)
     (in_program (λ p row. record row { ports = actuators_reset p row.ports }) (record row { state = stopped reason; active = []; waiting = None }))
 
--- a record for each output that was written, in order
-abbrev pub recorded_outputs : List (Name × ℤ) → Row → Row
-recorded_outputs [] row = row
-recorded_outputs (o ∷ os) row = recorded_outputs os (recorded (happening.Out o.0 o.1) row)
-
 -- what a task writes when it ends: each output with the value of its computation on what it was given at its release
 abbrev pub written_outputs : ActiveTask → TaskDeclaration → List (Name × ℤ)
 written_outputs a t = zip t.outputs (outputs_of (body_of t) a.inputs a.states)
 
--- the outputs and the states have the values of the computation
-abbrev pub with_results : ActiveTask → TaskDeclaration → Row → Row
-with_results a t row = record row {
-  ports = with_values (with_values row.ports t.outputs (outputs_of (body_of t) a.inputs a.states)) (own_ports t.name (names_of t.states)) (states_of (body_of t) a.inputs a.states);
-}
+-- a task ends: its outputs and its states have the values of its computation
+abbrev pub ended_with : ActiveTask → Valuation → TaskDeclaration → Valuation
+ended_with a ports t =
+    with_values (with_values ports t.outputs (outputs_of (body_of t) a.inputs a.states)) (own_ports t.name (names_of t.states)) (states_of (body_of t) a.inputs a.states)
 
--- a task ends
-abbrev pub ended_with : ActiveTask → TaskDeclaration → Row → Row
-ended_with a t row = recorded_outputs (written_outputs a t) (with_results a t row)
+-- the ports behind the ends of these tasks
+abbrev pub all_ended : GiottoProgram → List ActiveTask → Valuation → Valuation
+all_ended p [] ports = ports
+all_ended p (a ∷ rest) ports = all_ended p rest (option_map_or (ended_with a ports) (task_of p a.task) ports)
 
-abbrev pub ended : GiottoProgram → ActiveTask → Row → Row
-ended p a row = where_some (ended_with a) (task_of p a.task) row
-
-abbrev pub all_ended : GiottoProgram → List ActiveTask → Row → Row
-all_ended p [] row = row
-all_ended p (a ∷ rest) row = all_ended p rest (ended p a row)
+-- each output that they write, in order
+abbrev pub outputs_happened : GiottoProgram → List ActiveTask → List Happening
+outputs_happened p ended = map (λ (o : Name × ℤ). happening.Out o.0 o.1) (flat_map (λ a. option_map_or (written_outputs a) (task_of p a.task) []) ended)
 
 -- the active tasks that aren't among these
-abbrev pub still_active : List Name → Row → Row
-still_active ended row = record row { active = filter (λ (a : ActiveTask). not (is_among ended a.task)) row.active }
+abbrev pub still_active : List Name → List ActiveTask → List ActiveTask
+still_active ended active = filter (λ (a : ActiveTask). not (is_among ended a.task)) active
 
-abbrev pub with_update : ActuatorUpdate → Row → Row
-with_update u row = let z = value_of u.value row.ports in recorded (happening.Act u.actuator z) (record row { ports = with_value row.ports u.actuator z })
+-- an actuator update happens where it is due and its guard holds
+abbrev pub is_updated : ModeDeclaration → ℕ → ActuatorUpdate → Valuation → Bool
+is_updated m time u ports = is_due_at time m u.frequency && holds u.guard ports
 
--- an actuator update that is due, where its guard holds
-abbrev pub updated : ModeDeclaration → ActuatorUpdate → Row → Row
-updated m u row = if is_due_at row.mode_time m u.frequency && holds u.guard row.ports then with_update u row else row
+abbrev pub updated : ModeDeclaration → ℕ → ActuatorUpdate → Valuation → Valuation
+updated m time u ports = if is_updated m time u ports then with_value ports u.actuator (value_of u.value ports) else ports
 
-abbrev pub all_updated : ModeDeclaration → List ActuatorUpdate → Row → Row
-all_updated m [] row = row
-all_updated m (u ∷ us) row = all_updated m us (updated m u row)
+-- the ports behind these actuator updates, in text order
+abbrev pub all_updated : ModeDeclaration → ℕ → List ActuatorUpdate → Valuation → Valuation
+all_updated m time [] ports = ports
+all_updated m time (u ∷ us) ports = all_updated m time us (updated m time u ports)
+
+-- each update that happens
+abbrev pub updates_happened : ModeDeclaration → ℕ → List ActuatorUpdate → Valuation → List Happening
+updates_happened m time [] ports = []
+updates_happened m time (u ∷ us) ports =
+    (if is_updated m time u ports then happening.Act u.actuator (value_of u.value ports) ∷ [] else []) ++ updates_happened m time us (updated m time u ports)
 
 -- the due tasks end, then the due actuators are updated
 abbrev pub completed_in_mode : GiottoProgram → ModeDeclaration → Row → Row
-completed_in_mode p m row = all_updated m m.updates (still_active (names_due row) (all_ended p (due_tasks row) row))
+completed_in_mode p m row =
+    let written = all_ended p (due_tasks row) row.ports in
+    record row {
+      ports = all_updated m row.mode_time m.updates written;
+      active = still_active (names_due row) row.active;
+      records = with_happenings row.count (outputs_happened p (due_tasks row) ++ updates_happened m row.mode_time m.updates written) row.records;
+    }
 
 -- the first half, by the due tasks that were not completed, in the mode's text order: the first of them is what a stop names
 abbrev pub first_half_with : List Name → Row → Row

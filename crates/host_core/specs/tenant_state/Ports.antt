@@ -15,16 +15,23 @@ own_port task x = task ++ (codes "." ++ x)
 abbrev pub own_ports : Name → List Name → List Name
 own_ports task xs = map (own_port task) xs
 
--- every port with its initial value: sensors, actuators, outputs, then for each task its inputs and its states, each in text order
-abbrev pub initial_ports : GiottoProgram → Valuation
-initial_ports p =
+-- sensors, actuators and outputs with their initial values, each in text order
+abbrev pub initial_shared : GiottoProgram → Valuation
+initial_shared p =
     map (λ (s : SensorDeclaration). (s.name, s.initial)) p.sensors
     ++ (map (λ (a : ActuatorDeclaration). (a.name, a.initial)) p.actuators
-    ++ (map (λ (o : OutputDeclaration). (o.name, o.initial)) p.outputs
-    ++ flat_map of_task p.tasks))
-  where
-    of_task : TaskDeclaration → Valuation
-    of_task t = map (λ x. (own_port t.name x, pos 0)) t.inputs ++ map (λ (s : Name × ℤ). (own_port t.name s.0, s.1)) t.states
+    ++ map (λ (o : OutputDeclaration). (o.name, o.initial)) p.outputs)
+
+-- a task's inputs, then its states
+abbrev pub initial_of_task : TaskDeclaration → Valuation
+initial_of_task t = map (λ x. (own_port t.name x, pos 0)) t.inputs ++ map (λ (s : Name × ℤ). (own_port t.name s.0, s.1)) t.states
+
+abbrev pub initial_own : GiottoProgram → Valuation
+initial_own p = flat_map initial_of_task p.tasks
+
+-- every port with its initial value: sensors, actuators, outputs, then for each task its inputs and its states, each in text order
+abbrev pub initial_ports : GiottoProgram → Valuation
+initial_ports p = initial_shared p ++ initial_own p
 
 -- the map with these values for these names
 abbrev pub with_values : Valuation → List Name → List ℤ → Valuation

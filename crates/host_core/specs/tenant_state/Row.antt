@@ -85,3 +85,8 @@ in_mode step row = in_program (λ p. where_some (step p) (mode_of p row.mode)) r
 -- one record more, of the next instant's number
 abbrev pub recorded : Happening → Row → Row
 recorded h row = record row { records = record { tick = row.count; happening = h } ∷ row.records }
+
+-- these happenings as records of instant n, in their order, behind the records before
+abbrev pub with_happenings : ℕ → List Happening → List Record → List Record
+with_happenings n [] records = records
+with_happenings n (h ∷ hs) records = with_happenings n hs (record { tick = n; happening = h } ∷ records)

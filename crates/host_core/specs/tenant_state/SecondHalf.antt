@@ -1,6 +1,7 @@
 -- The second half of an instant: a waiting program is installed, sensors are read, a switch may be taken, tasks are invoked, and the mode time moves on.
-use Rattle.std.specs.Prelude.{ℕ, zero, suc, ◌+◌, ◌-◌, ◌%◌, ◌==◌, Bool, ◌&&◌, ◌||◌, if◌then◌else◌, ℤ, List, [], ◌∷◌, ◌++◌, map, Option, Some, None, unwrap_or}
-use Rattle.std.specs.List.{find, filter_map, list_all}
+use Rattle.std.specs.Prelude.{ℕ, zero, suc, ◌+◌, ◌-◌, ◌%◌, ◌==◌, Bool, ◌&&◌, ◌||◌, if◌then◌else◌, ℤ, List, [], ◌∷◌, ◌++◌, map, filter, Option, Some, None, unwrap_or, option_to_list}
+use Rattle.std.specs.List.{find, filter_map, list_all, enumerate_from}
+use Rattle.std.specs.Option.{option_map, option_map_or}
 use Rattle.giotto_tasks.specs.declared.names.Name.{Name}
 use Rattle.giotto_tasks.specs.Names.{Valuation, value_at, values_of, is_among}
 use Rattle.giotto_tasks.specs.Syntax.{Expression}
@@ -8,6 +9,7 @@ use Rattle.giotto_tasks.specs.Meaning.{value_of}
 use Rattle.giotto_read.specs.Program.{Source, from_line, from_grant, SensorDeclaration, TaskDeclaration, ModeSwitch, TaskInvocation, ModeDeclaration, GiottoProgram, names_of}
 use Rattle.host_core.specs.declared.tenant_trace.Happening.TheVariants as happening
 use Rattle.host_core.specs.giotto_check.Declarations.{sensor_names, actuator_names, task_of, mode_of, period_of_task}
+use Rattle.host_core.specs.rig_config.Roster.{may_use}
 use Rattle.host_core.specs.tenant_state.Row.{ActiveTask, Row, is_running, where_some, in_program, in_mode, recorded}
 use Rattle.host_core.specs.tenant_state.Ports.{own_ports, initial_ports, with_values, holds}
 use Rattle.host_core.specs.tenant_state.FirstHalf.{is_due_at}
@@ -19,6 +21,10 @@ Readings = List (ℕ × ℤ)
 abbrev pub reading_of : Readings → ℕ → Option ℤ
 reading_of [] k = None
 reading_of (r ∷ rs) k = if r.0 == k then Some r.1 else reading_of rs k
+
+-- the readings of those lines of a frame that may be read
+abbrev pub readings_within : List ℕ → List ℤ → Readings
+readings_within reads frame = filter (λ (r : ℕ × ℤ). may_use reads r.0) (enumerate_from 0 frame)
 
 -- a port of this name stands in both programs, among these names of each
 abbrev pub stands_in_both : (GiottoProgram → List Name) → GiottoProgram → GiottoProgram → Name → Bool
@@ -92,23 +98,40 @@ entered m s target row =
 abbrev pub switched : GiottoProgram → ModeDeclaration → Row → Row
 switched p m row = where_some (λ s. where_some (entered m s) (mode_of p s.target)) (switch_taken m row) row
 
--- a release: the inputs take the driver's values, and the task becomes active with these and its states
-abbrev pub released : TaskInvocation → TaskDeclaration → Row → Row
-released i t row =
-    let inputs = map (λ e. value_of e row.ports) i.arguments in
-    let states = values_of row.ports (own_ports t.name (names_of t.states)) in
-    record row {
-      ports = with_values row.ports (own_ports t.name t.inputs) inputs;
-      active = row.active ++ record { task = t.name; release = row.count; inputs = inputs; states = states } ∷ [];
-    }
+-- an invocation happens where it is due and its guard holds
+abbrev pub is_invoked : ModeDeclaration → ℕ → TaskInvocation → Valuation → Bool
+is_invoked m time i ports = is_due_at time m i.frequency && holds i.guard ports
 
--- an invocation that is due, where its guard holds
-abbrev pub invoked : GiottoProgram → ModeDeclaration → TaskInvocation → Row → Row
-invoked p m i row = if is_due_at row.mode_time m i.frequency && holds i.guard row.ports then where_some (released i) (task_of p i.task) row else row
+abbrev pub values_given : TaskInvocation → Valuation → List ℤ
+values_given i ports = map (λ e. value_of e ports) i.arguments
 
-abbrev pub all_invoked : GiottoProgram → ModeDeclaration → List TaskInvocation → Row → Row
-all_invoked p m [] row = row
-all_invoked p m (i ∷ is) row = all_invoked p m is (invoked p m i row)
+-- a release: the task becomes active with the driver's values and its states
+abbrev pub released : ℕ → TaskInvocation → Valuation → TaskDeclaration → ActiveTask
+released n i ports t = record { task = t.name; release = n; inputs = values_given i ports; states = values_of ports (own_ports t.name (names_of t.states)) }
+
+-- and its inputs take the driver's values
+abbrev pub with_inputs : TaskInvocation → Valuation → TaskDeclaration → Valuation
+with_inputs i ports t = with_values ports (own_ports t.name t.inputs) (values_given i ports)
+
+abbrev pub invoked : GiottoProgram → ModeDeclaration → ℕ → TaskInvocation → Valuation → Valuation
+invoked p m time i ports = if is_invoked m time i ports then option_map_or (with_inputs i ports) (task_of p i.task) ports else ports
+
+-- the ports behind these invocations, in text order
+abbrev pub all_invoked : GiottoProgram → ModeDeclaration → ℕ → List TaskInvocation → Valuation → Valuation
+all_invoked p m time [] ports = ports
+all_invoked p m time (i ∷ is) ports = all_invoked p m time is (invoked p m time i ports)
+
+-- the tasks that they release at instant n
+abbrev pub all_released : GiottoProgram → ModeDeclaration → ℕ → ℕ → List TaskInvocation → Valuation → List ActiveTask
+all_released p m time n [] ports = []
+all_released p m time n (i ∷ is) ports =
+    (if is_invoked m time i ports then option_to_list (option_map (released n i ports) (task_of p i.task)) else []) ++ all_released p m time n is (invoked p m time i ports)
+
+abbrev pub invoked_in_mode : GiottoProgram → ModeDeclaration → Row → Row
+invoked_in_mode p m row = record row {
+  ports = all_invoked p m row.mode_time m.invocations row.ports;
+  active = row.active ++ all_released p m row.mode_time row.count m.invocations row.ports;
+}
 
 -- the mode time of the next instant
 abbrev pub moved_on : ModeDeclaration → Row → Row
@@ -120,7 +143,7 @@ counted row = record row { count = row.count + 1 }
 -- the steps of a running tenant: sensors and a switch in the mode that stands, invocations in the mode behind it
 abbrev pub second_half_running : Readings → Valuation → Row → Row
 second_half_running readings granted row =
-    in_mode (λ p m row. moved_on m (all_invoked p m m.invocations row))
+    in_mode (λ p m row. moved_on m (invoked_in_mode p m row))
     (in_mode (λ p m row. switched p m (sensed readings granted p row))
     (replaced_if_due row))
 

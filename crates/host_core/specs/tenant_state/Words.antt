@@ -8,7 +8,7 @@ use Rattle.giotto_read.specs.Bytes.{is_digit, is_letter, is_name_byte}
 abbrev pub is_blank : ℕ → Bool
 is_blank c = c == 32 || c == 9 || c == 13
 
--- the byte in front of the first word of a list of words
+-- the byte at the front of the first of these texts
 abbrev pub joined_to_first : ℕ → List (List ℕ) → List (List ℕ)
 joined_to_first c [] = (c ∷ []) ∷ []
 joined_to_first c (w ∷ ws) = (c ∷ w) ∷ ws
@@ -52,3 +52,13 @@ value_of_word [] = None
 value_of_word (c ∷ cs) =
     if c == 45 then digits_as (λ n. if nat_le n (2 ^ 63) then Some (neg_ℤ (pos n)) else None) cs
     else digits_as (λ n. if nat_le n (2 ^ 63 - 1) then Some (pos n) else None) (c ∷ cs)
+
+-- each word is a value
+abbrev pub values_of_words : List (List ℕ) → Option (List ℤ)
+values_of_words [] = Some []
+values_of_words (w ∷ ws) = by (value_of_word w) (values_of_words ws)
+  where
+    by : Option ℤ → Option (List ℤ) → Option (List ℤ)
+    by None zs = None
+    by (Some z) None = None
+    by (Some z) (Some zs) = Some (z ∷ zs)

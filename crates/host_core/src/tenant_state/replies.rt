@@ -57,6 +57,20 @@ pub enum Reply {
     Refused(Refusal),
 }
 
+impl Reply {
+    /// An equal reply. Takes no memory.
+    pub fn copy(&self) -> Reply
+        ensures { result ≡ self.now }
+    {
+        match self {
+            Reply::Loaded => Reply::Loaded,
+            Reply::Started => Reply::Started,
+            Reply::Port(name, value) => Reply::Port(name.copy(), *value),
+            Reply::Refused(refusal) => Reply::Refused(*refusal),
+        }
+    }
+}
+
 impl Budget {
     /// The budget's word in a reply.
     pub fn as_str(self) -> &'static str

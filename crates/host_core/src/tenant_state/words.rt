@@ -1,8 +1,12 @@
 //! Lines as words: one or more blanks separate words, and mean nothing at the ends.
 
-ghost use Rattle.std.specs.Prelude.{◌≡◌, ◌≤◌, length};
-ghost use Rattle.std.specs.List.{prefix_len};
-ghost use Rattle.host_core.specs.tenant_state.Words.{is_blank, is_word_byte, from_first_word, first_word_of, behind_first_word};
+ghost use Rattle.std.specs.Prelude.{◌≡◌, ◌≤◌, IfOk, length};
+ghost use Rattle.std.specs.List.{list_all, prefix_len};
+ghost use Rattle.std.specs.Option.{option_map};
+ghost use Rattle.giotto_read.specs.Bytes.{is_letter, is_name_byte};
+ghost use Rattle.host_core.specs.tenant_state.Words.{is_blank, is_word_byte, words_of, from_first_word, first_word_of, behind_first_word, is_name, value_of_word, values_of_words};
+
+use std::alloc::{AllocError, Global};
 
 /// The first word of a line, or no byte where the line is blank.
 pub fn first_word(line: &str) -> &str
@@ -25,6 +29,51 @@ pub fn blank(byte: u8) -> bool
     ensures { result ≡ is_blank byte }
 {
     matches!(byte, b' ' | b'\t' | b'\r')
+}
+
+/// Whether a word has the shape of a name: a letter or `_`, then letters, digits or `_`; at most 32 bytes.
+#[tactic(auto, using(crate::proofs::WordLemmas::name_by_parts))]
+pub fn is_name(word: &str) -> bool
+    ensures { result ≡ is_name word.now }
+{
+    let [first, rest @ ..] = word.as_bytes() else {
+        return false;
+    };
+    is_letter(*first) && are_name_bytes(rest) && word.len() <= 32
+}
+
+/// The value of a word: an optional `-`, then digits, leading zeros allowed. `None` where the word has another shape,
+/// or its value is no i64.
+pub fn value_of_word(word: &str) -> Option<i64>
+    ensures { result ≡ value_of_word word.now }
+{
+    let [first, ..] = word.as_bytes() else {
+        return None;
+    };
+    if *first == b'+' {
+        return None;
+    }
+    word.parse().ok()
+}
+
+/// The values of all words of a line, in their order, or `None` where a word has none. Takes memory for the values alone.
+#[tactic(auto, using(crate::proofs::ValueLemmas::values_fault, crate::proofs::WordLemmas::behind_shorter))]
+pub fn values_of_words(alloc: Global, line: &str) -> Result<Option<Vec<i64>>, AllocError>
+    ensures { IfOk result (λ values. option_map (λ v. v.items) values ≡ values_of_words (words_of line.now)) }
+{
+    let mut values = Vec::new(alloc);
+    let mut rest = line;
+    loop {
+        let word = first_word(rest);
+        if word.is_empty() {
+            return Ok(Some(values));
+        }
+        let Some(value) = value_of_word(word) else {
+            return Ok(None);
+        };
+        values.push(value)?;
+        rest = behind_first_word(rest);
+    }
 }
 
 // The line from its first word on.
@@ -60,4 +109,23 @@ fn word_len(line: &[u8]) -> usize
         }
     }
     line.len()
+}
+
+fn are_name_bytes(bytes: &[u8]) -> bool
+    ensures { result ≡ list_all is_name_byte bytes.now }
+{
+    bytes.iter().all(|byte| is_name_byte(*byte))
+}
+
+// Whether a byte is `A` to `Z`, `a` to `z`, or `_`.
+fn is_letter(byte: u8) -> bool
+    ensures { result ≡ is_letter byte }
+{
+    byte.is_ascii_alphabetic() || byte == b'_'
+}
+
+fn is_name_byte(byte: u8) -> bool
+    ensures { result ≡ is_name_byte byte }
+{
+    is_letter(byte) || byte.is_ascii_digit()
 }

@@ -1,4 +1,4 @@
-use Rattle.host_core.proofs.AloneAlong.{same_rows, same_awaits}
+use Rattle.host_core.proofs.AloneAlong.{same_rows, same_awaits, same_clock}
 use Rattle.host_core.proofs.laws.whole_host.Goals as goal
 
 pub returns-clause-rows : goal.returns-clause-rows
@@ -6,3 +6,6 @@ returns-clause-rows c = same_rows
 
 pub returns-clause-completions : goal.returns-clause-completions
 returns-clause-completions c = same_awaits
+
+pub returns-clause-clock : goal.returns-clause-clock
+returns-clause-clock c = same_clock

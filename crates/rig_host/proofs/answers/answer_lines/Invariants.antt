@@ -1,6 +1,10 @@
-use Rattle.std.proofs.Common.{ℕ, List}
+use Rattle.std.proofs.Common.{ℕ, List, All}
+use Rattle.host_core.specs.Setting.{Setting}
+use Rattle.host_core.specs.declared.events.Event.{Event}
+use Rattle.rig_host.specs.Answered.{IsText}
 use Rattle.rig_host.specs.Lines.{cut}
 use Rattle.rig_host.specs.Reading.{IsLeft}
+use Rattle.rig_host.specs.Script.{reply_to_line, past_behind}
 use Rattle.rig_host.proofs.AnsweredLines.{HasCome}
 use Rattle.rig_host.proofs.answers.answer_lines.Given as goal
 
@@ -8,6 +12,10 @@ abbrev pub invariant-loop-line : goal.invariant-loop-line
 invariant-loop-line g l =
     let left = g.R.Read.remaining in
     let contents = g.W.Write.contents in
-    (bytes : List ℕ) → IsLeft left l.initial.lines bytes
-    → (rest : List ℕ) × IsLeft left l.lines rest
-    × HasCome g.A.Answers.reply g.A.Answers.after l.initial.answers (cut bytes) (contents l.initial.writer) l.answers (cut rest) (contents l.writer)
+    let stands = g.A.Answers.stands in
+    record {
+      reading : (bytes : List ℕ) → IsLeft left l.initial.lines bytes → (rest : List ℕ) × IsLeft left l.lines rest × (All IsText (cut bytes) → All IsText (cut rest));
+      answering : (setting : Setting) (past : List Event) (bytes : List ℕ) → stands l.initial.answers setting past → IsLeft left l.initial.lines bytes
+          → (rest : List ℕ) × IsLeft left l.lines rest
+          × (now : List Event) × stands l.answers setting now × HasCome (reply_to_line setting) (past_behind setting) past (cut bytes) (contents l.initial.writer) now (cut rest) (contents l.writer);
+    }

@@ -1,0 +1,351 @@
+-- One event more that is played: the texts, and the names of the jobs that were released.
+use Rattle.std.proofs.Common.{◌≡◌, ℕ, zero, suc, ◌+◌, ◌<◌, ◌≤◌, ◌≢◌, ◌⊎◌, inl, inr, ⊎_elim, Bool, true, false, cond, ◌&&◌, ◌||◌, eqb, ℤ, List, [], ◌∷◌, ◌++◌, length, map, filter, get_or, set, take, reverse, Option, Some, None, refl, sym, ap, ◌∙◌, subst, length-set, zero-add, arith}
+use Rattle.std.specs.Prelude.{nat_lt, ◌-◌, ◌^◌}
+use Rattle.std.specs.List.{list_any, All, AllByRecursion}
+use Rattle.std.specs.Option.{option_map_or}
+use Rattle.std.proofs.lemmas.Bool.{cases_eq, cases_lt}
+use Rattle.std.proofs.lemmas.Bool.Decides.{nat_tests}
+use Rattle.std.proofs.lemmas.List.{get_or-set_same, get_or-set_other, reverse-append, take_more}
+use Rattle.std.proofs.lemmas.List.Folds.{list_any-append}
+use Rattle.giotto_read.specs.Program.{GiottoProgram}
+use Rattle.host_core.specs.declared.events.Event.{Event}
+use Rattle.host_core.specs.declared.events.Event.TheVariants.{Own, Tick, Done}
+use Rattle.host_core.specs.declared.rig_config.Config.{Config}
+use Rattle.host_core.specs.declared.tenant_state.commands.Command.{Command}
+use Rattle.host_core.specs.declared.tenant_state.jobs.JobId.{JobId}
+use Rattle.host_core.specs.declared.tenant_state.replies.Reply.{Reply}
+use Rattle.host_core.specs.Answers.{answers_along, answers_of}
+use Rattle.host_core.specs.Halves.{released_from}
+use Rattle.host_core.specs.Host.{row_at, empty_host, host_after}
+use Rattle.host_core.specs.HostStanding.{HostStanding, new_host, standing_at, Stands, released_in}
+use Rattle.host_core.specs.Legal.{next_tick, was_released, may_follow, is_legal}
+use Rattle.host_core.specs.Playing.{IsPlayed}
+use Rattle.host_core.specs.Plays.{IsSettingOf}
+use Rattle.host_core.specs.Setting.{Setting}
+use Rattle.host_core.specs.Views.{after_command, readings_of, unfinished_of, run_of, view_of, row_of}
+use Rattle.host_core.specs.rig_config.Roster.{budgets_at, is_tenant}
+use Rattle.host_core.specs.tenant_state.FirstHalf.{first_half_of}
+use Rattle.host_core.specs.tenant_state.Jobs.{JobValue, job_of, job_in, same_job, is_active, released_at}
+use Rattle.host_core.specs.tenant_state.Replies.{text_of_reply}
+use Rattle.host_core.specs.tenant_state.Row.{ActiveTask, Row, empty_row}
+use Rattle.host_core.specs.tenant_state.SecondHalf.{second_half_of}
+use Rattle.host_core.specs.tenant_state.Standing.{Standing, empty_standing}
+use Rattle.host_core.proofs.ActiveTasks.{kept_by_command, kept_by_instant}
+use Rattle.host_core.proofs.AloneAlong.{same_rows, same_clock}
+use Rattle.host_core.proofs.Histories.{own_instant, own_row, releases}
+use Rattle.host_core.proofs.HostSteps.{HasTasksWithProgram}
+use Rattle.host_core.proofs.NewHost.{new_stands}
+use Rattle.host_core.proofs.JobNames.{both, either, or_true, and_true, same_number_self, same_job_is}
+
+all_if_any : {X : Type 0} (q : X → Bool) (C : Type 0) (xs : List X) → (list_any q xs ≡ true → C) → AllByRecursion (λ x. q x ≡ true → C) xs
+all_if_any q C [] f = tt
+all_if_any q C (x ∷ xs) f = (λ e. f (ap (λ b. b || list_any q xs) e), all_if_any q C xs (λ e. f (ap (λ b. q x || b) e ∙ or_true (q x))))
+
+any_if_all : {X : Type 0} (q : X → Bool) (C : Type 0) (xs : List X) → AllByRecursion (λ x. q x ≡ true → C) xs → list_any q xs ≡ true → C
+any_if_all q C [] all e = absurd (cc)
+any_if_all q C (x ∷ xs) all e = either (q x) (list_any q xs) C e all.0 (any_if_all q C xs all.1)
+
+any_map : {X Y : Type 0} (q : Y → Bool) (f : X → Y) (xs : List X) → list_any q (map f xs) ≡ list_any (λ x. q (f x)) xs
+any_map q f [] = refl
+any_map q f (x ∷ xs) = ap (λ b. q (f x) || b) (any_map q f xs)
+
+same_truth : (a b : Bool) → (a ≡ true → b ≡ true) → (b ≡ true → a ≡ true) → a ≡ b
+same_truth true true f g = refl
+same_truth true false f g = sym (f refl)
+same_truth false true f g = g refl
+same_truth false false f g = refl
+
+absorbed : (a b : Bool) → (a ≡ true → b ≡ true) → (a || b) ≡ b
+absorbed true b f = sym (f refl)
+absorbed false b f = refl
+
+-- the jobs of one name among those that an instant released
+module _ (j : JobId) where
+  abbrev is_it : JobValue → Bool
+  is_it k = same_job k.id j
+
+  -- a tenant's
+  sound_along : (t n : ℕ) (p : GiottoProgram) (xs : List ActiveTask) → list_any is_it (map (job_in p t) (filter (λ (a : ActiveTask). eqb a.release n) xs)) ≡ true
+      → (t ≡ j.tenant) × (list_any (λ (a : ActiveTask). same_job (job_of j.tenant a) j) xs ≡ true)
+  sound_along t n p [] e = absurd (cc)
+  sound_along t n p (x ∷ xs) e = by (eqb x.release n) e (sound_along t n p xs)
+    where
+      jobs : List JobValue
+      jobs = map (job_in p t) (filter (λ (a : ActiveTask). eqb a.release n) xs)
+
+      Found : Type 0
+      Found = (t ≡ j.tenant) × (list_any (λ (a : ActiveTask). same_job (job_of j.tenant a) j) (x ∷ xs) ≡ true)
+
+      behind : (t ≡ j.tenant) × (list_any (λ (a : ActiveTask). same_job (job_of j.tenant a) j) xs ≡ true) → Found
+      behind rest = (rest.0, ap (λ b. same_job (job_of j.tenant x) j || b) rest.1 ∙ or_true (same_job (job_of j.tenant x) j))
+
+      here : same_job (job_of t x) j ≡ true → Found
+      here h =
+          let same : t ≡ j.tenant = ap (λ (k : JobId). k.tenant) (same_job_is (job_of t x) j h) in
+          (same, ap (λ b. b || list_any (λ (a : ActiveTask). same_job (job_of j.tenant a) j) xs) (ap (λ k. same_job (job_of k x) j) (sym same) ∙ h))
+
+      by : (b : Bool) → list_any is_it (map (job_in p t) (cond b (x ∷ filter (λ (a : ActiveTask). eqb a.release n) xs) (filter (λ (a : ActiveTask). eqb a.release n) xs))) ≡ true
+          → (list_any is_it jobs ≡ true → (t ≡ j.tenant) × (list_any (λ (a : ActiveTask). same_job (job_of j.tenant a) j) xs ≡ true)) → Found
+      by true f rest = either (same_job (job_of t x) j) (list_any is_it jobs) Found f here (λ h. behind (rest h))
+      by false f rest = behind (rest f)
+
+  sound_at : (t n : ℕ) (row : Row) → list_any is_it (released_at t n row) ≡ true → (t ≡ j.tenant) × (is_active row j ≡ true)
+  sound_at t n row e = by row.program e
+    where
+      by : (o : Option GiottoProgram) → list_any is_it (option_map_or (λ p. map (job_in p t) (filter (λ (a : ActiveTask). eqb a.release n) row.active)) o []) ≡ true
+          → (t ≡ j.tenant) × (is_active row j ≡ true)
+      by None f = absurd (cc)
+      by (Some p) f = sound_along t n p row.active f
+
+  complete_along : (n : ℕ) (p : GiottoProgram) (xs : List ActiveTask) → j.tick ≡ n → list_any (λ (a : ActiveTask). same_job (job_of j.tenant a) j) xs ≡ true
+      → list_any is_it (map (job_in p j.tenant) (filter (λ (a : ActiveTask). eqb a.release n) xs)) ≡ true
+  complete_along n p [] tick e = absurd (cc)
+  complete_along n p (x ∷ xs) tick e =
+      either (same_job (job_of j.tenant x) j) (list_any (λ (a : ActiveTask). same_job (job_of j.tenant a) j) xs) _ e
+      (λ h. at_it h (eqb x.release n) refl) (λ h. behind (eqb x.release n) (complete_along n p xs tick h))
+    where
+      jobs : List ActiveTask → List JobValue
+      jobs = map (job_in p j.tenant)
+
+      left : List ActiveTask
+      left = filter (λ (a : ActiveTask). eqb a.release n) xs
+
+      at_it : same_job (job_of j.tenant x) j ≡ true → (b : Bool) → eqb x.release n ≡ b → list_any is_it (jobs (cond b (x ∷ left) left)) ≡ true
+      at_it h true is = ap (λ b. b || list_any is_it (jobs left)) h
+      at_it h false is =
+          let release : x.release ≡ n = ap (λ (k : JobId). k.tick) (same_job_is (job_of j.tenant x) j h) ∙ tick in
+          let bad : true ≡ false = sym (same_number_self n) ∙ (ap (λ k. eqb k n) (sym release) ∙ is) in
+          absurd (cc)
+
+      behind : (b : Bool) → list_any is_it (jobs left) ≡ true → list_any is_it (jobs (cond b (x ∷ left) left)) ≡ true
+      behind true h = ap (λ b. same_job (job_of j.tenant x) j || b) h ∙ or_true (same_job (job_of j.tenant x) j)
+      behind false h = h
+
+  complete_at : (n : ℕ) (row : Row) → (row.program ≡ None → row.active ≡ []) → j.tick ≡ n → is_active row j ≡ true → list_any is_it (released_at j.tenant n row) ≡ true
+  complete_at n row has tick e = by row.program refl
+    where
+      by : (o : Option GiottoProgram) → row.program ≡ o
+          → list_any is_it (option_map_or (λ p. map (job_in p j.tenant) (filter (λ (a : ActiveTask). eqb a.release n) row.active)) o []) ≡ true
+      by None none =
+          let bad : true ≡ false = sym e ∙ ap (list_any (λ (a : ActiveTask). same_job (job_of j.tenant a) j)) (has none) in
+          absurd (cc)
+      by (Some p) is = complete_along n p row.active tick e
+
+  -- all tenants', from a place on
+  found_from : (C : Type 0) (n from : ℕ) (xs : List Standing) → ((k : ℕ) → k < length xs → list_any is_it (released_at (from + k) n (get_or xs k (empty_standing 0)).row) ≡ true → C)
+      → list_any is_it (released_from n from xs) ≡ true → C
+  found_from C n from [] each e = absurd (cc)
+  found_from C n from (x ∷ xs) each e =
+      either (list_any is_it (released_at from n x.row)) (list_any is_it (released_from n (from + 1) xs)) C
+      (sym (list_any-append is_it (released_at from n x.row) (released_from n (from + 1) xs)) ∙ e)
+      (λ h. each 0 (omega arith) (ap (λ k. list_any is_it (released_at k n x.row)) (let zero_more : from + 0 ≡ from = omega arith in zero_more) ∙ h))
+      (found_from C n (from + 1) xs (λ k lt h. each (suc k) (omega arith)
+      (ap (λ i. list_any is_it (released_at i n (get_or xs k (empty_standing 0)).row)) (let one_more : from + suc k ≡ from + 1 + k = omega arith in one_more) ∙ h)))
+
+  found_at : (n from : ℕ) (xs : List Standing) (k : ℕ) → k < length xs → list_any is_it (released_at (from + k) n (get_or xs k (empty_standing 0)).row) ≡ true
+      → list_any is_it (released_from n from xs) ≡ true
+  found_at n from [] k lt e = absurd (omega arith)
+  found_at n from (x ∷ xs) zero lt e =
+      list_any-append is_it (released_at from n x.row) (released_from n (from + 1) xs)
+      ∙ ap (λ b. b || list_any is_it (released_from n (from + 1) xs)) (ap (λ k. list_any is_it (released_at k n x.row)) (let zero_more : from ≡ from + 0 = omega arith in zero_more) ∙ e)
+  found_at n from (x ∷ xs) (suc k) lt e =
+      list_any-append is_it (released_at from n x.row) (released_from n (from + 1) xs)
+      ∙ (ap (λ b. list_any is_it (released_at from n x.row) || b)
+      (found_at n (from + 1) xs k (omega arith) (ap (λ i. list_any is_it (released_at i n (get_or xs k (empty_standing 0)).row)) (let one_more : from + 1 + k ≡ from + suc k = omega arith in one_more) ∙ e))
+      ∙ or_true (list_any is_it (released_at from n x.row)))
+
+module _ (setting : Setting) where
+  within : (u : ℕ) → is_tenant setting.config u ≡ true → u < length setting.config.tenants
+  within u e = grind (arith, nat_tests)
+
+  pub is_within : (u : ℕ) → u < length setting.config.tenants → is_tenant setting.config u ≡ true
+  is_within u lt = grind (arith, nat_tests)
+
+  -- no event reaches a place that isn't in the roster
+  row_outside : (past : List Event) (t : ℕ) → is_legal setting past ≡ true → length setting.config.tenants ≤ t → row_of setting past t ≡ empty_row (next_tick setting past)
+  row_outside [] t legal le = refl
+  row_outside (Own u c ∷ past) t legal le =
+      let parts = both (is_tenant setting.config u) (is_legal setting past) legal in
+      let lt = within u parts.0 in
+      let other : eqb u t ≡ false = grind (arith, nat_tests) in
+      ap (λ b. run_of setting t (cond b (Rattle.host_core.specs.Views.command c ∷ view_of setting past t) (view_of setting past t))) other ∙ row_outside past t parts.1 le
+  row_outside (Done i ∷ past) t legal le = row_outside past t (both (may_follow setting past (Done i)) (is_legal setting past) legal).1 le
+  row_outside (Tick frame ∷ past) t legal le =
+      ap (λ r. second_half_of (readings_of setting t frame) (own_instant setting past frame t).granted (first_half_of (unfinished_of past t r) r))
+      (row_outside past t (both (may_follow setting past (Tick frame)) (is_legal setting past) legal).1 le)
+
+  released_if_active : (past : List Event) (j : JobId) → is_active (row_of setting past j.tenant) j ≡ true → was_released setting past j ≡ true
+  released_if_active [] j e = absurd (cc)
+  released_if_active (e ∷ past) j is = ap (λ b. b || was_released setting past j) is
+
+  -- commands and completions release nothing
+  active_before : (past : List Event) (u : ℕ) (c : Command) (j : JobId) → is_active (row_of setting (Own u c ∷ past) j.tenant) j ≡ true → was_released setting past j ≡ true
+  active_before past u c j =
+      any_if_all (λ (a : ActiveTask). same_job (job_of j.tenant a) j) (was_released setting past j ≡ true) (row_of setting (Own u c ∷ past) j.tenant).active
+      (own_row setting (λ (row : Row). AllByRecursion WasReleased row.active) past c j.tenant (eqb u j.tenant)
+      (kept_by_command WasReleased (next_tick setting past) setting.reader (budgets_at setting.config j.tenant) c (row_of setting past j.tenant)
+      (record { each = before; at = (releases setting past j.tenant).at })).each
+      before)
+    where
+      WasReleased : ActiveTask → Type 0
+      WasReleased a = same_job (job_of j.tenant a) j ≡ true → was_released setting past j ≡ true
+
+      before : AllByRecursion WasReleased (row_of setting past j.tenant).active
+      before = all_if_any (λ (a : ActiveTask). same_job (job_of j.tenant a) j) (was_released setting past j ≡ true) (row_of setting past j.tenant).active (released_if_active past j)
+
+  released_own : (past : List Event) (u : ℕ) (c : Command) (j : JobId) → was_released setting (Own u c ∷ past) j ≡ was_released setting past j
+  released_own past u c j = absorbed (is_active (row_of setting (Own u c ∷ past) j.tenant) j) (was_released setting past j) (active_before past u c j)
+
+  released_done : (past : List Event) (i j : JobId) → was_released setting (Done i ∷ past) j ≡ was_released setting past j
+  released_done past i j = absorbed (is_active (row_of setting (Done i ∷ past) j.tenant) j) (was_released setting past j) (released_if_active past j)
+
+  -- an instant releases under its own number
+  active_behind : (past : List Event) (frame : List ℤ) (j : JobId) → is_active (row_of setting (Tick frame ∷ past) j.tenant) j ≡ true
+      → (j.tick ≡ next_tick setting past) ⊎ (was_released setting past j ≡ true)
+  active_behind past frame j =
+      any_if_all (λ (a : ActiveTask). same_job (job_of j.tenant a) j) Either (row_of setting (Tick frame ∷ past) j.tenant).active
+      (kept_by_instant IsEither (next_tick setting past) (λ a e same. inl (sym (ap (λ (k : JobId). k.tick) (same_job_is (job_of j.tenant a) j same)) ∙ e))
+      (own_instant setting past frame j.tenant) (row_of setting past j.tenant) (record { each = before; at = (releases setting past j.tenant).at })).0
+    where
+      Either : Type 0
+      Either = (j.tick ≡ next_tick setting past) ⊎ (was_released setting past j ≡ true)
+
+      IsEither : ActiveTask → Type 0
+      IsEither a = same_job (job_of j.tenant a) j ≡ true → Either
+
+      before : AllByRecursion IsEither (row_of setting past j.tenant).active
+      before = all_if_any (λ (a : ActiveTask). same_job (job_of j.tenant a) j) Either (row_of setting past j.tenant).active (λ e. inr (released_if_active past j e))
+
+  same_active : (past : List Event) (host : HostStanding) (t : ℕ) (j : JobId) → is_legal setting past ≡ true → Stands setting host (host_after setting past) → t < length setting.config.tenants
+      → is_active (standing_at host t).row j ≡ is_active (row_of setting past t) j
+  same_active past host t j legal stands lt =
+      ap (λ (row : Row). is_active row j) (stands.each t lt).same_row ∙ ap (λ row. is_active row j) (same_rows setting past t legal (is_within t lt))
+
+  released_tick : (past : List Event) (frame : List ℤ) (host : HostStanding) (j : JobId) → is_legal setting (Tick frame ∷ past) ≡ true → Stands setting host (host_after setting (Tick frame ∷ past))
+      → All HasTasksWithProgram host.tenants
+      → (was_released setting past j || list_any (is_it j) (released_in (next_tick setting past) host)) ≡ was_released setting (Tick frame ∷ past) j
+  released_tick past frame host j legal stands has =
+      same_truth (before || among) (active || before)
+      (λ e. either before among ((active || before) ≡ true) e (λ h. ap (λ b. active || b) h ∙ or_true active) (λ h. ap (λ b. b || before) (active_if_among h)))
+      (λ e. either active before ((before || among) ≡ true) e among_if_active (λ h. ap (λ b. b || among) h))
+    where
+      before : Bool
+      before = was_released setting past j
+
+      among : Bool
+      among = list_any (is_it j) (released_in (next_tick setting past) host)
+
+      active : Bool
+      active = is_active (row_of setting (Tick frame ∷ past) j.tenant) j
+
+      active_if_among : among ≡ true → active ≡ true
+      active_if_among = found_from j (active ≡ true) (next_tick setting past) 0 host.tenants (λ k lt h.
+          let found = sound_at j (0 + k) (next_tick setting past) (get_or host.tenants k (empty_standing 0)).row h in
+          let place : k ≡ j.tenant = omega (arith, found.0) in
+          sym (same_active (Tick frame ∷ past) host j.tenant j legal stands (omega (arith, stands.as_many)))
+          ∙ (ap (λ i. is_active (standing_at host i).row j) (sym place) ∙ found.1))
+
+      new : j.tick ≡ next_tick setting past → active ≡ true → (j.tenant < length setting.config.tenants) ⊎ (length setting.config.tenants ≤ j.tenant) → among ≡ true
+      new tick e (inl lt) =
+          let inside : j.tenant < length host.tenants = omega (arith, stands.as_many) in
+          found_at j (next_tick setting past) 0 host.tenants j.tenant inside
+          (ap (λ k. list_any (is_it j) (released_at k (next_tick setting past) (standing_at host j.tenant).row)) (zero-add j.tenant)
+          ∙ complete_at j (next_tick setting past) (standing_at host j.tenant).row (has j.tenant (empty_standing 0) inside) tick
+          (same_active (Tick frame ∷ past) host j.tenant j legal stands lt ∙ e))
+      new tick e (inr le) =
+          let bad : true ≡ false = sym e ∙ ap (λ row. is_active row j) (row_outside (Tick frame ∷ past) j.tenant legal le) in
+          absurd (cc)
+
+      among_if_active : active ≡ true → (before || among) ≡ true
+      among_if_active e = ⊎_elim
+          (λ tick. ap (λ b. before || b) (new tick e (cases_lt j.tenant (length setting.config.tenants))) ∙ or_true before)
+          (λ h. ap (λ b. b || among) h)
+          (active_behind past frame j e)
+
+  -- one event more
+  pub step_done : (past : List Event) (i : JobId) (host host_new : HostStanding) (texts : List (List ℕ)) (released : List JobId) → may_follow setting past (Done i) ≡ true
+      → Stands setting host_new (host_after setting (Done i ∷ past)) → IsPlayed setting past host texts released → IsPlayed setting (Done i ∷ past) host_new texts released
+  step_done past i host host_new texts released may stands played = record {
+    legal = and_true (may_follow setting past (Done i)) (is_legal setting past) may played.legal;
+    stands = stands;
+    as_many = played.as_many;
+    each = played.each;
+    names = λ j. played.names j ∙ sym (released_done past i j);
+  }
+
+  pub step_tick : (past : List Event) (frame : List ℤ) (host host_new : HostStanding) (texts : List (List ℕ)) (released released_new : List JobId) (jobs : List JobValue)
+      → may_follow setting past (Tick frame) ≡ true → Stands setting host_new (host_after setting (Tick frame ∷ past)) → All HasTasksWithProgram host_new.tenants
+      → jobs ≡ released_in host.clock host_new → released_new ≡ released ++ map (λ (k : JobValue). k.id) jobs
+      → IsPlayed setting past host texts released → IsPlayed setting (Tick frame ∷ past) host_new texts released_new
+  step_tick past frame host host_new texts released released_new jobs may stands has are more played =
+      let legal : is_legal setting (Tick frame ∷ past) ≡ true = and_true (may_follow setting past (Tick frame)) (is_legal setting past) may played.legal in
+      let clock : host.clock ≡ next_tick setting past = played.stands.same_clock ∙ same_clock setting past in
+      record {
+        legal = legal;
+        stands = stands;
+        as_many = played.as_many;
+        each = played.each;
+        names = λ j.
+            ap (list_any (λ r. same_job r j)) more
+            ∙ (list_any-append (λ r. same_job r j) released (map (λ (k : JobValue). k.id) jobs)
+            ∙ (ap (λ b. b || list_any (λ r. same_job r j) (map (λ (k : JobValue). k.id) jobs)) (played.names j)
+            ∙ (ap (λ b. was_released setting past j || b) (any_map (λ r. same_job r j) (λ (k : JobValue). k.id) jobs ∙ ap (list_any (is_it j)) (are ∙ ap (λ n. released_in n host_new) clock))
+            ∙ released_tick past frame host_new j legal stands has)));
+      }
+
+  pub step_own : (past : List Event) (u : ℕ) (c : Command) (host host_new : HostStanding) (texts : List (List ℕ)) (released : List JobId) (reply : Reply) (text : List ℕ)
+      → may_follow setting past (Own u c) ≡ true → Stands setting host_new (host_after setting (Own u c ∷ past))
+      → reply ≡ (after_command setting u c (row_at setting (host_after setting past) u)).reply
+      → text ≡ get_or texts u [] ++ (text_of_reply reply ++ 10 ∷ [])
+      → IsPlayed setting past host texts released → IsPlayed setting (Own u c ∷ past) host_new (set texts u text) released
+  step_own past u c host host_new texts released reply text may stands replied printed played = record {
+    legal = and_true (may_follow setting past (Own u c)) (is_legal setting past) may played.legal;
+    stands = stands;
+    as_many = length-set texts u text ∙ played.as_many;
+    each = λ t lt. ⊎_elim
+        (λ (same : u ≡ t).
+        let is : eqb u t ≡ true = grind (arith, nat_tests) in
+        ap (λ k. get_or (set texts u text) k []) (sym same)
+        ∙ (get_or-set_same texts u text [] (omega (arith, played.as_many))
+        ∙ (own_text ∙ (ap (λ k. answers_along setting k (Rattle.host_core.specs.Views.command c ∷ view_of setting past k)) same
+        ∙ sym (ap (λ b. answers_along setting t (cond b (Rattle.host_core.specs.Views.command c ∷ view_of setting past t) (view_of setting past t))) is)))))
+        (λ (differ : u ≢ t).
+        let is : eqb u t ≡ false = grind (arith, nat_tests) in
+        get_or-set_other texts u t text [] (λ e. differ (sym e))
+        ∙ (played.each t lt
+        ∙ sym (ap (λ b. answers_along setting t (cond b (Rattle.host_core.specs.Views.command c ∷ view_of setting past t) (view_of setting past t))) is)))
+        (cases_eq u t);
+    names = λ j. played.names j ∙ sym (released_own past u c j);
+  }
+    where
+      own_text : text ≡ answers_along setting u (Rattle.host_core.specs.Views.command c ∷ view_of setting past u)
+      own_text =
+          printed
+          ∙ (ap (λ before. before ++ (text_of_reply reply ++ 10 ∷ [])) (played.each u (within u may))
+          ∙ ap (λ r. answers_of setting past u ++ (text_of_reply r ++ 10 ∷ []))
+          (replied ∙ ap (λ row. (after_command setting u c row).reply) (same_rows setting past u played.legal may)))
+
+  -- an instant may come, by the clock
+  pub tick_legal : (past : List Event) (frame : List ℤ) (host : HostStanding) (texts : List (List ℕ)) (released : List JobId) (clock lines : ℕ) → clock ≡ host.clock
+      → lines ≡ length frame → lines ≡ host.config.lines → IsPlayed setting past host texts released → nat_lt clock (2 ^ 64 - 1) ≡ may_follow setting past (Tick frame)
+  tick_legal past frame host texts released clock lines now as_many same played =
+      let next : clock ≡ next_tick setting past = now ∙ (played.stands.same_clock ∙ same_clock setting past) in
+      let lines_are : length frame ≡ setting.config.lines = sym as_many ∙ (same ∙ ap (λ (k : Config). k.lines) played.stands.same_config) in
+      let is : eqb (length frame) setting.config.lines ≡ true = ap (λ n. eqb (length frame) n) (sym lines_are) ∙ same_number_self (length frame) in
+      ap (λ n. nat_lt n (2 ^ 64 - 1)) next ∙ sym (ap (λ b. b && nat_lt (next_tick setting past) (2 ^ 64 - 1)) is)
+
+  -- no event yet
+  pub nothing_played : (config : Config) (host : HostStanding) (texts : List (List ℕ)) → IsSettingOf config setting → host ≡ new_host config 0 → length texts ≡ length config.tenants
+      → All (λ text. text ≡ []) texts → IsPlayed setting [] host texts []
+  nothing_played config host texts is new as_many blank = subst (λ h. IsPlayed setting [] h texts []) (sym new) (record {
+    legal = refl;
+    stands =
+        subst (λ (k : Config). Stands setting (new_host k 0) (empty_host setting)) is.same_config
+        (subst (λ n. Stands setting (new_host setting.config n) (empty_host setting)) is.from_zero (new_stands setting));
+    as_many = as_many ∙ ap (λ (k : Config). length k.tenants) (sym is.same_config);
+    each = λ t lt. blank t [] (omega (arith, as_many, ap (λ (k : Config). length k.tenants) is.same_config));
+    names = λ j. refl;
+  })
+
+pub reverse_more : {X : Type 0} (xs : List X) (i : ℕ) (d : X) → i < length xs → reverse (take (i + 1) xs) ≡ get_or xs i d ∷ reverse (take i xs)
+reverse_more xs i d lt = ap reverse (take_more xs i d lt) ∙ reverse-append (take i xs) (get_or xs i d ∷ [])

@@ -1,0 +1,7 @@
+use Rattle.std.proofs.Common.{◌≡◌, [], None, take}
+use Rattle.std.specs.List.{All}
+use Rattle.host_core.specs.tenant_state.Standing.{Standing}
+use Rattle.host_core.proofs.hosts.Host.known.Given as goal
+
+abbrev pub invariant-loop-tenant : goal.invariant-loop-tenant
+invariant-loop-tenant l = All (λ (s : Standing). s.row.program ≡ None → s.row.active ≡ []) (take l.tenant-index l.tenant-items)

@@ -1,0 +1,9 @@
+use Rattle.std.proofs.Common.{◌≡◌, ◌++◌, map, length}
+use Rattle.host_core.specs.tenant_state.Jobs.{JobValue}
+use Rattle.host_core.proofs.plays.add_names.Given as goal
+
+abbrev pub invariant-loop-job : goal.invariant-loop-job
+invariant-loop-job l = l.names.items ++ map (λ (j : JobValue). j.id) l.jobs.jobs ≡ l.initial.names.items ++ map (λ (j : JobValue). j.id) l.initial.jobs.jobs
+
+abbrev pub decreases-loop-job : goal.decreases-loop-job
+decreases-loop-job l = length l.jobs.jobs

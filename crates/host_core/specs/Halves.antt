@@ -1,0 +1,56 @@
+-- The two halves of an instant, for all tenants in turn, as the host's code goes through them.
+use Rattle.std.specs.Prelude.{◌≡◌, ◌<◌, ◌≤◌, ◌+◌, ℕ, Bool, false, ℤ, List, [], map, length, slice_index_or, sum}
+use Rattle.std.specs.List.{flat_map, enumerate_from}
+use Rattle.host_core.specs.declared.rig_config.Config.{Config}
+use Rattle.host_core.specs.rig_config.Roster.{budgets_at}
+use Rattle.host_core.specs.tenant_state.FirstHalf.{first_half_of}
+use Rattle.host_core.specs.tenant_state.Jobs.{JobValue, released_at}
+use Rattle.host_core.specs.tenant_state.Row.{ActiveTask, Row}
+use Rattle.host_core.specs.tenant_state.SecondHalf.{readings_within, second_half_of}
+use Rattle.host_core.specs.tenant_state.Standing.{Standing, empty_standing, StandsFor, uncompleted, bodies_invoked, RoomValue, IsRoomFor}
+
+-- a tenant before and behind its first half; it is granted nothing, since it has no binds
+pub record IsFirstHalf (before after : Standing) : Type 0 where
+  pub step : (row : Row) (completed : ActiveTask → Bool) → StandsFor before row completed → StandsFor after (first_half_of (uncompleted completed row) row) completed
+  pub no_binds : before.row.binds ≡ []
+  pub fewer : length after.row.active ≤ length before.row.active
+  pub bodies : bodies_invoked after.row ≡ bodies_invoked before.row
+  pub count : after.row.count ≡ before.row.count
+
+-- a tenant that may read these lines, before and behind its second half
+pub record IsSecondHalf (reads : List ℕ) (frame : List ℤ) (before after : Standing) : Type 0 where
+  pub step : (row : Row) (completed : ActiveTask → Bool) → StandsFor before row completed
+      → ((a : ActiveTask) → a.release ≡ row.count → completed a ≡ false)
+      → StandsFor after (second_half_of (readings_within reads frame) [] row) completed
+  pub count : after.row.count ≡ before.row.count + 1
+
+abbrev pub tenant_at : List Standing → ℕ → Standing
+tenant_at tenants t = slice_index_or tenants t (empty_standing 0)
+
+-- all tenants, by their places, the first `n` of which have gone through the step
+pub record AreStepped (step : ℕ → Standing → Standing → Type 0) (n : ℕ) (before after : List Standing) : Type 0 where
+  pub as_many : length after ≡ length before
+  pub stepped : (t : ℕ) → t < n → step t (tenant_at before t) (tenant_at after t)
+  pub others : (t : ℕ) → n ≤ t → tenant_at after t ≡ tenant_at before t
+
+abbrev pub AreFirstHalves : ℕ → List Standing → List Standing → Type 0
+AreFirstHalves = AreStepped (λ t. IsFirstHalf)
+
+abbrev pub AreSecondHalves : Config → List ℤ → ℕ → List Standing → List Standing → Type 0
+AreSecondHalves config frame = AreStepped (λ t. IsSecondHalf (budgets_at config t).reads frame)
+
+abbrev pub no_room : RoomValue
+no_room = record { places = 0; bodies = [] }
+
+-- room for each tenant, from this place on
+pub record AreReady (from : ℕ) (tenants : List Standing) (rooms : List RoomValue) : Type 0 where
+  pub as_many : from + length rooms ≡ length tenants
+  pub each : (k : ℕ) → k < length rooms → IsRoomFor (tenant_at tenants (from + k)).row (slice_index_or rooms k no_room)
+
+-- how many tasks there is room for in all
+abbrev pub places_of : List RoomValue → ℕ
+places_of rooms = sum (map (λ (r : RoomValue). length r.bodies) rooms)
+
+-- the jobs that instant n released, tenant by tenant, from this place on
+abbrev pub released_from : ℕ → ℕ → List Standing → List JobValue
+released_from n from tenants = flat_map (λ (place : ℕ × Standing). released_at place.0 n place.1.row) (enumerate_from from tenants)

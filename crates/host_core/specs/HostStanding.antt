@@ -1,0 +1,52 @@
+-- What the host's code stands for.
+use Rattle.std.specs.Prelude.{◌≡◌, ◌<◌, ◌+◌, ℕ, true, List, [], ◌∷◌, map, length, slice_get, slice_index_or, sum, Option}
+use Rattle.std.specs.List.{flat_map, enumerate_from}
+use Rattle.std.specs.Option.{option_and_then}
+use Rattle.host_core.specs.declared.rig_config.Config.{Config}
+use Rattle.host_core.specs.declared.rig_config.TenantConfig.{TenantConfig}
+use Rattle.host_core.specs.declared.tenant_state.jobs.JobId.{JobId}
+use Rattle.host_core.specs.Host.{HostState, row_at, is_counted}
+use Rattle.host_core.specs.Setting.{Setting}
+use Rattle.host_core.specs.tenant_state.Jobs.{JobValue, job_of, released_at}
+use Rattle.host_core.specs.tenant_state.Standing.{Standing, empty_standing, StandsFor, awaited_tasks, awaited_job}
+
+pub record HostStanding : Type 0 where
+  pub config : Config
+  -- by their places in the roster
+  pub tenants : List Standing
+  -- the number of the next instant
+  pub clock : ℕ
+
+-- a new host, whose first instant has this number
+abbrev pub new_host : Config → ℕ → HostStanding
+new_host config first_tick = record { config = config; tenants = map (λ (t : TenantConfig). empty_standing first_tick) config.tenants; clock = first_tick }
+
+abbrev pub standing_at : HostStanding → ℕ → Standing
+standing_at host t = slice_index_or host.tenants t (empty_standing 0)
+
+-- The host stands for a row for each tenant, and holds the jobs that were completed and are still active.
+pub record Stands (setting : Setting) (host : HostStanding) (state : HostState) : Type 0 where
+  pub same_config : host.config ≡ setting.config
+  pub same_clock : host.clock ≡ state.clock
+  pub as_many : length host.tenants ≡ length setting.config.tenants
+  pub all_rows : length state.rows ≡ length setting.config.tenants
+  pub each : (t : ℕ) → t < length setting.config.tenants → StandsFor (standing_at host t) (row_at setting state t) (λ a. is_counted state (job_of t a))
+  pub counts : (t : ℕ) → t < length setting.config.tenants → (row_at setting state t).count ≡ state.clock
+  -- what is counted was released before the next instant
+  pub early : (j : JobId) → is_counted state j ≡ true → j.tick < state.clock
+
+-- the job of this name, if its completion is awaited
+abbrev pub awaited_in : HostStanding → JobId → Option JobValue
+awaited_in host j = option_and_then (λ s. awaited_job s j) (slice_get host.tenants j.tenant)
+
+-- the jobs that the instant of number n released, tenant by tenant
+abbrev pub released_in : ℕ → HostStanding → List JobValue
+released_in n host = flat_map (λ (place : ℕ × Standing). released_at place.0 n place.1.row) (enumerate_from 0 host.tenants)
+
+-- how many completions are awaited
+abbrev pub outstanding_in : HostStanding → ℕ
+outstanding_in host = sum (map (λ s. length (awaited_tasks s)) host.tenants)
+
+-- the names of the jobs whose completions are awaited, tenant by tenant
+abbrev pub outstanding_jobs : HostStanding → List JobId
+outstanding_jobs host = flat_map (λ (place : ℕ × Standing). map (job_of place.0) (awaited_tasks place.1)) (enumerate_from 0 host.tenants)

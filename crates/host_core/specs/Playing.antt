@@ -1,0 +1,33 @@
+-- What playing a list of events has come to.
+use Rattle.std.specs.Prelude.{◌≡◌, ◌<◌, ⊤, ℕ, true, List, [], ◌∷◌, length, slice_index_or}
+use Rattle.std.specs.List.{list_any}
+use Rattle.host_core.specs.declared.events.Event.{Event}
+use Rattle.host_core.specs.declared.events.Event.TheVariants.{Own, Tick, Done}
+use Rattle.host_core.specs.declared.rig_config.Config.{Config}
+use Rattle.host_core.specs.declared.tenant_state.jobs.JobId.{JobId}
+use Rattle.host_core.specs.Answers.{answers_of}
+use Rattle.host_core.specs.Host.{host_after}
+use Rattle.host_core.specs.HostStanding.{HostStanding, Stands}
+use Rattle.host_core.specs.Legal.{may_follow, was_released, is_legal}
+use Rattle.host_core.specs.Setting.{Setting, IsTrueReader}
+use Rattle.host_core.specs.tenant_state.Jobs.{same_job}
+
+-- The host, each tenant's text and the names of the released jobs are those behind these events, the newest first.
+pub record IsPlayed (setting : Setting) (past : List Event) (host : HostStanding) (texts : List (List ℕ)) (released : List JobId) : Type 0 where
+  pub legal : is_legal setting past ≡ true
+  pub stands : Stands setting host (host_after setting past)
+  pub as_many : length texts ≡ length setting.config.tenants
+  pub each : (t : ℕ) → t < length setting.config.tenants → slice_index_or texts t [] ≡ answers_of setting past t
+  pub names : (j : JobId) → list_any (λ r. same_job r j) released ≡ was_released setting past j
+
+-- one event more is played, where it may come
+abbrev pub IsStep : Event → HostStanding → List (List ℕ) → List JobId → HostStanding → List (List ℕ) → List JobId → Type 0
+IsStep e host texts released host_new texts_new released_new =
+    (setting : Setting) (past : List Event) → IsTrueReader setting.reader → may_follow setting past e ≡ true
+    → IsPlayed setting past host texts released → IsPlayed setting (e ∷ past) host_new texts_new released_new
+
+-- a command's tenant is one of the host, and has a text
+abbrev pub HasPlace : Event → Config → List (List ℕ) → Type 0
+HasPlace (Own t c) config texts = (t < length config.tenants) × (t < length texts)
+HasPlace (Tick frame) config texts = ⊤
+HasPlace (Done j) config texts = ⊤

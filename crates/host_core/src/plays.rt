@@ -1,0 +1,179 @@
+//! Playing a list of events on a new host.
+
+ghost use Rattle.std.specs.Prelude.{◌≡◌, ◌<◌, ◌↔◌, ◌++◌, ◌∷◌, ℕ, List, [], map, length, IfOk, OnOk, IsTrue, Err};
+ghost use Rattle.std.specs.List.{list_any};
+ghost use Rattle.host_core.specs.Legal.{may_follow};
+ghost use Rattle.host_core.specs.Playing.{IsPlayed, IsStep, HasPlace};
+ghost use Rattle.host_core.specs.Plays.{IsSettingOf, AreAnswers, IsLeastIllegal};
+ghost use Rattle.host_core.specs.Setting.{Setting};
+ghost use Rattle.host_core.specs.tenant_state.Jobs.{JobValue, same_job};
+ghost use Rattle.host_core.specs.tenant_state.Replies.{text_of_reply};
+ghost use Rattle.host_core.specs.declared.events.Event.{Event};
+ghost use Rattle.host_core.specs.declared.plays.PlayFault.{PlayFault};
+ghost use Rattle.host_core.specs.declared.tenant_state.replies.Refusal.{Refusal};
+ghost use Rattle.host_core.specs.declared.tenant_state.replies.Reply.{Reply};
+
+use crate::events::Event;
+use crate::hosts::{Host, complete};
+use crate::rig_config::{Config, TenantId};
+use crate::tenant_state::commands::Command;
+use crate::tenant_state::jobs::{JobId, Jobs};
+use crate::tenant_state::replies::{Refusal, Reply, print_reply};
+use crate::tenant_state::texts::Text;
+use std::alloc::{AllocError, Global};
+
+#[cfg(test)]
+mod tests;
+
+/// Why a list of events isn't played to its end.
+#[derive(Clone, Copy, Debug, PartialEq, Eq)]
+pub enum PlayFault {
+    /// The event at this place, counted from 0, can't come there. It is the first such.
+    Illegal(usize),
+    /// Want of memory.
+    Memory,
+}
+
+// A host, what each tenant has been answered, and the names of all jobs that were released.
+#[derive(Drop)]
+struct Stage {
+    host: Host,
+    texts: Vec<Text>,
+    released: Vec<JobId>,
+}
+
+/// Plays a list of events, the oldest first, on a new host from instant 0. Each tenant's printed replies, each followed by LF, by
+/// the tenants' places.
+///
+/// # Errors
+/// `Illegal` at the first event that can't come: its tenant isn't in the roster, its frame has not one value for each line, its
+/// instant's number would be `u64::MAX`, or its job was never released. `Memory` on want of memory.
+pub fn play(alloc: Global, config: &Config, events: &[Event]) -> Result<Vec<Text>, PlayFault>
+    ensures answers { (setting : Setting) → IsSettingOf config.now setting → IfOk result (λ texts. AreAnswers setting events.now texts.items) }
+    ensures illegal { (setting : Setting) → IsSettingOf config.now setting → (i : ℕ) → result ≡ Err (PlayFault.Illegal i) → IsLeastIllegal setting events.now i }
+{
+    let Ok(mut stage) = Stage::new(alloc, config) else {
+        return Err(PlayFault::Memory);
+    };
+    for i in 0..events.len() {
+        let event = &events[i];
+        if !stage.may_follow(event) {
+            return Err(PlayFault::Illegal(i));
+        }
+        let Ok(()) = stage.play(alloc, event) else {
+            return Err(PlayFault::Memory);
+        };
+    }
+    Ok(stage.texts)
+}
+
+impl Stage {
+    // Before any event.
+    fn new(alloc: Global, config: &Config) -> Result<Stage, AllocError>
+        ensures { IfOk result (λ stage. (setting : Setting) → IsSettingOf config.now setting → IsPlayed setting [] stage.host stage.texts.items stage.released.items) }
+    {
+        let host = Host::new(alloc, config, 0)?;
+        let mut texts = Vec::new(alloc);
+        for _place in 0..config.tenants.as_slice().len() {
+            texts.push(Text::new(alloc))?;
+        }
+        Ok(Stage {
+            host,
+            texts,
+            released: Vec::new(alloc),
+        })
+    }
+
+    // Whether the event may come next.
+    fn may_follow(&self, event: &Event) -> bool
+        ensures legal { (setting : Setting) (past : List Event) → IsPlayed setting past self.now.host self.now.texts.items self.now.released.items → result ≡ may_follow setting past event.now }
+        ensures place { IsTrue result → HasPlace event.now self.now.host.config self.now.texts.items }
+    {
+        match event {
+            Event::Own(tenant, _) => {
+                *tenant < self.host.config().tenants.as_slice().len() && *tenant < self.texts.len()
+            }
+            Event::Tick(frame) => {
+                frame.as_slice().len() == self.host.config().lines && self.host.clock() < u64::MAX
+            }
+            Event::Done(id) => is_released(self.released.as_slice(), id),
+        }
+    }
+
+    // Plays one event more.
+    fn play(&mut self, alloc: Global, event: &Event) -> Result<(), AllocError>
+        requires { HasPlace event.now self.old.host.config self.old.texts.items }
+        ensures { OnOk result (IsStep event.now self.old.host self.old.texts.items self.old.released.items self.new.host self.new.texts.items self.new.released.items) }
+    {
+        match event {
+            Event::Own(tenant, command) => self.own(alloc, *tenant, command),
+            Event::Tick(frame) => self.tick(frame.as_slice()),
+            Event::Done(id) => {
+                complete(&mut self.host, id)?;
+                Ok(())
+            }
+        }
+    }
+
+    // A command, and its reply behind the tenant's text.
+    fn own(&mut self, alloc: Global, tenant: TenantId, command: &Command) -> Result<(), AllocError>
+        requires host { tenant < length self.old.host.config.tenants }
+        requires text { tenant < length self.old.texts.items }
+        ensures { OnOk result (IsStep (Event.Own tenant command.now) self.old.host self.old.texts.items self.old.released.items self.new.host self.new.texts.items self.new.released.items) }
+    {
+        let reply = self.host.command(tenant, command.copy(alloc)?);
+        if is_memory(&reply) {
+            return Err(AllocError);
+        }
+        add_line(alloc, &mut self.texts[tenant], &reply)?;
+        Ok(())
+    }
+
+    // An instant, and the names of its jobs behind those of the others.
+    fn tick(&mut self, frame: &[i64]) -> Result<(), AllocError>
+        ensures { OnOk result (IsStep (Event.Tick frame.now) self.old.host self.old.texts.items self.old.released.items self.new.host self.new.texts.items self.new.released.items) }
+    {
+        let Ok(jobs) = self.host.tick(frame) else {
+            return Err(AllocError);
+        };
+        self.host.known();
+        add_names(&mut self.released, jobs)?;
+        Ok(())
+    }
+}
+
+// Whether the reply is want of memory.
+fn is_memory(reply: &Reply) -> bool
+    ensures { IsTrue result ↔ (reply.now ≡ Reply.Refused Refusal.Memory) }
+{
+    matches!(reply, Reply::Refused(Refusal::Memory))
+}
+
+// Adds the printed reply, and LF.
+fn add_line(alloc: Global, text: &mut Text, reply: &Reply) -> Result<(), AllocError>
+    ensures { OnOk result (text.new ≡ text.old ++ (text_of_reply reply.now ++ 10 ∷ [])) }
+{
+    let printed = print_reply(alloc, reply)?;
+    text.push_str(printed.as_str())?;
+    text.push_str("\n")
+}
+
+// Adds the names of these jobs.
+fn add_names(names: &mut Vec<JobId>, jobs: Jobs) -> Result<(), AllocError>
+    ensures { OnOk result (names.new.items ≡ names.old.items ++ map (λ (j : JobValue). j.id) jobs.jobs) }
+{
+    let mut jobs = jobs;
+    while let Some(job) = jobs.take() {
+        names.push(job.id().copy())?;
+    }
+    Ok(())
+}
+
+// The job's name is among these.
+fn is_released(released: &[JobId], id: &JobId) -> bool
+    ensures { result ≡ list_any (λ r. same_job r id.now) released.now }
+{
+    released.iter().any(|job| {
+        job.tenant == id.tenant && job.tick == id.tick && job.task == id.task
+    })
+}

@@ -1,0 +1,35 @@
+-- A script begins with a new host.
+use Rattle.std.proofs.Common.{◌≡◌, ℕ, List, [], Option, Some, None, refl, sym, ap, ◌∙◌, subst, ◌⊎◌, inr}
+use Rattle.std.specs.Prelude.{Result, Ok, Err, IfSome, IfErr, OnOk}
+use Rattle.host_core.specs.Host.{host_after}
+use Rattle.host_core.specs.HostStanding.{HostStanding, Stands, new_host}
+use Rattle.host_core.specs.Setting.{Setting, IsTrueReader}
+use Rattle.host_core.specs.declared.events.Event.{Event}
+use Rattle.host_core.specs.declared.rig_config.Config.{Config}
+use Rattle.host_core.proofs.NewHost.{new_stands}
+use Rattle.rig_host.specs.Answered.{IsBrokenOff}
+use Rattle.rig_host.specs.HostAnswers.{IsHostAfter}
+use Rattle.rig_host.specs.Lines.{cut}
+use Rattle.rig_host.specs.Script.{reply_to_line, past_behind, script_from, script_text_of, IsScriptBrokenOff}
+use Rattle.rig_host.specs.declared.faults.ScriptFault.{ScriptFault}
+
+module _ (host : HostStanding) (config : Config) (is : host ≡ new_host config 0) where
+  starts : (setting : Setting) → setting.config ≡ config → setting.first_tick ≡ 0 → IsTrueReader setting.reader → IsHostAfter setting host []
+  starts setting same zero reader =
+      let new : new_host setting.config setting.first_tick ≡ host = ap (λ c. new_host c setting.first_tick) same ∙ (ap (new_host config) zero ∙ sym is) in
+      record { true_reader = reader; legal = refl; stands = subst (λ h. Stands setting h (host_after setting [])) new (new_stands setting) }
+
+  pub all_written : {T E : Type 0} (r : Result T E) (known : Option (List ℕ)) (Left Written : List ℕ → Type 0) → IfSome known Left
+      → OnOk r ((setting : Setting) (past : List Event) (bytes : List ℕ) → IsHostAfter setting host past → Left bytes → Written (script_from setting past (cut bytes)))
+      → OnOk r ((setting : Setting) → setting.config ≡ config → setting.first_tick ≡ 0 → IsTrueReader setting.reader → IfSome known (λ bytes. Written (script_text_of setting bytes)))
+  all_written (Err e) known Left Written left h = tt
+  all_written (Ok x) None Left Written left h = λ setting same zero reader. tt
+  all_written (Ok x) (Some bytes) Left Written left h = λ setting same zero reader. h setting [] bytes (starts setting same zero reader) left
+
+  pub broken_off : {T : Type 0} (r : Result T ScriptFault) (known : Option (List ℕ)) (Left Written : List ℕ → Type 0) → IfSome known Left
+      → IfErr r (λ fault. (setting : Setting) (past : List Event) (bytes : List ℕ) → IsHostAfter setting host past → Left bytes
+      → IsBrokenOff (reply_to_line setting) (past_behind setting) past (cut bytes) Written fault)
+      → IfErr r (λ fault. (setting : Setting) → setting.config ≡ config → setting.first_tick ≡ 0 → IsTrueReader setting.reader → IfSome known (λ bytes. IsScriptBrokenOff setting bytes Written fault))
+  broken_off (Ok x) known Left Written left h = tt
+  broken_off (Err fault) None Left Written left h = λ setting same zero reader. tt
+  broken_off (Err fault) (Some bytes) Left Written left h = λ setting same zero reader. inr (h setting [] bytes (starts setting same zero reader) left)
