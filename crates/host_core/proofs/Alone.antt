@@ -10,21 +10,21 @@ use Rattle.giotto_tasks.specs.Names.{same_name}
 use Rattle.giotto_read.specs.Program.{TaskInvocation}
 use Rattle.host_core.specs.declared.events.Event.{Event}
 use Rattle.host_core.specs.declared.events.Event.TheVariants.{Own}
-use Rattle.host_core.specs.declared.tenant_state.jobs.JobId.{JobId}
-use Rattle.host_core.specs.declared.tenant_state.commands.Command.{Command}
-use Rattle.host_core.specs.giotto_check.Declarations.{mode_of}
-use Rattle.host_core.specs.rig_config.Roster.{budgets_at}
-use Rattle.host_core.specs.tenant_state.Jobs.{job_of, same_job, is_active}
-use Rattle.host_core.specs.tenant_state.Row.{ActiveTask, Row, empty_row, is_running}
-use Rattle.host_core.specs.tenant_state.FirstHalf.{is_due_at, due_in_mode, due_in_program, due_tasks}
+use Rattle.tenant_state.specs.declared.jobs.JobId.{JobId}
+use Rattle.tenant_state.specs.declared.commands.Command.{Command}
+use Rattle.giotto_check.specs.Declarations.{mode_of}
+use Rattle.rig_config.specs.Roster.{budgets_at}
+use Rattle.tenant_state.specs.Jobs.{job_of, same_job, is_active}
+use Rattle.tenant_state.specs.Row.{ActiveTask, Row, empty_row, is_running}
+use Rattle.tenant_state.specs.FirstHalf.{is_due_at, due_in_mode, due_in_program, due_tasks}
 use Rattle.host_core.specs.Completions.{has_completion}
 use Rattle.host_core.specs.Host.{HostState, is_counted, row_at, with_rows, after_event}
 use Rattle.host_core.specs.Legal.{next_tick}
 use Rattle.host_core.specs.Setting.{Setting}
-use Rattle.host_core.specs.Views.{LocalInstant, after_command, after_instant, unfinished_of, readings_of, run_of, view_of, row_of}
-use Rattle.host_core.proofs.ActiveTasks.{Keeps, kept_by_command, all_filter, all_append}
+use Rattle.host_core.specs.Views.{after_command, unfinished_of, readings_of, run_of, view_of, row_of}
+use Rattle.tenant_state.proofs.ActiveTasks.{Keeps, kept_by_command, all_filter, all_append}
 use Rattle.host_core.proofs.Histories.{own_row, releases}
-use Rattle.host_core.proofs.JobNames.{either, or_true, same_job_is, all_map, own_jobs_active}
+use Rattle.tenant_state.proofs.JobNames.{either, or_true, same_job_is, all_map, own_jobs_active}
 
 pub all_zip : {X : Type 0} (P Q : X → Type 0) (xs : List X) → AllByRecursion P xs → AllByRecursion Q xs → AllByRecursion (λ x. P x × Q x) xs
 all_zip P Q [] ps qs = tt

@@ -9,23 +9,24 @@ use Rattle.std.proofs.lemmas.List.Quantifiers.{position-Some}
 use Rattle.giotto_tasks.specs.Names.{same_name}
 use Rattle.host_core.specs.declared.events.Event.{Event}
 use Rattle.host_core.specs.declared.events.Event.TheVariants.{Own, Tick, Done}
-use Rattle.host_core.specs.declared.rig_config.TenantConfig.{TenantConfig}
-use Rattle.host_core.specs.declared.tenant_grants.Bind.{Bind}
-use Rattle.host_core.specs.declared.tenant_state.jobs.JobId.{JobId}
-use Rattle.host_core.specs.rig_config.Roster.{no_budgets, is_tenant, place_of, name_at}
-use Rattle.host_core.specs.tenant_state.Jobs.{job_of, same_job, is_active}
-use Rattle.host_core.specs.tenant_state.Row.{ActiveTask, Row, empty_row}
-use Rattle.host_core.specs.tenant_state.FirstHalf.{due_tasks, first_half_of}
-use Rattle.host_core.specs.instant_engine.Grants.{offers, actuator_value, to_sensor, granted_by, granted_along, granted_to}
+use Rattle.rig_config.specs.declared.TenantConfig.{TenantConfig}
+use Rattle.tenant_state.specs.declared.grants.Bind.{Bind}
+use Rattle.tenant_state.specs.declared.jobs.JobId.{JobId}
+use Rattle.rig_config.specs.Roster.{no_budgets, is_tenant, place_of, name_at}
+use Rattle.tenant_state.specs.Jobs.{job_of, same_job, is_active}
+use Rattle.tenant_state.specs.Row.{ActiveTask, Row, empty_row}
+use Rattle.tenant_state.specs.FirstHalf.{due_tasks, first_half_of}
+use Rattle.host_core.specs.Grants.{offers, actuator_value, to_sensor, granted_by, granted_along, granted_to}
 use Rattle.host_core.specs.Completions.{has_completion}
 use Rattle.host_core.specs.Host.{HostState, is_counted, row_at, unfinished_at, instant_of, awaits, empty_host, after_event, host_after}
 use Rattle.host_core.specs.Legal.{next_tick, may_follow, is_legal, counts}
 use Rattle.host_core.specs.Setting.{Setting}
-use Rattle.host_core.specs.Views.{after_instant, unfinished_of, readings_of, row_of}
-use Rattle.host_core.proofs.ActiveTasks.{kept_by_instant}
+use Rattle.host_core.specs.Views.{unfinished_of, readings_of, row_of}
+use Rattle.tenant_state.specs.Instants.{after_instant}
+use Rattle.tenant_state.proofs.ActiveTasks.{kept_by_instant}
 use Rattle.host_core.proofs.Alone.{Agrees, all_due, all_zip, same_filter, same_filter_map, marks_after, known_after, own_event}
 use Rattle.host_core.proofs.Histories.{own_instant, releases, completed_is_early}
-use Rattle.host_core.proofs.JobNames.{both, either, or_true, and_true, not_true, same_job_is, all_map, own_jobs_active}
+use Rattle.tenant_state.proofs.JobNames.{both, either, or_true, and_true, not_true, same_job_is, all_map, own_jobs_active}
 
 -- a tenant of no name
 abbrev no_tenant : TenantConfig

@@ -4,12 +4,12 @@ use Rattle.std.specs.Prelude.{slice_get}
 use Rattle.std.specs.Option.{option_map}
 use Rattle.std.specs.List.{flat_map, enumerate_from}
 use Rattle.std.proofs.lemmas.List.{at_drop_more, at_drop_all, take_more, map-append, length-map, length-take-le, get_or-map}
-use Rattle.host_core.specs.declared.tenant_state.jobs.JobId.{JobId}
-use Rattle.host_core.specs.declared.rig_config.TenantConfig.{TenantConfig}
-use Rattle.host_core.specs.rig_config.Roster.{no_budgets}
-use Rattle.host_core.specs.tenant_state.Jobs.{job_of}
-use Rattle.host_core.specs.tenant_state.Row.{ActiveTask}
-use Rattle.host_core.specs.tenant_state.Standing.{Standing, awaited_tasks}
+use Rattle.tenant_state.specs.declared.jobs.JobId.{JobId}
+use Rattle.rig_config.specs.declared.TenantConfig.{TenantConfig}
+use Rattle.rig_config.specs.Roster.{no_budgets}
+use Rattle.tenant_state.specs.Jobs.{job_of}
+use Rattle.tenant_state.specs.Row.{ActiveTask}
+use Rattle.tenant_state.specs.Standing.{Standing, awaited_tasks}
 
 abbrev pub outstanding_from : ℕ → List Standing → List JobId
 outstanding_from n tenants = flat_map (λ (place : ℕ × Standing). map (job_of place.0) (awaited_tasks place.1)) (enumerate_from n tenants)

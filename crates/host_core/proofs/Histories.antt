@@ -3,19 +3,20 @@ use Rattle.std.proofs.Common.{◌≡◌, ℕ, ◌+◌, ◌<◌, Bool, true, fals
 use Rattle.std.specs.List.{list_any, AllByRecursion}
 use Rattle.host_core.specs.declared.events.Event.{Event}
 use Rattle.host_core.specs.declared.events.Event.TheVariants.{Own, Tick, Done}
-use Rattle.host_core.specs.declared.tenant_state.jobs.JobId.{JobId}
-use Rattle.host_core.specs.declared.tenant_state.commands.Command.{Command}
-use Rattle.host_core.specs.rig_config.Roster.{budgets_at}
-use Rattle.host_core.specs.tenant_state.Jobs.{job_of, same_job, is_active}
-use Rattle.host_core.specs.tenant_state.Row.{ActiveTask, Row}
-use Rattle.host_core.specs.instant_engine.Grants.{granted_to}
-use Rattle.host_core.specs.tenant_state.FirstHalf.{first_half_of}
+use Rattle.tenant_state.specs.declared.jobs.JobId.{JobId}
+use Rattle.tenant_state.specs.declared.commands.Command.{Command}
+use Rattle.rig_config.specs.Roster.{budgets_at}
+use Rattle.tenant_state.specs.Jobs.{job_of, same_job, is_active}
+use Rattle.tenant_state.specs.Row.{ActiveTask, Row}
+use Rattle.host_core.specs.Grants.{granted_to}
+use Rattle.tenant_state.specs.FirstHalf.{first_half_of}
 use Rattle.host_core.specs.Completions.{has_completion}
 use Rattle.host_core.specs.Legal.{next_tick, was_released, is_legal}
 use Rattle.host_core.specs.Setting.{Setting}
-use Rattle.host_core.specs.Views.{LocalInstant, command, after_command, unfinished_of, readings_of, run_of, view_of, row_of}
-use Rattle.host_core.proofs.ActiveTasks.{Keeps, kept_by_instant, kept_by_command}
-use Rattle.host_core.proofs.JobNames.{both, either, same_job_is, all_map}
+use Rattle.host_core.specs.Views.{command, after_command, unfinished_of, readings_of, run_of, view_of, row_of}
+use Rattle.tenant_state.specs.Instants.{LocalInstant}
+use Rattle.tenant_state.proofs.ActiveTasks.{Keeps, kept_by_instant, kept_by_command}
+use Rattle.tenant_state.proofs.JobNames.{both, either, same_job_is, all_map}
 
 module _ (setting : Setting) where
   -- what the tick after these events is for a tenant

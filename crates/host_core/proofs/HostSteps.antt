@@ -1,10 +1,9 @@
 -- What the host's code stands for behind each event.
-use Rattle.std.proofs.Common.{◌≡◌, ℕ, ◌+◌, ◌<◌, ◌≤◌, ◌≢◌, ⊎_elim, Bool, true, false, cond, not, ◌&&◌, ◌||◌, eqb, ℤ, List, [], ◌∷◌, length, map, filter, get_or, set, Option, Some, None, refl, sym, ap, ◌∙◌, subst, length-set, zero-add, arith}
+use Rattle.std.proofs.Common.{◌≡◌, ℕ, ◌+◌, ◌<◌, ◌≤◌, ◌≢◌, ⊎_elim, Bool, true, false, cond, not, ◌&&◌, ◌||◌, ℤ, List, [], ◌∷◌, length, map, filter, get_or, set, Option, Some, None, refl, sym, ap, ◌∙◌, subst, length-set, zero-add, arith}
 use Rattle.std.specs.Prelude.{is_some, slice_get, Result, Ok, Err, IfOk}
 use Rattle.std.specs.List.{list_any, find, zip, filter_map, enumerate_from, AllByRecursion}
 use Rattle.std.specs.Option.{option_map, option_map_or, option_and_then}
-use Rattle.std.proofs.lemmas.Bool.{cases_eq, cases_lt}
-use Rattle.std.proofs.lemmas.Bool.Decides.{nat_tests}
+use Rattle.std.proofs.lemmas.Bool.{cases_eq}
 use Rattle.std.proofs.lemmas.List.{length-map, get_or-map, get_or_default, get_or-set_same, get_or-set_other}
 use Rattle.std.proofs.lemmas.List.FromFn.{length-enumerate_from, get_or-enumerate_from}
 use Rattle.std.proofs.lemmas.Map.Views.{any-filter_same}
@@ -12,29 +11,31 @@ use Rattle.std.proofs.lemmas.Option.{slice_get-get_or, slice_get_cases}
 use Rattle.std.proofs.Math.ListN.{get_or-eq_default}
 use Rattle.giotto_read.specs.Program.{GiottoProgram}
 use Rattle.host_core.specs.declared.events.Event.TheVariants.{Own, Tick, Done}
-use Rattle.host_core.specs.declared.rig_config.Config.{Config}
-use Rattle.host_core.specs.declared.rig_config.TenantConfig.{TenantConfig}
-use Rattle.host_core.specs.declared.tenant_state.commands.Command.{Command}
-use Rattle.host_core.specs.declared.tenant_state.jobs.JobId.{JobId}
-use Rattle.host_core.specs.Halves.{IsFirstHalf, IsSecondHalf, AreStepped, AreFirstHalves, AreSecondHalves, tenant_at}
+use Rattle.rig_config.specs.declared.Config.{Config}
+use Rattle.rig_config.specs.declared.TenantConfig.{TenantConfig}
+use Rattle.tenant_state.specs.declared.commands.Command.{Command}
+use Rattle.tenant_state.specs.declared.jobs.JobId.{JobId}
+use Rattle.host_core.specs.Halves.{IsFirstHalf, IsSecondHalf, AreFirstHalves, AreSecondHalves, tenant_at}
 use Rattle.host_core.specs.Host.{HostState, is_counted, row_at, unfinished_at, instant_of, awaits, with_rows, after_event}
 use Rattle.host_core.specs.HostStanding.{HostStanding, standing_at, Stands, awaited_in}
-use Rattle.host_core.specs.Setting.{Setting, IsTrueReader}
-use Rattle.host_core.specs.tenant_state.Commands.{Reader, commanded}
-use Rattle.host_core.specs.declared.tenant_state.replies.Refusal.TheVariants.{Memory}
-use Rattle.host_core.specs.declared.tenant_state.replies.Reply.{Reply}
-use Rattle.host_core.specs.declared.tenant_state.replies.Reply.TheVariants.{Refused}
-use Rattle.host_core.specs.Views.{after_command, after_instant, readings_of}
-use Rattle.host_core.specs.instant_engine.Grants.{granted_along, granted_to}
-use Rattle.host_core.specs.rig_config.Roster.{budgets_at, no_budgets}
-use Rattle.host_core.specs.tenant_state.FirstHalf.{first_half_of}
-use Rattle.host_core.specs.tenant_state.Jobs.{JobValue, job_of, job_in, same_job, is_active}
-use Rattle.host_core.specs.tenant_state.Row.{ActiveTask, Row, empty_row}
-use Rattle.host_core.specs.tenant_state.SecondHalf.{Readings, second_half_of, readings_within}
-use Rattle.host_core.specs.tenant_state.Standing.{Standing, empty_standing, without_records, StandsFor, IsOutcome, uncompleted, awaited_tasks, awaited_job}
+use Rattle.host_core.specs.Setting.{Setting}
+use Rattle.tenant_state.specs.Commands.{IsTrueReader}
+use Rattle.tenant_state.specs.Commands.{Reader, commanded}
+use Rattle.tenant_state.specs.declared.replies.Refusal.TheVariants.{Memory}
+use Rattle.tenant_state.specs.declared.replies.Reply.{Reply}
+use Rattle.tenant_state.specs.declared.replies.Reply.TheVariants.{Refused}
+use Rattle.host_core.specs.Views.{after_command, readings_of}
+use Rattle.tenant_state.specs.Instants.{after_instant}
+use Rattle.host_core.specs.Grants.{granted_along, granted_to}
+use Rattle.rig_config.specs.Roster.{budgets_at, no_budgets}
+use Rattle.tenant_state.specs.FirstHalf.{first_half_of}
+use Rattle.tenant_state.specs.Jobs.{JobValue, job_of, job_in, same_job, is_active}
+use Rattle.tenant_state.specs.Row.{ActiveTask, Row, empty_row}
+use Rattle.tenant_state.specs.SecondHalf.{second_half_of, readings_within}
+use Rattle.tenant_state.specs.Standing.{Standing, empty_standing, StandsFor, IsOutcome, uncompleted, awaited_tasks, awaited_job}
 use Rattle.host_core.proofs.Alone.{counted_of_active, any_of_filter}
-use Rattle.host_core.proofs.JobNames.{both, either, not_true, same_job_is, all_map, own_jobs_active}
-use Rattle.host_core.proofs.TenantFacts.{AreEarly}
+use Rattle.tenant_state.proofs.JobNames.{both, either, not_true, same_job_is, all_map, own_jobs_active}
+use Rattle.tenant_state.proofs.TenantFacts.{AreEarly}
 
 all_of : {X : Type 0} {P : X → Type 0} → ((x : X) → P x) → (xs : List X) → AllByRecursion P xs
 all_of f [] = tt

@@ -1,14 +1,14 @@
 -- A new host stands for the empty row of each tenant.
-use Rattle.std.proofs.Common.{◌≡◌, ℕ, ◌<◌, Bool, [], map, length, refl, sym, ap, subst}
+use Rattle.std.proofs.Common.{◌≡◌, ℕ, ◌<◌, Bool, [], length, refl, sym, ap, subst}
 use Rattle.std.proofs.lemmas.List.{length-map, get_or-map}
-use Rattle.host_core.specs.declared.rig_config.TenantConfig.{TenantConfig}
+use Rattle.rig_config.specs.declared.TenantConfig.{TenantConfig}
 use Rattle.host_core.specs.Host.{row_at, is_counted, empty_host}
 use Rattle.host_core.specs.HostStanding.{Stands, new_host, standing_at}
 use Rattle.host_core.specs.Setting.{Setting}
-use Rattle.host_core.specs.rig_config.Roster.{no_budgets}
-use Rattle.host_core.specs.tenant_state.Row.{ActiveTask, Row, empty_row}
-use Rattle.host_core.specs.tenant_state.Jobs.{job_of}
-use Rattle.host_core.specs.tenant_state.Standing.{Standing, StandsFor, empty_standing}
+use Rattle.rig_config.specs.Roster.{no_budgets}
+use Rattle.tenant_state.specs.Row.{ActiveTask, Row, empty_row}
+use Rattle.tenant_state.specs.Jobs.{job_of}
+use Rattle.tenant_state.specs.Standing.{Standing, StandsFor, empty_standing}
 
 abbrev no_tenant : TenantConfig
 no_tenant = record { name = []; key = []; budgets = no_budgets }

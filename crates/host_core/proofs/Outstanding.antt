@@ -5,12 +5,12 @@ use Rattle.std.specs.Option.{option_and_then, option_map}
 use Rattle.std.specs.Prelude.{slice_get, sum}
 use Rattle.std.proofs.lemmas.List.Sums.{sum-map, sum_by-cons}
 use Rattle.giotto_read.specs.Program.{GiottoProgram}
-use Rattle.host_core.specs.declared.tenant_state.jobs.JobId.{JobId}
+use Rattle.tenant_state.specs.declared.jobs.JobId.{JobId}
 use Rattle.host_core.specs.HostStanding.{HostStanding, awaited_in}
-use Rattle.host_core.specs.tenant_state.Jobs.{job_in, job_of, same_job}
-use Rattle.host_core.specs.tenant_state.Row.{ActiveTask}
-use Rattle.host_core.specs.tenant_state.Standing.{Standing, awaited_tasks, awaited_job}
-use Rattle.host_core.proofs.JobNames.{same_job_self}
+use Rattle.tenant_state.specs.Jobs.{job_in, job_of, same_job}
+use Rattle.tenant_state.specs.Row.{ActiveTask}
+use Rattle.tenant_state.specs.Standing.{Standing, awaited_tasks, awaited_job}
+use Rattle.tenant_state.proofs.JobNames.{same_job_self}
 
 abbrev awaited : Standing → ℕ
 awaited s = length (awaited_tasks s)

@@ -3,12 +3,12 @@ use Rattle.std.proofs.Common.{◌≡◌, ℕ, pos, List, [], ◌∷◌, ◌++◌
 use Rattle.std.specs.Prelude.{codes}
 use Rattle.std.specs.Fmt.{digits}
 use Rattle.host_core.specs.declared.events.Event.{Event}
-use Rattle.host_core.specs.declared.tenant_trace.Record.{Record}
-use Rattle.host_core.specs.declared.tenant_trace.Happening.TheVariants as happening
+use Rattle.tenant_state.specs.declared.trace.Record.{Record}
+use Rattle.tenant_state.specs.declared.trace.Happening.TheVariants as happening
 use Rattle.host_core.specs.Answers.{answers_of}
 use Rattle.host_core.specs.Legal.{is_legal, counts}
 use Rattle.host_core.specs.Views.{row_of}
-use Rattle.host_core.specs.tenant_state.Row.{running, stopped, overrun}
+use Rattle.tenant_state.specs.Row.{running, stopped, overrun}
 use Rattle.host_core.proofs.FirstRun.{answered, tick, completed, shown, loaded_and_started, first_run}
 use Rattle.host_core.proofs.Rig.{rig}
 

@@ -10,10 +10,10 @@ use Rattle.std.proofs.lemmas.List.Folds.{list_any-append}
 use Rattle.giotto_read.specs.Program.{GiottoProgram}
 use Rattle.host_core.specs.declared.events.Event.{Event}
 use Rattle.host_core.specs.declared.events.Event.TheVariants.{Own, Tick, Done}
-use Rattle.host_core.specs.declared.rig_config.Config.{Config}
-use Rattle.host_core.specs.declared.tenant_state.commands.Command.{Command}
-use Rattle.host_core.specs.declared.tenant_state.jobs.JobId.{JobId}
-use Rattle.host_core.specs.declared.tenant_state.replies.Reply.{Reply}
+use Rattle.rig_config.specs.declared.Config.{Config}
+use Rattle.tenant_state.specs.declared.commands.Command.{Command}
+use Rattle.tenant_state.specs.declared.jobs.JobId.{JobId}
+use Rattle.tenant_state.specs.declared.replies.Reply.{Reply}
 use Rattle.host_core.specs.Answers.{answers_along, answers_of}
 use Rattle.host_core.specs.Halves.{released_from}
 use Rattle.host_core.specs.Host.{row_at, empty_host, host_after}
@@ -23,19 +23,19 @@ use Rattle.host_core.specs.Playing.{IsPlayed}
 use Rattle.host_core.specs.Plays.{IsSettingOf}
 use Rattle.host_core.specs.Setting.{Setting}
 use Rattle.host_core.specs.Views.{after_command, readings_of, unfinished_of, run_of, view_of, row_of}
-use Rattle.host_core.specs.rig_config.Roster.{budgets_at, is_tenant}
-use Rattle.host_core.specs.tenant_state.FirstHalf.{first_half_of}
-use Rattle.host_core.specs.tenant_state.Jobs.{JobValue, job_of, job_in, same_job, is_active, released_at}
-use Rattle.host_core.specs.tenant_state.Replies.{text_of_reply}
-use Rattle.host_core.specs.tenant_state.Row.{ActiveTask, Row, empty_row}
-use Rattle.host_core.specs.tenant_state.SecondHalf.{second_half_of}
-use Rattle.host_core.specs.tenant_state.Standing.{Standing, empty_standing}
-use Rattle.host_core.proofs.ActiveTasks.{kept_by_command, kept_by_instant}
+use Rattle.rig_config.specs.Roster.{budgets_at, is_tenant}
+use Rattle.tenant_state.specs.FirstHalf.{first_half_of}
+use Rattle.tenant_state.specs.Jobs.{JobValue, job_of, job_in, same_job, is_active, released_at}
+use Rattle.tenant_state.specs.Replies.{text_of_reply}
+use Rattle.tenant_state.specs.Row.{ActiveTask, Row, empty_row}
+use Rattle.tenant_state.specs.SecondHalf.{second_half_of}
+use Rattle.tenant_state.specs.Standing.{Standing, empty_standing}
+use Rattle.tenant_state.proofs.ActiveTasks.{kept_by_command, kept_by_instant}
 use Rattle.host_core.proofs.AloneAlong.{same_rows, same_clock}
 use Rattle.host_core.proofs.Histories.{own_instant, own_row, releases}
 use Rattle.host_core.proofs.HostSteps.{HasTasksWithProgram}
 use Rattle.host_core.proofs.NewHost.{new_stands}
-use Rattle.host_core.proofs.JobNames.{both, either, or_true, and_true, same_number_self, same_job_is}
+use Rattle.tenant_state.proofs.JobNames.{both, either, or_true, and_true, same_number_self, same_job_is}
 
 all_if_any : {X : Type 0} (q : X → Bool) (C : Type 0) (xs : List X) → (list_any q xs ≡ true → C) → AllByRecursion (λ x. q x ≡ true → C) xs
 all_if_any q C [] f = tt

@@ -1,67 +1,16 @@
 -- The rig of the examples: the built-in configuration, and a reader that knows two texts.
-use Rattle.std.proofs.Common.{ℕ, pos, List, [], ◌∷◌, map, Some, None}
+use Rattle.std.proofs.Common.{ℕ, List}
 use Rattle.std.specs.Prelude.{codes, Ok, Err, if◌then◌else◌}
 use Rattle.giotto_tasks.specs.Names.{same_name}
-use Rattle.giotto_tasks.specs.Syntax.{number, port, binary, assign, finished, step}
-use Rattle.giotto_tasks.specs.declared.operators.BinaryOperator.TheVariants.{Add, Greater}
 use Rattle.giotto_read.specs.declared.faults.ReadFault.TheVariants.{Syntax}
-use Rattle.giotto_read.specs.Program.{from_line, ModeDeclaration, GiottoProgram}
 use Rattle.giotto_read.proofs.Adder.{adder, adder_text}
-use Rattle.host_core.specs.rig_config.BuiltIn.{built_in_config}
+use Rattle.giotto_check.proofs.ExamplePrograms.{switcher}
+use Rattle.rig_config.specs.BuiltIn.{built_in_config}
 use Rattle.host_core.specs.Setting.{Setting}
-
--- sensor s := 0 line 0; output o := 0; task T(i) output o { o := i + 1; } mode m period 6 { exitfreq 3 if s > 4 do n; taskfreq 2 do T(s); } mode n period 9 { taskfreq 3 do T(s); } start m;
-abbrev pub switcher : GiottoProgram
-switcher = record {
-  sensors = record { name = codes "s"; initial = pos 0; source = from_line 0 } ∷ [];
-  actuators = [];
-  outputs = record { name = codes "o"; initial = pos 0 } ∷ [];
-  tasks = record {
-    name = codes "T";
-    inputs = codes "i" ∷ [];
-    outputs = codes "o" ∷ [];
-    states = [];
-    block = step (assign (codes "o") (binary Add (port (codes "i")) (number (pos 1)))) finished;
-  } ∷ [];
-  modes =
-      record {
-        name = codes "m";
-        period = 6;
-        updates = [];
-        switches = record { frequency = 3; guard = Some (binary Greater (port (codes "s")) (number (pos 4))); target = codes "n"; destinations = [] } ∷ [];
-        invocations = record { frequency = 2; guard = None; task = codes "T"; arguments = port (codes "s") ∷ [] } ∷ [];
-      }
-      ∷ record {
-        name = codes "n";
-        period = 9;
-        updates = [];
-        switches = [];
-        invocations = record { frequency = 3; guard = None; task = codes "T"; arguments = port (codes "s") ∷ [] } ∷ [];
-      } ∷ [];
-  start = codes "m";
-}
 
 -- the switcher's text, which no reader of today takes, stands here as one word
 abbrev pub switcher_text : List ℕ
 switcher_text = codes "switcher"
-
--- actuator a := 50; actuator b := 7; mode k period 1 { } start k;
-abbrev pub two_constants : GiottoProgram
-two_constants = record {
-  sensors = [];
-  actuators = record { name = codes "a"; initial = pos 50; line = None } ∷ record { name = codes "b"; initial = pos 7; line = None } ∷ [];
-  outputs = [];
-  tasks = [];
-  modes = record { name = codes "k"; period = 1; updates = []; switches = []; invocations = [] } ∷ [];
-  start = codes "k";
-}
-
--- the switcher with a mode n that doesn't invoke T, so that a switch may cut T short
-abbrev pub broken_switcher : GiottoProgram
-broken_switcher = record switcher { modes = map without_invocations switcher.modes }
-  where
-    without_invocations : ModeDeclaration → ModeDeclaration
-    without_invocations m = if same_name m.name (codes "n") then record m { invocations = [] } else m
 
 abbrev pub rig : Setting
 rig = record { config = built_in_config; first_tick = 0; reader = λ text. if same_name text adder_text then Ok adder else (if same_name text switcher_text then Ok switcher else Err (Syntax 0)) }

@@ -3,16 +3,17 @@ use Rattle.std.proofs.Common.{◌≡◌, ℕ, pos, List, [], ◌∷◌, ◌++◌
 use Rattle.std.specs.Prelude.{codes, if◌then◌else◌, nat_eq}
 use Rattle.host_core.specs.declared.events.Event.{Event}
 use Rattle.host_core.specs.declared.events.Event.TheVariants.{Own}
-use Rattle.host_core.specs.declared.tenant_state.commands.Command.TheVariants.{Load, Start}
-use Rattle.host_core.specs.declared.tenant_trace.Happening.TheVariants as happening
-use Rattle.host_core.specs.instant_engine.Grants.{granted_to}
-use Rattle.host_core.specs.rig_config.BuiltIn.{built_in_config}
+use Rattle.tenant_state.specs.declared.commands.Command.TheVariants.{Load, Start}
+use Rattle.tenant_state.specs.declared.trace.Happening.TheVariants as happening
+use Rattle.host_core.specs.Grants.{granted_to}
+use Rattle.rig_config.specs.BuiltIn.{built_in_config}
 use Rattle.host_core.specs.Views.{row_of}
-use Rattle.host_core.specs.tenant_state.FirstHalf.{first_half_of}
-use Rattle.host_core.specs.tenant_state.Row.{Row, empty_row}
-use Rattle.host_core.specs.tenant_state.SecondHalf.{second_half_of}
+use Rattle.tenant_state.specs.FirstHalf.{first_half_of}
+use Rattle.tenant_state.specs.Row.{Row, empty_row}
+use Rattle.tenant_state.specs.SecondHalf.{second_half_of}
 use Rattle.host_core.proofs.FirstRun.{tick, completed, first_run}
-use Rattle.host_core.proofs.Rig.{rig, switcher_text, two_constants}
+use Rattle.host_core.proofs.Rig.{rig, switcher_text}
+use Rattle.giotto_check.proofs.ExamplePrograms.{two_constants}
 
 -- T of period 3 is released at instant 0. The switch at mode time 2 finds it unfinished, one tick before its deadline, and so enters mode n, of
 -- period 9, at mode time 8, one tick before its end.

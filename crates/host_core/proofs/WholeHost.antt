@@ -1,7 +1,7 @@
 -- The whole host on the first run beside beta, computed from the definitions.
 use Rattle.std.proofs.Common.{◌≡◌, pos, [], ◌∷◌, refl, reverse, map}
 use Rattle.std.specs.Prelude.{codes}
-use Rattle.host_core.specs.tenant_state.Row.{Row}
+use Rattle.tenant_state.specs.Row.{Row}
 use Rattle.host_core.specs.Host.{host_after}
 use Rattle.host_core.proofs.FirstRun.{beside_beta}
 use Rattle.host_core.proofs.Rig.{rig}

@@ -2,8 +2,8 @@
 use Rattle.std.specs.Prelude.{Bool, false, ◌||◌, List, [], ◌∷◌}
 use Rattle.host_core.specs.declared.events.Event.{Event}
 use Rattle.host_core.specs.declared.events.Event.TheVariants.{Own, Tick, Done}
-use Rattle.host_core.specs.declared.tenant_state.jobs.JobId.{JobId}
-use Rattle.host_core.specs.tenant_state.Jobs.{same_job}
+use Rattle.tenant_state.specs.declared.jobs.JobId.{JobId}
+use Rattle.tenant_state.specs.Jobs.{same_job}
 
 -- the events have a completion of this job
 abbrev pub has_completion : List Event → JobId → Bool

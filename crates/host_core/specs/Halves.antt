@@ -1,13 +1,13 @@
 -- The two halves of an instant, for all tenants in turn, as the host's code goes through them.
 use Rattle.std.specs.Prelude.{◌≡◌, ◌<◌, ◌≤◌, ◌+◌, ℕ, Bool, false, ℤ, List, [], map, length, slice_index_or, sum}
 use Rattle.std.specs.List.{flat_map, enumerate_from}
-use Rattle.host_core.specs.declared.rig_config.Config.{Config}
-use Rattle.host_core.specs.rig_config.Roster.{budgets_at}
-use Rattle.host_core.specs.tenant_state.FirstHalf.{first_half_of}
-use Rattle.host_core.specs.tenant_state.Jobs.{JobValue, released_at}
-use Rattle.host_core.specs.tenant_state.Row.{ActiveTask, Row}
-use Rattle.host_core.specs.tenant_state.SecondHalf.{readings_within, second_half_of}
-use Rattle.host_core.specs.tenant_state.Standing.{Standing, empty_standing, StandsFor, uncompleted, bodies_invoked, RoomValue, IsRoomFor}
+use Rattle.rig_config.specs.declared.Config.{Config}
+use Rattle.rig_config.specs.Roster.{budgets_at}
+use Rattle.tenant_state.specs.FirstHalf.{first_half_of}
+use Rattle.tenant_state.specs.Jobs.{JobValue, released_at}
+use Rattle.tenant_state.specs.Row.{ActiveTask, Row}
+use Rattle.tenant_state.specs.SecondHalf.{readings_within, second_half_of}
+use Rattle.tenant_state.specs.Standing.{Standing, empty_standing, StandsFor, uncompleted, bodies_invoked, RoomValue, IsRoomFor}
 
 -- a tenant before and behind its first half; it is granted nothing, since it has no binds
 pub record IsFirstHalf (before after : Standing) : Type 0 where

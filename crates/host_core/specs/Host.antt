@@ -4,14 +4,15 @@ use Rattle.std.specs.List.{list_any, enumerate_from}
 use Rattle.giotto_tasks.specs.declared.names.Name.{Name}
 use Rattle.host_core.specs.declared.events.Event.{Event}
 use Rattle.host_core.specs.declared.events.Event.TheVariants.{Own, Tick, Done}
-use Rattle.host_core.specs.declared.rig_config.TenantConfig.{TenantConfig}
-use Rattle.host_core.specs.declared.tenant_state.jobs.JobId.{JobId}
-use Rattle.host_core.specs.instant_engine.Grants.{granted_to}
-use Rattle.host_core.specs.tenant_state.FirstHalf.{due_tasks, first_half_of}
-use Rattle.host_core.specs.tenant_state.Jobs.{job_of, same_job, is_active}
-use Rattle.host_core.specs.tenant_state.Row.{ActiveTask, Row, empty_row}
+use Rattle.rig_config.specs.declared.TenantConfig.{TenantConfig}
+use Rattle.tenant_state.specs.declared.jobs.JobId.{JobId}
+use Rattle.host_core.specs.Grants.{granted_to}
+use Rattle.tenant_state.specs.FirstHalf.{due_tasks, first_half_of}
+use Rattle.tenant_state.specs.Jobs.{job_of, same_job, is_active}
+use Rattle.tenant_state.specs.Row.{ActiveTask, Row, empty_row}
 use Rattle.host_core.specs.Setting.{Setting}
-use Rattle.host_core.specs.Views.{LocalInstant, after_command, after_instant, readings_of}
+use Rattle.host_core.specs.Views.{after_command, readings_of}
+use Rattle.tenant_state.specs.Instants.{LocalInstant, after_instant}
 
 -- a row for each tenant, by its place; the jobs that were completed and are still active; and the number of the next instant
 pub record HostState : Type 0 where

@@ -1,14 +1,14 @@
 -- What the host's code stands for.
-use Rattle.std.specs.Prelude.{◌≡◌, ◌<◌, ◌+◌, ℕ, true, List, [], ◌∷◌, map, length, slice_get, slice_index_or, sum, Option}
+use Rattle.std.specs.Prelude.{◌≡◌, ◌<◌, ℕ, true, List, map, length, slice_get, slice_index_or, sum, Option}
 use Rattle.std.specs.List.{flat_map, enumerate_from}
 use Rattle.std.specs.Option.{option_and_then}
-use Rattle.host_core.specs.declared.rig_config.Config.{Config}
-use Rattle.host_core.specs.declared.rig_config.TenantConfig.{TenantConfig}
-use Rattle.host_core.specs.declared.tenant_state.jobs.JobId.{JobId}
+use Rattle.rig_config.specs.declared.Config.{Config}
+use Rattle.rig_config.specs.declared.TenantConfig.{TenantConfig}
+use Rattle.tenant_state.specs.declared.jobs.JobId.{JobId}
 use Rattle.host_core.specs.Host.{HostState, row_at, is_counted}
 use Rattle.host_core.specs.Setting.{Setting}
-use Rattle.host_core.specs.tenant_state.Jobs.{JobValue, job_of, released_at}
-use Rattle.host_core.specs.tenant_state.Standing.{Standing, empty_standing, StandsFor, awaited_tasks, awaited_job}
+use Rattle.tenant_state.specs.Jobs.{JobValue, job_of, released_at}
+use Rattle.tenant_state.specs.Standing.{Standing, empty_standing, StandsFor, awaited_tasks, awaited_job}
 
 pub record HostStanding : Type 0 where
   pub config : Config

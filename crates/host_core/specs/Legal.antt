@@ -2,10 +2,10 @@
 use Rattle.std.specs.Prelude.{ℕ, ◌+◌, ◌-◌, ◌^◌, nat_lt, Bool, true, false, not, ◌&&◌, ◌||◌, ◌==◌, List, [], ◌∷◌, length}
 use Rattle.host_core.specs.declared.events.Event.{Event}
 use Rattle.host_core.specs.declared.events.Event.TheVariants.{Own, Tick, Done}
-use Rattle.host_core.specs.declared.tenant_state.jobs.JobId.{JobId}
-use Rattle.host_core.specs.rig_config.Roster.{is_tenant}
+use Rattle.tenant_state.specs.declared.jobs.JobId.{JobId}
+use Rattle.rig_config.specs.Roster.{is_tenant}
 use Rattle.host_core.specs.Completions.{has_completion}
-use Rattle.host_core.specs.tenant_state.Jobs.{is_active}
+use Rattle.tenant_state.specs.Jobs.{is_active}
 use Rattle.host_core.specs.Setting.{Setting}
 use Rattle.host_core.specs.Views.{row_of}
 

@@ -1,5 +1,6 @@
 pub mod Answers
 pub mod Completions
+pub mod Grants
 pub mod Halves
 pub mod Host
 pub mod HostStanding
@@ -8,7 +9,3 @@ pub mod Playing
 pub mod Plays
 pub mod Setting
 pub mod Views
-pub mod giotto_check
-pub mod instant_engine
-pub mod rig_config
-pub mod tenant_state

@@ -3,14 +3,15 @@ use Rattle.std.specs.Prelude.{◌≡◌, ◌<◌, ⊤, ℕ, true, List, [], ◌�
 use Rattle.std.specs.List.{list_any}
 use Rattle.host_core.specs.declared.events.Event.{Event}
 use Rattle.host_core.specs.declared.events.Event.TheVariants.{Own, Tick, Done}
-use Rattle.host_core.specs.declared.rig_config.Config.{Config}
-use Rattle.host_core.specs.declared.tenant_state.jobs.JobId.{JobId}
+use Rattle.rig_config.specs.declared.Config.{Config}
+use Rattle.tenant_state.specs.declared.jobs.JobId.{JobId}
 use Rattle.host_core.specs.Answers.{answers_of}
 use Rattle.host_core.specs.Host.{host_after}
 use Rattle.host_core.specs.HostStanding.{HostStanding, Stands}
 use Rattle.host_core.specs.Legal.{may_follow, was_released, is_legal}
-use Rattle.host_core.specs.Setting.{Setting, IsTrueReader}
-use Rattle.host_core.specs.tenant_state.Jobs.{same_job}
+use Rattle.host_core.specs.Setting.{Setting}
+use Rattle.tenant_state.specs.Commands.{IsTrueReader}
+use Rattle.tenant_state.specs.Jobs.{same_job}
 
 -- The host, each tenant's text and the names of the released jobs are those behind these events, the newest first.
 pub record IsPlayed (setting : Setting) (past : List Event) (host : HostStanding) (texts : List (List ℕ)) (released : List JobId) : Type 0 where

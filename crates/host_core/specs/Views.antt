@@ -1,33 +1,23 @@
 -- The one-tenant machine, and each tenant's view of what happens to all tenants. Lists have the newest first.
 use Rattle.std.specs.Prelude.{ℕ, not, ◌==◌, if◌then◌else◌, ℤ, List, [], ◌∷◌, map, filter}
 use Rattle.giotto_tasks.specs.declared.names.Name.{Name}
-use Rattle.giotto_tasks.specs.Names.{Valuation}
 use Rattle.host_core.specs.declared.events.Event.{Event}
 use Rattle.host_core.specs.declared.events.Event.TheVariants.{Own, Tick, Done}
-use Rattle.host_core.specs.declared.tenant_state.commands.Command.{Command}
-use Rattle.host_core.specs.rig_config.Roster.{budgets_at}
-use Rattle.host_core.specs.tenant_state.Row.{ActiveTask, Row, empty_row}
-use Rattle.host_core.specs.tenant_state.Commands.{Outcome, commanded}
-use Rattle.host_core.specs.tenant_state.FirstHalf.{due_tasks, first_half_of}
-use Rattle.host_core.specs.tenant_state.Jobs.{job_of}
-use Rattle.host_core.specs.tenant_state.SecondHalf.{Readings, readings_within, second_half_of}
-use Rattle.host_core.specs.instant_engine.Grants.{granted_to}
+use Rattle.tenant_state.specs.declared.commands.Command.{Command}
+use Rattle.rig_config.specs.Roster.{budgets_at}
+use Rattle.tenant_state.specs.Row.{ActiveTask, Row, empty_row}
+use Rattle.tenant_state.specs.Commands.{Outcome, commanded}
+use Rattle.tenant_state.specs.FirstHalf.{due_tasks, first_half_of}
+use Rattle.tenant_state.specs.Jobs.{job_of}
+use Rattle.tenant_state.specs.Instants.{LocalInstant, after_instant}
+use Rattle.tenant_state.specs.SecondHalf.{Readings, readings_within}
+use Rattle.host_core.specs.Grants.{granted_to}
 use Rattle.host_core.specs.Completions.{has_completion}
 use Rattle.host_core.specs.Setting.{Setting}
-
--- what an instant is for one tenant: the values of its lines, its due tasks that were not completed, and the values granted to its sensors
-pub record LocalInstant : Type 0 where
-  pub readings : Readings
-  pub unfinished : List Name
-  pub granted : Valuation
 
 pub data LocalEvent : Type 0 where
   command : Command → LocalEvent
   instant : LocalInstant → LocalEvent
-
--- the row behind both halves of an instant
-abbrev pub after_instant : LocalInstant → Row → Row
-after_instant i row = second_half_of i.readings i.granted (first_half_of i.unfinished row)
 
 -- the due tasks of the tenant at place t whose jobs have no completion
 abbrev pub unfinished_of : List Event → ℕ → Row → List Name

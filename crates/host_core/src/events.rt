@@ -1,9 +1,9 @@
 //! What happens to a host.
 
-use crate::rig_config::TenantId;
-use crate::tenant_state::commands::Command;
-use crate::tenant_state::jobs::JobId;
 use giotto_tasks::lists::List;
+use rig_config::TenantId;
+use tenant_state::commands::Command;
+use tenant_state::jobs::JobId;
 
 /// An event of the host.
 #[derive(Drop)]

@@ -5,25 +5,26 @@ ghost use Rattle.std.specs.List.{All, AllByRecursion};
 ghost use Rattle.host_core.specs.Halves.{AreFirstHalves, AreSecondHalves, AreReady, places_of, released_from};
 ghost use Rattle.host_core.specs.Host.{HostState, row_at, awaits, after_event};
 ghost use Rattle.host_core.specs.HostStanding.{Stands, new_host, awaited_in, released_in, outstanding_in, outstanding_jobs};
-ghost use Rattle.host_core.specs.Setting.{Setting, IsTrueReader};
-ghost use Rattle.host_core.specs.tenant_state.Row.{ActiveTask};
-ghost use Rattle.host_core.specs.tenant_state.Standing.{Standing};
+ghost use Rattle.host_core.specs.Setting.{Setting};
+ghost use Rattle.tenant_state.specs.Commands.{IsTrueReader};
+ghost use Rattle.tenant_state.specs.Row.{ActiveTask};
+ghost use Rattle.tenant_state.specs.Standing.{Standing};
 ghost use Rattle.host_core.specs.Views.{after_command};
 ghost use Rattle.host_core.specs.declared.events.Event.{Event};
-ghost use Rattle.host_core.specs.declared.tenant_state.replies.Refusal.{Refusal};
-ghost use Rattle.host_core.specs.declared.tenant_state.replies.Reply.{Reply};
+ghost use Rattle.tenant_state.specs.declared.replies.Refusal.{Refusal};
+ghost use Rattle.tenant_state.specs.declared.replies.Reply.{Reply};
 ghost use Rattle.host_core.specs.declared.hosts.TickFault.{TickFault};
 ghost use Rattle.host_core.specs.declared.hosts.Counted.{Counted};
 
-use crate::rig_config::{Config, TenantId};
-use crate::tenant_state::commands::Command;
-use crate::tenant_state::jobs::{Done, Job, JobId, Jobs, run_job};
-use crate::tenant_state::replies::Reply;
-use crate::tenant_state::tenants::Tenant;
-use crate::tenant_state::tenants::second_half::Room;
+use rig_config::{Config, TenantId};
 use std::alloc::{AllocError, Global};
 use std::collections::VecDeque;
 use std::marker::Model;
+use tenant_state::commands::Command;
+use tenant_state::jobs::{Done, Job, JobId, Jobs, run_job};
+use tenant_state::replies::Reply;
+use tenant_state::tenants::Tenant;
+use tenant_state::tenants::second_half::Room;
 
 #[cfg(test)]
 mod tests;
@@ -63,7 +64,7 @@ impl Model for Host {
     ghost use Rattle.std.specs.Coded.{codes};
     ghost use Rattle.giotto_read.specs.ProgramCodes.{program_code};
     ghost use Rattle.host_core.specs.HostStanding.{HostStanding};
-    ghost use Rattle.host_core.specs.tenant_state.Standing.{Standing};
+    ghost use Rattle.tenant_state.specs.Standing.{Standing};
 
     ghost Value = { HostStanding };
 
@@ -253,7 +254,7 @@ fn known(tenant: &Tenant)
     ensures tasks { tenant.now.row.program ≡ None → tenant.now.row.active ≡ [] }
     ensures early { AllByRecursion (λ (a : ActiveTask). a.release < tenant.now.row.count) tenant.now.row.active }
 {
-    let _ = &tenant.count;
+    let _ = tenant.next_tick();
 }
 
 // Room for what each tenant's next instant releases.

@@ -1,8 +1,8 @@
 //! Laws of the definitions, each a function without a body that carries it.
 
 ghost use Rattle.std.specs.Prelude.{◌≡◌, ℕ, List, true};
-ghost use Rattle.host_core.specs.declared.tenant_state.jobs.JobId.{JobId};
-ghost use Rattle.host_core.specs.rig_config.Roster.{is_tenant};
+ghost use Rattle.tenant_state.specs.declared.jobs.JobId.{JobId};
+ghost use Rattle.rig_config.specs.Roster.{is_tenant};
 ghost use Rattle.host_core.specs.Host.{host_after, row_at, awaits};
 ghost use Rattle.host_core.specs.Legal.{next_tick, is_legal, counts};
 ghost use Rattle.host_core.specs.declared.events.Event.{Event};

@@ -1,14 +1,11 @@
-//! The host core: tenants, their commands, instants and completions, and what each tenant is answered.
+//! The host core: all tenants on one clock, their commands, instants and completions, and what each tenant is answered.
+//!
+//! A [`hosts::Host`] takes the commands of its tenants, gives all of them an instant, and counts the completions of jobs;
+//! [`plays::play`] takes a whole list of such [`events`]. `specs/Views.antt` has the one-tenant machine and each tenant's view,
+//! `specs/Host.antt` the whole host, `specs/Legal.antt` and `specs/Answers.antt` the lists and what they are answered.
 #![tactic(auto)]
 
 pub mod events;
-pub mod giotto_check;
 pub mod hosts;
 pub mod laws;
 pub mod plays;
-pub mod rig_config;
-pub mod tenant_grants;
-pub mod tenant_state;
-pub mod tenant_trace;
-#[cfg(test)]
-mod tests;

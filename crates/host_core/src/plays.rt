@@ -6,21 +6,21 @@ ghost use Rattle.host_core.specs.Legal.{may_follow};
 ghost use Rattle.host_core.specs.Playing.{IsPlayed, IsStep, HasPlace};
 ghost use Rattle.host_core.specs.Plays.{IsSettingOf, AreAnswers, IsLeastIllegal};
 ghost use Rattle.host_core.specs.Setting.{Setting};
-ghost use Rattle.host_core.specs.tenant_state.Jobs.{JobValue, same_job};
-ghost use Rattle.host_core.specs.tenant_state.Replies.{text_of_reply};
+ghost use Rattle.tenant_state.specs.Jobs.{JobValue, same_job};
+ghost use Rattle.tenant_state.specs.Replies.{text_of_reply};
 ghost use Rattle.host_core.specs.declared.events.Event.{Event};
 ghost use Rattle.host_core.specs.declared.plays.PlayFault.{PlayFault};
-ghost use Rattle.host_core.specs.declared.tenant_state.replies.Refusal.{Refusal};
-ghost use Rattle.host_core.specs.declared.tenant_state.replies.Reply.{Reply};
+ghost use Rattle.tenant_state.specs.declared.replies.Refusal.{Refusal};
+ghost use Rattle.tenant_state.specs.declared.replies.Reply.{Reply};
 
 use crate::events::Event;
 use crate::hosts::{Host, complete};
-use crate::rig_config::{Config, TenantId};
-use crate::tenant_state::commands::Command;
-use crate::tenant_state::jobs::{JobId, Jobs};
-use crate::tenant_state::replies::{Refusal, Reply, print_reply};
-use crate::tenant_state::texts::Text;
+use rig_config::{Config, TenantId};
 use std::alloc::{AllocError, Global};
+use tenant_state::commands::Command;
+use tenant_state::jobs::{JobId, Jobs};
+use tenant_state::replies::{Refusal, Reply, print_reply};
+use tenant_state::texts::Text;
 
 #[cfg(test)]
 mod tests;

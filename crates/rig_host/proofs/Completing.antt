@@ -6,17 +6,17 @@ use Rattle.std.proofs.lemmas.List.Elements.{filter-append}
 use Rattle.std.proofs.lemmas.List.Sums.{sum-map, sum_by-cons}
 use Rattle.host_core.specs.declared.events.Event.{Event}
 use Rattle.host_core.specs.declared.events.Event.TheVariants.{Done}
-use Rattle.host_core.specs.declared.rig_config.TenantConfig.{TenantConfig}
-use Rattle.host_core.specs.declared.tenant_state.jobs.JobId.{JobId}
+use Rattle.rig_config.specs.declared.TenantConfig.{TenantConfig}
+use Rattle.tenant_state.specs.declared.jobs.JobId.{JobId}
 use Rattle.host_core.specs.Completions.{has_completion}
 use Rattle.host_core.specs.Host.{HostState, row_at, is_counted, awaits, after_event, host_after}
 use Rattle.host_core.specs.HostStanding.{HostStanding, Stands, outstanding_in, outstanding_jobs}
 use Rattle.host_core.specs.Legal.{was_released, is_legal}
 use Rattle.host_core.specs.Setting.{Setting}
 use Rattle.host_core.specs.Views.{row_of}
-use Rattle.host_core.specs.tenant_state.Jobs.{job_of, same_job, is_active}
-use Rattle.host_core.specs.tenant_state.Standing.{Standing, awaited_tasks}
-use Rattle.host_core.proofs.JobNames.{or_true, and_true, same_job_self, own_jobs_active}
+use Rattle.tenant_state.specs.Jobs.{job_of, same_job, is_active}
+use Rattle.tenant_state.specs.Standing.{Standing, awaited_tasks}
+use Rattle.tenant_state.proofs.JobNames.{or_true, and_true, same_job_self, own_jobs_active}
 use Rattle.rig_host.specs.HostAnswers.{IsHostAfter}
 use Rattle.rig_host.specs.Script.{outstanding_of, all_outstanding}
 use Rattle.rig_host.proofs.Outstanding.{jobs_at, all_jobs, code_awaits, same_outstanding}

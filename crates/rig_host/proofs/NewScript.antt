@@ -1,11 +1,12 @@
 -- A script begins with a new host.
-use Rattle.std.proofs.Common.{◌≡◌, ℕ, List, [], Option, Some, None, refl, sym, ap, ◌∙◌, subst, ◌⊎◌, inr}
+use Rattle.std.proofs.Common.{◌≡◌, ℕ, List, [], Option, Some, None, refl, sym, ap, ◌∙◌, subst, inr}
 use Rattle.std.specs.Prelude.{Result, Ok, Err, IfSome, IfErr, OnOk}
 use Rattle.host_core.specs.Host.{host_after}
 use Rattle.host_core.specs.HostStanding.{HostStanding, Stands, new_host}
-use Rattle.host_core.specs.Setting.{Setting, IsTrueReader}
+use Rattle.host_core.specs.Setting.{Setting}
+use Rattle.tenant_state.specs.Commands.{IsTrueReader}
 use Rattle.host_core.specs.declared.events.Event.{Event}
-use Rattle.host_core.specs.declared.rig_config.Config.{Config}
+use Rattle.rig_config.specs.declared.Config.{Config}
 use Rattle.host_core.proofs.NewHost.{new_stands}
 use Rattle.rig_host.specs.Answered.{IsBrokenOff}
 use Rattle.rig_host.specs.HostAnswers.{IsHostAfter}

@@ -3,20 +3,20 @@ use Rattle.std.proofs.Common.{◌≡◌, ℕ, suc, ◌+◌, ◌<◌, Bool, true,
 use Rattle.std.specs.List.{flat_map, filter, enumerate_from, zip, AllByRecursion}
 use Rattle.std.proofs.lemmas.Bool.Decides.{nat_tests}
 use Rattle.host_core.specs.declared.events.Event.{Event}
-use Rattle.host_core.specs.declared.rig_config.TenantConfig.{TenantConfig}
-use Rattle.host_core.specs.declared.tenant_state.jobs.JobId.{JobId}
-use Rattle.host_core.specs.rig_config.Roster.{is_tenant}
+use Rattle.rig_config.specs.declared.TenantConfig.{TenantConfig}
+use Rattle.tenant_state.specs.declared.jobs.JobId.{JobId}
+use Rattle.rig_config.specs.Roster.{is_tenant}
 use Rattle.host_core.specs.Completions.{has_completion}
 use Rattle.host_core.specs.Host.{HostState, row_at, is_counted, host_after}
 use Rattle.host_core.specs.HostStanding.{HostStanding, Stands, standing_at, outstanding_jobs}
 use Rattle.host_core.specs.Legal.{is_legal}
 use Rattle.host_core.specs.Setting.{Setting}
 use Rattle.host_core.specs.Views.{row_of}
-use Rattle.host_core.specs.tenant_state.Jobs.{job_of, is_active}
-use Rattle.host_core.specs.tenant_state.Row.{ActiveTask, Row}
-use Rattle.host_core.specs.tenant_state.Standing.{Standing, StandsFor, awaited_tasks, empty_standing}
+use Rattle.tenant_state.specs.Jobs.{job_of, is_active}
+use Rattle.tenant_state.specs.Row.{ActiveTask, Row}
+use Rattle.tenant_state.specs.Standing.{Standing, StandsFor, awaited_tasks, empty_standing}
 use Rattle.host_core.proofs.AloneAlong.{same_rows, same_awaits}
-use Rattle.host_core.proofs.JobNames.{own_jobs_active}
+use Rattle.tenant_state.proofs.JobNames.{own_jobs_active}
 use Rattle.rig_host.specs.Script.{outstanding_of, all_outstanding}
 
 -- what is found at the same places of two lists of one length

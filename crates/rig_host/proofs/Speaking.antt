@@ -4,10 +4,10 @@ use Rattle.std.specs.List.{position_or_len}
 use Rattle.std.proofs.lemmas.Bool.Decides.{nat_tests}
 use Rattle.giotto_tasks.specs.declared.names.Name.{Name}
 use Rattle.giotto_tasks.specs.Names.{same_name}
-use Rattle.host_core.specs.declared.rig_config.Config.{Config}
-use Rattle.host_core.specs.declared.rig_config.TenantConfig.{TenantConfig}
-use Rattle.host_core.specs.rig_config.Roster.{place_of}
-use Rattle.host_core.specs.tenant_state.Words.{first_word_of}
+use Rattle.rig_config.specs.declared.Config.{Config}
+use Rattle.rig_config.specs.declared.TenantConfig.{TenantConfig}
+use Rattle.rig_config.specs.Roster.{place_of}
+use Rattle.tenant_state.specs.Words.{first_word_of}
 use Rattle.rig_host.specs.declared.speakers.Speaker.TheVariants.{Nobody, Operator, Tenant, Unknown}
 use Rattle.rig_host.specs.Script.{operator, speaker_of}
 

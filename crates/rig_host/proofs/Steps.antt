@@ -8,21 +8,21 @@ use Rattle.std.specs.declared.alloc.AllocError.{AllocError}
 use Rattle.giotto_tasks.specs.Names.{same_name}
 use Rattle.host_core.specs.declared.events.Event.{Event}
 use Rattle.host_core.specs.declared.events.Event.TheVariants.{Own, Tick}
-use Rattle.host_core.specs.declared.rig_config.Config.{Config}
-use Rattle.host_core.specs.declared.tenant_state.commands.Command.{Command}
-use Rattle.host_core.specs.declared.tenant_state.replies.Reply.{Reply}
+use Rattle.rig_config.specs.declared.Config.{Config}
+use Rattle.tenant_state.specs.declared.commands.Command.{Command}
+use Rattle.tenant_state.specs.declared.replies.Reply.{Reply}
 use Rattle.host_core.specs.Host.{row_at, after_event, host_after}
 use Rattle.host_core.specs.HostStanding.{HostStanding, Stands}
 use Rattle.host_core.specs.Legal.{next_tick, may_follow, is_legal}
 use Rattle.host_core.specs.Setting.{Setting}
 use Rattle.host_core.specs.Views.{after_command, row_of}
-use Rattle.host_core.specs.rig_config.Roster.{is_tenant}
-use Rattle.host_core.specs.tenant_state.CommandLine.{command_of_line}
-use Rattle.host_core.specs.tenant_state.Replies.{text_of_reply}
-use Rattle.host_core.specs.tenant_state.Words.{words_of, first_word_of, behind_first_word, values_of_words}
+use Rattle.rig_config.specs.Roster.{is_tenant}
+use Rattle.tenant_state.specs.CommandLine.{command_of_line}
+use Rattle.tenant_state.specs.Replies.{text_of_reply}
+use Rattle.tenant_state.specs.Words.{words_of, first_word_of, behind_first_word, values_of_words}
 use Rattle.host_core.proofs.AloneAlong.{same_rows, same_clock}
-use Rattle.host_core.proofs.JobNames.{and_true}
-use Rattle.host_core.proofs.WordLemmas.{words_first, words_none}
+use Rattle.tenant_state.proofs.JobNames.{and_true}
+use Rattle.tenant_state.proofs.WordLemmas.{words_first, words_none}
 use Rattle.rig_host.specs.Answered.{reply_line}
 use Rattle.rig_host.specs.HostAnswers.{IsHostAfter}
 use Rattle.rig_host.specs.Script.{Step, IsStep, operator, operator_line_of, operator_step, tenant_step, only_answered}

@@ -3,7 +3,8 @@ use Rattle.std.specs.Prelude.{◌≡◌, true, List}
 use Rattle.host_core.specs.HostStanding.{HostStanding, Stands}
 use Rattle.host_core.specs.Host.{host_after}
 use Rattle.host_core.specs.Legal.{is_legal}
-use Rattle.host_core.specs.Setting.{Setting, IsTrueReader}
+use Rattle.host_core.specs.Setting.{Setting}
+use Rattle.tenant_state.specs.Commands.{IsTrueReader}
 use Rattle.host_core.specs.declared.events.Event.{Event}
 
 -- the host stands for what these events, the newest first, make of the rig

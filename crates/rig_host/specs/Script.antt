@@ -8,17 +8,17 @@ use Rattle.giotto_tasks.specs.declared.names.Name.{Name}
 use Rattle.giotto_tasks.specs.Names.{same_name}
 use Rattle.host_core.specs.declared.events.Event.{Event}
 use Rattle.host_core.specs.declared.events.Event.TheVariants.{Own, Tick, Done}
-use Rattle.host_core.specs.declared.tenant_state.jobs.JobId.{JobId}
-use Rattle.host_core.specs.declared.rig_config.Config.{Config}
-use Rattle.host_core.specs.declared.rig_config.TenantConfig.{TenantConfig}
-use Rattle.host_core.specs.declared.tenant_state.commands.Command.{Command}
-use Rattle.host_core.specs.declared.tenant_state.replies.Refusal.TheVariants.{BadCommand}
-use Rattle.host_core.specs.rig_config.Roster.{place_of}
-use Rattle.host_core.specs.tenant_state.CommandLine.{command_of_line}
-use Rattle.host_core.specs.tenant_state.Replies.{text_of_reply, text_of_refusal}
-use Rattle.host_core.specs.tenant_state.Words.{words_of, first_word_of, behind_first_word, values_of_words}
+use Rattle.tenant_state.specs.declared.jobs.JobId.{JobId}
+use Rattle.rig_config.specs.declared.Config.{Config}
+use Rattle.rig_config.specs.declared.TenantConfig.{TenantConfig}
+use Rattle.tenant_state.specs.declared.commands.Command.{Command}
+use Rattle.tenant_state.specs.declared.replies.Refusal.TheVariants.{BadCommand}
+use Rattle.rig_config.specs.Roster.{place_of}
+use Rattle.tenant_state.specs.CommandLine.{command_of_line}
+use Rattle.tenant_state.specs.Replies.{text_of_reply, text_of_refusal}
+use Rattle.tenant_state.specs.Words.{words_of, first_word_of, behind_first_word, values_of_words}
 use Rattle.host_core.specs.Completions.{has_completion}
-use Rattle.host_core.specs.tenant_state.Jobs.{job_of}
+use Rattle.tenant_state.specs.Jobs.{job_of}
 use Rattle.host_core.specs.Legal.{next_tick}
 use Rattle.host_core.specs.Setting.{Setting}
 use Rattle.host_core.specs.Views.{after_command, row_of}

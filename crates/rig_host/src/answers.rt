@@ -11,9 +11,9 @@ ghost use Rattle.rig_host.specs.Script.{IsStep, line_step, reply_to_line, past_b
 
 use crate::faults::ScriptFault;
 use crate::lines::{Line, Lines};
-use host_core::tenant_state::words;
 use std::alloc::{AllocError, Global};
 use std::io::{Read, Write};
+use tenant_state::words;
 
 /// Who answers the lines of a script.
 pub trait Answers {

@@ -13,7 +13,7 @@ mod tests;
 
 use crate::faults::ScriptFault;
 use clap::Command;
-use host_core::rig_config::built_in;
+use rig_config::built_in;
 use std::io;
 use std::io::BufWriter;
 use std::process::ExitCode;

@@ -2,11 +2,12 @@
 
 ghost use Rattle.std.specs.Prelude.{◌≡◌, ◌↔◌, ◌∷◌, ◌<◌, List, codes, length, IsTrue, IfOk, IfErr, IfSome, OnOk, string_bytes};
 ghost use Rattle.std.specs.Io.KnownBytes.{Appends};
-ghost use Rattle.host_core.specs.Setting.{Setting, IsTrueReader};
+ghost use Rattle.host_core.specs.Setting.{Setting};
+ghost use Rattle.tenant_state.specs.Commands.{IsTrueReader};
 ghost use Rattle.host_core.specs.declared.events.Event.{Event};
-ghost use Rattle.host_core.specs.declared.tenant_state.replies.Refusal.TheVariants as refusals;
-ghost use Rattle.host_core.specs.declared.tenant_state.replies.Reply.TheVariants as code;
-ghost use Rattle.host_core.specs.tenant_state.Words.{words_of};
+ghost use Rattle.tenant_state.specs.declared.replies.Refusal.TheVariants as refusals;
+ghost use Rattle.tenant_state.specs.declared.replies.Reply.TheVariants as code;
+ghost use Rattle.tenant_state.specs.Words.{words_of};
 ghost use Rattle.rig_host.specs.Answered.{reply_line};
 ghost use Rattle.rig_host.specs.HostAnswers.{IsHostAfter};
 ghost use Rattle.rig_host.specs.Script.{IsStep, tenant_step, operator_step, work_step, all_outstanding, script_text_of, IsScriptBrokenOff};
@@ -16,12 +17,12 @@ use crate::faults::ScriptFault;
 use crate::lines::Lines;
 use crate::speakers::{Speaker, who_speaks};
 use host_core::hosts::{Host, TickFault, complete};
-use host_core::rig_config::{Config, TenantId};
-use host_core::tenant_state::command_lines::{LineFault, command_of};
-use host_core::tenant_state::replies::{Refusal, Reply, print_reply};
-use host_core::tenant_state::words;
+use rig_config::{Config, TenantId};
 use std::alloc::{AllocError, Global};
 use std::io::{Read, Write};
+use tenant_state::command_lines::{LineFault, command_of};
+use tenant_state::replies::{Refusal, Reply, print_reply};
+use tenant_state::words;
 
 impl Answers for Host {
     ghost stands = { λ host setting past. IsHostAfter setting host past };

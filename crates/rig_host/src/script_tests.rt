@@ -1,7 +1,7 @@
 //! Whole scripts, and what they are answered.
 
 use crate::script::script;
-use host_core::rig_config::built_in;
+use rig_config::built_in;
 use std::test::Fail;
 
 // A script, and all that is written for it.

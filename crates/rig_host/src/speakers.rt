@@ -3,8 +3,8 @@
 ghost use Rattle.std.specs.Prelude.{◌≡◌};
 ghost use Rattle.rig_host.specs.Script.{speaker_of};
 
-use host_core::rig_config::{Config, TenantId};
-use host_core::tenant_state::words;
+use rig_config::{Config, TenantId};
+use tenant_state::words;
 
 /// Who speaks in a line.
 #[derive(Clone, Copy, Debug, PartialEq, Eq)]

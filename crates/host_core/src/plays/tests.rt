@@ -2,14 +2,14 @@
 
 use super::{PlayFault, play};
 use crate::events::Event;
-use crate::rig_config::built_in;
-use crate::tenant_state::commands::Command;
-use crate::tenant_state::jobs::JobId;
-use crate::tenant_state::texts::Text;
 use giotto_tasks::lists::List;
 use giotto_tasks::names::Name;
+use rig_config::built_in;
 use std::alloc::{AllocError, Global};
 use std::test::Fail;
+use tenant_state::commands::Command;
+use tenant_state::jobs::JobId;
+use tenant_state::texts::Text;
 
 const ADDER: &str =
     "sensor s := 0 line 0; actuator a := 0; output o := 0; task T(i) output o { o := i + 1; } mode m period 2 { actfreq 1 do a := o; taskfreq 1 do T(s); } start m;";

@@ -1,6 +1,6 @@
 use Rattle.std.proofs.Common.{◌≡◌, ℕ, ◌<◌, length, get_or}
 use Rattle.host_core.specs.Halves.{tenant_at, no_room}
-use Rattle.host_core.specs.tenant_state.Standing.{IsRoomFor}
+use Rattle.tenant_state.specs.Standing.{IsRoomFor}
 use Rattle.host_core.proofs.hosts.all_ready.Given as goal
 
 abbrev pub invariant-loop-tenant : goal.invariant-loop-tenant

@@ -2,8 +2,8 @@ use Rattle.std.proofs.Common.{◌≡◌, ◌∷◌, Some, true, sym, ap, subst, 
 use Rattle.std.specs.Prelude.{is_some}
 use Rattle.host_core.specs.Host.{awaits}
 use Rattle.host_core.specs.HostStanding.{Stands, awaited_in}
-use Rattle.host_core.specs.declared.tenant_state.jobs.JobId.{JobId}
-use Rattle.host_core.specs.tenant_state.Jobs.{JobValue}
+use Rattle.tenant_state.specs.declared.jobs.JobId.{JobId}
+use Rattle.tenant_state.specs.Jobs.{JobValue}
 use Rattle.host_core.proofs.HostSteps.{awaited_name_in, done_awaited}
 use Rattle.host_core.proofs.hosts.complete.Goals as goal
 

@@ -1,6 +1,6 @@
 use Rattle.std.proofs.Common.{get_or, subst}
 use Rattle.host_core.specs.Halves.{IsFirstHalf}
-use Rattle.host_core.specs.tenant_state.Standing.{Standing}
+use Rattle.tenant_state.specs.Standing.{Standing}
 use Rattle.host_core.proofs.HostLoops.{stepped_none, stepped_more, unstepped}
 use Rattle.host_core.proofs.hosts.first_halves.Goals as goal
 

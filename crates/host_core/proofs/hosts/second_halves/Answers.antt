@@ -1,9 +1,9 @@
 use Rattle.std.proofs.Common.{◌≡◌, ◌≤◌, List, get_or, sym, ap, subst, ◌∙◌, arith}
-use Rattle.host_core.specs.declared.rig_config.TenantConfig.{TenantConfig}
-use Rattle.host_core.specs.declared.rig_config.Budgets.{Budgets}
+use Rattle.rig_config.specs.declared.TenantConfig.{TenantConfig}
+use Rattle.rig_config.specs.declared.Budgets.{Budgets}
 use Rattle.host_core.specs.Halves.{IsSecondHalf, AreReady, tenant_at, places_of}
-use Rattle.host_core.specs.rig_config.Roster.{budgets_at}
-use Rattle.host_core.specs.tenant_state.Standing.{Standing, IsRoomFor}
+use Rattle.rig_config.specs.Roster.{budgets_at}
+use Rattle.tenant_state.specs.Standing.{Standing, IsRoomFor}
 use Rattle.host_core.proofs.HostSteps.{budgets_here}
 use Rattle.host_core.proofs.HostLoops.{stepped_more, unstepped, ready_first, ready_rest, space_left, jobs_more}
 use Rattle.host_core.proofs.hosts.second_halves.Goals as goal

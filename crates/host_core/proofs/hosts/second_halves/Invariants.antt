@@ -1,7 +1,7 @@
 use Rattle.std.proofs.Common.{◌≡◌, ℕ, ◌≤◌, ◌++◌, take}
 use Rattle.std.specs.List.{All}
 use Rattle.host_core.specs.Halves.{AreSecondHalves, AreReady, places_of, released_from}
-use Rattle.host_core.specs.tenant_state.Standing.{Standing}
+use Rattle.tenant_state.specs.Standing.{Standing}
 use Rattle.host_core.proofs.hosts.second_halves.Given as goal
 
 abbrev pub invariant-loop-i : goal.invariant-loop-i

@@ -1,5 +1,5 @@
 use Rattle.std.proofs.Common.{◌≡◌, ◌++◌, map, length}
-use Rattle.host_core.specs.tenant_state.Jobs.{JobValue}
+use Rattle.tenant_state.specs.Jobs.{JobValue}
 use Rattle.host_core.proofs.plays.add_names.Given as goal
 
 abbrev pub invariant-loop-job : goal.invariant-loop-job

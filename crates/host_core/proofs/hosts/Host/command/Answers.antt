@@ -1,8 +1,8 @@
 use Rattle.std.proofs.Common.{◌<◌, List, length, get_or, sym, ap, subst, ◌∙◌}
-use Rattle.host_core.specs.declared.rig_config.TenantConfig.{TenantConfig}
+use Rattle.rig_config.specs.declared.TenantConfig.{TenantConfig}
 use Rattle.host_core.specs.HostStanding.{HostStanding, Stands}
-use Rattle.host_core.specs.tenant_state.Standing.{Standing}
-use Rattle.host_core.specs.declared.rig_config.Config.{Config}
+use Rattle.tenant_state.specs.Standing.{Standing}
+use Rattle.rig_config.specs.declared.Config.{Config}
 use Rattle.host_core.proofs.HostSteps.{stands_after_command, own_outcome}
 use Rattle.host_core.proofs.hosts.Host.command.Goals as goal
 

@@ -1,8 +1,8 @@
 use Rattle.std.proofs.Common.{◌<◌, length, sym, ap, subst, ◌∙◌, arith, refl}
 use Rattle.std.specs.Prelude.{is_some}
 use Rattle.host_core.specs.HostStanding.{HostStanding, Stands, outstanding_in}
-use Rattle.host_core.specs.declared.tenant_state.jobs.JobId.{JobId}
-use Rattle.host_core.specs.tenant_state.Standing.{Standing}
+use Rattle.tenant_state.specs.declared.jobs.JobId.{JobId}
+use Rattle.tenant_state.specs.Standing.{Standing}
 use Rattle.host_core.proofs.HostSteps.{done_counts}
 use Rattle.host_core.proofs.Outstanding.{one_fewer_in}
 use Rattle.host_core.proofs.hosts.Host.done.Goals as goal

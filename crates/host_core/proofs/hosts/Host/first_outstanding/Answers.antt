@@ -2,7 +2,7 @@ use Rattle.std.proofs.Common.{◌≡◌, List, Some, sym, ap, ◌∙◌}
 use Rattle.std.proofs.lemmas.Option.{slice_get-get_or}
 use Rattle.std.specs.Prelude.{slice_get}
 use Rattle.host_core.specs.HostStanding.{HostStanding, outstanding_jobs}
-use Rattle.host_core.specs.tenant_state.Standing.{Standing}
+use Rattle.tenant_state.specs.Standing.{Standing}
 use Rattle.host_core.proofs.FirstAwaited.{outstanding_from, some_found, none_found}
 use Rattle.host_core.proofs.Outstanding.{first_is_awaited}
 use Rattle.host_core.proofs.hosts.Host.first_outstanding.Goals as goal

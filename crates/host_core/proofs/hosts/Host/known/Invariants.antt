@@ -1,6 +1,6 @@
 use Rattle.std.proofs.Common.{◌≡◌, [], None, take}
 use Rattle.std.specs.List.{All}
-use Rattle.host_core.specs.tenant_state.Standing.{Standing}
+use Rattle.tenant_state.specs.Standing.{Standing}
 use Rattle.host_core.proofs.hosts.Host.known.Given as goal
 
 abbrev pub invariant-loop-tenant : goal.invariant-loop-tenant

@@ -1,5 +1,5 @@
 use Rattle.std.proofs.Common.{◌≡◌, length, take, ap, arith}
-use Rattle.host_core.specs.tenant_state.Standing.{Standing, empty_standing}
+use Rattle.tenant_state.specs.Standing.{Standing, empty_standing}
 use Rattle.host_core.proofs.FirstAwaited.{equal_more, equal_all, equal_each}
 use Rattle.host_core.proofs.hosts.Host.new.Goals as goal
 

@@ -1,6 +1,6 @@
 use Rattle.std.proofs.Common.{◌≡◌, take, map}
-use Rattle.host_core.specs.declared.rig_config.TenantConfig.{TenantConfig}
-use Rattle.host_core.specs.tenant_state.Standing.{empty_standing}
+use Rattle.rig_config.specs.declared.TenantConfig.{TenantConfig}
+use Rattle.tenant_state.specs.Standing.{empty_standing}
 use Rattle.host_core.proofs.hosts.Host.new.Given as goal
 
 abbrev pub invariant-loop-place : goal.invariant-loop-place

@@ -1,6 +1,6 @@
 use Rattle.std.proofs.Common.{◌≡◌, ◌≤◌, ◌*◌, ◌-◌, ◌^◌, take, map, length}
 use Rattle.std.specs.Prelude.{sum}
-use Rattle.host_core.specs.tenant_state.Standing.{Standing, awaited_tasks}
+use Rattle.tenant_state.specs.Standing.{Standing, awaited_tasks}
 use Rattle.host_core.proofs.hosts.Host.outstanding.Given as goal
 
 abbrev pub invariant-loop-tenant : goal.invariant-loop-tenant

@@ -3,9 +3,9 @@ use Rattle.std.specs.List.{All}
 use Rattle.host_core.specs.Halves.{AreFirstHalves, AreReady, released_from}
 use Rattle.host_core.specs.Host.{after_event}
 use Rattle.host_core.specs.declared.events.Event.TheVariants.{Tick}
-use Rattle.host_core.specs.tenant_state.Jobs.{JobValue}
+use Rattle.tenant_state.specs.Jobs.{JobValue}
 use Rattle.host_core.specs.HostStanding.{HostStanding, Stands}
-use Rattle.host_core.specs.tenant_state.Standing.{Standing}
+use Rattle.tenant_state.specs.Standing.{Standing}
 use Rattle.host_core.proofs.HostSteps.{stands_after_tick}
 use Rattle.host_core.proofs.HostLoops.{counts_behind, counts_after, ready_behind, whole_slice}
 use Rattle.host_core.proofs.hosts.Host.tick.Goals as goal

@@ -1,6 +1,6 @@
 use Rattle.std.proofs.Common.{◌∙◌, sym, ap, length}
 use Rattle.host_core.specs.Legal.{may_follow}
-use Rattle.host_core.specs.declared.rig_config.Config.{Config}
+use Rattle.rig_config.specs.declared.Config.{Config}
 use Rattle.host_core.proofs.Played.{tick_legal}
 use Rattle.host_core.proofs.plays.Stage.may_follow.Goals as goal
 

@@ -4,9 +4,9 @@ use Rattle.host_core.specs.Host.{row_at, after_event, host_after}
 use Rattle.host_core.specs.HostStanding.{Stands}
 use Rattle.host_core.specs.Views.{after_command}
 use Rattle.host_core.specs.declared.events.Event.TheVariants.{Own}
-use Rattle.host_core.specs.declared.tenant_state.replies.Refusal.TheVariants.{Memory}
-use Rattle.host_core.specs.declared.tenant_state.replies.Reply.TheVariants.{Refused}
-use Rattle.host_core.specs.tenant_state.Replies.{text_of_reply}
+use Rattle.tenant_state.specs.declared.replies.Refusal.TheVariants.{Memory}
+use Rattle.tenant_state.specs.declared.replies.Reply.TheVariants.{Refused}
+use Rattle.tenant_state.specs.Replies.{text_of_reply}
 use Rattle.host_core.proofs.Played.{step_own}
 use Rattle.host_core.proofs.plays.Stage.own.Goals as goal
 

@@ -1,0 +1,17 @@
+-- Programs that are read have no switches.
+use Rattle.std.proofs.Common.{ℕ, List, [], ◌∷◌}
+use Rattle.std.specs.Prelude.{Ok}
+use Rattle.std.specs.List.{AllByRecursion}
+use Rattle.giotto_read.specs.Program.{ModeDeclaration, GiottoProgram}
+use Rattle.giotto_read.specs.Reading.{Reads, a_program}
+use Rattle.giotto_read.specs.Writable.{IsWritableMode}
+use Rattle.giotto_read.proofs.SpelledWritable.{spelled_writable}
+use Rattle.giotto_check.specs.Checked.{HasNoSwitches}
+
+none_has_switches : (ms : List ModeDeclaration) → AllByRecursion IsWritableMode ms → AllByRecursion HasNoSwitches ms
+none_has_switches [] all = tt
+none_has_switches (m ∷ ms) all = (all.0.switches, none_has_switches ms all.1)
+
+-- today's grammar writes no switches
+pub read_without_switches : (text : List ℕ) (p : GiottoProgram) → Reads text (Ok p) → AllByRecursion HasNoSwitches p.modes
+read_without_switches text p (a_program ts tokens spelled small) = none_has_switches p.modes (spelled_writable _ p spelled).modes

@@ -1,0 +1,121 @@
+//! Well-formed Giotto programs.
+//!
+//! [`check`] tells whether a program that was read keeps the eleven rules, or names the first that it breaks:
+//!
+//! ```text
+//! let checked = check(alloc, program)?;
+//! ```
+//!
+//! The rules stand in `specs/Rules.antt`, over what a program declares (`specs/Declarations.antt`); `proofs/RuleExamples.antt`
+//! computes them on examples.
+#![tactic(auto)]
+
+ghost use Rattle.std.specs.Prelude.{◌≡◌, ℕ, Some, None, Err, IfOk, IfSome};
+ghost use Rattle.giotto_read.specs.ProgramTrees.{mode_of, task_of};
+ghost use Rattle.giotto_read.specs.Reading.{HasSmallTasks};
+ghost use Rattle.std.specs.List.{AllByRecursion};
+ghost use Rattle.giotto_check.specs.Checked.{HasNoSwitches, IsChecked};
+ghost use Rattle.giotto_check.specs.Declarations as declared;
+ghost use Rattle.giotto_check.specs.Rules.{first_broken_rule};
+ghost use Rattle.giotto_check.specs.declared.CheckFault.{CheckFault};
+
+mod bodies;
+mod declarations;
+mod drivers;
+mod first_broken;
+mod frequencies;
+mod kinds;
+mod mode_drivers;
+mod names;
+mod rules;
+mod switches;
+
+use giotto_read::programs::{Mode, Program, Task};
+use giotto_tasks::names::Name;
+use std::alloc::Global;
+use std::marker::Model;
+
+/// A well-formed program.
+#[derive(Drop)]
+pub struct Checked {
+    program: Program,
+}
+
+impl Model for Checked {
+    ghost use Rattle.giotto_read.specs.Program.{GiottoProgram};
+    ghost use Rattle.giotto_read.specs.ProgramCodes.{program_code};
+    ghost use Rattle.giotto_check.specs.Checked.{IsChecked};
+
+    ghost Value = { GiottoProgram };
+
+    ghost coded = { program_code };
+
+    ghost view = { λ c. c.program };
+
+    ghost invariant = { λ c. IsChecked c.program };
+}
+
+/// Why a program is refused.
+#[derive(Clone, Copy, Debug, PartialEq, Eq)]
+pub enum CheckFault {
+    /// The program breaks this rule, the first that it breaks: 1 to 11.
+    Rule(usize),
+    /// Want of memory.
+    Memory,
+}
+
+impl Checked {
+    /// The program.
+    pub fn program(&self) -> &Program
+        ensures tree { result.now ≡ self.now }
+        ensures checked { IsChecked self.now }
+    {
+        &self.program
+    }
+}
+
+/// Checks a program of tasks with at most 16 inputs, outputs and states each, and of modes without switches.
+///
+/// # Errors
+/// `Rule` with the first rule that the program breaks, and `Memory` where there is want of memory.
+pub fn check(alloc: Global, program: Program) -> Result<Checked, CheckFault>
+    requires small { HasSmallTasks program }
+    requires no_switches { AllByRecursion HasNoSwitches program.modes }
+    ensures checked { IfOk result (λ c. c ≡ program) }
+    ensures rule { (n : ℕ) → result ≡ Err (CheckFault.Rule n) → first_broken_rule program ≡ Some n }
+{
+    match first_broken::first_broken(alloc, &program) {
+        Ok(None) => Ok(Checked { program }),
+        Ok(Some(rule)) => Err(CheckFault::Rule(rule)),
+        Err(_) => Err(CheckFault::Memory),
+    }
+}
+
+/// The task of this name.
+pub fn find_task<'a>(program: &'a Program, name: &Name) -> Option<&'a Task>
+    ensures found { IfSome result (λ t. declared.task_of program.now name.now ≡ Some (task_of t.now)) }
+    ensures missing { result ≡ None → declared.task_of program.now name.now ≡ None }
+{
+    for task in program.tasks.as_slice() {
+        if task.name == *name {
+            return Some(task);
+        }
+    }
+    None
+}
+
+/// The mode of this name.
+pub fn find_mode<'a>(program: &'a Program, name: &Name) -> Option<&'a Mode>
+    ensures found { IfSome result (λ m. declared.mode_of program.now name.now ≡ Some (mode_of m.now)) }
+    ensures missing { result ≡ None → declared.mode_of program.now name.now ≡ None }
+{
+    for mode in program.modes.as_slice() {
+        if mode.name == *name {
+            return Some(mode);
+        }
+    }
+    None
+}
+
+#[cfg(test)]
+mod tests;

@@ -1,9 +1,0 @@
-use Rattle.std.proofs.Common.{◌≡◌, ◌++◌, map, drop}
-use Rattle.std.specs.List.{filter_map}
-use Rattle.giotto_read.specs.Program.{ActuatorDeclaration}
-use Rattle.giotto_read.specs.ProgramTrees.{actuator_of}
-use Rattle.host_core.specs.giotto_check.Declarations.{lines_written}
-use Rattle.host_core.proofs.giotto_check.declarations.lines_written.Given as goal
-
-abbrev pub invariant-loop-actuator : goal.invariant-loop-actuator
-invariant-loop-actuator l = l.lines.items ++ filter_map (λ (a : ActuatorDeclaration). a.line) (map actuator_of (drop l.actuator-index l.actuator-items)) ≡ lines_written l.program

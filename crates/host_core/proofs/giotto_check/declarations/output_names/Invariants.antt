@@ -1,7 +1,0 @@
-use Rattle.std.proofs.Common.{◌≡◌, map, take}
-use Rattle.giotto_read.specs.Program.{OutputDeclaration}
-use Rattle.giotto_read.specs.ProgramTrees.{output_of}
-use Rattle.host_core.proofs.giotto_check.declarations.output_names.Given as goal
-
-abbrev pub invariant-loop-output : goal.invariant-loop-output
-invariant-loop-output l = l.names.items ≡ map (λ (o : OutputDeclaration). o.name) (map output_of (take l.output-index l.output-items))

@@ -1,8 +1,0 @@
-use Rattle.std.proofs.Common.{◌≡◌, drop}
-use Rattle.std.specs.List.{list_all}
-use Rattle.host_core.specs.rig_config.Roster.{may_use}
-use Rattle.host_core.proofs.ProgramLines.{lines_of_actuators}
-use Rattle.host_core.proofs.tenant_state.tenants.commands.may_drive.Given as goal
-
-abbrev pub invariant-loop-actuator : goal.invariant-loop-actuator
-invariant-loop-actuator l = list_all (may_use l.lines) (lines_of_actuators (drop l.actuator-index l.actuators)) ≡ list_all (may_use l.lines) (lines_of_actuators l.actuators)

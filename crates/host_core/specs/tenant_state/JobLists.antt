@@ -1,8 +1,0 @@
--- Jobs in the order of their release.
-use Rattle.std.specs.Prelude.{ℕ, List}
-use Rattle.host_core.specs.tenant_state.Jobs.{JobValue}
-
-pub record JobList : Type 0 where
-  pub jobs : List JobValue
-  -- how many more there is room for
-  pub room : ℕ

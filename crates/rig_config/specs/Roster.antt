@@ -1,0 +1,32 @@
+-- The roster: the tenants of a configuration, by their places and names.
+use Rattle.std.specs.Prelude.{ℕ, Bool, nat_eq, nat_lt, List, [], Option, length, slice_get}
+use Rattle.std.specs.List.{list_any, position}
+use Rattle.std.specs.Option.{option_map_or}
+use Rattle.giotto_tasks.specs.declared.names.Name.{Name}
+use Rattle.giotto_tasks.specs.Names.{same_name}
+use Rattle.rig_config.specs.declared.Budgets.{Budgets}
+use Rattle.rig_config.specs.declared.TenantConfig.{TenantConfig}
+use Rattle.rig_config.specs.declared.Config.{Config}
+
+abbrev pub is_tenant : Config → ℕ → Bool
+is_tenant config t = nat_lt t (length config.tenants)
+
+-- the place of the tenant with this name
+abbrev pub place_of : Config → Name → Option ℕ
+place_of config x = position (λ (t : TenantConfig). same_name t.name x) config.tenants
+
+-- the name of the tenant at a place; no name where the roster has no such place
+abbrev pub name_at : Config → ℕ → Name
+name_at config t = option_map_or (λ (tenant : TenantConfig). tenant.name) (slice_get config.tenants t) []
+
+-- no room for anything
+abbrev pub no_budgets : Budgets
+no_budgets = record { reads = []; writes = []; bytes = 0; ports = 0; tasks = 0; modes = 0; steps = 0; trace = 0; offers = 0; binds = 0 }
+
+-- the budgets of the tenant at a place; no room where the roster has no such place
+abbrev pub budgets_at : Config → ℕ → Budgets
+budgets_at config t = option_map_or (λ (tenant : TenantConfig). tenant.budgets) (slice_get config.tenants t) no_budgets
+
+-- a line is one of a tenant's lines
+abbrev pub may_use : List ℕ → ℕ → Bool
+may_use lines k = list_any (nat_eq k) lines

@@ -1,0 +1,141 @@
+-- What holds of each active task is kept by each step, if it holds of what is released at the instant's number.
+use Rattle.std.proofs.Common.{◌≡◌, ℕ, ◌+◌, Bool, true, false, cond, List, [], ◌∷◌, ◌++◌, filter, Option, Some, None}
+use Rattle.std.specs.Prelude.{Result, Ok, Err, option_to_list}
+use Rattle.std.specs.Option.{option_map}
+use Rattle.std.specs.List.{AllByRecursion}
+use Rattle.giotto_tasks.specs.declared.names.Name.{Name}
+use Rattle.giotto_tasks.specs.Names.{Valuation}
+use Rattle.giotto_read.specs.declared.faults.ReadFault.{ReadFault}
+use Rattle.giotto_read.specs.Program.{TaskDeclaration, TaskInvocation, ModeDeclaration, GiottoProgram}
+use Rattle.rig_config.specs.declared.Budgets.{Budgets}
+use Rattle.tenant_state.specs.declared.commands.Command.{Command}
+use Rattle.tenant_state.specs.declared.commands.Command.TheVariants.{Load, Start, ShowPort}
+use Rattle.tenant_state.specs.declared.replies.Budget.{Budget}
+use Rattle.giotto_check.specs.Declarations.{task_of, mode_of}
+use Rattle.giotto_check.specs.Rules.{first_broken_rule}
+use Rattle.tenant_state.specs.Row.{ActiveTask, Row, StopReason, overrun, is_running, where_some, in_program, in_mode}
+use Rattle.tenant_state.specs.Commands.{Reader, Outcome, load_within, load_checked, load_read, broken_budget, start_program, show_value, show_port, commanded}
+use Rattle.tenant_state.specs.FirstHalf.{stopped_with, completed_in_mode, first_half_with, first_half_of}
+use Rattle.tenant_state.specs.SecondHalf.{Readings, installed, replaced_if_due, sensed, entered, switch_taken, switched, is_invoked, released, invoked, all_released, invoked_in_mode, second_half_running}
+use Rattle.tenant_state.specs.Instants.{LocalInstant, after_instant}
+
+pub all_filter : {X : Type 0} (P : X → Type 0) (test : X → Bool) (xs : List X) → AllByRecursion P xs → AllByRecursion P (filter test xs)
+all_filter P test [] all = all
+all_filter P test (x ∷ xs) all = kept (test x) all.0 (all_filter P test xs all.1)
+  where
+    kept : (b : Bool) → P x → AllByRecursion P (filter test xs) → AllByRecursion P (cond b (x ∷ filter test xs) (filter test xs))
+    kept true h rest = (h, rest)
+    kept false h rest = rest
+
+pub all_append : {X : Type 0} (P : X → Type 0) (xs ys : List X) → AllByRecursion P xs → AllByRecursion P ys → AllByRecursion P (xs ++ ys)
+all_append P [] ys all others = others
+all_append P (x ∷ xs) ys all others = (all.0, all_append P xs ys all.1 others)
+
+module _ (P : ActiveTask → Type 0) (n : ℕ) where
+  -- each active task has the property, and the row is at this number
+  pub record Keeps (row : Row) : Type 0 where
+    pub each : AllByRecursion P row.active
+    pub at : row.count ≡ n
+
+  pub keeps_where_some : {A : Type 0} (step : A → Row → Row) (o : Option A) (row : Row) → ((x : A) (r : Row) → Keeps r → Keeps (step x r)) → Keeps row → Keeps (where_some step o row)
+  keeps_where_some step None row each k = k
+  keeps_where_some step (Some x) row each k = each x row k
+
+  keeps_in_program : (step : GiottoProgram → Row → Row) (row : Row) → ((p : GiottoProgram) (r : Row) → Keeps r → Keeps (step p r)) → Keeps row → Keeps (in_program step row)
+  keeps_in_program step row each k = keeps_where_some step row.program row each k
+
+  keeps_in_mode : (step : GiottoProgram → ModeDeclaration → Row → Row) (row : Row) → ((p : GiottoProgram) (m : ModeDeclaration) (r : Row) → Keeps r → Keeps (step p m r)) → Keeps row → Keeps (in_mode step row)
+  keeps_in_mode step row each k = keeps_in_program (λ p. where_some (step p) (mode_of p row.mode)) row (λ p r. keeps_where_some (step p) (mode_of p row.mode) r (each p)) k
+
+  keeps_if : (b : Bool) (x y : Row) → Keeps x → Keeps y → Keeps (cond b x y)
+  keeps_if true x y kx ky = kx
+  keeps_if false x y kx ky = ky
+
+  keeps_stopped : (reason : StopReason) (row : Row) → Keeps row → Keeps (stopped_with reason row)
+  keeps_stopped reason row k = stop row.program
+    where
+      stop : (o : Option GiottoProgram) → Keeps (stopped_with reason (record row { program = o }))
+      stop None = record { each = tt; at = k.at }
+      stop (Some p) = record { each = tt; at = k.at }
+
+  keeps_completed : (p : GiottoProgram) (m : ModeDeclaration) (row : Row) → Keeps row → Keeps (completed_in_mode p m row)
+  keeps_completed p m row k = record { each = all_filter P _ row.active k.each; at = k.at }
+
+  pub keeps_first_half : (unfinished : List Name) (row : Row) → Keeps row → Keeps (first_half_of unfinished row)
+  keeps_first_half unfinished row k = by _
+    where
+      by : (xs : List Name) → Keeps (first_half_with xs row)
+      by (x ∷ xs) = keeps_stopped (overrun x) row k
+      by [] = keeps_if (is_running row) (in_mode completed_in_mode row) row (keeps_in_mode completed_in_mode row keeps_completed k) k
+
+  keeps_installed : (new : GiottoProgram) (row : Row) → Keeps row → Keeps (installed new row)
+  keeps_installed new row k = keeps_in_program _ row (λ old r kr. record { each = tt; at = kr.at }) k
+
+  keeps_replaced : (row : Row) → Keeps row → Keeps (replaced_if_due row)
+  keeps_replaced row k = keeps_if _ (where_some installed row.waiting row) row (keeps_where_some installed row.waiting row keeps_installed k) k
+
+  keeps_switched : (readings : Readings) (granted : Valuation) (p : GiottoProgram) (m : ModeDeclaration) (row : Row) → Keeps row → Keeps (switched p m (sensed readings granted p row))
+  keeps_switched readings granted p m row k =
+      keeps_where_some _ (switch_taken m (sensed readings granted p row)) _ (λ s r kr. keeps_where_some (entered m s) (mode_of p s.target) r (λ target q kq. record { each = kq.each; at = kq.at }) kr)
+      (record { each = k.each; at = k.at })
+
+  module _ (fresh : (a : ActiveTask) → a.release ≡ n → P a) where
+    fresh_if : (b : Bool) (i : TaskInvocation) (ports : Valuation) (c : ℕ) → c ≡ n → (o : Option TaskDeclaration) → AllByRecursion P (cond b (option_to_list (option_map (released c i ports) o)) [])
+    fresh_if false i ports c at o = tt
+    fresh_if true i ports c at None = tt
+    fresh_if true i ports c at (Some t) = (fresh _ at, tt)
+
+    pub all_fresh : (p : GiottoProgram) (m : ModeDeclaration) (time c : ℕ) → c ≡ n → (is : List TaskInvocation) (ports : Valuation) → AllByRecursion P (all_released p m time c is ports)
+    all_fresh p m time c at [] ports = tt
+    all_fresh p m time c at (i ∷ is) ports =
+        all_append P (cond (is_invoked m time i ports) (option_to_list (option_map (released c i ports) (task_of p i.task))) []) (all_released p m time c is (invoked p m time i ports))
+        (fresh_if (is_invoked m time i ports) i ports c at (task_of p i.task)) (all_fresh p m time c at is (invoked p m time i ports))
+
+    keeps_invoked : (p : GiottoProgram) (m : ModeDeclaration) (row : Row) → Keeps row → Keeps (invoked_in_mode p m row)
+    keeps_invoked p m row k = record { each = all_append P row.active _ k.each (all_fresh p m row.mode_time row.count k.at m.invocations row.ports); at = k.at }
+
+    keeps_running : (readings : Readings) (granted : Valuation) (row : Row) → Keeps row → Keeps (second_half_running readings granted row)
+    keeps_running readings granted row k =
+        keeps_in_mode _ _ (λ p m r kr. let all = keeps_invoked p m r kr in record { each = all.each; at = all.at })
+        (keeps_in_mode _ _ (λ p m r kr. keeps_switched readings granted p m r kr) (keeps_replaced row k))
+
+    -- the second half, but for the count that it moves on
+    pub kept_by_instant : (i : LocalInstant) (row : Row) → Keeps row → AllByRecursion P (after_instant i row).active × ((after_instant i row).count ≡ n + 1)
+    kept_by_instant i row k =
+        let half = keeps_first_half i.unfinished row k in
+        let moved = keeps_if _ _ _ (keeps_running i.readings i.granted (first_half_of i.unfinished row) half) half in
+        (moved.each, λ j. moved.at j + 1)
+
+  -- a command leaves the active tasks, or there are none
+  keeps_within : (p : GiottoProgram) (row : Row) (o : Option Budget) → Keeps row → Keeps (load_within p row o).row
+  keeps_within p row None k = record { each = tt; at = k.at }
+  keeps_within p row (Some b) k = k
+
+  keeps_outcome_if : (b : Bool) (x y : Outcome) → Keeps x.row → Keeps y.row → Keeps (cond b x y).row
+  keeps_outcome_if true x y kx ky = kx
+  keeps_outcome_if false x y kx ky = ky
+
+  keeps_checked : (budgets : Budgets) (p : GiottoProgram) (row : Row) (o : Option ℕ) → Keeps row → Keeps (load_checked budgets p row o).row
+  keeps_checked budgets p row (Some r) k = k
+  keeps_checked budgets p row None k = keeps_outcome_if _ _ (load_within p row (broken_budget budgets p)) k (keeps_within p row _ k)
+
+  keeps_read : (budgets : Budgets) (row : Row) (r : Result GiottoProgram ReadFault) → Keeps row → Keeps (load_read budgets row r).row
+  keeps_read budgets row (Err fault) k = k
+  keeps_read budgets row (Ok p) k = keeps_checked budgets p row (first_broken_rule p) k
+
+  keeps_started : (row : Row) (o : Option GiottoProgram) → Keeps row → Keeps (start_program row o).row
+  keeps_started row None k = k
+  keeps_started row (Some p) k = record { each = tt; at = k.at }
+
+  keeps_shown : (x : Name) (row : Row) (o : Option _) → Keeps row → Keeps (show_value x row o).row
+  keeps_shown x row None k = k
+  keeps_shown x row (Some z) k = k
+
+  keeps_show : (x : Name) (row : Row) (o : Option GiottoProgram) → Keeps row → Keeps (show_port x row o).row
+  keeps_show x row None k = k
+  keeps_show x row (Some p) k = keeps_shown x row _ k
+
+  pub kept_by_command : (reader : Reader) (budgets : Budgets) (c : Command) (row : Row) → Keeps row → Keeps (commanded reader budgets c row).row
+  kept_by_command reader budgets (Load text) row k = keeps_read budgets row (reader text) k
+  kept_by_command reader budgets Start row k = keeps_outcome_if _ _ (start_program row row.program) k (keeps_started row row.program k)
+  kept_by_command reader budgets (ShowPort x) row k = keeps_show x row row.program k

@@ -1,0 +1,149 @@
+-- What is known of a tenant behind the second half of an instant.
+use Rattle.std.proofs.Common.{◌≡◌, ℕ, ◌+◌, ◌%◌, ◌<◌, ◌≤◌, ◌^◌, Bool, true, false, not, cond, nat_eq, ◌&&◌, List, [], ◌∷◌, ◌++◌, map, Option, Some, None, refl, ap, sym, ◌∙◌, arith}
+use Rattle.std.specs.Prelude.{option_to_list}
+use Rattle.std.specs.Option.{option_map}
+use Rattle.std.specs.List.{list_all, AllByRecursion}
+use Rattle.std.specs.Cmp.Lexicographic.{same_text, nat_list_eq_equiv}
+use Rattle.std.proofs.lemmas.Bool.{and_parts, and_from, or_parts, false≢true, ne_eqb, false_from_ne_true, not_from_false}
+use Rattle.std.proofs.lemmas.Nat.{mod_below}
+use Rattle.std.proofs.lemmas.List.Folds.{list_all-append, list_all-map}
+use Rattle.giotto_tasks.specs.declared.names.Name.{Name}
+use Rattle.giotto_tasks.specs.Names.{Valuation, same_name, is_among}
+use Rattle.giotto_tasks.specs.Sound.{all_different}
+use Rattle.giotto_read.specs.Program.{TaskDeclaration, TaskInvocation, ModeDeclaration, GiottoProgram}
+use Rattle.giotto_check.specs.Declarations.{task_of, mode_of}
+use Rattle.tenant_state.specs.declared.tenants.Active.{Active}
+use Rattle.tenant_state.specs.PortTables.{PortTables, HaveSameNames}
+use Rattle.tenant_state.specs.Row.{ActiveTask}
+use Rattle.tenant_state.specs.SecondHalf.{is_invoked, released, invoked, all_released}
+use Rattle.tenant_state.specs.Tenants.{active_of, is_another, all_different_releases, IsActiveIn, IsTenantOf, IsTenant}
+use Rattle.tenant_state.proofs.ActiveTasks.{all_append}
+use Rattle.tenant_state.proofs.HalfStands.{new_releases, older_releases}
+use Rattle.tenant_state.proofs.InvocableModes.{active_later}
+use Rattle.tenant_state.proofs.Invoked.{found_name}
+use Rattle.tenant_state.proofs.PortNames.{ports_of_on}
+use Rattle.tenant_state.proofs.ProgramFacts.{found_passes, mode_fits}
+use Rattle.giotto_check.proofs.RulesKept.{RulesKept}
+
+-- the tests of active tasks, on their entries in the row
+abbrev is_other : ActiveTask → ActiveTask → Bool
+is_other a b = not (same_name a.task b.task && nat_eq a.release b.release)
+
+abbrev all_other : List ActiveTask → Bool
+all_other [] = true
+all_other (a ∷ rest) = list_all (is_other a) rest && all_other rest
+
+different_in_row : (xs : List Active) → all_other (map active_of xs) ≡ all_different_releases xs
+different_in_row [] = refl
+different_in_row (a ∷ rest) =
+    ap (λ b. b && all_other (map active_of rest)) (list_all-map (is_other (active_of a)) active_of rest)
+    ∙ ap (λ b. list_all (is_another a) rest && b) (different_in_row rest)
+
+other_by_release : (a b : ActiveTask) → (a.release ≡ b.release → ⊥) → is_other a b ≡ true
+other_by_release a b apart = by (same_name a.task b.task) (ne_eqb a.release b.release apart)
+  where
+    by : (same : Bool) → nat_eq a.release b.release ≡ false → not (same && nat_eq a.release b.release) ≡ true
+    by false e = refl
+    by true e = ap not e
+
+other_by_task : (a b : ActiveTask) → same_name a.task b.task ≡ false → is_other a b ≡ true
+other_by_task a b e = ap (λ same. not (same && nat_eq a.release b.release)) e
+
+all_that : {X : Type 0} (test : X → Bool) (P : X → Type 0) → ((x : X) → P x → test x ≡ true) → (xs : List X) → AllByRecursion P xs → list_all test xs ≡ true
+all_that test P means [] all = refl
+all_that test P means (x ∷ xs) all = and_from (test x) (list_all test xs) (means x all.0) (all_that test P means xs all.1)
+
+-- older releases and those of this instant
+other_joined : (n : ℕ) (older new : List ActiveTask) → AllByRecursion (λ (a : ActiveTask). a.release < n) older → AllByRecursion (λ (a : ActiveTask). a.release ≡ n) new
+    → all_other older ≡ true → all_other new ≡ true → all_other (older ++ new) ≡ true
+other_joined n [] new before now h k = k
+other_joined n (a ∷ rest) new before now h k =
+    let both = and_parts (list_all (is_other a) rest) (all_other rest) h in
+    let early = before.0 in
+    let apart : list_all (is_other a) new ≡ true = all_that (is_other a) (λ (b : ActiveTask). b.release ≡ n) (λ b at. other_by_release a b (λ e. absurd (omega (arith, early, e, at)))) new now in
+    and_from (list_all (is_other a) (rest ++ new)) (all_other (rest ++ new)) (list_all-append (is_other a) rest new ∙ and_from _ _ both.0 apart) (other_joined n rest new before.1 now both.1 k)
+
+-- a name is not that of any of these, if it isn't among them
+none_named : (x : Name) (is : List TaskInvocation) → not (is_among (map (λ (i : TaskInvocation). i.task) is) x) ≡ true → AllByRecursion (λ (i : TaskInvocation). same_name x i.task ≡ false) is
+none_named x [] h = tt
+none_named x (i ∷ is) h =
+    let parts = or_parts (same_name i.task x) (is_among (map (λ (i : TaskInvocation). i.task) is) x) (false_from_ne_true _ (λ e. false≢true (ap not (sym e) ∙ h))) in
+    (turned parts.0, none_named x is (not_from_false _ parts.1))
+  where
+    turned : same_name i.task x ≡ false → same_name x i.task ≡ false
+    turned e = false_from_ne_true _ (λ same.
+        let one : x ≡ i.task = same_text x i.task (sym same) in
+        false≢true (sym e ∙ ap (same_name i.task) one ∙ nat_list_eq_equiv.refl i.task))
+
+module _ (p : GiottoProgram) (m : ModeDeclaration) (time n : ℕ) where
+  -- what holds of a release of each invocation holds of all that are released
+  each_released : (Q : TaskInvocation → Type 0) (P : ActiveTask → Type 0)
+      → ((i : TaskInvocation) (ports : Valuation) (t : TaskDeclaration) → Q i → task_of p i.task ≡ Some t → P (released n i ports t))
+      → (is : List TaskInvocation) (ports : Valuation) → AllByRecursion Q is → AllByRecursion P (all_released p m time n is ports)
+  each_released Q P means [] ports all = tt
+  each_released Q P means (i ∷ is) ports all =
+      all_append P (cond (is_invoked m time i ports) (option_to_list (option_map (released n i ports) (task_of p i.task))) []) (all_released p m time n is (invoked p m time i ports))
+      (first (is_invoked m time i ports) (task_of p i.task) refl) (each_released Q P means is (invoked p m time i ports) all.1)
+    where
+      first : (happens : Bool) (o : Option TaskDeclaration) → task_of p i.task ≡ o → AllByRecursion P (cond happens (option_to_list (option_map (released n i ports) o)) [])
+      first false o e = tt
+      first true None e = tt
+      first true (Some t) e = (means i ports t all.0 e, tt)
+
+  -- all are of different tasks
+  released_other : (is : List TaskInvocation) (ports : Valuation) → all_different (map (λ (i : TaskInvocation). i.task) is) ≡ true → all_other (all_released p m time n is ports) ≡ true
+  released_other [] ports h = refl
+  released_other (i ∷ is) ports h =
+      let both = and_parts (not (is_among (map (λ (i : TaskInvocation). i.task) is) i.task)) (all_different (map (λ (i : TaskInvocation). i.task) is)) h in
+      first (is_invoked m time i ports) (task_of p i.task) refl (none_named i.task is both.0) (released_other is (invoked p m time i ports) both.1)
+    where
+      later : List ActiveTask
+      later = all_released p m time n is (invoked p m time i ports)
+
+      apart : (t : TaskDeclaration) → task_of p i.task ≡ Some t → AllByRecursion (λ (j : TaskInvocation). same_name i.task j.task ≡ false) is → list_all (is_other (released n i ports t)) later ≡ true
+      apart t e others =
+          all_that (is_other (released n i ports t)) (λ (b : ActiveTask). same_name t.name b.task ≡ false) (λ b. other_by_task (released n i ports t) b) later
+          (each_released (λ (j : TaskInvocation). same_name i.task j.task ≡ false) (λ (b : ActiveTask). same_name t.name b.task ≡ false)
+          (λ j vs u q found. ap (λ x. same_name x u.name) (found_name p i.task t e) ∙ ap (same_name i.task) (found_name p j.task u found) ∙ q)
+          is (invoked p m time i ports) others)
+
+      first : (happens : Bool) (o : Option TaskDeclaration) → task_of p i.task ≡ o → AllByRecursion (λ (j : TaskInvocation). same_name i.task j.task ≡ false) is → all_other later ≡ true
+          → all_other (cond happens (option_to_list (option_map (released n i ports) o)) [] ++ later) ≡ true
+      first false o e others rest = rest
+      first true None e others rest = rest
+      first true (Some t) e others rest = and_from _ _ (apart t e others) rest
+
+-- the releases stay different when a mode's tasks are released
+pub different_behind : (p : GiottoProgram) (m : ModeDeclaration) (x : Name) (time n : ℕ) (ports : Valuation) (old new : List Active)
+    → RulesKept p → mode_of p x ≡ Some m → AllByRecursion (IsActiveIn p n) old → all_different_releases old ≡ true
+    → map active_of new ≡ map active_of old ++ all_released p m time n m.invocations ports → all_different_releases new ≡ true
+different_behind p m x time n ports old new kept found each different active =
+    let once = found_passes _ (λ (m : ModeDeclaration). same_name m.name x) p.modes m kept.invokes_once found in
+    sym (different_in_row new) ∙ ap all_other active
+    ∙ other_joined n (map active_of old) (all_released p m time n m.invocations ports) (older_releases p n old each) (new_releases p m time n ports)
+    (different_in_row old ∙ different) (released_other p m time n m.invocations ports once)
+
+-- an instant at which nothing happens
+pub tenant_later : (program : Option GiottoProgram) (time : ℕ) (active : List Active) (ports : PortTables) (n : ℕ)
+    → IsTenant program time active ports n → IsTenant program time active ports (n + 1)
+tenant_later program time active ports n is = record { short_time = is.short_time; different = is.different; fits = later program is.fits }
+  where
+    later : (o : Option GiottoProgram) → IsTenantOf o active ports n → IsTenantOf o active ports (n + 1)
+    later None none = none
+    later (Some p) fits = (fits.0, active_later p n active fits.1)
+
+-- one at which the mode's tasks are released
+pub tenant_behind : (p : GiottoProgram) (m : ModeDeclaration) (x : Name) (time n : ℕ) (values : Valuation) (old new : List Active) (before after : PortTables)
+    → RulesKept p → mode_of p x ≡ Some m → IsTenant (Some p) time old before n → HaveSameNames before after
+    → map active_of new ≡ map active_of old ++ all_released p m time n m.invocations values → AllByRecursion (IsActiveIn p (n + 1)) new
+    → IsTenant (Some p) ((time + 1) % m.period) new after (n + 1)
+tenant_behind p m x time n values old new before after kept found is names active each =
+    let fits = mode_fits p kept m x found in
+    record {
+      short_time = below_period (time + 1) m.period fits.positive fits.short;
+      different = different_behind p m x time n values old new kept found is.fits.1 is.different active;
+      fits = (ports_of_on p before after is.fits.0 names, each);
+    }
+  where
+    below_period : (t period : ℕ) → 1 ≤ period → period ≤ 1000000 → t % period < 2 ^ 32
+    below_period t period positive short = let below = mod_below t period positive in omega (arith, below, short)

@@ -1,0 +1,87 @@
+-- What a command does, and its reply. A refusal changes nothing; the first that applies is given.
+use Rattle.std.specs.Prelude.{ℕ, ◌&&◌, if◌then◌else◌, ℤ, List, [], Option, Some, None, Result, Ok, Err}
+use Rattle.std.specs.List.{list_all}
+use Rattle.giotto_tasks.specs.declared.names.Name.{Name}
+use Rattle.giotto_tasks.specs.Names.{value_at}
+use Rattle.giotto_read.specs.declared.faults.ReadFault.{ReadFault}
+use Rattle.giotto_read.specs.declared.faults.ReadFault.TheVariants as faults
+use Rattle.giotto_read.specs.Program.{GiottoProgram}
+use Rattle.giotto_read.specs.Reading.{Reads}
+use Rattle.rig_config.specs.declared.Budgets.{Budgets}
+use Rattle.tenant_state.specs.declared.commands.Command.{Command}
+use Rattle.tenant_state.specs.declared.commands.Command.TheVariants.{Load, Start, ShowPort}
+use Rattle.tenant_state.specs.declared.replies.Budget.{Budget}
+use Rattle.tenant_state.specs.declared.replies.Budget.TheVariants.{Lines}
+use Rattle.tenant_state.specs.declared.replies.Refusal.{Refusal}
+use Rattle.tenant_state.specs.declared.replies.Refusal.TheVariants.{Syntax, TooDeep, TooMany, Rule, Running, NotLoaded, NoPort, OverBudget, Memory}
+use Rattle.tenant_state.specs.declared.replies.Reply.{Reply}
+use Rattle.tenant_state.specs.declared.replies.Reply.TheVariants.{Loaded, Started, Port, Refused}
+use Rattle.tenant_state.specs.declared.trace.Happening.TheVariants as happening
+use Rattle.giotto_check.specs.Declarations.{lines_read, lines_written}
+use Rattle.giotto_check.specs.Rules.{first_broken_rule}
+use Rattle.rig_config.specs.Roster.{may_use}
+use Rattle.tenant_state.specs.Row.{State, loaded, running, Row, is_running, recorded}
+use Rattle.tenant_state.specs.Ports.{initial_ports}
+
+-- what each program text reads as
+abbrev pub Reader : Type 0
+Reader = List ℕ → Result GiottoProgram ReadFault
+
+-- the reader says of every text what the grammar says
+abbrev pub IsTrueReader : Reader → Type 0
+IsTrueReader reader = (text : List ℕ) → Reads text (reader text)
+
+pub record Outcome : Type 0 where
+  pub row : Row
+  pub reply : Reply
+
+abbrev pub refused : Row → Refusal → Outcome
+refused row r = record { row = row; reply = Refused r }
+
+abbrev pub refusal_of : ReadFault → Refusal
+refusal_of (faults.Syntax n) = Syntax n
+refusal_of faults.TooDeep = TooDeep
+refusal_of faults.TooMany = TooMany
+refusal_of faults.Memory = Memory
+
+-- the first budget that the program is over: today the lines alone, which its sensors may read and its actuators drive
+abbrev pub broken_budget : Budgets → GiottoProgram → Option Budget
+broken_budget budgets p = if list_all (may_use budgets.reads) (lines_read p) && list_all (may_use budgets.writes) (lines_written p) then None else Some Lines
+
+-- all ports initial, the start mode, mode time 0, no active task
+abbrev pub at_beginning : State → GiottoProgram → Row → Row
+at_beginning state p row = record row { state = state; program = Some p; mode = p.start; mode_time = 0; active = []; ports = initial_ports p; waiting = None }
+
+-- `load`: the text must be a program that keeps the rules; the tenant must not be running; and the program must be within the budgets
+abbrev pub load_within : GiottoProgram → Row → Option Budget → Outcome
+load_within p row (Some b) = refused row (OverBudget b)
+load_within p row None = record { row = at_beginning loaded p row; reply = Loaded }
+
+abbrev pub load_checked : Budgets → GiottoProgram → Row → Option ℕ → Outcome
+-- which rule it is isn't told yet
+load_checked budgets p row (Some n) = refused row (Rule 0)
+load_checked budgets p row None = if is_running row then refused row Running else load_within p row (broken_budget budgets p)
+
+abbrev pub load_read : Budgets → Row → Result GiottoProgram ReadFault → Outcome
+load_read budgets row (Err fault) = refused row (refusal_of fault)
+load_read budgets row (Ok p) = load_checked budgets p row (first_broken_rule p)
+
+-- `start`
+abbrev pub start_program : Row → Option GiottoProgram → Outcome
+start_program row None = refused row NotLoaded
+start_program row (Some p) = record { row = recorded (happening.Start p.start) (at_beginning running p row); reply = Started }
+
+-- `show port NAME`
+abbrev pub show_value : Name → Row → Option ℤ → Outcome
+show_value x row None = refused row NoPort
+show_value x row (Some z) = record { row = row; reply = Port x z }
+
+abbrev pub show_port : Name → Row → Option GiottoProgram → Outcome
+show_port x row None = refused row NotLoaded
+show_port x row (Some p) = show_value x row (value_at row.ports x)
+
+-- the step of a command: the row after it, and its reply
+abbrev pub commanded : Reader → Budgets → Command → Row → Outcome
+commanded reader budgets (Load text) row = load_read budgets row (reader text)
+commanded reader budgets Start row = if is_running row then refused row Running else start_program row row.program
+commanded reader budgets (ShowPort x) row = show_port x row row.program

@@ -1,0 +1,100 @@
+-- The first half of an instant: the due tasks end, and the due actuators are updated; or the tenant is stopped, if a due task isn't completed.
+use Rattle.std.specs.Prelude.{ℕ, ◌/◌, ◌%◌, ◌==◌, Bool, not, ◌&&◌, if◌then◌else◌, ℤ, List, [], ◌∷◌, ◌++◌, map, filter, None}
+use Rattle.std.specs.List.{flat_map, zip}
+use Rattle.std.specs.Option.{option_map_or}
+use Rattle.giotto_tasks.specs.declared.names.Name.{Name}
+use Rattle.giotto_tasks.specs.Names.{Valuation, same_name, is_among, with_value}
+use Rattle.giotto_tasks.specs.Meaning.{value_of, outputs_of, states_of}
+use Rattle.giotto_read.specs.Program.{TaskDeclaration, ActuatorUpdate, TaskInvocation, ModeDeclaration, GiottoProgram, body_of, names_of}
+use Rattle.tenant_state.specs.declared.trace.Happening.{Happening}
+use Rattle.tenant_state.specs.declared.trace.Happening.TheVariants as happening
+use Rattle.giotto_check.specs.Declarations.{task_of, mode_of}
+use Rattle.tenant_state.specs.Row.{StopReason, asked, overrun, stopped, ActiveTask, Row, is_running, in_program, in_mode, recorded, with_happenings}
+use Rattle.tenant_state.specs.Ports.{own_ports, with_values, actuators_reset, holds}
+
+-- what has frequency w in a mode happens at the mode times that are multiples of P / w
+abbrev pub is_due_at : ℕ → ModeDeclaration → ℕ → Bool
+is_due_at time m w = time % (m.period / w) == 0
+
+-- the active tasks whose period divides the mode time, in the mode's text order
+abbrev pub due_in_mode : Row → ModeDeclaration → List ActiveTask
+due_in_mode row m = flat_map (λ (i : TaskInvocation). filter (λ (a : ActiveTask). same_name a.task i.task && is_due_at row.mode_time m i.frequency) row.active) m.invocations
+
+abbrev pub due_in_program : Row → GiottoProgram → List ActiveTask
+due_in_program row p = option_map_or (due_in_mode row) (mode_of p row.mode) []
+
+-- the tasks of a running row that end at this instant
+abbrev pub due_tasks : Row → List ActiveTask
+due_tasks row = if is_running row then option_map_or (due_in_program row) row.program [] else []
+
+abbrev pub names_due : Row → List Name
+names_due row = map (λ (a : ActiveTask). a.task) (due_tasks row)
+
+abbrev pub happening_of : StopReason → Happening
+happening_of asked = happening.Asked
+happening_of (overrun x) = happening.Overrun x
+
+-- A stop: actuators are initial, active tasks and a waiting program are gone, all other ports keep their values.
+abbrev pub stopped_with : StopReason → Row → Row
+stopped_with reason row =
+    recorded (happening_of reason)
+    (in_program (λ p row. record row { ports = actuators_reset p row.ports }) (record row { state = stopped reason; active = []; waiting = None }))
+
+-- what a task writes when it ends: each output with the value of its computation on what it was given at its release
+abbrev pub written_outputs : ActiveTask → TaskDeclaration → List (Name × ℤ)
+written_outputs a t = zip t.outputs (outputs_of (body_of t) a.inputs a.states)
+
+-- a task ends: its outputs and its states have the values of its computation
+abbrev pub ended_with : ActiveTask → Valuation → TaskDeclaration → Valuation
+ended_with a ports t =
+    with_values (with_values ports t.outputs (outputs_of (body_of t) a.inputs a.states)) (own_ports t.name (names_of t.states)) (states_of (body_of t) a.inputs a.states)
+
+-- the ports behind the ends of these tasks
+abbrev pub all_ended : GiottoProgram → List ActiveTask → Valuation → Valuation
+all_ended p [] ports = ports
+all_ended p (a ∷ rest) ports = all_ended p rest (option_map_or (ended_with a ports) (task_of p a.task) ports)
+
+-- each output that they write, in order
+abbrev pub outputs_happened : GiottoProgram → List ActiveTask → List Happening
+outputs_happened p ended = map (λ (o : Name × ℤ). happening.Out o.0 o.1) (flat_map (λ a. option_map_or (written_outputs a) (task_of p a.task) []) ended)
+
+-- the active tasks that aren't among these
+abbrev pub still_active : List Name → List ActiveTask → List ActiveTask
+still_active ended active = filter (λ (a : ActiveTask). not (is_among ended a.task)) active
+
+-- an actuator update happens where it is due and its guard holds
+abbrev pub is_updated : ModeDeclaration → ℕ → ActuatorUpdate → Valuation → Bool
+is_updated m time u ports = is_due_at time m u.frequency && holds u.guard ports
+
+abbrev pub updated : ModeDeclaration → ℕ → ActuatorUpdate → Valuation → Valuation
+updated m time u ports = if is_updated m time u ports then with_value ports u.actuator (value_of u.value ports) else ports
+
+-- the ports behind these actuator updates, in text order
+abbrev pub all_updated : ModeDeclaration → ℕ → List ActuatorUpdate → Valuation → Valuation
+all_updated m time [] ports = ports
+all_updated m time (u ∷ us) ports = all_updated m time us (updated m time u ports)
+
+-- each update that happens
+abbrev pub updates_happened : ModeDeclaration → ℕ → List ActuatorUpdate → Valuation → List Happening
+updates_happened m time [] ports = []
+updates_happened m time (u ∷ us) ports =
+    (if is_updated m time u ports then happening.Act u.actuator (value_of u.value ports) ∷ [] else []) ++ updates_happened m time us (updated m time u ports)
+
+-- the due tasks end, then the due actuators are updated
+abbrev pub completed_in_mode : GiottoProgram → ModeDeclaration → Row → Row
+completed_in_mode p m row =
+    let written = all_ended p (due_tasks row) row.ports in
+    record row {
+      ports = all_updated m row.mode_time m.updates written;
+      active = still_active (names_due row) row.active;
+      records = with_happenings row.count (outputs_happened p (due_tasks row) ++ updates_happened m row.mode_time m.updates written) row.records;
+    }
+
+-- the first half, by the due tasks that were not completed, in the mode's text order: the first of them is what a stop names
+abbrev pub first_half_with : List Name → Row → Row
+first_half_with (x ∷ xs) row = stopped_with (overrun x) row
+first_half_with [] row = if is_running row then in_mode completed_in_mode row else row
+
+-- The first half, where these tasks were not completed.
+abbrev pub first_half_of : List Name → Row → Row
+first_half_of unfinished row = first_half_with (filter (is_among unfinished) (names_due row)) row

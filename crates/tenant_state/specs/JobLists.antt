@@ -1,0 +1,8 @@
+-- Jobs in the order of their release.
+use Rattle.std.specs.Prelude.{ℕ, List}
+use Rattle.tenant_state.specs.Jobs.{JobValue}
+
+pub record JobList : Type 0 where
+  pub jobs : List JobValue
+  -- how many more there is room for
+  pub room : ℕ

@@ -1,0 +1,92 @@
+-- What one tenant is.
+use Rattle.std.specs.Prelude.{ℕ, ℤ, Bool, true, false, List, [], ◌∷◌, Option, Some, None}
+use Rattle.giotto_tasks.specs.declared.names.Name.{Name}
+use Rattle.giotto_tasks.specs.Names.{Valuation}
+use Rattle.giotto_read.specs.Program.{GiottoProgram, ModeDeclaration}
+use Rattle.tenant_state.specs.declared.grants.Offer.{Offer}
+use Rattle.tenant_state.specs.declared.grants.Bind.{Bind}
+use Rattle.tenant_state.specs.declared.trace.Record.{Record}
+use Rattle.tenant_state.specs.declared.trace.Happening.{Happening}
+use Rattle.giotto_check.specs.Declarations.{mode_of}
+
+pub data StopReason : Type 0 where
+  asked : StopReason
+  -- this task was due, and its computation not completed
+  overrun : Name → StopReason
+
+pub data State : Type 0 where
+  empty : State
+  loaded : State
+  running : State
+  stopped : StopReason → State
+
+-- a task between its release and its deadline, with what it was given at its release
+pub record ActiveTask : Type 0 where
+  pub task : Name
+  -- the number of the instant that released it
+  pub release : ℕ
+  pub inputs : List ℤ
+  pub states : List ℤ
+
+pub record Row : Type 0 where
+  pub state : State
+  pub program : Option GiottoProgram
+  pub mode : Name
+  -- ticks since the mode's period began, as the next instant will find them
+  pub mode_time : ℕ
+  pub active : List ActiveTask
+  -- every port of the program with its value, a task's own ports as TASK.NAME
+  pub ports : Valuation
+  pub offers : List Offer
+  pub binds : List Bind
+  -- a program that replaces the running one when its mode's period ends
+  pub waiting : Option GiottoProgram
+  -- all records since the host began, the newest first
+  pub records : List Record
+  -- the number of the next instant
+  pub count : ℕ
+
+abbrev pub empty_row : ℕ → Row
+empty_row first_tick = record {
+  state = empty;
+  program = None;
+  mode = [];
+  mode_time = 0;
+  active = [];
+  ports = [];
+  offers = [];
+  binds = [];
+  waiting = None;
+  records = [];
+  count = first_tick;
+}
+
+abbrev pub is_running_state : State → Bool
+is_running_state running = true
+is_running_state empty = false
+is_running_state loaded = false
+is_running_state (stopped reason) = false
+
+abbrev pub is_running : Row → Bool
+is_running row = is_running_state row.state
+
+-- the row behind a step for the value; the row as it is where there is none
+abbrev pub where_some : {A : Type 0} → (A → Row → Row) → Option A → Row → Row
+where_some step None row = row
+where_some step (Some x) row = step x row
+
+abbrev pub in_program : (GiottoProgram → Row → Row) → Row → Row
+in_program step row = where_some step row.program row
+
+-- a step in the row's program and mode
+abbrev pub in_mode : (GiottoProgram → ModeDeclaration → Row → Row) → Row → Row
+in_mode step row = in_program (λ p. where_some (step p) (mode_of p row.mode)) row
+
+-- one record more, of the next instant's number
+abbrev pub recorded : Happening → Row → Row
+recorded h row = record row { records = record { tick = row.count; happening = h } ∷ row.records }
+
+-- these happenings as records of instant n, in their order, behind the records before
+abbrev pub with_happenings : ℕ → List Happening → List Record → List Record
+with_happenings n [] records = records
+with_happenings n (h ∷ hs) records = with_happenings n hs (record { tick = n; happening = h } ∷ records)

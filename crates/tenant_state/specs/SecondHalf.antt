@@ -1,0 +1,152 @@
+-- The second half of an instant: a waiting program is installed, sensors are read, a switch may be taken, tasks are invoked, and the mode time moves on.
+use Rattle.std.specs.Prelude.{ℕ, zero, suc, ◌+◌, ◌-◌, ◌%◌, ◌==◌, Bool, ◌&&◌, ◌||◌, if◌then◌else◌, ℤ, List, [], ◌∷◌, ◌++◌, map, filter, Option, Some, None, unwrap_or, option_to_list}
+use Rattle.std.specs.List.{find, filter_map, list_all, enumerate_from}
+use Rattle.std.specs.Option.{option_map, option_map_or}
+use Rattle.giotto_tasks.specs.declared.names.Name.{Name}
+use Rattle.giotto_tasks.specs.Names.{Valuation, value_at, values_of, is_among}
+use Rattle.giotto_tasks.specs.Syntax.{Expression}
+use Rattle.giotto_tasks.specs.Meaning.{value_of}
+use Rattle.giotto_read.specs.Program.{Source, from_line, from_grant, SensorDeclaration, TaskDeclaration, ModeSwitch, TaskInvocation, ModeDeclaration, GiottoProgram, names_of}
+use Rattle.tenant_state.specs.declared.trace.Happening.TheVariants as happening
+use Rattle.giotto_check.specs.Declarations.{sensor_names, actuator_names, task_of, mode_of, period_of_task}
+use Rattle.rig_config.specs.Roster.{may_use}
+use Rattle.tenant_state.specs.Row.{ActiveTask, Row, is_running, where_some, in_program, in_mode, recorded}
+use Rattle.tenant_state.specs.Ports.{own_ports, initial_ports, with_values, holds}
+use Rattle.tenant_state.specs.FirstHalf.{is_due_at}
+
+-- the input value of each line that the tenant may read
+abbrev pub Readings : Type 0
+Readings = List (ℕ × ℤ)
+
+abbrev pub reading_of : Readings → ℕ → Option ℤ
+reading_of [] k = None
+reading_of (r ∷ rs) k = if r.0 == k then Some r.1 else reading_of rs k
+
+-- the readings of those lines of a frame that may be read
+abbrev pub readings_within : List ℕ → List ℤ → Readings
+readings_within reads frame = filter (λ (r : ℕ × ℤ). may_use reads r.0) (enumerate_from 0 frame)
+
+-- a port of this name stands in both programs, among these names of each
+abbrev pub stands_in_both : (GiottoProgram → List Name) → GiottoProgram → GiottoProgram → Name → Bool
+stands_in_both names old new x = is_among (names old) x && is_among (names new) x
+
+-- A sensor keeps the value of the old sensor of its name, and an actuator that of the old actuator; every other port is initial.
+abbrev pub carried_over : Valuation → GiottoProgram → GiottoProgram → Name → ℤ → ℤ
+carried_over ports old new x z =
+    if stands_in_both sensor_names old new x || stands_in_both actuator_names old new x then unwrap_or (value_at ports x) z else z
+
+-- installation: the new program in its start mode, with the values that are carried over
+abbrev pub installed : GiottoProgram → Row → Row
+installed new row = in_program (λ old row.
+    recorded (happening.Replaced new.start)
+    (record row {
+      program = Some new;
+      waiting = None;
+      mode = new.start;
+      mode_time = 0;
+      active = [];
+      ports = map (λ (v : Name × ℤ). (v.0, carried_over row.ports old new v.0 v.1)) (initial_ports new);
+    })) row
+
+-- a waiting program is installed when the mode's period ends
+abbrev pub replaced_if_due : Row → Row
+replaced_if_due row = if row.mode_time == 0 then where_some installed row.waiting row else row
+
+-- A sensor takes its reading: its line's value, or what is granted to it, or else its initial value.
+abbrev pub reading_from : Readings → Valuation → SensorDeclaration → Source → Option ℤ
+reading_from readings granted s (from_line k) = reading_of readings k
+reading_from readings granted s from_grant = value_at granted s.name
+
+abbrev pub reading_taken : Readings → Valuation → SensorDeclaration → ℤ
+reading_taken readings granted s = unwrap_or (reading_from readings granted s s.source) s.initial
+
+abbrev pub sensed : Readings → Valuation → GiottoProgram → Row → Row
+sensed readings granted p row = record row { ports = with_values row.ports (sensor_names p) (map (reading_taken readings granted) p.sensors) }
+
+-- the first number from n on that all of these divide, looked for among the next `more` numbers
+abbrev pub common_multiple_from : ℕ → ℕ → List ℕ → ℕ
+common_multiple_from zero n ks = n
+common_multiple_from (suc more) n ks = if list_all (λ k. n % k == 0) ks then n else common_multiple_from more (n + 1) ks
+
+-- the least common multiple of numbers that divide the period
+abbrev pub least_common_multiple : ℕ → List ℕ → ℕ
+least_common_multiple period ks = common_multiple_from period 1 ks
+
+-- as far from the end of the target's period as tasks of these periods are from their next common deadline
+abbrev pub time_before_end : ModeDeclaration → ModeDeclaration → ℕ → List ℕ → ℕ
+time_before_end from target time [] = 0
+time_before_end from target time (k ∷ ks) = let l = least_common_multiple from.period (k ∷ ks) in target.period - (l - time % l)
+
+-- The mode time behind a switch: 0 if no task is unfinished.
+abbrev pub entry_time : ModeDeclaration → ModeDeclaration → Row → ℕ
+entry_time from target row = time_before_end from target row.mode_time (filter_map (λ (a : ActiveTask). period_of_task from a.task) row.active)
+
+-- the first switch that is due and whose guard holds
+abbrev pub switch_taken : ModeDeclaration → Row → Option ModeSwitch
+switch_taken m row = find (λ (s : ModeSwitch). is_due_at row.mode_time m s.frequency && holds s.guard row.ports) m.switches
+
+-- a switch: its destinations take their values, and the target mode is entered
+abbrev pub entered : ModeDeclaration → ModeSwitch → ModeDeclaration → Row → Row
+entered m s target row =
+    recorded (happening.Mode s.target)
+    (record row {
+      mode = s.target;
+      mode_time = entry_time m target row;
+      ports = with_values row.ports (map (λ (d : Name × Expression). d.0) s.destinations) (map (λ (d : Name × Expression). value_of d.1 row.ports) s.destinations);
+    })
+
+abbrev pub switched : GiottoProgram → ModeDeclaration → Row → Row
+switched p m row = where_some (λ s. where_some (entered m s) (mode_of p s.target)) (switch_taken m row) row
+
+-- an invocation happens where it is due and its guard holds
+abbrev pub is_invoked : ModeDeclaration → ℕ → TaskInvocation → Valuation → Bool
+is_invoked m time i ports = is_due_at time m i.frequency && holds i.guard ports
+
+abbrev pub values_given : TaskInvocation → Valuation → List ℤ
+values_given i ports = map (λ e. value_of e ports) i.arguments
+
+-- a release: the task becomes active with the driver's values and its states
+abbrev pub released : ℕ → TaskInvocation → Valuation → TaskDeclaration → ActiveTask
+released n i ports t = record { task = t.name; release = n; inputs = values_given i ports; states = values_of ports (own_ports t.name (names_of t.states)) }
+
+-- and its inputs take the driver's values
+abbrev pub with_inputs : TaskInvocation → Valuation → TaskDeclaration → Valuation
+with_inputs i ports t = with_values ports (own_ports t.name t.inputs) (values_given i ports)
+
+abbrev pub invoked : GiottoProgram → ModeDeclaration → ℕ → TaskInvocation → Valuation → Valuation
+invoked p m time i ports = if is_invoked m time i ports then option_map_or (with_inputs i ports) (task_of p i.task) ports else ports
+
+-- the ports behind these invocations, in text order
+abbrev pub all_invoked : GiottoProgram → ModeDeclaration → ℕ → List TaskInvocation → Valuation → Valuation
+all_invoked p m time [] ports = ports
+all_invoked p m time (i ∷ is) ports = all_invoked p m time is (invoked p m time i ports)
+
+-- the tasks that they release at instant n
+abbrev pub all_released : GiottoProgram → ModeDeclaration → ℕ → ℕ → List TaskInvocation → Valuation → List ActiveTask
+all_released p m time n [] ports = []
+all_released p m time n (i ∷ is) ports =
+    (if is_invoked m time i ports then option_to_list (option_map (released n i ports) (task_of p i.task)) else []) ++ all_released p m time n is (invoked p m time i ports)
+
+abbrev pub invoked_in_mode : GiottoProgram → ModeDeclaration → Row → Row
+invoked_in_mode p m row = record row {
+  ports = all_invoked p m row.mode_time m.invocations row.ports;
+  active = row.active ++ all_released p m row.mode_time row.count m.invocations row.ports;
+}
+
+-- the mode time of the next instant
+abbrev pub moved_on : ModeDeclaration → Row → Row
+moved_on m row = record row { mode_time = (row.mode_time + 1) % m.period }
+
+abbrev pub counted : Row → Row
+counted row = record row { count = row.count + 1 }
+
+-- the steps of a running tenant: sensors and a switch in the mode that stands, invocations in the mode behind it
+abbrev pub second_half_running : Readings → Valuation → Row → Row
+second_half_running readings granted row =
+    in_mode (λ p m row. moved_on m (invoked_in_mode p m row))
+    (in_mode (λ p m row. switched p m (sensed readings granted p row))
+    (replaced_if_due row))
+
+-- The second half: a running tenant goes through these steps, and every tenant counts the instant.
+abbrev pub second_half_of : Readings → Valuation → Row → Row
+second_half_of readings granted row = counted (if is_running row then second_half_running readings granted row else row)

@@ -1,0 +1,253 @@
+//! Jobs: the computations that an instant releases, and their results.
+
+ghost use Rattle.std.specs.Prelude.{◌≡◌, ◌<◌, ◌≤◌, ◌+◌, ◌-◌, [], ◌∷◌, ◌++◌, ◌↔◌, length, IsTrue, IsSome, IfOk, option_to_list};
+ghost use Rattle.std.specs.Arc.{arc_value};
+ghost use Rattle.giotto_tasks.specs.Meaning.{outputs_of, states_of};
+ghost use Rattle.tenant_state.specs.Jobs.{IsComputable};
+
+use giotto_tasks::bodies::Body;
+use giotto_tasks::evaluation::eval;
+use giotto_tasks::names::Name;
+use giotto_tasks::steps::Steps;
+use giotto_tasks::values::Values;
+use rig_config::TenantId;
+use std::alloc::{AllocError, Global};
+use std::collections::VecDeque;
+use std::marker::{Brand, Model};
+use std::sync::Arc;
+use std::sync::ledger::{Blank, Ledger};
+
+/// The name of a job, never used twice in one host.
+#[derive(Drop)]
+pub struct JobId {
+    pub tenant: TenantId,
+    /// The number of the instant that released the job.
+    pub tick: u64,
+    pub task: Name,
+}
+
+impl JobId {
+    /// An equal name.
+    pub fn copy(&self) -> JobId
+        ensures { result ≡ self.now }
+    {
+        JobId {
+            tenant: self.tenant,
+            tick: self.tick,
+            task: self.task.copy(),
+        }
+    }
+}
+
+/// A job: one computation of a task, with what the task was given at its release. It can be run
+/// anywhere and at any time until its deadline.
+#[derive(Drop)]
+pub struct Job {
+    id: JobId,
+    body: Arc<Body, Global>,
+    inputs: Values,
+    states: Values,
+}
+
+impl Model for Job {
+    ghost use Rattle.std.specs.Arc.{arc_value};
+    ghost use Rattle.tenant_state.specs.Jobs.{JobValue, IsComputable};
+    ghost use Rattle.std.specs.Coded.{codes};
+    ghost use Rattle.giotto_tasks.specs.Codes.{body_code};
+
+    ghost Value = { JobValue };
+
+    ghost coded = { Prim.hlevel (codes, body_code) };
+
+    ghost view = { λ j. record { id = j.id; body = arc_value j.body; inputs = j.inputs; states = j.states } };
+
+    ghost invariant = { λ j. IsComputable (record { id = j.id; body = arc_value j.body; inputs = j.inputs; states = j.states }) };
+}
+
+/// A job with its result, which is the value of the job's computation. Contracts see it as the job.
+#[derive(Drop)]
+pub struct Done {
+    job: Job,
+    outputs: Values,
+    states: Values,
+}
+
+impl Model for Done {
+    ghost use Rattle.std.specs.Prelude.{◌≡◌};
+    ghost use Rattle.giotto_tasks.specs.Meaning.{outputs_of, states_of};
+    ghost use Rattle.tenant_state.specs.Jobs.{JobValue};
+    ghost use Rattle.std.specs.Coded.{codes};
+    ghost use Rattle.giotto_tasks.specs.Codes.{body_code};
+
+    ghost Value = { JobValue };
+
+    ghost coded = { Prim.hlevel (codes, body_code) };
+
+    ghost view = { λ d. d.job };
+
+    ghost invariant = { λ d. (d.outputs ≡ outputs_of d.job.body d.job.inputs d.job.states) × (d.states ≡ states_of d.job.body d.job.inputs d.job.states) };
+}
+
+impl Job {
+    /// The job of this name. Its inputs and states are as many as its body has, and its body is sound: at most 16 inputs,
+    /// outputs and states each, all of different names, and a block that reads only these and assigns only outputs and states.
+    pub fn new(id: JobId, body: Arc<Body, Global>, inputs: Values, states: Values) -> Job
+        requires { IsComputable (record { id = id; body = arc_value body; inputs = inputs; states = states }) }
+        ensures { result ≡ record { id = id; body = arc_value body; inputs = inputs; states = states } }
+    {
+        Job {
+            id,
+            body,
+            inputs,
+            states,
+        }
+    }
+
+    /// The name of the job.
+    pub fn id(&self) -> &JobId
+        ensures { result.now ≡ self.now.id }
+    {
+        &self.id
+    }
+
+    /// What the job computes.
+    pub fn body(&self) -> &Body
+        ensures { result.now ≡ self.now.body }
+    {
+        &self.body
+    }
+
+    /// The values that the task's inputs had at the release.
+    pub fn inputs(&self) -> &Values
+        ensures { result.now ≡ self.now.inputs }
+    {
+        &self.inputs
+    }
+
+    /// The values that the task's states had at the release.
+    pub fn states(&self) -> &Values
+        ensures { result.now ≡ self.now.states }
+    {
+        &self.states
+    }
+}
+
+impl Done {
+    /// The job whose result it is.
+    pub fn job(&self) -> &Job
+        ensures { result.now ≡ self.now }
+    {
+        &self.job
+    }
+
+    /// The name of the job.
+    pub fn id(&self) -> &JobId
+        ensures { result.now ≡ self.now.id }
+    {
+        &self.job.id
+    }
+
+    /// The new values of the task's outputs.
+    pub fn outputs(&self) -> &Values
+        ensures { result.now ≡ outputs_of self.now.body self.now.inputs self.now.states }
+    {
+        &self.outputs
+    }
+
+    /// The new values of the task's states.
+    pub fn states(&self) -> &Values
+        ensures { result.now ≡ states_of self.now.body self.now.inputs self.now.states }
+    {
+        &self.states
+    }
+}
+
+/// Runs a job. Takes no memory, and waits for nobody.
+pub fn run_job(job: Job) -> Done
+    ensures { result ≡ job }
+{
+    let (outputs, states) = uncounted::<Brand>(&job, Blank::new(1));
+    Done {
+        job,
+        outputs,
+        states,
+    }
+}
+
+// The job's results, counted by a counter that nobody reads.
+fn uncounted<L: Ledger>(job: &Job, blank: Blank) -> (Values, Values)
+    requires name { blank.name ≡ L.name }
+    requires parts { blank.parts ≡ L.parts }
+    requires some { blank.parts ≡ 1 }
+    ensures outputs { result.0 ≡ outputs_of job.now.body job.now.inputs job.now.states }
+    ensures states { result.1 ≡ states_of job.now.body job.now.inputs job.now.states }
+{
+    let mut steps = Steps::<L>::new(blank);
+    eval(&job.body, &job.inputs, &job.states, &mut steps)
+}
+
+/// The jobs that an instant released, in the order of their release.
+#[derive(Drop)]
+pub struct Jobs {
+    jobs: VecDeque<Job>,
+}
+
+impl Model for Jobs {
+    ghost use Rattle.std.specs.Prelude.{◌-◌};
+    ghost use Rattle.std.specs.VecDeque.{deque_len, deque_capacity};
+    ghost use Rattle.tenant_state.specs.JobLists.{JobList};
+    ghost use Rattle.std.specs.Coded.{codes};
+    ghost use Rattle.giotto_tasks.specs.Codes.{body_code};
+
+    ghost Value = { JobList };
+
+    ghost coded = { Prim.hlevel (codes, body_code) };
+
+    ghost view = { λ j. record { jobs = j.jobs.items; room = deque_capacity j.jobs - deque_len j.jobs } };
+}
+
+impl Jobs {
+    /// No job, with room for this many.
+    pub fn with_room(alloc: Global, room: usize) -> Result<Jobs, AllocError>
+        ensures jobs { IfOk result (λ jobs. jobs.jobs ≡ []) }
+        ensures room { IfOk result (λ jobs. room ≤ jobs.room) }
+    {
+        let jobs = VecDeque::with_capacity(alloc, room)?;
+        Ok(Jobs { jobs })
+    }
+
+    /// Adds a job behind the others. Takes no memory.
+    pub fn put(&mut self, job: Job)
+        requires { 0 < self.old.room }
+        ensures jobs { self.new.jobs ≡ self.old.jobs ++ job ∷ [] }
+        ensures room { self.new.room ≡ self.old.room - 1 }
+    {
+        self.jobs.push_back_reserved(job);
+    }
+
+    /// Takes the first job, if there is one.
+    pub fn take(&mut self) -> Option<Job>
+        ensures jobs { self.old.jobs ≡ option_to_list result ++ self.new.jobs }
+        ensures variant { IsSome result ↔ (0 < length self.old.jobs) }
+        ensures room { self.new.room ≡ self.old.room + length (option_to_list result) }
+    {
+        self.jobs.pop_front()
+    }
+
+    /// How many jobs there are.
+    pub fn len(&self) -> usize
+        ensures { result ≡ length self.now.jobs }
+    {
+        self.jobs.len()
+    }
+
+    /// Whether there is no job.
+    pub fn is_empty(&self) -> bool
+        ensures { IsTrue result ↔ (length self.now.jobs ≡ 0) }
+    {
+        self.jobs.is_empty()
+    }
+}
+
+#[cfg(test)]
+mod tests;
