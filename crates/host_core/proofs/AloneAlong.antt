@@ -12,7 +12,7 @@ use Rattle.host_core.specs.declared.events.Event.TheVariants.{Own, Tick, Done}
 use Rattle.rig_config.specs.declared.TenantConfig.{TenantConfig}
 use Rattle.tenant_state.specs.declared.grants.Bind.{Bind}
 use Rattle.tenant_state.specs.declared.jobs.JobId.{JobId}
-use Rattle.rig_config.specs.Roster.{no_budgets, is_tenant, place_of, name_at}
+use Rattle.rig_config.specs.Roster.{is_tenant, place_of, name_at}
 use Rattle.tenant_state.specs.Jobs.{job_of, same_job, is_active}
 use Rattle.tenant_state.specs.Row.{ActiveTask, Row, empty_row}
 use Rattle.tenant_state.specs.FirstHalf.{due_tasks, first_half_of}
@@ -24,13 +24,10 @@ use Rattle.host_core.specs.Setting.{Setting}
 use Rattle.host_core.specs.Views.{unfinished_of, readings_of, row_of}
 use Rattle.tenant_state.specs.Instants.{after_instant}
 use Rattle.tenant_state.proofs.ActiveTasks.{kept_by_instant}
+use Rattle.host_core.proofs.NewHost.{no_tenant}
 use Rattle.host_core.proofs.Alone.{Agrees, all_due, all_zip, same_filter, same_filter_map, marks_after, known_after, own_event}
 use Rattle.host_core.proofs.Histories.{own_instant, releases, completed_is_early}
 use Rattle.tenant_state.proofs.JobNames.{both, either, or_true, and_true, not_true, same_job_is, all_map, own_jobs_active}
-
--- a tenant of no name
-abbrev no_tenant : TenantConfig
-no_tenant = record { name = []; key = []; budgets = no_budgets }
 
 module _ (setting : Setting) where
   -- a completion

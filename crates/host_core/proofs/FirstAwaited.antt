@@ -6,10 +6,10 @@ use Rattle.std.specs.List.{flat_map, enumerate_from}
 use Rattle.std.proofs.lemmas.List.{at_drop_more, at_drop_all, take_more, map-append, length-map, length-take-le, get_or-map}
 use Rattle.tenant_state.specs.declared.jobs.JobId.{JobId}
 use Rattle.rig_config.specs.declared.TenantConfig.{TenantConfig}
-use Rattle.rig_config.specs.Roster.{no_budgets}
 use Rattle.tenant_state.specs.Jobs.{job_of}
 use Rattle.tenant_state.specs.Row.{ActiveTask}
 use Rattle.tenant_state.specs.Standing.{Standing, awaited_tasks}
+use Rattle.host_core.proofs.NewHost.{no_tenant}
 
 abbrev pub outstanding_from : ℕ → List Standing → List JobId
 outstanding_from n tenants = flat_map (λ (place : ℕ × Standing). map (job_of place.0) (awaited_tasks place.1)) (enumerate_from n tenants)
@@ -56,9 +56,6 @@ none_found i xs s d r lt is here e = by (slice_get (awaited_tasks s) 0) refl (sy
     by (Some a) f g = absurd (cc)
 
 -- equal tenants, one for each tenant of a roster
-abbrev no_tenant : TenantConfig
-no_tenant = record { name = []; key = []; budgets = no_budgets }
-
 pub equal_more : (y : Standing) (xs : List TenantConfig) (i : ℕ) (items new : List Standing) (v : Standing) → i < length xs → items ≡ map (λ (t : TenantConfig). y) (take i xs)
     → new ≡ items ++ v ∷ [] → v ≡ y → new ≡ map (λ (t : TenantConfig). y) (take (i + 1) xs)
 equal_more y xs i items new v lt before more is =

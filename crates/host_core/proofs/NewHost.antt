@@ -10,7 +10,8 @@ use Rattle.tenant_state.specs.Row.{ActiveTask, Row, empty_row}
 use Rattle.tenant_state.specs.Jobs.{job_of}
 use Rattle.tenant_state.specs.Standing.{Standing, StandsFor, empty_standing}
 
-abbrev no_tenant : TenantConfig
+-- a tenant of no name
+abbrev pub no_tenant : TenantConfig
 no_tenant = record { name = []; key = []; budgets = no_budgets }
 
 module _ (setting : Setting) where

@@ -1,5 +1,5 @@
 -- A script begins with a new host.
-use Rattle.std.proofs.Common.{◌≡◌, ℕ, List, [], Option, Some, None, refl, sym, ap, ◌∙◌, subst, inr}
+use Rattle.std.proofs.Common.{◌≡◌, ℕ, List, [], ◌∷◌, ◌++◌, All, Option, Some, None, refl, sym, ap, ◌∙◌, subst, inr}
 use Rattle.std.specs.Prelude.{Result, Ok, Err, IfSome, IfErr, OnOk}
 use Rattle.host_core.specs.Host.{host_after}
 use Rattle.host_core.specs.HostStanding.{HostStanding, Stands, new_host}
@@ -8,11 +8,33 @@ use Rattle.tenant_state.specs.Commands.{IsTrueReader}
 use Rattle.host_core.specs.declared.events.Event.{Event}
 use Rattle.rig_config.specs.declared.Config.{Config}
 use Rattle.host_core.proofs.NewHost.{new_stands}
-use Rattle.rig_host.specs.Answered.{IsBrokenOff}
+use Rattle.rig_host.specs.Answered.{IsBrokenOff, IsText}
 use Rattle.rig_host.specs.HostAnswers.{IsHostAfter}
 use Rattle.rig_host.specs.Lines.{cut}
+use Rattle.rig_host.specs.Reading.{IsLeft}
+use Rattle.rig_host.specs.declared.lines.Lines.{Lines}
 use Rattle.rig_host.specs.Script.{reply_to_line, past_behind, script_from, script_text_of, IsScriptBrokenOff}
 use Rattle.rig_host.specs.declared.faults.ScriptFault.{ScriptFault}
+
+-- what a reader has is left of new lines
+pub all_left : (lines : Lines) (known : Option (List ℕ)) → ((bytes : List ℕ) → IsLeft lines (Some bytes) bytes) → IfSome known (IsLeft lines known)
+all_left lines None left = tt
+all_left lines (Some bytes) left = left bytes
+
+nothing_left : (lines : Lines) (known : Option (List ℕ)) → IsLeft lines known [] → known ≡ Some []
+nothing_left lines None left = absurd left
+nothing_left lines (Some more) left = ap (λ xs. Some xs) (empty_behind lines.buffer.items more left.2)
+  where
+    empty_behind : (xs more : List ℕ) → [] ≡ xs ++ more → more ≡ []
+    empty_behind [] more e = sym e
+    empty_behind (x ∷ xs) more e = cc
+
+pub none_left : {T E : Type 0} (r : Result T E) (new later : Lines) (known after : Option (List ℕ)) → ((bytes : List ℕ) → IsLeft new (Some bytes) bytes)
+    → OnOk r ((bytes : List ℕ) → IsLeft new known bytes → All IsText (cut bytes) → IsLeft later after [])
+    → OnOk r (IfSome known (λ bytes. All IsText (cut bytes) → after ≡ Some []))
+none_left (Err e) new later known after left h = tt
+none_left (Ok x) new later None after left h = tt
+none_left (Ok x) new later (Some bytes) after left h = λ all. nothing_left later after (h bytes (left bytes) all)
 
 module _ (host : HostStanding) (config : Config) (is : host ≡ new_host config 0) where
   starts : (setting : Setting) → setting.config ≡ config → setting.first_tick ≡ 0 → IsTrueReader setting.reader → IsHostAfter setting host []

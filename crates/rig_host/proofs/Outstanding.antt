@@ -15,6 +15,7 @@ use Rattle.host_core.specs.Views.{row_of}
 use Rattle.tenant_state.specs.Jobs.{job_of, is_active}
 use Rattle.tenant_state.specs.Row.{ActiveTask, Row}
 use Rattle.tenant_state.specs.Standing.{Standing, StandsFor, awaited_tasks, empty_standing}
+use Rattle.host_core.proofs.NewHost.{no_tenant}
 use Rattle.host_core.proofs.AloneAlong.{same_rows, same_awaits}
 use Rattle.tenant_state.proofs.JobNames.{own_jobs_active}
 use Rattle.rig_host.specs.Script.{outstanding_of, all_outstanding}
@@ -67,9 +68,6 @@ module _ (setting : Setting) where
 
   abbrev pub all_jobs : HostState → List JobId
   all_jobs state = flat_map (λ (place : ℕ × TenantConfig). jobs_at state place.0) (enumerate_from 0 setting.config.tenants)
-
-  no_tenant : TenantConfig
-  no_tenant = record { name = []; key = []; budgets = record { reads = []; writes = []; bytes = 0; ports = 0; tasks = 0; modes = 0; steps = 0; trace = 0; offers = 0; binds = 0 } }
 
   awaited_at : (s : Standing) (t : ℕ) (row : Row) (c : JobId → Bool) → StandsFor s row (λ a. c (job_of t a)) → map (job_of t) (awaited_tasks s) ≡ filter (λ j. not (c j)) (map (job_of t) row.active)
   awaited_at s t row c h =

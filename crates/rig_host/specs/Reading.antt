@@ -20,9 +20,9 @@ abbrev pub IsReading : List ℕ → LinesCodec → List ℕ → Option (List ℕ
 IsReading bytes codec now rest at_end = IsSomeAnd rest (λ more.
     (at_end ≡ true → more ≡ []) × ((next : Found) → gives_lines codec (now ++ more) next → gives_lines (at_line_start 16384) bytes next))
 
--- these bytes are left of the stream, and a line begins with them
-abbrev pub IsLeft : {R : Type 0} → (R → Option (List ℕ)) → Lines R → List ℕ → Type 0
-IsLeft remaining lines bytes = IsSomeAnd (remaining lines.reader) (λ more.
+-- these bytes are left of the stream, and a line begins with them; `remaining` is what the reader still has, if that is known
+abbrev pub IsLeft : Lines → Option (List ℕ) → List ℕ → Type 0
+IsLeft lines remaining bytes = IsSomeAnd remaining (λ more.
     (lines.at_end ≡ true → more ≡ []) × (lines.codec ≡ at_line_start 16384) × (bytes ≡ lines.buffer.items ++ more))
 
 -- What the next line of these bytes is, where `Left` holds of the bytes that are left behind it. A fault says nothing.

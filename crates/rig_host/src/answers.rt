@@ -36,23 +36,24 @@ pub trait Answers {
 /// # Errors
 /// `Read`, `Write` and `Turns` as `Lines::next_line`. `Memory` where there is want of memory for a
 /// reply: `err memory` behind the line's first word is written in its place.
-pub fn answer_lines<R: Read + Drop, W: Write, A: Answers>(
+pub fn answer_lines<R: Read, W: Write, A: Answers>(
     alloc: Global,
-    lines: &mut Lines<R>,
+    lines: &mut Lines,
+    reader: &mut R,
     writer: &mut W,
     answers: &mut A,
 ) -> Result<(), ScriptFault>
-    ensures written { OnOk result ((setting : Setting) (past : List Event) (bytes : List ℕ) → A.stands answers.old setting past → IsLeft R.remaining lines.old bytes
+    ensures written { OnOk result ((setting : Setting) (past : List Event) (bytes : List ℕ) → A.stands answers.old setting past → IsLeft lines.old (R.remaining reader.old) bytes
         → Appends (W.contents writer.old) (W.contents writer.new) (script_from setting past (cut bytes))) }
-    ensures state { OnOk result ((setting : Setting) (past : List Event) (bytes : List ℕ) → A.stands answers.old setting past → IsLeft R.remaining lines.old bytes
+    ensures state { OnOk result ((setting : Setting) (past : List Event) (bytes : List ℕ) → A.stands answers.old setting past → IsLeft lines.old (R.remaining reader.old) bytes
         → A.stands answers.new setting (state_after (reply_to_line setting) (past_behind setting) past (cut bytes))) }
-    ensures end { OnOk result ((bytes : List ℕ) → IsLeft R.remaining lines.old bytes
-        → All IsText (cut bytes) → IsLeft R.remaining lines.new []) }
-    ensures fault { IfErr result (λ fault. (setting : Setting) (past : List Event) (bytes : List ℕ) → A.stands answers.old setting past → IsLeft R.remaining lines.old bytes
+    ensures end { OnOk result ((bytes : List ℕ) → IsLeft lines.old (R.remaining reader.old) bytes
+        → All IsText (cut bytes) → IsLeft lines.new (R.remaining reader.new) []) }
+    ensures fault { IfErr result (λ fault. (setting : Setting) (past : List Event) (bytes : List ℕ) → A.stands answers.old setting past → IsLeft lines.old (R.remaining reader.old) bytes
         → IsBrokenOff (reply_to_line setting) (past_behind setting) past (cut bytes) (Appends (W.contents writer.old) (W.contents writer.new)) fault) }
 {
     for _line in 0..u64::MAX {
-        match lines.next_line(writer)? {
+        match lines.next_line(reader, writer)? {
             Line::Whole(line) => answer_line(alloc, writer, answers, line.as_str())?,
             Line::Bad => return say_bye(writer),
             Line::End => return flush(writer),

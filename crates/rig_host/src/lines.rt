@@ -1,6 +1,6 @@
 //! Lines of a reader: at most 16,384 bytes before each LF, one CR at the end taken off, and UTF-8.
 
-ghost use Rattle.std.specs.Prelude.{◌≡◌, ◌≢◌, ℕ, true, false, List, IfSome, IfErr, OnOk};
+ghost use Rattle.std.specs.Prelude.{◌≡◌, ◌≢◌, ℕ, true, false, List, Option, Some, IfErr, OnOk};
 ghost use Rattle.std.specs.Io.KnownBytes.{Keeps};
 ghost use Rattle.tokio_util.specs.Codec.Lines.{IsOutOfMemory};
 ghost use Rattle.rig_host.specs.Reading.{IsReading, IsLeft, IsNextLine};
@@ -29,25 +29,23 @@ pub enum Line {
     End,
 }
 
-/// The lines of a reader.
+/// The lines of a reader, which is lent to each call.
 #[derive(Drop)]
-pub struct Lines<R: Read + Drop> {
+pub struct Lines {
     alloc: Global,
-    reader: R,
     codec: LinesCodec,
     buffer: BytesMut,
     reads: u32,
     at_end: bool,
 }
 
-impl<R: Read + Drop> Lines<R> {
+impl Lines {
     /// The lines of a reader from which nothing was read yet.
-    pub fn new(alloc: Global, reader: R) -> Lines<R>
-        ensures { IfSome (R.remaining reader) (IsLeft R.remaining result) }
+    pub fn new(alloc: Global) -> Lines
+        ensures { (bytes : List ℕ) → IsLeft result (Some bytes) bytes }
     {
         Lines {
             alloc,
-            reader,
             codec: LinesCodec::new_with_max_length(MAX_LINE),
             buffer: BytesMut::new(alloc),
             reads: 0,
@@ -61,8 +59,12 @@ impl<R: Read + Drop> Lines<R> {
     /// # Errors
     /// `Read` where a read failed or a line found no memory, `Write` where a flush failed, and
     /// `Turns` where 1,048,576 reads went by and none of them found the end.
-    pub fn next_line<W: Write>(&mut self, writer: &mut W) -> Result<Line, ScriptFault>
-        ensures line { (bytes : List ℕ) → IsLeft R.remaining self.old bytes → IsNextLine bytes result (IsLeft R.remaining self.new) }
+    pub fn next_line<R: Read, W: Write>(
+        &mut self,
+        reader: &mut R,
+        writer: &mut W,
+    ) -> Result<Line, ScriptFault>
+        ensures line { (bytes : List ℕ) → IsLeft self.old (R.remaining reader.old) bytes → IsNextLine bytes result (IsLeft self.new (R.remaining reader.new)) }
         ensures faults { IfErr result (λ fault. fault ≢ ScriptFault.Memory) }
         ensures written { Keeps (W.contents writer.old) (W.contents writer.new) }
     {
@@ -78,7 +80,7 @@ impl<R: Read + Drop> Lines<R> {
             let Ok(()) = writer.flush() else {
                 return Err(ScriptFault::Write);
             };
-            self.fill()?;
+            self.fill(reader)?;
         }
         Err(ScriptFault::Turns)
     }
@@ -86,7 +88,7 @@ impl<R: Read + Drop> Lines<R> {
     // The next line where the reader has ended.
     fn last_line(&mut self) -> Result<Line, ScriptFault>
         requires { self.old.at_end ≡ true }
-        ensures line { (bytes : List ℕ) → IsReading bytes self.old.codec self.old.buffer.items (R.remaining self.old.reader) self.old.at_end → IsNextLine bytes result (IsLeft R.remaining self.new) }
+        ensures line { (remaining : Option (List ℕ)) (bytes : List ℕ) → IsReading bytes self.old.codec self.old.buffer.items remaining self.old.at_end → IsNextLine bytes result (IsLeft self.new remaining) }
         ensures faults { IfErr result (λ fault. fault ≢ ScriptFault.Memory) }
     {
         match self.codec.decode_eof(&mut self.buffer) {
@@ -104,10 +106,10 @@ impl<R: Read + Drop> Lines<R> {
     }
 
     // Reads what there is, up to a page.
-    fn fill(&mut self) -> Result<(), ScriptFault>
+    fn fill<R: Read>(&mut self, reader: &mut R) -> Result<(), ScriptFault>
         requires { self.old.at_end ≡ false }
-        ensures filled { OnOk result ((bytes : List ℕ) → IsReading bytes self.old.codec self.old.buffer.items (R.remaining self.old.reader) false
-            → IsReading bytes self.new.codec self.new.buffer.items (R.remaining self.new.reader) self.new.at_end) }
+        ensures filled { OnOk result ((bytes : List ℕ) → IsReading bytes self.old.codec self.old.buffer.items (R.remaining reader.old) false
+            → IsReading bytes self.new.codec self.new.buffer.items (R.remaining reader.new) self.new.at_end) }
         ensures faults { IfErr result (λ fault. fault ≢ ScriptFault.Memory) }
     {
         if self.reads >= MAX_READS {
@@ -115,7 +117,7 @@ impl<R: Read + Drop> Lines<R> {
         }
         self.reads += 1;
         let mut page = [0u8; 4096];
-        match self.reader.read(&mut page) {
+        match reader.read(&mut page) {
             Err(_) => Err(ScriptFault::Read),
             Ok(0) => {
                 self.at_end = true;

@@ -45,7 +45,7 @@ fn main(rt: HostRuntime) -> anyhow::Result<ExitCode> {
     let Ok(mut writer) = BufWriter::new(rt.alloc(), io::writer(&rt)) else {
         return end_by(&rt, ScriptFault::Memory);
     };
-    match script::script(rt.alloc(), rt.reader(), &mut writer, &config) {
+    match script::script(rt.alloc(), &mut rt.reader(), &mut writer, &config) {
         Ok(()) => Ok(ExitCode::SUCCESS),
         Err(fault) => end_by(&rt, fault),
     }

@@ -1,6 +1,6 @@
 //! A script: each line is answered before the next one is read.
 
-ghost use Rattle.std.specs.Prelude.{◌≡◌, ◌↔◌, ◌∷◌, ◌<◌, List, codes, length, IsTrue, IfOk, IfErr, IfSome, OnOk, string_bytes};
+ghost use Rattle.std.specs.Prelude.{◌≡◌, ◌↔◌, [], ◌∷◌, ◌<◌, List, Some, codes, length, All, IsTrue, IfOk, IfErr, IfSome, OnOk, string_bytes};
 ghost use Rattle.std.specs.Io.KnownBytes.{Appends};
 ghost use Rattle.host_core.specs.Setting.{Setting};
 ghost use Rattle.tenant_state.specs.Commands.{IsTrueReader};
@@ -8,7 +8,8 @@ ghost use Rattle.host_core.specs.declared.events.Event.{Event};
 ghost use Rattle.tenant_state.specs.declared.replies.Refusal.TheVariants as refusals;
 ghost use Rattle.tenant_state.specs.declared.replies.Reply.TheVariants as code;
 ghost use Rattle.tenant_state.specs.Words.{words_of};
-ghost use Rattle.rig_host.specs.Answered.{reply_line};
+ghost use Rattle.rig_host.specs.Answered.{reply_line, IsText};
+ghost use Rattle.rig_host.specs.Lines.{cut};
 ghost use Rattle.rig_host.specs.HostAnswers.{IsHostAfter};
 ghost use Rattle.rig_host.specs.Script.{IsStep, tenant_step, operator_step, work_step, all_outstanding, script_text_of, IsScriptBrokenOff};
 
@@ -42,25 +43,27 @@ impl Answers for Host {
 
 /// Answers the lines of a reader, in their order, until the input or the script ends: a tenant's by
 /// its command, and the operator's by `tick` and `work`. The host is new, and its first tick is 0.
+/// Nothing is left unread where each line is text of at most 16,384 bytes; another line ends the script.
 ///
 /// # Errors
 /// `Read`, `Write`, `Turns` and `Memory` as `answer_lines`; `Memory` also where there is want of memory for the host.
-pub fn script<R: Read + Drop, W: Write>(
+pub fn script<R: Read, W: Write>(
     alloc: Global,
-    reader: R,
+    reader: &mut R,
     writer: &mut W,
     config: &Config,
 ) -> Result<(), ScriptFault>
     ensures written { OnOk result ((setting : Setting) → setting.config ≡ config.now → setting.first_tick ≡ 0 → IsTrueReader setting.reader
-        → IfSome (R.remaining reader) (λ bytes. Appends (W.contents writer.old) (W.contents writer.new) (script_text_of setting bytes))) }
+        → IfSome (R.remaining reader.old) (λ bytes. Appends (W.contents writer.old) (W.contents writer.new) (script_text_of setting bytes))) }
+    ensures end { OnOk result (IfSome (R.remaining reader.old) (λ bytes. All IsText (cut bytes) → R.remaining reader.new ≡ Some [])) }
     ensures fault { IfErr result (λ fault. (setting : Setting) → setting.config ≡ config.now → setting.first_tick ≡ 0 → IsTrueReader setting.reader
-        → IfSome (R.remaining reader) (λ bytes. IsScriptBrokenOff setting bytes (Appends (W.contents writer.old) (W.contents writer.new)) fault)) }
+        → IfSome (R.remaining reader.old) (λ bytes. IsScriptBrokenOff setting bytes (Appends (W.contents writer.old) (W.contents writer.new)) fault)) }
 {
     let Ok(mut host) = Host::new(alloc, config, 0) else {
         return Err(ScriptFault::Memory);
     };
-    let mut lines = Lines::new(alloc, reader);
-    answer_lines(alloc, &mut lines, writer, &mut host)
+    let mut lines = Lines::new(alloc);
+    answer_lines(alloc, &mut lines, reader, writer, &mut host)
 }
 
 // The step of a tenant's line, which stands behind its name.

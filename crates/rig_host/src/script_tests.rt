@@ -44,7 +44,12 @@ fn scripts_are_answered(rt: HostRuntime) -> Result<(), Fail> {
     let config = built_in(rt.alloc())?;
     for run in RUNS.iter() {
         let mut written = Vec::new(rt.alloc());
-        let ends = script(rt.alloc(), run.script.as_bytes(), &mut written, &config);
+        let ends = script(
+            rt.alloc(),
+            &mut run.script.as_bytes(),
+            &mut written,
+            &config,
+        );
         assert_eq!(rt; ends, Ok(()), "at {}", run.shows);
         assert_eq!(rt;
             written.as_slice(),

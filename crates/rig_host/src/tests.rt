@@ -122,8 +122,9 @@ fn echoed<R: Read + Drop>(
     reader: R,
     written: &mut Vec<u8>,
 ) -> Result<(), ScriptFault> {
-    let mut lines = Lines::new(alloc, reader);
-    answer_lines(alloc, &mut lines, written, &mut Echo)
+    let mut reader = reader;
+    let mut lines = Lines::new(alloc);
+    answer_lines(alloc, &mut lines, &mut reader, written, &mut Echo)
 }
 
 #[test]
@@ -195,20 +196,23 @@ fn a_bad_line_ends_the_script(rt: HostRuntime) -> Result<(), Fail> {
 #[test]
 fn replies_are_flushed_before_each_read(rt: HostRuntime) {
     let mut writer = Flushes { count: 0 };
-    let mut lines = Lines::new(rt.alloc(), byte_by_byte(b"a\nb\n"));
+    let mut reader = byte_by_byte(b"a\nb\n");
+    let mut lines = Lines::new(rt.alloc());
     for want in [2, 4, 5] {
-        assert!(rt; lines.next_line(&mut writer).is_ok());
+        assert!(rt; lines.next_line(&mut reader, &mut writer).is_ok());
         assert_eq!(rt; writer.count, want);
     }
     let mut writer = Flushes { count: 0 };
-    let mut lines = Lines::new(rt.alloc(), b"a\nb\n".as_slice());
+    let mut reader = b"a\nb\n".as_slice();
+    let mut lines = Lines::new(rt.alloc());
     for want in [1, 1, 2] {
-        assert!(rt; lines.next_line(&mut writer).is_ok());
+        assert!(rt; lines.next_line(&mut reader, &mut writer).is_ok());
         assert_eq!(rt; writer.count, want);
     }
     let mut writer = Flushes { count: 0 };
-    let mut lines = Lines::new(rt.alloc(), b"a".as_slice());
-    let ends = answer_lines(rt.alloc(), &mut lines, &mut writer, &mut Echo);
+    let mut reader = b"a".as_slice();
+    let mut lines = Lines::new(rt.alloc());
+    let ends = answer_lines(rt.alloc(), &mut lines, &mut reader, &mut writer, &mut Echo);
     assert_eq!(rt; ends, Ok(()));
     assert_eq!(rt; writer.count, 3);
 }
@@ -222,13 +226,21 @@ fn faults_end_the_script(rt: HostRuntime) {
     assert_eq!(rt; ends, Err(ScriptFault::Read));
     assert_eq!(rt; written.as_slice(), b"a\n".as_slice());
 
-    let mut lines = Lines::new(rt.alloc(), b"a\n".as_slice());
-    let ends = answer_lines(rt.alloc(), &mut lines, &mut Full, &mut Echo);
+    let mut reader = b"a\n".as_slice();
+    let mut lines = Lines::new(rt.alloc());
+    let ends = answer_lines(rt.alloc(), &mut lines, &mut reader, &mut Full, &mut Echo);
     assert_eq!(rt; ends, Err(ScriptFault::Write));
 
     let mut written = Vec::new(rt.alloc());
-    let mut lines = Lines::new(rt.alloc(), b"\talpha start\nbeta start\n".as_slice());
-    let ends = answer_lines(rt.alloc(), &mut lines, &mut written, &mut NoMemory);
+    let mut reader = b"\talpha start\nbeta start\n".as_slice();
+    let mut lines = Lines::new(rt.alloc());
+    let ends = answer_lines(
+        rt.alloc(),
+        &mut lines,
+        &mut reader,
+        &mut written,
+        &mut NoMemory,
+    );
     assert_eq!(rt; ends, Err(ScriptFault::Memory));
     assert_eq!(rt; written.as_slice(), b"alpha err memory\n".as_slice());
 

@@ -23,6 +23,7 @@ use Rattle.tenant_state.specs.declared.tenants.Reason.TheVariants.{Overrun}
 use Rattle.tenant_state.specs.Row.{running, stopped, overrun, ActiveTask, Row, is_running_state, where_some, in_mode, recorded}
 use Rattle.tenant_state.specs.Standing.{StandsFor, uncompleted}
 use Rattle.tenant_state.specs.Tenants.{active_of, is_completed, is_another, all_different_releases, standing_of}
+use Rattle.tenant_state.proofs.ActiveTasks.{all_filter}
 use Rattle.tenant_state.proofs.DueTasks.{names_of_tasks, group, unfinished_of, among_both, one_of, same_answers, group_not_due, first_name, no_names, group_has_only, group_has_all, open_names, open_both, Marked, marked, marks, group_open, none_open, found_open}
 
 -- the due tasks of these invocations
@@ -226,14 +227,6 @@ different_filter test (x ∷ xs) h =
     at_head : (b : Bool) → list_all (is_another x) (filter test xs) ≡ true → all_different_releases (filter test xs) ≡ true → all_different_releases (cond b (x ∷ filter test xs) (filter test xs)) ≡ true
     at_head true e others = and_from _ _ e others
     at_head false e others = others
-
-pub all_filter : {X : Type 0} (P : X → Type 0) (test : X → Bool) (xs : List X) → AllByRecursion P xs → AllByRecursion P (filter test xs)
-all_filter P test [] all = all
-all_filter P test (x ∷ xs) all = kept (test x) all.0 (all_filter P test xs all.1)
-  where
-    kept : (b : Bool) → P x → AllByRecursion P (filter test xs) → AllByRecursion P (cond b (x ∷ filter test xs) (filter test xs))
-    kept true h rest = (h, rest)
-    kept false h rest = rest
 
 pub fewer_filter : (test : Active → Bool) (xs : List Active) → length (map active_of (filter test xs)) ≤ length (map active_of xs)
 fewer_filter test [] = omega arith

@@ -14,6 +14,7 @@ use Rattle.giotto_read.specs.Reading.{IsOfFewPorts}
 use Rattle.giotto_check.specs.Checked.{IsChecked}
 use Rattle.giotto_check.specs.Declarations.{sensor_names, actuator_names, output_names, task_names, mode_names, task_of}
 use Rattle.giotto_check.specs.Rules.{are_among, share_none}
+use Rattle.tenant_state.proofs.ProgramFacts.{found_passes}
 use Rattle.tenant_state.proofs.JobNames.{either, not_true, or_true}
 use Rattle.giotto_check.proofs.RulesKept.{rules_kept}
 
@@ -25,14 +26,6 @@ found_all P look (y ∷ ys) x all e = at_head (look y) (found_all P look ys x al
     at_head : (b : Bool) → (find look ys ≡ Some x → P x) → cond b (Some y) (find look ys) ≡ Some x → P x
     at_head true further e = let same : y ≡ x = cc in subst P same all.0
     at_head false further e = further e
-
-found_passes : {X : Type 0} (test look : X → Bool) (xs : List X) (x : X) → list_all test xs ≡ true → find look xs ≡ Some x → test x ≡ true
-found_passes test look [] x h e = absurd (cc)
-found_passes test look (y ∷ ys) x h e = let both = and_parts (test y) (list_all test ys) h in at_head (look y) both.0 (found_passes test look ys x both.1) e
-  where
-    at_head : (b : Bool) → test y ≡ true → (find look ys ≡ Some x → test x ≡ true) → cond b (Some y) (find look ys) ≡ Some x → test x ≡ true
-    at_head true passes further e = let same : y ≡ x = cc in subst (λ z. test z ≡ true) same passes
-    at_head false passes further e = further e
 
 -- a name among names that all pass a test passes it
 among_passes : (test : Name → Bool) (ns : List Name) (x : Name) → list_all test ns ≡ true → is_among ns x ≡ true → test x ≡ true

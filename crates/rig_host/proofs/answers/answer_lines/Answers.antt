@@ -9,7 +9,7 @@ use Rattle.rig_host.proofs.answers.answer_lines.Goals as goal
 pub returns-in-Bad-clause-end : goal.returns-in-Bad-clause-end
 returns-in-Bad-clause-end g c =
     let remaining = g.R.Read.remaining in
-    on_ok c.say_bye.result ((bytes : List ℕ) → IsLeft remaining c.args.lines.now bytes → All IsText (cut bytes) → IsLeft remaining c.next_line.new.self []) (λ bytes left.
+    on_ok c.say_bye.result ((bytes : List ℕ) → IsLeft c.args.lines.now (remaining c.args.reader.now) bytes → All IsText (cut bytes) → IsLeft c.next_line.new.self (remaining c.next_line.new.reader) []) (λ bytes left.
     let so_far = c.loop-line.invariant.reading bytes left in
     let next = rw c.in-Bad.is at (c.in_ok-line.ensures.line so_far.0 so_far.1) in
     λ all. absurd (bad_is_no_text (cut bytes) (cut so_far.0) so_far.2 next.0 next.1 next.2 next.3 all))

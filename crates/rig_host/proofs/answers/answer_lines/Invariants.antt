@@ -14,8 +14,8 @@ invariant-loop-line g l =
     let contents = g.W.Write.contents in
     let stands = g.A.Answers.stands in
     record {
-      reading : (bytes : List ℕ) → IsLeft left l.initial.lines bytes → (rest : List ℕ) × IsLeft left l.lines rest × (All IsText (cut bytes) → All IsText (cut rest));
-      answering : (setting : Setting) (past : List Event) (bytes : List ℕ) → stands l.initial.answers setting past → IsLeft left l.initial.lines bytes
-          → (rest : List ℕ) × IsLeft left l.lines rest
+      reading : (bytes : List ℕ) → IsLeft l.initial.lines (left l.initial.reader) bytes → (rest : List ℕ) × IsLeft l.lines (left l.reader) rest × (All IsText (cut bytes) → All IsText (cut rest));
+      answering : (setting : Setting) (past : List Event) (bytes : List ℕ) → stands l.initial.answers setting past → IsLeft l.initial.lines (left l.initial.reader) bytes
+          → (rest : List ℕ) × IsLeft l.lines (left l.reader) rest
           × (now : List Event) × stands l.answers setting now × HasCome (reply_to_line setting) (past_behind setting) past (cut bytes) (contents l.initial.writer) now (cut rest) (contents l.writer);
     }

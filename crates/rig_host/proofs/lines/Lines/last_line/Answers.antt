@@ -5,26 +5,25 @@ use Rattle.rig_host.proofs.NextLine.{IsLeftIn, last_next, end_next, cr_next, unr
 use Rattle.rig_host.proofs.lines.Lines.last_line.Goals as goal
 
 pub returns-then-is_empty-clause-line : goal.returns-then-is_empty-clause-line
-returns-then-is_empty-clause-line g c = λ bytes reading.
+returns-then-is_empty-clause-line c = λ remaining bytes reading.
     let s = c.args.self.now in
     let empty : length c.decode_eof.new.src.items ≡ 0 = grind (arith, nat_tests, c.is_empty.ensures, c.if-is_empty.true) in
-    end_next bytes s.codec s.buffer.items (g.R.Read.remaining s.reader) s.at_end c.decode_eof.new.self c.decode_eof.new.src.items c.requires reading
+    end_next bytes s.codec s.buffer.items remaining s.at_end c.decode_eof.new.self c.decode_eof.new.src.items c.requires reading
     (rw c.in-Ok-None.field-0-is at c.in-Ok-None.ensures) (nil_from_length _ empty)
 
 pub returns-in-Ok-Some-clause-line : goal.returns-in-Ok-Some-clause-line
-returns-in-Ok-Some-clause-line g c = λ bytes reading.
+returns-in-Ok-Some-clause-line c = λ remaining bytes reading.
     let s = c.args.self.now in
-    last_next bytes s.codec s.buffer.items (g.R.Read.remaining s.reader) s.at_end c.in-Ok-Some.text c.decode_eof.new.self c.decode_eof.new.src.items c.requires reading
+    last_next bytes s.codec s.buffer.items remaining s.at_end c.in-Ok-Some.text c.decode_eof.new.self c.decode_eof.new.src.items c.requires reading
     (rw c.in-Ok-Some.field-0-is at c.in-Ok-Some.ensures)
 
 pub returns-else-is_empty-clause-line : goal.returns-else-is_empty-clause-line
-returns-else-is_empty-clause-line g c = λ bytes reading.
+returns-else-is_empty-clause-line c = λ remaining bytes reading.
     let s = c.args.self.now in
-    cr_next bytes s.codec s.buffer.items (g.R.Read.remaining s.reader) s.at_end c.decode_eof.new.self c.decode_eof.new.src.items c.clear.new.self.items c.new.result c.requires reading
+    cr_next bytes s.codec s.buffer.items remaining s.at_end c.decode_eof.new.self c.decode_eof.new.src.items c.clear.new.self.items c.new.result c.requires reading
     (rw c.in-Ok-None.field-0-is at c.in-Ok-None.ensures) (λ none. let empty : length c.decode_eof.new.src.items ≡ 0 = ap length none in grind (arith, nat_tests, empty, c.is_empty.ensures, c.if-is_empty.false)) c.clear.ensures.items c.new.ensures.bytes
 
 pub returns-in-Err-clause-line : goal.returns-in-Err-clause-line
-returns-in-Err-clause-line g c = λ bytes reading.
+returns-in-Err-clause-line c = λ remaining bytes reading.
     let s = c.args.self.now in
-    let rest = g.R.Read.remaining s.reader in
-    unread_last bytes s.codec s.buffer.items rest s.at_end c.in-Err.error c.decode_eof.new.self c.decode_eof.new.src.items c.unread.result (IsLeftIn c.decode_eof.new.self c.decode_eof.new.src.items rest s.at_end) c.requires reading c.in-Err.ensures (c.unread.ensures.memory, c.unread.ensures.other)
+    unread_last bytes s.codec s.buffer.items remaining s.at_end c.in-Err.error c.decode_eof.new.self c.decode_eof.new.src.items c.unread.result (IsLeftIn c.decode_eof.new.self c.decode_eof.new.src.items remaining s.at_end) c.requires reading c.in-Err.ensures (c.unread.ensures.memory, c.unread.ensures.other)

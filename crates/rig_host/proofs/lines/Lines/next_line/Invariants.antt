@@ -7,6 +7,6 @@ abbrev pub invariant-loop-read : goal.invariant-loop-read
 invariant-loop-read g l =
     let left = g.R.Read.remaining in
     record {
-      reading : (bytes : List ℕ) → IsLeft left l.initial.self bytes → IsReading bytes l.self.codec l.self.buffer.items (left l.self.reader) l.self.at_end;
+      reading : (bytes : List ℕ) → IsLeft l.initial.self (left l.initial.reader) bytes → IsReading bytes l.self.codec l.self.buffer.items (left l.reader) l.self.at_end;
       written : Keeps (g.W.Write.contents l.initial.writer) (g.W.Write.contents l.writer);
     }

@@ -13,7 +13,8 @@ use Rattle.tenant_state.specs.PortTables.{all_ports}
 use Rattle.tenant_state.specs.Row.{ActiveTask}
 use Rattle.tenant_state.specs.Standing.{Standing, StandsFor, uncompleted}
 use Rattle.tenant_state.specs.Tenants.{active_of, standing_of, all_different_releases, IsActiveIn, IsActiveAsSome, IsTenantOf}
-use Rattle.tenant_state.proofs.FirstHalfOf.{is_open, ends, finished, halted, map_none, map_some, each_of, all_filter, different_filter, fewer_filter}
+use Rattle.tenant_state.proofs.ActiveTasks.{all_filter}
+use Rattle.tenant_state.proofs.FirstHalfOf.{is_open, ends, finished, halted, map_none, map_some, each_of, different_filter, fewer_filter}
 use Rattle.tenant_state.proofs.InstantSteps.{CanUpdate, ports_again, same_again}
 use Rattle.tenant_state.proofs.ProgramFacts.{UpdateFits, mode_fits}
 use Rattle.giotto_check.proofs.RulesKept.{rules_kept}
