@@ -6,6 +6,8 @@
 #![tactic(auto)]
 
 pub mod events;
+#[cfg(test)]
+mod examples;
 pub mod hosts;
 pub mod laws;
 pub mod plays;

@@ -36,12 +36,13 @@ impl Answers for NoMemory {
     }
 }
 
-// Gives one byte a read, and fails at the byte `cut`, once.
+// Gives one byte a read. Fails at the byte `cut`, once, and at each read behind the one that found the end.
 #[derive(Drop)]
 struct ByteByByte<'a> {
     text: &'a [u8],
     at: usize,
     cut: Option<usize>,
+    ended: bool,
 }
 
 impl<'a> Read for ByteByByte<'a> {
@@ -56,7 +57,11 @@ impl<'a> Read for ByteByByte<'a> {
                 self.at = self.at.saturating_add(1);
                 Ok(1)
             }
-            _ => Ok(0),
+            _ if self.ended => Err(io::Error::from(io::ErrorKind::BrokenPipe)),
+            _ => {
+                self.ended = true;
+                Ok(0)
+            }
         }
     }
 }
@@ -66,6 +71,7 @@ fn byte_by_byte(text: &[u8]) -> ByteByByte<'_> {
         text,
         at: 0,
         cut: None,
+        ended: false,
     }
 }
 

@@ -1,6 +1,7 @@
 //! Completions of another host, and the end of the clock.
 
 use super::{Counted, Host, TickFault};
+use crate::examples::ADDER;
 use rig_config::built_in;
 use std::alloc::Global;
 use std::test::Fail;
@@ -8,9 +9,6 @@ use tenant_state::commands::Command;
 use tenant_state::jobs::run_job;
 use tenant_state::replies::Reply;
 use tenant_state::texts::Text;
-
-const ADDER: &str =
-    "sensor s := 0 line 0; actuator a := 0; output o := 0; task T(i) output o { o := i + 1; } mode m period 2 { actfreq 1 do a := o; taskfreq 1 do T(s); } start m;";
 
 // A new host in which alpha runs the adder.
 fn adding(alloc: Global) -> Result<Host, Fail> {

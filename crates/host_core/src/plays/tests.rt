@@ -2,6 +2,7 @@
 
 use super::{PlayFault, play};
 use crate::events::Event;
+use crate::examples::ADDER;
 use giotto_tasks::lists::List;
 use giotto_tasks::names::Name;
 use rig_config::built_in;
@@ -10,9 +11,6 @@ use std::test::Fail;
 use tenant_state::commands::Command;
 use tenant_state::jobs::JobId;
 use tenant_state::texts::Text;
-
-const ADDER: &str =
-    "sensor s := 0 line 0; actuator a := 0; output o := 0; task T(i) output o { o := i + 1; } mode m period 2 { actfreq 1 do a := o; taskfreq 1 do T(s); } start m;";
 
 fn load(alloc: Global) -> Result<Event, AllocError> {
     let text = Text::from_string(String::from_str(alloc, ADDER)?);
