@@ -15,6 +15,9 @@ use std::marker::Brand;
 use std::sync::ledger::{Blank, Ledger};
 
 /// The output of `repeat TURNS { o := o + i; }` at the input 3: three steps for each turn.
+///
+/// # Errors
+/// Want of memory.
 pub fn evaluated(alloc: Global, turns: u64) -> Result<i64, AllocError> {
     let body = adding_body(alloc, turns)?;
     let mut inputs = Values::new();

@@ -120,6 +120,9 @@ impl Config {
 }
 
 /// The configuration without a file: one line, and the tenants alpha, which may drive the line, and beta.
+///
+/// # Errors
+/// Want of memory.
 pub fn built_in(alloc: Global) -> Result<Config, AllocError>
     ensures { IfOk result (λ config. config ≡ built_in_config) }
 {

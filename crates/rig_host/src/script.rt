@@ -152,6 +152,9 @@ fn complete_all(alloc: Global, host: &mut Host) -> Result<String, AllocError>
 }
 
 /// A reply as it is written: who is answered, a space, the reply, and LF.
+///
+/// # Errors
+/// Want of memory.
 pub fn reply_line(alloc: Global, who: &str, reply: &str) -> Result<String, AllocError>
     ensures { IfOk result (λ line. string_bytes line ≡ reply_line who.now reply.now) }
 {

@@ -23,6 +23,9 @@ pub enum LineFault {
 ///
 /// The text of `load` is all that follows the one blank behind the word; it alone takes memory. Words of the others are
 /// separated by one or more blanks.
+///
+/// # Errors
+/// `BadCommand` for every other line, and `Memory` where there is want of memory for the text of a `load`.
 pub fn command_of(alloc: Global, line: &str) -> Result<Command, LineFault>
     ensures command { IfOk result (λ c. command_of_line line.now ≡ Some c) }
     ensures none { result ≡ Err LineFault.BadCommand → command_of_line line.now ≡ None }

@@ -19,6 +19,9 @@ pub enum Command {
 
 impl Command {
     /// An equal command. Takes memory for the text of `load` alone.
+    ///
+    /// # Errors
+    /// Want of memory.
     pub fn copy(&self, alloc: Global) -> Result<Command, AllocError>
         ensures { IfOk result (λ c. c ≡ self.now) }
     {

@@ -208,6 +208,9 @@ impl Model for Jobs {
 
 impl Jobs {
     /// No job, with room for this many.
+    ///
+    /// # Errors
+    /// Want of memory.
     pub fn with_room(alloc: Global, room: usize) -> Result<Jobs, AllocError>
         ensures jobs { IfOk result (λ jobs. jobs.jobs ≡ []) }
         ensures room { IfOk result (λ jobs. room ≤ jobs.room) }

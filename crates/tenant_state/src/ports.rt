@@ -56,6 +56,9 @@ impl Ports {
     }
 
     /// The ports of a program with their initial values.
+    ///
+    /// # Errors
+    /// Want of memory.
     pub fn initial(alloc: Global, program: &Program) -> Result<Ports, AllocError>
         ensures shared { IfOk result (λ ports. ports.shared ≡ initial_shared program.now) }
         ensures own { IfOk result (λ ports. ports.own ≡ initial_own program.now) }

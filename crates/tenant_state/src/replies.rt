@@ -90,6 +90,9 @@ impl Budget {
 }
 
 /// The text of a reply, without the name of the tenant and without LF.
+///
+/// # Errors
+/// Want of memory.
 pub fn print_reply(alloc: Global, reply: &Reply) -> Result<String, AllocError>
     ensures { IfOk result (λ text. string_bytes text ≡ text_of_reply reply.now) }
 {
@@ -105,6 +108,9 @@ pub fn print_reply(alloc: Global, reply: &Reply) -> Result<String, AllocError>
 }
 
 /// The text of a refusal, without the word `err`.
+///
+/// # Errors
+/// Want of memory.
 pub fn print_refusal(alloc: Global, refusal: Refusal) -> Result<String, AllocError>
     ensures { IfOk result (λ text. string_bytes text ≡ text_of_refusal refusal) }
 {

@@ -28,6 +28,9 @@ impl Text {
     }
 
     /// A text of these bytes, which takes memory for them.
+    ///
+    /// # Errors
+    /// Want of memory.
     pub fn from_str(alloc: Global, text: &str) -> Result<Text, AllocError>
         ensures { IfOk result (λ t. t ≡ text.now) }
     {
@@ -42,6 +45,9 @@ impl Text {
     }
 
     /// An equal text, in memory of its own.
+    ///
+    /// # Errors
+    /// Want of memory.
     pub fn copy(&self, alloc: Global) -> Result<Text, AllocError>
         ensures { IfOk result (λ t. t ≡ self.now) }
     {

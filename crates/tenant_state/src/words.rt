@@ -57,6 +57,9 @@ pub fn value_of_word(word: &str) -> Option<i64>
 }
 
 /// The values of all words of a line, in their order, or `None` where a word has none. Takes memory for the values alone.
+///
+/// # Errors
+/// Want of memory.
 #[tactic(auto, using(crate::proofs::ValueLemmas::values_fault, crate::proofs::WordLemmas::behind_shorter))]
 pub fn values_of_words(alloc: Global, line: &str) -> Result<Option<Vec<i64>>, AllocError>
     ensures { IfOk result (λ values. option_map (λ v. v.items) values ≡ values_of_words (words_of line.now)) }

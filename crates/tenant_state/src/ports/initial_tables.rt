@@ -11,6 +11,9 @@ use giotto_tasks::names::Name;
 use std::alloc::{AllocError, Global};
 
 /// Sensors, actuators and outputs with their initial values.
+///
+/// # Errors
+/// Want of memory.
 pub fn shared_table(alloc: Global, program: &Program) -> Result<Vec<(Name, i64)>, AllocError>
     ensures { IfOk result (λ table. table.items ≡ initial_shared program.now) }
 {
@@ -28,6 +31,9 @@ pub fn shared_table(alloc: Global, program: &Program) -> Result<Vec<(Name, i64)>
 }
 
 /// The inputs and states of each task with their initial values.
+///
+/// # Errors
+/// Want of memory.
 pub fn own_table(alloc: Global, program: &Program) -> Result<Vec<(OwnName, i64)>, AllocError>
     ensures { IfOk result (λ table. table.items ≡ initial_own program.now) }
 {

@@ -22,6 +22,9 @@ use std::sync::Arc;
 
 impl Tenant {
     /// The job of this name, where its completion is awaited: its task is active with this release and not completed.
+    ///
+    /// # Errors
+    /// A share of the task's body is refused.
     pub fn job(&self, id: &JobId) -> Result<Option<Job>, AllocError>
         ensures { IfOk result (λ job. job ≡ awaited_job self.now id.now) }
     {

@@ -71,6 +71,9 @@ impl Room {
 
 impl Tenant {
     /// Makes the room that the next instant needs.
+    ///
+    /// # Errors
+    /// Want of memory, or a share of a task's body is refused.
     pub fn ready(&self) -> Result<Room, AllocError>
         ensures { IfOk result (IsRoomFor self.now.row) }
     {
