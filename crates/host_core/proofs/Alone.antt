@@ -11,20 +11,26 @@ use Rattle.giotto_read.specs.Program.{TaskInvocation}
 use Rattle.host_core.specs.declared.events.Event.{Event}
 use Rattle.host_core.specs.declared.events.Event.TheVariants.{Own}
 use Rattle.tenant_state.specs.declared.jobs.JobId.{JobId}
-use Rattle.tenant_state.specs.declared.commands.Command.{Command}
+use Rattle.tenant_lines.specs.declared.commands.Command.{Command}
 use Rattle.giotto_check.specs.Declarations.{mode_of}
 use Rattle.rig_config.specs.Roster.{budgets_at}
 use Rattle.tenant_state.specs.Jobs.{job_of, same_job, is_active}
 use Rattle.tenant_state.specs.Row.{ActiveTask, Row, empty_row, is_running}
 use Rattle.tenant_state.specs.FirstHalf.{is_due_at, due_in_mode, due_in_program, due_tasks}
+use Rattle.host_core.specs.Base.{IsBase}
 use Rattle.host_core.specs.Completions.{has_completion}
-use Rattle.host_core.specs.Host.{HostState, is_counted, row_at, with_rows, after_event}
+use Rattle.host_core.specs.Host.{with_rows, after_event}
+use Rattle.host_core.specs.HostState.{HostState, is_counted, row_at}
 use Rattle.host_core.specs.Legal.{next_tick}
 use Rattle.host_core.specs.Setting.{Setting}
-use Rattle.host_core.specs.Views.{after_command, unfinished_of, readings_of, run_of, view_of, row_of}
+use Rattle.host_core.specs.Views.{after_command, readings_of, run_of, view_of, row_of}
 use Rattle.tenant_state.proofs.ActiveTasks.{Keeps, kept_by_command, all_filter, all_append}
 use Rattle.host_core.proofs.Histories.{own_row, releases}
 use Rattle.tenant_state.proofs.JobNames.{either, or_true, same_job_is, all_map, own_jobs_active}
+
+pub all_of : {X : Type 0} {P : X → Type 0} → ((x : X) → P x) → (xs : List X) → AllByRecursion P xs
+all_of f [] = tt
+all_of f (x ∷ xs) = (f x, all_of f xs)
 
 pub all_zip : {X : Type 0} (P Q : X → Type 0) (xs : List X) → AllByRecursion P xs → AllByRecursion Q xs → AllByRecursion (λ x. P x × Q x) xs
 all_zip P Q [] ps qs = tt
@@ -58,52 +64,49 @@ pub same_filter_map : {X Y : Type 0} (f g : X → Option Y) (xs : List X) → ((
 same_filter_map f g [] each = refl
 same_filter_map f g (x ∷ xs) each = ap (λ o. cons_option o (filter_map f xs)) (each x) ∙ ap (cons_option (g x)) (same_filter_map f g xs each)
 
+-- a job that is active behind the event is counted exactly if it was
+pub counted_of_active : (host : HostState) (rows : List Row) (j : JobId) → is_active (get_or rows j.tenant (empty_row host.clock)) j ≡ true
+    → is_counted (with_rows host rows) j ≡ is_counted host j
+counted_of_active host rows j active =
+    let rest : HostState = with_rows host rows in
+    any-filter_same (λ i. same_job i j) (λ (i : JobId). is_active (get_or rows i.tenant (empty_row host.clock)) i) true
+    (λ i e. ap (λ (k : JobId). is_active (get_or rows k.tenant (empty_row host.clock)) k) (same_job_is i j e) ∙ active) host.counted
+
+pub any_of_filter : (p q : JobId → Bool) (js : List JobId) → list_any p (filter q js) ≡ true → list_any p js ≡ true
+any_of_filter p q [] e = e
+any_of_filter p q (j ∷ js) e = kept (q j) e (any_of_filter p q js)
+  where
+    kept : (b : Bool) → list_any p (cond b (j ∷ filter q js) (filter q js)) ≡ true → (list_any p (filter q js) ≡ true → list_any p js ≡ true) → (p j || list_any p js) ≡ true
+    kept true e rest = either (p j) (list_any p (filter q js)) _ e (λ h. ap (λ b. b || list_any p js) h) (λ h. ap (λ b. p j || b) (rest h) ∙ or_true (p j))
+    kept false e rest = ap (λ b. p j || b) (rest e) ∙ or_true (p j)
+
 module _ (setting : Setting) where
-  -- a job that is active behind the event is counted exactly if it was
-  pub counted_of_active : (host : HostState) (rows : List Row) (j : JobId) → is_active (get_or rows j.tenant (empty_row setting.first_tick)) j ≡ true
-      → is_counted (with_rows setting host rows) j ≡ is_counted host j
-  counted_of_active host rows j active =
-      let rest : HostState = with_rows setting host rows in
-      any-filter_same (λ i. same_job i j) (λ (i : JobId). is_active (get_or rows i.tenant (empty_row setting.first_tick)) i) true
-      (λ i e. ap (λ (k : JobId). is_active (get_or rows k.tenant (empty_row setting.first_tick)) k) (same_job_is i j e) ∙ active) host.counted
-
-  pub any_of_filter : (p q : JobId → Bool) (js : List JobId) → list_any p (filter q js) ≡ true → list_any p js ≡ true
-  any_of_filter p q [] e = e
-  any_of_filter p q (j ∷ js) e = kept (q j) e (any_of_filter p q js)
-    where
-      kept : (b : Bool) → list_any p (cond b (j ∷ filter q js) (filter q js)) ≡ true → (list_any p (filter q js) ≡ true → list_any p js ≡ true) → (p j || list_any p js) ≡ true
-      kept true e rest = either (p j) (list_any p (filter q js)) _ e (λ h. ap (λ b. b || list_any p js) h) (λ h. ap (λ b. p j || b) (rest h) ∙ or_true (p j))
-      kept false e rest = ap (λ b. p j || b) (rest e) ∙ or_true (p j)
-
-  tenants : ℕ
-  tenants = length setting.config.tenants
-
   -- an active task's job is counted exactly if it was completed
   abbrev IsMarked : HostState → List Event → ℕ → ActiveTask → Type 0
-  IsMarked host past t a = is_counted host (job_of t a) ≡ has_completion past (job_of t a)
+  IsMarked host past t a = is_counted host (job_of t a) ≡ has_completion setting past (job_of t a)
 
   -- the host agrees with the views
   pub record Agrees (host : HostState) (past : List Event) : Type 0 where
     pub long : length host.rows ≡ length setting.config.tenants
-    pub rows : (t : ℕ) → t < length setting.config.tenants → row_at setting host t ≡ row_of setting past t
-    pub marks : (t : ℕ) → t < length setting.config.tenants → AllByRecursion (λ a. is_counted host (job_of t a) ≡ has_completion past (job_of t a)) (row_of setting past t).active
-    pub known : (j : JobId) → is_counted host j ≡ true → has_completion past j ≡ true
+    pub rows : (t : ℕ) → t < length setting.config.tenants → row_at host t ≡ row_of setting past t
+    pub marks : (t : ℕ) → t < length setting.config.tenants → AllByRecursion (λ a. is_counted host (job_of t a) ≡ has_completion setting past (job_of t a)) (row_of setting past t).active
+    pub known : (j : JobId) → is_counted host j ≡ true → has_completion setting past j ≡ true
 
   -- marks stay where the rows change
-  pub marks_after : (host : HostState) (past : List Event) (t : ℕ) (rows : List Row) (row : Row) → get_or rows t (empty_row setting.first_tick) ≡ row
-      → AllByRecursion (IsMarked host past t) row.active → AllByRecursion (IsMarked (with_rows setting host rows) past t) row.active
+  pub marks_after : (host : HostState) (past : List Event) (t : ℕ) (rows : List Row) (row : Row) → get_or rows t (empty_row host.clock) ≡ row
+      → AllByRecursion (IsMarked host past t) row.active → AllByRecursion (IsMarked (with_rows host rows) past t) row.active
   marks_after host past t rows row at marked =
-      all_map (λ a. IsMarked host past t a × (is_active row (job_of t a) ≡ true)) (IsMarked (with_rows setting host rows) past t) row.active
+      all_map (λ a. IsMarked host past t a × (is_active row (job_of t a) ≡ true)) (IsMarked (with_rows host rows) past t) row.active
       (λ a h. counted_of_active host rows (job_of t a) (ap (λ r. is_active r (job_of t a)) at ∙ h.1) ∙ h.0)
       (all_zip (IsMarked host past t) (λ a. is_active row (job_of t a) ≡ true) row.active marked (own_jobs_active t row))
 
-  pub known_after : (host : HostState) (past : List Event) (rows : List Row) → ((j : JobId) → is_counted host j ≡ true → has_completion past j ≡ true)
-      → (j : JobId) → is_counted (with_rows setting host rows) j ≡ true → has_completion past j ≡ true
+  pub known_after : (host : HostState) (past : List Event) (rows : List Row) → ((j : JobId) → is_counted host j ≡ true → has_completion setting past j ≡ true)
+      → (j : JobId) → is_counted (with_rows host rows) j ≡ true → has_completion setting past j ≡ true
   known_after host past rows known j e = known j (any_of_filter _ _ host.counted e)
 
   -- a command
-  pub own_event : (host : HostState) (past : List Event) (u : ℕ) (c : Command) → u < length setting.config.tenants → Agrees host past → Agrees (after_event setting host (Own u c)) (Own u c ∷ past)
-  own_event host past u c within agrees =
+  pub own_event : IsBase setting.config setting.base → (host : HostState) (past : List Event) (u : ℕ) (c : Command) → u < length setting.config.tenants → Agrees host past → Agrees (after_event setting host (Own u c)) (Own u c ∷ past)
+  own_event base host past u c within agrees =
       record {
         long = length-set host.rows u _ ∙ agrees.long;
         rows = rows_after;
@@ -113,29 +116,29 @@ module _ (setting : Setting) where
       }
     where
       new : Row
-      new = (after_command setting u c (row_at setting host u)).row
+      new = (after_command setting u c (row_at host u)).row
 
       rows : List Row
       rows = set host.rows u new
 
       own_marks : (t : ℕ) → t < length setting.config.tenants → Keeps (IsMarked host past t) (next_tick setting past) (after_command setting t c (row_of setting past t)).row
       own_marks t lt = kept_by_command (IsMarked host past t) (next_tick setting past) setting.reader (budgets_at setting.config t) c (row_of setting past t)
-          (record { each = agrees.marks t lt; at = (releases setting past t).at })
+          (record { each = agrees.marks t lt; at = (releases setting base past t).at })
 
-      same_row : (t : ℕ) → u ≡ t → t < length setting.config.tenants → (after_command setting u c (row_at setting host u)).row ≡ (after_command setting t c (row_of setting past t)).row
-      same_row t e lt = ap (λ k. (after_command setting k c (row_at setting host k)).row) e ∙ ap (λ r. (after_command setting t c r).row) (agrees.rows t lt)
+      same_row : (t : ℕ) → u ≡ t → t < length setting.config.tenants → (after_command setting u c (row_at host u)).row ≡ (after_command setting t c (row_of setting past t)).row
+      same_row t e lt = ap (λ k. (after_command setting k c (row_at host k)).row) e ∙ ap (λ r. (after_command setting t c r).row) (agrees.rows t lt)
 
-      rows_after : (t : ℕ) → t < length setting.config.tenants → get_or rows t (empty_row setting.first_tick) ≡ row_of setting (Own u c ∷ past) t
+      rows_after : (t : ℕ) → t < length setting.config.tenants → get_or rows t (empty_row host.clock) ≡ row_of setting (Own u c ∷ past) t
       rows_after t lt = ⊎_elim
           (λ (same : u ≡ t).
           let is : eqb u t ≡ true = grind (arith, nat_tests) in
-          ap (λ k. get_or rows k (empty_row setting.first_tick)) (sym same)
-          ∙ (get_or-set_same host.rows u new (empty_row setting.first_tick) (omega (arith, agrees.long))
+          ap (λ k. get_or rows k (empty_row host.clock)) (sym same)
+          ∙ (get_or-set_same host.rows u new (empty_row host.clock) (omega (arith, agrees.long))
           ∙ (same_row t same lt
           ∙ sym (ap (λ b. run_of setting t (cond b (Rattle.host_core.specs.Views.command c ∷ view_of setting past t) (view_of setting past t))) is))))
           (λ (differ : u ≢ t).
           let is : eqb u t ≡ false = grind (arith, nat_tests) in
-          get_or-set_other host.rows u t new (empty_row setting.first_tick) (λ e. differ (sym e))
+          get_or-set_other host.rows u t new (empty_row host.clock) (λ e. differ (sym e))
           ∙ (agrees.rows t lt
           ∙ sym (ap (λ b. run_of setting t (cond b (Rattle.host_core.specs.Views.command c ∷ view_of setting past t) (view_of setting past t))) is)))
           (cases_eq u t)

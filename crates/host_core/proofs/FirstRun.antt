@@ -5,7 +5,7 @@ use Rattle.std.specs.Fmt.{digits}
 use Rattle.std.specs.List.{flat_map}
 use Rattle.host_core.specs.declared.events.Event.{Event}
 use Rattle.host_core.specs.declared.events.Event.TheVariants.{Own, Tick, Done}
-use Rattle.tenant_state.specs.declared.commands.Command.TheVariants.{Load, Start, ShowPort}
+use Rattle.tenant_lines.specs.declared.commands.Command.TheVariants.{Load, Start, ShowPort}
 use Rattle.host_core.specs.Answers.{answers_of}
 use Rattle.host_core.specs.Legal.{is_legal}
 use Rattle.host_core.specs.Views.{view_of}

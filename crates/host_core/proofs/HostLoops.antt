@@ -5,7 +5,8 @@ use Rattle.std.proofs.lemmas.Bool.{cases_eq}
 use Rattle.std.proofs.lemmas.List.{get_or-set_same, get_or-set_other, get_or_default, append-nil, append_assoc, take_more_set, length-take}
 use Rattle.std.proofs.lemmas.List.Sums.{sum_by-cons}
 use Rattle.std.proofs.Math.Seq.{take-append_seam}
-use Rattle.host_core.specs.Halves.{AreStepped, AreFirstHalves, AreSecondHalves, AreReady, tenant_at, no_room, places_of, released_from}
+use Rattle.host_core.specs.HostStanding.{released_from, tenant_at}
+use Rattle.host_core.specs.Halves.{AreStepped, AreFirstHalves, AreSecondHalves, AreReady, no_room, places_of}
 use Rattle.rig_config.specs.declared.Config.{Config}
 use Rattle.tenant_state.specs.Jobs.{JobValue, released_at}
 use Rattle.tenant_state.specs.Standing.{Standing, empty_standing, RoomValue, IsRoomFor}

@@ -13,33 +13,31 @@ use Rattle.giotto_read.specs.Program.{GiottoProgram}
 use Rattle.host_core.specs.declared.events.Event.TheVariants.{Own, Tick, Done}
 use Rattle.rig_config.specs.declared.Config.{Config}
 use Rattle.rig_config.specs.declared.TenantConfig.{TenantConfig}
-use Rattle.tenant_state.specs.declared.commands.Command.{Command}
+use Rattle.tenant_lines.specs.declared.commands.Command.{Command}
 use Rattle.tenant_state.specs.declared.jobs.JobId.{JobId}
-use Rattle.host_core.specs.Halves.{IsFirstHalf, IsSecondHalf, AreFirstHalves, AreSecondHalves, tenant_at}
-use Rattle.host_core.specs.Host.{HostState, is_counted, row_at, unfinished_at, instant_of, awaits, with_rows, after_event}
-use Rattle.host_core.specs.HostStanding.{HostStanding, standing_at, Stands, awaited_in}
+use Rattle.host_core.specs.Halves.{IsFirstHalf, IsSecondHalf, AreFirstHalves, AreSecondHalves}
+use Rattle.host_core.specs.Host.{instant_of, with_rows, after_event}
+use Rattle.host_core.specs.HostState.{HostState, is_counted, row_at, awaits}
+use Rattle.host_core.specs.HostStanding.{HostStanding, tenant_at, Stands, awaited_in}
 use Rattle.host_core.specs.Setting.{Setting}
 use Rattle.tenant_state.specs.Commands.{IsTrueReader}
 use Rattle.tenant_state.specs.Commands.{Reader, commanded}
-use Rattle.tenant_state.specs.declared.replies.Refusal.TheVariants.{Memory}
-use Rattle.tenant_state.specs.declared.replies.Reply.{Reply}
-use Rattle.tenant_state.specs.declared.replies.Reply.TheVariants.{Refused}
+use Rattle.tenant_lines.specs.declared.replies.Refusal.TheVariants.{Memory}
+use Rattle.tenant_lines.specs.declared.replies.Reply.{Reply}
+use Rattle.tenant_lines.specs.declared.replies.Reply.TheVariants.{Refused}
 use Rattle.host_core.specs.Views.{after_command, readings_of}
 use Rattle.tenant_state.specs.Instants.{after_instant}
 use Rattle.host_core.specs.Grants.{granted_along, granted_to}
 use Rattle.rig_config.specs.Roster.{budgets_at, no_budgets}
-use Rattle.tenant_state.specs.FirstHalf.{first_half_of}
+use Rattle.tenant_state.specs.FirstHalf.{unfinished_tasks, first_half_of}
 use Rattle.tenant_state.specs.Jobs.{JobValue, job_of, job_in, same_job, is_active}
 use Rattle.tenant_state.specs.Row.{ActiveTask, Row, empty_row}
 use Rattle.tenant_state.specs.SecondHalf.{second_half_of, readings_within}
-use Rattle.tenant_state.specs.Standing.{Standing, empty_standing, StandsFor, IsOutcome, uncompleted, awaited_tasks, awaited_job}
-use Rattle.host_core.proofs.Alone.{counted_of_active, any_of_filter}
+use Rattle.tenant_state.specs.Standing.{Standing, empty_standing, StandsFor, IsOutcome, outstanding_tasks, awaited_job}
+use Rattle.host_core.proofs.Alone.{counted_of_active, any_of_filter, all_of}
+use Rattle.host_core.proofs.AloneAlong.{unfinished_at}
 use Rattle.tenant_state.proofs.JobNames.{both, either, not_true, same_job_is, all_map, own_jobs_active}
 use Rattle.tenant_state.proofs.TenantFacts.{AreEarly}
-
-all_of : {X : Type 0} {P : X → Type 0} → ((x : X) → P x) → (xs : List X) → AllByRecursion P xs
-all_of f [] = tt
-all_of f (x ∷ xs) = (f x, all_of f xs)
 
 pub map_same : {X Y : Type 0} (f g : X → Y) (xs : List X) → AllByRecursion (λ x. f x ≡ g x) xs → map f xs ≡ map g xs
 map_same f g [] all = refl
@@ -65,27 +63,27 @@ module _ (setting : Setting) where
       → Stands setting host state
       → length tenants ≡ length setting.config.tenants → length rows ≡ length setting.config.tenants → state.clock ≤ clock
       → ((t : ℕ) → t < length setting.config.tenants
-      → StandsFor (get_or tenants t (empty_standing 0)) (get_or rows t (empty_row setting.first_tick)) (λ a. is_counted state (job_of t a)))
-      → ((t : ℕ) → t < length setting.config.tenants → (get_or rows t (empty_row setting.first_tick)).count ≡ clock)
-      → Stands setting (record { config = host.config; tenants = tenants; clock = clock }) (with_rows setting (record state { clock = clock }) rows)
+      → StandsFor (get_or tenants t (empty_standing 0)) (get_or rows t (empty_row clock)) (λ a. is_counted state (job_of t a)))
+      → ((t : ℕ) → t < length setting.config.tenants → (get_or rows t (empty_row clock)).count ≡ clock)
+      → Stands setting (record { config = host.config; tenants = tenants; clock = clock }) (with_rows (record state { clock = clock }) rows)
   stands_with_rows host state tenants rows clock stands as_many all_rows later each counts = record {
     same_config = stands.same_config;
     same_clock = refl;
     as_many = as_many;
     all_rows = all_rows;
     each = λ t lt.
-        stands_by (get_or tenants t (empty_standing 0)) (get_or rows t (empty_row setting.first_tick)) (λ a. is_counted state (job_of t a))
-        (λ a. is_counted (with_rows setting (record state { clock = clock }) rows) (job_of t a))
-        (all_map _ _ _ (λ a active. sym (counted_of_active setting (record state { clock = clock }) rows (job_of t a) active)) (own_jobs_active t (get_or rows t (empty_row setting.first_tick))))
+        stands_by (get_or tenants t (empty_standing 0)) (get_or rows t (empty_row clock)) (λ a. is_counted state (job_of t a))
+        (λ a. is_counted (with_rows (record state { clock = clock }) rows) (job_of t a))
+        (all_map _ _ _ (λ a active. sym (counted_of_active (record state { clock = clock }) rows (job_of t a) active)) (own_jobs_active t (get_or rows t (empty_row clock))))
         (each t lt);
     counts = counts;
-    early = λ j e. let before = stands.early j (any_of_filter setting _ _ state.counted e) in omega arith;
+    early = λ j e. let before = stands.early j (any_of_filter _ _ state.counted e) in omega arith;
   }
 
   -- a command
   module _ (host : HostStanding) (state : HostState) (u : ℕ) (c : Command) (s : Standing) (stands : Stands setting host state) where
     abbrev new : Row
-    new = (after_command setting u c (row_at setting state u)).row
+    new = (after_command setting u c (row_at state u)).row
 
     abbrev tenants : List Standing
     tenants = set host.tenants u s
@@ -97,16 +95,16 @@ module _ (setting : Setting) where
       here_tenant : (t : ℕ) → u ≡ t → get_or tenants t (empty_standing 0) ≡ s
       here_tenant t e = ap (λ k. get_or tenants k (empty_standing 0)) (sym e) ∙ get_or-set_same host.tenants u s (empty_standing 0) (omega (arith, stands.as_many))
 
-      here_row : (t : ℕ) → u ≡ t → get_or rows t (empty_row setting.first_tick) ≡ new
-      here_row t e = ap (λ k. get_or rows k (empty_row setting.first_tick)) (sym e) ∙ get_or-set_same state.rows u new (empty_row setting.first_tick) (omega (arith, stands.all_rows))
+      here_row : (t : ℕ) → u ≡ t → get_or rows t (empty_row state.clock) ≡ new
+      here_row t e = ap (λ k. get_or rows k (empty_row state.clock)) (sym e) ∙ get_or-set_same state.rows u new (empty_row state.clock) (omega (arith, stands.all_rows))
 
-      there_tenant : (t : ℕ) → u ≢ t → get_or tenants t (empty_standing 0) ≡ standing_at host t
+      there_tenant : (t : ℕ) → u ≢ t → get_or tenants t (empty_standing 0) ≡ tenant_at host.tenants t
       there_tenant t differ = get_or-set_other host.tenants u t s (empty_standing 0) (λ e. differ (sym e))
 
-      there_row : (t : ℕ) → u ≢ t → get_or rows t (empty_row setting.first_tick) ≡ row_at setting state t
-      there_row t differ = get_or-set_other state.rows u t new (empty_row setting.first_tick) (λ e. differ (sym e))
+      there_row : (t : ℕ) → u ≢ t → get_or rows t (empty_row state.clock) ≡ row_at state t
+      there_row t differ = get_or-set_other state.rows u t new (empty_row state.clock) (λ e. differ (sym e))
 
-      command_each : (t : ℕ) → t < length setting.config.tenants → StandsFor (get_or tenants t (empty_standing 0)) (get_or rows t (empty_row setting.first_tick)) (λ a. is_counted state (job_of t a))
+      command_each : (t : ℕ) → t < length setting.config.tenants → StandsFor (get_or tenants t (empty_standing 0)) (get_or rows t (empty_row state.clock)) (λ a. is_counted state (job_of t a))
       command_each t lt = ⊎_elim
           (λ (same : u ≡ t).
           subst (λ r. StandsFor (get_or tenants t (empty_standing 0)) r (λ a. is_counted state (job_of t a))) (sym (here_row t same))
@@ -114,11 +112,11 @@ module _ (setting : Setting) where
           (subst (λ k. StandsFor s new (λ a. is_counted state (job_of k a))) same own)))
           (λ (differ : u ≢ t).
           subst (λ r. StandsFor (get_or tenants t (empty_standing 0)) r (λ a. is_counted state (job_of t a))) (sym (there_row t differ))
-          (subst (λ x. StandsFor x (row_at setting state t) (λ a. is_counted state (job_of t a))) (sym (there_tenant t differ))
+          (subst (λ x. StandsFor x (row_at state t) (λ a. is_counted state (job_of t a))) (sym (there_tenant t differ))
           (stands.each t lt)))
           (cases_eq u t)
 
-      command_counts : (t : ℕ) → t < length setting.config.tenants → (get_or rows t (empty_row setting.first_tick)).count ≡ state.clock
+      command_counts : (t : ℕ) → t < length setting.config.tenants → (get_or rows t (empty_row state.clock)).count ≡ state.clock
       command_counts t lt = ⊎_elim
           (λ (same : u ≡ t). ap (λ (r : Row). r.count) (here_row t same) ∙ (same_count s new (λ a. is_counted state (job_of u a)) own ∙ (count ∙ stands.same_clock)))
           (λ (differ : u ≢ t). ap (λ (r : Row). r.count) (there_row t differ) ∙ stands.counts t lt)
@@ -131,13 +129,13 @@ module _ (setting : Setting) where
 
   -- an instant
   row_behind : (state : HostState) (frame : List ℤ) (t : ℕ) → t < length state.rows
-      → get_or (map (λ (place : ℕ × Row). after_instant (instant_of setting state frame place.0) place.1) (enumerate_from 0 state.rows)) t (empty_row setting.first_tick)
-      ≡ after_instant (instant_of setting state frame t) (row_at setting state t)
+      → get_or (map (λ (place : ℕ × Row). after_instant (instant_of setting state frame place.0) place.1) (enumerate_from 0 state.rows)) t (empty_row (state.clock + 1))
+      ≡ after_instant (instant_of setting state frame t) (row_at state t)
   row_behind state frame t lt =
       let step : ℕ × Row → Row = λ place. after_instant (instant_of setting state frame place.0) place.1 in
-      get_or-map step (enumerate_from 0 state.rows) t (0, empty_row setting.first_tick) (empty_row setting.first_tick) (omega (arith, length-enumerate_from 0 state.rows))
-      ∙ (ap step (get_or-enumerate_from 0 state.rows t (0, empty_row setting.first_tick) lt)
-      ∙ ap (λ n. after_instant (instant_of setting state frame n) (row_at setting state t)) (zero-add t))
+      get_or-map step (enumerate_from 0 state.rows) t (0, empty_row state.clock) (empty_row (state.clock + 1)) (omega (arith, length-enumerate_from 0 state.rows))
+      ∙ (ap step (get_or-enumerate_from 0 state.rows t (0, empty_row state.clock) lt)
+      ∙ ap (λ n. after_instant (instant_of setting state frame n) (row_at state t)) (zero-add t))
 
   -- without binds nothing is granted
   nothing_granted : (rows halves : ℕ → Row) (t : ℕ) → (rows t).binds ≡ [] → granted_to setting.config rows halves t ≡ []
@@ -155,12 +153,12 @@ module _ (setting : Setting) where
       completed a = is_counted state (job_of t a)
 
       abbrev row : Row
-      row = row_at setting state t
+      row = row_at state t
 
       abbrev half : Row
-      half = first_half_of (uncompleted completed row) row
+      half = first_half_of (unfinished_tasks completed row) row
 
-      one : IsFirstHalf (standing_at host t) (tenant_at middle t)
+      one : IsFirstHalf (tenant_at host.tenants t) (tenant_at middle t)
       one = first.stepped t (omega (arith, stands.as_many))
 
       two : IsSecondHalf (budgets_at host.config t).reads frame (tenant_at middle t) (tenant_at after t)
@@ -170,7 +168,7 @@ module _ (setting : Setting) where
       half_stands = one.step row completed (stands.each t lt)
 
       half_count : half.count ≡ state.clock
-      half_count = same_count (tenant_at middle t) half completed half_stands ∙ (one.count ∙ (sym (same_count (standing_at host t) row completed (stands.each t lt)) ∙ stands.counts t lt))
+      half_count = same_count (tenant_at middle t) half completed half_stands ∙ (one.count ∙ (sym (same_count (tenant_at host.tenants t) row completed (stands.each t lt)) ∙ stands.counts t lt))
 
       fresh : (a : ActiveTask) → a.release ≡ half.count → completed a ≡ false
       fresh a e = not_true (completed a) (λ h. let before = stands.early (job_of t a) h in absurd (omega (arith, half_count)))
@@ -181,17 +179,17 @@ module _ (setting : Setting) where
       same_step : second_half_of (readings_within (budgets_at host.config t).reads frame) [] half ≡ after_instant (instant_of setting state frame t) row
       same_step =
           ap (λ (c : Config). second_half_of (readings_within (budgets_at c t).reads frame) [] half) stands.same_config
-          ∙ ap (λ granted. second_half_of (readings_of setting t frame) granted half) (sym (nothing_granted (row_at setting state) (λ u. first_half_of (unfinished_at setting state u) (row_at setting state u)) t no_binds))
+          ∙ ap (λ granted. second_half_of (readings_of setting t frame) granted half) (sym (nothing_granted (row_at state) (λ u. first_half_of (unfinished_at state u) (row_at state u)) t no_binds))
 
-      new_row : second_half_of (readings_within (budgets_at host.config t).reads frame) [] half ≡ get_or rows_behind t (empty_row setting.first_tick)
+      new_row : second_half_of (readings_within (budgets_at host.config t).reads frame) [] half ≡ get_or rows_behind t (empty_row (state.clock + 1))
       new_row = same_step ∙ sym (row_behind state frame t (omega (arith, stands.all_rows)))
 
-      tick_each : StandsFor (get_or after t (empty_standing 0)) (get_or rows_behind t (empty_row setting.first_tick)) completed
+      tick_each : StandsFor (get_or after t (empty_standing 0)) (get_or rows_behind t (empty_row (state.clock + 1))) completed
       tick_each = subst (λ r. StandsFor (tenant_at after t) r completed) new_row (two.step half completed half_stands fresh)
 
-      tick_counts : (get_or rows_behind t (empty_row setting.first_tick)).count ≡ state.clock + 1
+      tick_counts : (get_or rows_behind t (empty_row (state.clock + 1))).count ≡ state.clock + 1
       tick_counts =
-          same_count (tenant_at after t) (get_or rows_behind t (empty_row setting.first_tick)) completed tick_each
+          same_count (tenant_at after t) (get_or rows_behind t (empty_row (state.clock + 1))) completed tick_each
           ∙ (two.count ∙ ap (λ n. n + 1) (sym (same_count (tenant_at middle t) half completed half_stands) ∙ half_count))
 
     pub stands_after_tick : Stands setting (record { config = host.config; tenants = after; clock = host.clock + 1 }) (after_event setting state (Tick frame))
@@ -206,15 +204,15 @@ module _ (setting : Setting) where
       → before ≡ get_or host.tenants t before → config ≡ get_or host.config.tenants t d
       → ((reader : Reader) (row : Row) (completed : ActiveTask → Bool) → IsTrueReader reader → StandsFor before row completed
       → reply ≢ Refused Memory → IsOutcome (commanded reader config.budgets c row) reply after completed)
-      → reply ≢ Refused Memory → IsOutcome (after_command setting t c (row_at setting state t)) reply after (λ a. is_counted state (job_of t a))
+      → reply ≢ Refused Memory → IsOutcome (after_command setting t c (row_at state t)) reply after (λ a. is_counted state (job_of t a))
   own_outcome host state t c config d before after reply true_reader stands within here here_config step given =
       let lt : t < length setting.config.tenants = subst (λ (k : Config). t < length k.tenants) stands.same_config within in
-      let same : before ≡ standing_at host t = here ∙ get_or_default host.tenants t before (empty_standing 0) (omega (arith, stands.as_many)) in
+      let same : before ≡ tenant_at host.tenants t = here ∙ get_or_default host.tenants t before (empty_standing 0) (omega (arith, stands.as_many)) in
       let budgets : config.budgets ≡ budgets_at setting.config t =
       sym (budgets_here host.config t d within ∙ ap (λ (k : TenantConfig). k.budgets) (sym here_config)) ∙ ap (λ (k : Config). budgets_at k t) stands.same_config in
-      subst (λ b. IsOutcome (commanded setting.reader b c (row_at setting state t)) reply after (λ a. is_counted state (job_of t a))) budgets
-      (step setting.reader (row_at setting state t) (λ a. is_counted state (job_of t a)) true_reader
-      (subst (λ s. StandsFor s (row_at setting state t) (λ a. is_counted state (job_of t a))) (sym same) (stands.each t lt)) given)
+      subst (λ b. IsOutcome (commanded setting.reader b c (row_at state t)) reply after (λ a. is_counted state (job_of t a))) budgets
+      (step setting.reader (row_at state t) (λ a. is_counted state (job_of t a)) true_reader
+      (subst (λ s. StandsFor s (row_at state t) (λ a. is_counted state (job_of t a))) (sym same) (stands.each t lt)) given)
 
 -- the job of an awaited task
 find_is_any : {X : Type 0} (p : X → Bool) (xs : List X) → is_some (find p xs) ≡ list_any p xs
@@ -257,23 +255,23 @@ awaited_is s row j counted same has stands = program s.row.program refl ∙ (any
     same_active : s.row.active ≡ row.active
     same_active = ap (λ (r : Row). r.active) stands.same_row
 
-    same_awaited : awaited_tasks s ≡ filter (λ a. not (counted (job_of j.tenant a))) row.active
+    same_awaited : outstanding_tasks s ≡ filter (λ a. not (counted (job_of j.tenant a))) row.active
     same_awaited =
         ap (λ xs. map (λ (p : ActiveTask × Bool). p.0) (filter (λ (p : ActiveTask × Bool). not p.1) (zip xs s.completed))) same_active
         ∙ (ap (λ marks. map (λ (p : ActiveTask × Bool). p.0) (filter (λ (p : ActiveTask × Bool). not p.1) (zip row.active marks))) stands.same_marks
         ∙ awaited_along (λ a. counted (job_of j.tenant a)) row.active)
 
     program : (o : Option GiottoProgram) → s.row.program ≡ o
-        → is_some (option_and_then (λ p. option_map (job_in p j.tenant) (find (λ a. same_job (job_of j.tenant a) j) (awaited_tasks s))) s.row.program)
-        ≡ list_any (λ a. same_job (job_of j.tenant a) j) (awaited_tasks s)
+        → is_some (option_and_then (λ p. option_map (job_in p j.tenant) (find (λ a. same_job (job_of j.tenant a) j) (outstanding_tasks s))) s.row.program)
+        ≡ list_any (λ a. same_job (job_of j.tenant a) j) (outstanding_tasks s)
     program None e =
-        ap (λ o. is_some (option_and_then (λ p. option_map (job_in p j.tenant) (find (λ a. same_job (job_of j.tenant a) j) (awaited_tasks s))) o)) e
+        ap (λ o. is_some (option_and_then (λ p. option_map (job_in p j.tenant) (find (λ a. same_job (job_of j.tenant a) j) (outstanding_tasks s))) o)) e
         ∙ sym (ap (λ xs. list_any (λ a. same_job (job_of j.tenant a) j) (map (λ (p : ActiveTask × Bool). p.0) (filter (λ (p : ActiveTask × Bool). not p.1) (zip xs s.completed)))) (has e))
     program (Some p) e =
-        ap (λ o. is_some (option_and_then (λ p. option_map (job_in p j.tenant) (find (λ a. same_job (job_of j.tenant a) j) (awaited_tasks s))) o)) e
-        ∙ (some_map (job_in p j.tenant) (find (λ a. same_job (job_of j.tenant a) j) (awaited_tasks s)) ∙ find_is_any (λ a. same_job (job_of j.tenant a) j) (awaited_tasks s))
+        ap (λ o. is_some (option_and_then (λ p. option_map (job_in p j.tenant) (find (λ a. same_job (job_of j.tenant a) j) (outstanding_tasks s))) o)) e
+        ∙ (some_map (job_in p j.tenant) (find (λ a. same_job (job_of j.tenant a) j) (outstanding_tasks s)) ∙ find_is_any (λ a. same_job (job_of j.tenant a) j) (outstanding_tasks s))
 
-    any_awaited : list_any (λ a. same_job (job_of j.tenant a) j) (awaited_tasks s) ≡ (not (counted j) && is_active row j)
+    any_awaited : list_any (λ a. same_job (job_of j.tenant a) j) (outstanding_tasks s) ≡ (not (counted j) && is_active row j)
     any_awaited =
         ap (list_any (λ a. same_job (job_of j.tenant a) j)) same_awaited
         ∙ any-filter_same (λ a. same_job (job_of j.tenant a) j) (λ a. not (counted (job_of j.tenant a))) (not (counted j))
@@ -289,15 +287,15 @@ early_active t count j (a ∷ rest) all e =
 module _ (setting : Setting) where
   -- the host awaits a job exactly where the definitions do
   pub awaits_here : (host : HostStanding) (state : HostState) (j : JobId) → j.tenant < length setting.config.tenants → Stands setting host state
-      → HasTasksWithProgram (standing_at host j.tenant) → awaits setting state j ≡ is_some (awaited_in host j)
+      → HasTasksWithProgram (tenant_at host.tenants j.tenant) → awaits state j ≡ is_some (awaited_in host j)
   awaits_here host state j lt stands has =
       sym (ap (λ o. is_some (option_and_then (λ s. awaited_job s j) o)) (slice_get-get_or host.tenants j.tenant (empty_standing 0) (omega (arith, stands.as_many)))
-      ∙ awaited_is (standing_at host j.tenant) (row_at setting state j.tenant) j (is_counted state) (λ i k e. ap (is_counted state) e) has (stands.each j.tenant lt))
+      ∙ awaited_is (tenant_at host.tenants j.tenant) (row_at state j.tenant) j (is_counted state) (λ i k e. ap (is_counted state) e) has (stands.each j.tenant lt))
 
   pub awaits_nowhere : (host : HostStanding) (state : HostState) (j : JobId) → length setting.config.tenants ≤ j.tenant → Stands setting host state
-      → awaits setting state j ≡ is_some (awaited_in host j)
+      → awaits state j ≡ is_some (awaited_in host j)
   awaits_nowhere host state j le stands =
-      ap (λ row. is_active row j && not (is_counted state j)) (get_or-eq_default state.rows (empty_row setting.first_tick) (omega (arith, stands.all_rows)))
+      ap (λ row. is_active row j && not (is_counted state j)) (get_or-eq_default state.rows (empty_row state.clock) (omega (arith, stands.all_rows)))
       ∙ sym (ap (λ o. is_some (option_and_then (λ s. awaited_job s j) o)) (slice_get-past host.tenants j.tenant (omega (arith, stands.as_many))))
 
   -- a completion
@@ -306,22 +304,22 @@ module _ (setting : Setting) where
     counting = record state { counted = j ∷ state.counted }
 
     module _ (within : j.tenant < length setting.config.tenants)
-        (own : (row : Row) (completed : ActiveTask → Bool) → StandsFor (standing_at host j.tenant) row completed → StandsFor s row (λ a. same_job j (job_of j.tenant a) || completed a))
+        (own : (row : Row) (completed : ActiveTask → Bool) → StandsFor (tenant_at host.tenants j.tenant) row completed → StandsFor s row (λ a. same_job j (job_of j.tenant a) || completed a))
         (early : j.tick < host.clock) where
       done_here : (t : ℕ) → j.tenant ≡ t → t < length setting.config.tenants
-          → StandsFor (get_or (set host.tenants j.tenant s) t (empty_standing 0)) (row_at setting state t) (λ a. is_counted counting (job_of t a))
-      done_here t e lt = subst (λ k. StandsFor (get_or (set host.tenants j.tenant s) k (empty_standing 0)) (row_at setting state k) (λ a. is_counted counting (job_of k a))) e
-          (subst (λ x. StandsFor x (row_at setting state j.tenant) (λ a. is_counted counting (job_of j.tenant a))) (sym (get_or-set_same host.tenants j.tenant s (empty_standing 0) (omega (arith, stands.as_many))))
-          (own (row_at setting state j.tenant) (λ a. is_counted state (job_of j.tenant a)) (stands.each j.tenant within)))
+          → StandsFor (get_or (set host.tenants j.tenant s) t (empty_standing 0)) (row_at state t) (λ a. is_counted counting (job_of t a))
+      done_here t e lt = subst (λ k. StandsFor (get_or (set host.tenants j.tenant s) k (empty_standing 0)) (row_at state k) (λ a. is_counted counting (job_of k a))) e
+          (subst (λ x. StandsFor x (row_at state j.tenant) (λ a. is_counted counting (job_of j.tenant a))) (sym (get_or-set_same host.tenants j.tenant s (empty_standing 0) (omega (arith, stands.as_many))))
+          (own (row_at state j.tenant) (λ a. is_counted state (job_of j.tenant a)) (stands.each j.tenant within)))
 
       other_tenant : (t : ℕ) → j.tenant ≢ t → (a : ActiveTask) → is_counted state (job_of t a) ≡ is_counted counting (job_of t a)
       other_tenant t differ a = sym (ap (λ b. b || is_counted state (job_of t a)) (not_true (same_job j (job_of t a)) (λ e. differ (ap (λ (k : JobId). k.tenant) (same_job_is j (job_of t a) e)))))
 
       done_there : (t : ℕ) → j.tenant ≢ t → t < length setting.config.tenants
-          → StandsFor (get_or (set host.tenants j.tenant s) t (empty_standing 0)) (row_at setting state t) (λ a. is_counted counting (job_of t a))
-      done_there t differ lt = subst (λ x. StandsFor x (row_at setting state t) (λ a. is_counted counting (job_of t a))) (sym (get_or-set_other host.tenants j.tenant t s (empty_standing 0) (λ e. differ (sym e))))
-          (stands_by (standing_at host t) (row_at setting state t) (λ a. is_counted state (job_of t a)) (λ a. is_counted counting (job_of t a))
-          (all_of (other_tenant t differ) (row_at setting state t).active) (stands.each t lt))
+          → StandsFor (get_or (set host.tenants j.tenant s) t (empty_standing 0)) (row_at state t) (λ a. is_counted counting (job_of t a))
+      done_there t differ lt = subst (λ x. StandsFor x (row_at state t) (λ a. is_counted counting (job_of t a))) (sym (get_or-set_other host.tenants j.tenant t s (empty_standing 0) (λ e. differ (sym e))))
+          (stands_by (tenant_at host.tenants t) (row_at state t) (λ a. is_counted state (job_of t a)) (λ a. is_counted counting (job_of t a))
+          (all_of (other_tenant t differ) (row_at state t).active) (stands.each t lt))
 
       pub stands_after_done : Stands setting (record host { tenants = set host.tenants j.tenant s }) counting
       stands_after_done = record {
@@ -339,11 +337,11 @@ module _ (setting : Setting) where
 
   -- an awaited job was released before the next instant
   pub awaited_is_early : (host : HostStanding) (state : HostState) (j : JobId) → j.tenant < length setting.config.tenants → Stands setting host state
-      → HasTasksWithProgram (standing_at host j.tenant) → AreEarly (standing_at host j.tenant).row.count (standing_at host j.tenant).row.active
-      → is_some (awaited_job (standing_at host j.tenant) j) ≡ true → j.tick < (standing_at host j.tenant).row.count
+      → HasTasksWithProgram (tenant_at host.tenants j.tenant) → AreEarly (tenant_at host.tenants j.tenant).row.count (tenant_at host.tenants j.tenant).row.active
+      → is_some (awaited_job (tenant_at host.tenants j.tenant) j) ≡ true → j.tick < (tenant_at host.tenants j.tenant).row.count
   awaited_is_early host state j lt stands has early e =
-      let s : Standing = standing_at host j.tenant in
-      let row : Row = row_at setting state j.tenant in
+      let s : Standing = tenant_at host.tenants j.tenant in
+      let row : Row = row_at state j.tenant in
       let parts = both (is_active row j) (not (is_counted state j)) (sym (awaited_is s row j (is_counted state) (λ i k e. ap (is_counted state) e) has (stands.each j.tenant lt)) ∙ e) in
       early_active j.tenant s.row.count j row.active (subst (AreEarly s.row.count) (ap (λ (r : Row). r.active) (stands.each j.tenant lt).same_row) early) parts.0
 
@@ -354,8 +352,8 @@ module _ (setting : Setting) where
       → Stands setting (record host { tenants = set host.tenants place after }) (record state { counted = j ∷ state.counted })
   done_counts host state j place before after e stands within here count has early awaited own =
       let lt : j.tenant < length setting.config.tenants = omega (arith, stands.as_many) in
-      let same : before ≡ standing_at host j.tenant = here ∙ (get_or_default host.tenants place before (empty_standing 0) within ∙ ap (λ k. get_or host.tenants k (empty_standing 0)) e) in
-      let tick : j.tick < (standing_at host j.tenant).row.count =
+      let same : before ≡ tenant_at host.tenants j.tenant = here ∙ (get_or_default host.tenants place before (empty_standing 0) within ∙ ap (λ k. get_or host.tenants k (empty_standing 0)) e) in
+      let tick : j.tick < (tenant_at host.tenants j.tenant).row.count =
       awaited_is_early host state j lt stands (subst HasTasksWithProgram same has) (subst (λ (s : Standing). AreEarly s.row.count s.row.active) same early)
       (subst (λ s. is_some (awaited_job s j) ≡ true) same awaited) in
       subst (λ k. Stands setting (record host { tenants = set host.tenants k after }) (record state { counted = j ∷ state.counted })) (sym e)
@@ -375,15 +373,15 @@ find_passes p (y ∷ xs) x e = by (p y) refl e (find_passes p xs x)
 pub awaited_name : (s : Standing) (j : JobId) (d : JobValue) → awaited_job s j ≡ Some d → d.id ≡ j
 awaited_name s j d e = program s.row.program e
   where
-    found : (p : GiottoProgram) (o : Option ActiveTask) → find (λ a. same_job (job_of j.tenant a) j) (awaited_tasks s) ≡ o → option_map (job_in p j.tenant) o ≡ Some d → d.id ≡ j
+    found : (p : GiottoProgram) (o : Option ActiveTask) → find (λ a. same_job (job_of j.tenant a) j) (outstanding_tasks s) ≡ o → option_map (job_in p j.tenant) o ≡ Some d → d.id ≡ j
     found p None e f = absurd (cc)
     found p (Some a) e f =
         let same : job_in p j.tenant a ≡ d = cc in
-        ap (λ (k : JobValue). k.id) (sym same) ∙ same_job_is (job_of j.tenant a) j (find_passes (λ a. same_job (job_of j.tenant a) j) (awaited_tasks s) a e)
+        ap (λ (k : JobValue). k.id) (sym same) ∙ same_job_is (job_of j.tenant a) j (find_passes (λ a. same_job (job_of j.tenant a) j) (outstanding_tasks s) a e)
 
-    program : (o : Option GiottoProgram) → option_and_then (λ p. option_map (job_in p j.tenant) (find (λ a. same_job (job_of j.tenant a) j) (awaited_tasks s))) o ≡ Some d → d.id ≡ j
+    program : (o : Option GiottoProgram) → option_and_then (λ p. option_map (job_in p j.tenant) (find (λ a. same_job (job_of j.tenant a) j) (outstanding_tasks s))) o ≡ Some d → d.id ≡ j
     program None f = absurd (cc)
-    program (Some p) f = found p (find (λ a. same_job (job_of j.tenant a) j) (awaited_tasks s)) refl f
+    program (Some p) f = found p (find (λ a. same_job (job_of j.tenant a) j) (outstanding_tasks s)) refl f
 
 pub awaited_name_in : (host : HostStanding) (j : JobId) (d : JobValue) → awaited_in host j ≡ Some d → d.id ≡ j
 awaited_name_in host j d e = by (slice_get host.tenants j.tenant) e
@@ -394,21 +392,21 @@ awaited_name_in host j d e = by (slice_get host.tenants j.tenant) e
 
 module _ (setting : Setting) where
   -- behind a completion, by whether it was awaited
-  pub done_awaited : (state : HostState) (j : JobId) (host : HostStanding) → awaits setting state j ≡ true → Stands setting host (record state { counted = j ∷ state.counted })
+  pub done_awaited : (state : HostState) (j : JobId) (host : HostStanding) → awaits state j ≡ true → Stands setting host (record state { counted = j ∷ state.counted })
       → Stands setting host (after_event setting state (Done j))
   done_awaited state j host e stands = subst (λ b. Stands setting host (cond b (record state { counted = j ∷ state.counted }) state)) (sym e) stands
 
-  pub done_late : (state : HostState) (j : JobId) (host : HostStanding) → awaits setting state j ≡ false → Stands setting host state → Stands setting host (after_event setting state (Done j))
+  pub done_late : (state : HostState) (j : JobId) (host : HostStanding) → awaits state j ≡ false → Stands setting host state → Stands setting host (after_event setting state (Done j))
   done_late state j host e stands = subst (λ b. Stands setting host (cond b (record state { counted = j ∷ state.counted }) state)) (sym e) stands
 
 -- a tenant's answer to a job's name is the host's
 pub job_awaits : {E : Type 0} (host : HostStanding) (j : JobId) (before : Standing) (result : Result (Option JobValue) E)
     → j.tenant < length host.tenants → before ≡ get_or host.tenants j.tenant before → HasTasksWithProgram before
     → IfOk result (λ job. job ≡ awaited_job before j)
-    → IfOk result (λ job. (setting : Setting) (state : HostState) → Stands setting host state → is_some job ≡ awaits setting state j)
+    → IfOk result (λ job. (setting : Setting) (state : HostState) → Stands setting host state → is_some job ≡ awaits state j)
 job_awaits host j before (Err e) within here has is = tt
 job_awaits host j before (Ok job) within here has is = λ setting state stands.
-    let same : before ≡ standing_at host j.tenant = here ∙ get_or_default host.tenants j.tenant before (empty_standing 0) within in
+    let same : before ≡ tenant_at host.tenants j.tenant = here ∙ get_or_default host.tenants j.tenant before (empty_standing 0) within in
     ap is_some is
     ∙ (ap (λ s. is_some (awaited_job s j)) same
     ∙ (sym (ap (λ o. is_some (option_and_then (λ s. awaited_job s j) o)) (slice_get-get_or host.tenants j.tenant (empty_standing 0) within))

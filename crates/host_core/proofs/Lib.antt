@@ -1,10 +1,11 @@
 pub mod Alone
 pub mod AloneAlong
-pub mod FirstAwaited
+pub mod EqualTenants
 pub mod FirstRun
 pub mod Histories
 pub mod HostLoops
 pub mod HostSteps
+pub mod LaterBase
 pub mod NewHost
 pub mod Outstanding
 pub mod Overrun

@@ -11,29 +11,32 @@ use Rattle.giotto_read.specs.Program.{GiottoProgram}
 use Rattle.host_core.specs.declared.events.Event.{Event}
 use Rattle.host_core.specs.declared.events.Event.TheVariants.{Own, Tick, Done}
 use Rattle.rig_config.specs.declared.Config.{Config}
-use Rattle.tenant_state.specs.declared.commands.Command.{Command}
+use Rattle.tenant_lines.specs.declared.commands.Command.{Command}
 use Rattle.tenant_state.specs.declared.jobs.JobId.{JobId}
-use Rattle.tenant_state.specs.declared.replies.Reply.{Reply}
+use Rattle.tenant_lines.specs.declared.replies.Reply.{Reply}
+use Rattle.std.proofs.Math.ListN.{get_or-eq_default}
 use Rattle.host_core.specs.Answers.{answers_along, answers_of}
-use Rattle.host_core.specs.Halves.{released_from}
-use Rattle.host_core.specs.Host.{row_at, empty_host, host_after}
-use Rattle.host_core.specs.HostStanding.{HostStanding, new_host, standing_at, Stands, released_in}
+use Rattle.host_core.specs.Base.{IsBase, new_base}
+use Rattle.host_core.specs.Host.{host_after}
+use Rattle.host_core.specs.HostState.{HostState, row_at}
+use Rattle.host_core.specs.HostStanding.{HostStanding, new_host, tenant_at, Stands, released_from}
 use Rattle.host_core.specs.Legal.{next_tick, was_released, may_follow, is_legal}
 use Rattle.host_core.specs.Playing.{IsPlayed}
 use Rattle.host_core.specs.Plays.{IsSettingOf}
 use Rattle.host_core.specs.Setting.{Setting}
-use Rattle.host_core.specs.Views.{after_command, readings_of, unfinished_of, run_of, view_of, row_of}
+use Rattle.host_core.specs.Views.{after_command, readings_of, run_of, view_of, row_of}
 use Rattle.rig_config.specs.Roster.{budgets_at, is_tenant}
 use Rattle.tenant_state.specs.FirstHalf.{first_half_of}
 use Rattle.tenant_state.specs.Jobs.{JobValue, job_of, job_in, same_job, is_active, released_at}
-use Rattle.tenant_state.specs.Replies.{text_of_reply}
+use Rattle.tenant_lines.specs.Replies.{text_of_reply}
 use Rattle.tenant_state.specs.Row.{ActiveTask, Row, empty_row}
 use Rattle.tenant_state.specs.SecondHalf.{second_half_of}
 use Rattle.tenant_state.specs.Standing.{Standing, empty_standing}
 use Rattle.tenant_state.proofs.ActiveTasks.{kept_by_command, kept_by_instant}
 use Rattle.host_core.proofs.AloneAlong.{same_rows, same_clock}
-use Rattle.host_core.proofs.Histories.{own_instant, own_row, releases}
+use Rattle.host_core.proofs.Histories.{unfinished_of, own_instant, own_row, releases}
 use Rattle.host_core.proofs.HostSteps.{HasTasksWithProgram}
+use Rattle.host_core.proofs.LaterBase.{new_is_base, new_row}
 use Rattle.host_core.proofs.NewHost.{new_stands}
 use Rattle.tenant_state.proofs.JobNames.{both, either, or_true, and_true, same_number_self, same_job_is}
 
@@ -154,7 +157,7 @@ module _ (j : JobId) where
       (found_at n (from + 1) xs k (omega arith) (ap (λ i. list_any is_it (released_at i n (get_or xs k (empty_standing 0)).row)) (let one_more : from + 1 + k ≡ from + suc k = omega arith in one_more) ∙ e))
       ∙ or_true (list_any is_it (released_at from n x.row)))
 
-module _ (setting : Setting) where
+module _ (setting : Setting) (base : IsBase setting.config setting.base) where
   within : (u : ℕ) → is_tenant setting.config u ≡ true → u < length setting.config.tenants
   within u e = grind (arith, nat_tests)
 
@@ -163,7 +166,7 @@ module _ (setting : Setting) where
 
   -- no event reaches a place that isn't in the roster
   row_outside : (past : List Event) (t : ℕ) → is_legal setting past ≡ true → length setting.config.tenants ≤ t → row_of setting past t ≡ empty_row (next_tick setting past)
-  row_outside [] t legal le = refl
+  row_outside [] t legal le = get_or-eq_default setting.base.rows (empty_row setting.base.clock) (omega (arith, base.as_many))
   row_outside (Own u c ∷ past) t legal le =
       let parts = both (is_tenant setting.config u) (is_legal setting past) legal in
       let lt = within u parts.0 in
@@ -171,11 +174,11 @@ module _ (setting : Setting) where
       ap (λ b. run_of setting t (cond b (Rattle.host_core.specs.Views.command c ∷ view_of setting past t) (view_of setting past t))) other ∙ row_outside past t parts.1 le
   row_outside (Done i ∷ past) t legal le = row_outside past t (both (may_follow setting past (Done i)) (is_legal setting past) legal).1 le
   row_outside (Tick frame ∷ past) t legal le =
-      ap (λ r. second_half_of (readings_of setting t frame) (own_instant setting past frame t).granted (first_half_of (unfinished_of past t r) r))
+      ap (λ r. second_half_of (readings_of setting t frame) (own_instant setting past frame t).granted (first_half_of (unfinished_of setting past t r) r))
       (row_outside past t (both (may_follow setting past (Tick frame)) (is_legal setting past) legal).1 le)
 
   released_if_active : (past : List Event) (j : JobId) → is_active (row_of setting past j.tenant) j ≡ true → was_released setting past j ≡ true
-  released_if_active [] j e = absurd (cc)
+  released_if_active [] j e = e
   released_if_active (e ∷ past) j is = ap (λ b. b || was_released setting past j) is
 
   -- commands and completions release nothing
@@ -184,7 +187,7 @@ module _ (setting : Setting) where
       any_if_all (λ (a : ActiveTask). same_job (job_of j.tenant a) j) (was_released setting past j ≡ true) (row_of setting (Own u c ∷ past) j.tenant).active
       (own_row setting (λ (row : Row). AllByRecursion WasReleased row.active) past c j.tenant (eqb u j.tenant)
       (kept_by_command WasReleased (next_tick setting past) setting.reader (budgets_at setting.config j.tenant) c (row_of setting past j.tenant)
-      (record { each = before; at = (releases setting past j.tenant).at })).each
+      (record { each = before; at = (releases setting base past j.tenant).at })).each
       before)
     where
       WasReleased : ActiveTask → Type 0
@@ -205,7 +208,7 @@ module _ (setting : Setting) where
   active_behind past frame j =
       any_if_all (λ (a : ActiveTask). same_job (job_of j.tenant a) j) Either (row_of setting (Tick frame ∷ past) j.tenant).active
       (kept_by_instant IsEither (next_tick setting past) (λ a e same. inl (sym (ap (λ (k : JobId). k.tick) (same_job_is (job_of j.tenant a) j same)) ∙ e))
-      (own_instant setting past frame j.tenant) (row_of setting past j.tenant) (record { each = before; at = (releases setting past j.tenant).at })).0
+      (own_instant setting past frame j.tenant) (row_of setting past j.tenant) (record { each = before; at = (releases setting base past j.tenant).at })).0
     where
       Either : Type 0
       Either = (j.tick ≡ next_tick setting past) ⊎ (was_released setting past j ≡ true)
@@ -217,13 +220,13 @@ module _ (setting : Setting) where
       before = all_if_any (λ (a : ActiveTask). same_job (job_of j.tenant a) j) Either (row_of setting past j.tenant).active (λ e. inr (released_if_active past j e))
 
   same_active : (past : List Event) (host : HostStanding) (t : ℕ) (j : JobId) → is_legal setting past ≡ true → Stands setting host (host_after setting past) → t < length setting.config.tenants
-      → is_active (standing_at host t).row j ≡ is_active (row_of setting past t) j
+      → is_active (tenant_at host.tenants t).row j ≡ is_active (row_of setting past t) j
   same_active past host t j legal stands lt =
-      ap (λ (row : Row). is_active row j) (stands.each t lt).same_row ∙ ap (λ row. is_active row j) (same_rows setting past t legal (is_within t lt))
+      ap (λ (row : Row). is_active row j) (stands.each t lt).same_row ∙ ap (λ row. is_active row j) (same_rows setting base past t legal (is_within t lt))
 
   released_tick : (past : List Event) (frame : List ℤ) (host : HostStanding) (j : JobId) → is_legal setting (Tick frame ∷ past) ≡ true → Stands setting host (host_after setting (Tick frame ∷ past))
       → All HasTasksWithProgram host.tenants
-      → (was_released setting past j || list_any (is_it j) (released_in (next_tick setting past) host)) ≡ was_released setting (Tick frame ∷ past) j
+      → (was_released setting past j || list_any (is_it j) (released_from (next_tick setting past) 0 host.tenants)) ≡ was_released setting (Tick frame ∷ past) j
   released_tick past frame host j legal stands has =
       same_truth (before || among) (active || before)
       (λ e. either before among ((active || before) ≡ true) e (λ h. ap (λ b. active || b) h ∙ or_true active) (λ h. ap (λ b. b || before) (active_if_among h)))
@@ -233,7 +236,7 @@ module _ (setting : Setting) where
       before = was_released setting past j
 
       among : Bool
-      among = list_any (is_it j) (released_in (next_tick setting past) host)
+      among = list_any (is_it j) (released_from (next_tick setting past) 0 host.tenants)
 
       active : Bool
       active = is_active (row_of setting (Tick frame ∷ past) j.tenant) j
@@ -243,14 +246,14 @@ module _ (setting : Setting) where
           let found = sound_at j (0 + k) (next_tick setting past) (get_or host.tenants k (empty_standing 0)).row h in
           let place : k ≡ j.tenant = omega (arith, found.0) in
           sym (same_active (Tick frame ∷ past) host j.tenant j legal stands (omega (arith, stands.as_many)))
-          ∙ (ap (λ i. is_active (standing_at host i).row j) (sym place) ∙ found.1))
+          ∙ (ap (λ i. is_active (tenant_at host.tenants i).row j) (sym place) ∙ found.1))
 
       new : j.tick ≡ next_tick setting past → active ≡ true → (j.tenant < length setting.config.tenants) ⊎ (length setting.config.tenants ≤ j.tenant) → among ≡ true
       new tick e (inl lt) =
           let inside : j.tenant < length host.tenants = omega (arith, stands.as_many) in
           found_at j (next_tick setting past) 0 host.tenants j.tenant inside
-          (ap (λ k. list_any (is_it j) (released_at k (next_tick setting past) (standing_at host j.tenant).row)) (zero-add j.tenant)
-          ∙ complete_at j (next_tick setting past) (standing_at host j.tenant).row (has j.tenant (empty_standing 0) inside) tick
+          (ap (λ k. list_any (is_it j) (released_at k (next_tick setting past) (tenant_at host.tenants j.tenant).row)) (zero-add j.tenant)
+          ∙ complete_at j (next_tick setting past) (tenant_at host.tenants j.tenant).row (has j.tenant (empty_standing 0) inside) tick
           (same_active (Tick frame ∷ past) host j.tenant j legal stands lt ∙ e))
       new tick e (inr le) =
           let bad : true ≡ false = sym e ∙ ap (λ row. is_active row j) (row_outside (Tick frame ∷ past) j.tenant legal le) in
@@ -266,6 +269,7 @@ module _ (setting : Setting) where
   pub step_done : (past : List Event) (i : JobId) (host host_new : HostStanding) (texts : List (List ℕ)) (released : List JobId) → may_follow setting past (Done i) ≡ true
       → Stands setting host_new (host_after setting (Done i ∷ past)) → IsPlayed setting past host texts released → IsPlayed setting (Done i ∷ past) host_new texts released
   step_done past i host host_new texts released may stands played = record {
+    base = base;
     legal = and_true (may_follow setting past (Done i)) (is_legal setting past) may played.legal;
     stands = stands;
     as_many = played.as_many;
@@ -275,12 +279,13 @@ module _ (setting : Setting) where
 
   pub step_tick : (past : List Event) (frame : List ℤ) (host host_new : HostStanding) (texts : List (List ℕ)) (released released_new : List JobId) (jobs : List JobValue)
       → may_follow setting past (Tick frame) ≡ true → Stands setting host_new (host_after setting (Tick frame ∷ past)) → All HasTasksWithProgram host_new.tenants
-      → jobs ≡ released_in host.clock host_new → released_new ≡ released ++ map (λ (k : JobValue). k.id) jobs
+      → jobs ≡ released_from host.clock 0 host_new.tenants → released_new ≡ released ++ map (λ (k : JobValue). k.id) jobs
       → IsPlayed setting past host texts released → IsPlayed setting (Tick frame ∷ past) host_new texts released_new
   step_tick past frame host host_new texts released released_new jobs may stands has are more played =
       let legal : is_legal setting (Tick frame ∷ past) ≡ true = and_true (may_follow setting past (Tick frame)) (is_legal setting past) may played.legal in
       let clock : host.clock ≡ next_tick setting past = played.stands.same_clock ∙ same_clock setting past in
       record {
+        base = base;
         legal = legal;
         stands = stands;
         as_many = played.as_many;
@@ -289,16 +294,17 @@ module _ (setting : Setting) where
             ap (list_any (λ r. same_job r j)) more
             ∙ (list_any-append (λ r. same_job r j) released (map (λ (k : JobValue). k.id) jobs)
             ∙ (ap (λ b. b || list_any (λ r. same_job r j) (map (λ (k : JobValue). k.id) jobs)) (played.names j)
-            ∙ (ap (λ b. was_released setting past j || b) (any_map (λ r. same_job r j) (λ (k : JobValue). k.id) jobs ∙ ap (list_any (is_it j)) (are ∙ ap (λ n. released_in n host_new) clock))
+            ∙ (ap (λ b. was_released setting past j || b) (any_map (λ r. same_job r j) (λ (k : JobValue). k.id) jobs ∙ ap (list_any (is_it j)) (are ∙ ap (λ n. released_from n 0 host_new.tenants) clock))
             ∙ released_tick past frame host_new j legal stands has)));
       }
 
   pub step_own : (past : List Event) (u : ℕ) (c : Command) (host host_new : HostStanding) (texts : List (List ℕ)) (released : List JobId) (reply : Reply) (text : List ℕ)
       → may_follow setting past (Own u c) ≡ true → Stands setting host_new (host_after setting (Own u c ∷ past))
-      → reply ≡ (after_command setting u c (row_at setting (host_after setting past) u)).reply
+      → reply ≡ (after_command setting u c (row_at (host_after setting past) u)).reply
       → text ≡ get_or texts u [] ++ (text_of_reply reply ++ 10 ∷ [])
       → IsPlayed setting past host texts released → IsPlayed setting (Own u c ∷ past) host_new (set texts u text) released
   step_own past u c host host_new texts released reply text may stands replied printed played = record {
+    base = base;
     legal = and_true (may_follow setting past (Own u c)) (is_legal setting past) may played.legal;
     stands = stands;
     as_many = length-set texts u text ∙ played.as_many;
@@ -323,7 +329,7 @@ module _ (setting : Setting) where
           printed
           ∙ (ap (λ before. before ++ (text_of_reply reply ++ 10 ∷ [])) (played.each u (within u may))
           ∙ ap (λ r. answers_of setting past u ++ (text_of_reply r ++ 10 ∷ []))
-          (replied ∙ ap (λ row. (after_command setting u c row).reply) (same_rows setting past u played.legal may)))
+          (replied ∙ ap (λ row. (after_command setting u c row).reply) (same_rows setting base past u played.legal may)))
 
   -- an instant may come, by the clock
   pub tick_legal : (past : List Event) (frame : List ℤ) (host : HostStanding) (texts : List (List ℕ)) (released : List JobId) (clock lines : ℕ) → clock ≡ host.clock
@@ -334,18 +340,20 @@ module _ (setting : Setting) where
       let is : eqb (length frame) setting.config.lines ≡ true = ap (λ n. eqb (length frame) n) (sym lines_are) ∙ same_number_self (length frame) in
       ap (λ n. nat_lt n (2 ^ 64 - 1)) next ∙ sym (ap (λ b. b && nat_lt (next_tick setting past) (2 ^ 64 - 1)) is)
 
-  -- no event yet
-  pub nothing_played : (config : Config) (host : HostStanding) (texts : List (List ℕ)) → IsSettingOf config setting → host ≡ new_host config 0 → length texts ≡ length config.tenants
-      → All (λ text. text ≡ []) texts → IsPlayed setting [] host texts []
-  nothing_played config host texts is new as_many blank = subst (λ h. IsPlayed setting [] h texts []) (sym new) (record {
-    legal = refl;
-    stands =
-        subst (λ (k : Config). Stands setting (new_host k 0) (empty_host setting)) is.same_config
-        (subst (λ n. Stands setting (new_host setting.config n) (empty_host setting)) is.from_zero (new_stands setting));
-    as_many = as_many ∙ ap (λ (k : Config). length k.tenants) (sym is.same_config);
-    each = λ t lt. blank t [] (omega (arith, as_many, ap (λ (k : Config). length k.tenants) is.same_config));
-    names = λ j. refl;
-  })
+-- no event yet
+pub nothing_played : (setting : Setting) (config : Config) (host : HostStanding) (texts : List (List ℕ)) → IsSettingOf config setting → host ≡ new_host config 0 → length texts ≡ length config.tenants
+    → All (λ text. text ≡ []) texts → IsPlayed setting [] host texts []
+nothing_played setting config host texts is new as_many blank = record {
+  base = subst (IsBase setting.config) (sym is.new) (subst (λ (k : Config). IsBase k (new_base config 0)) (sym is.same_config) (new_is_base config 0));
+  legal = refl;
+  stands =
+      subst (λ h. Stands setting h setting.base) (sym new)
+      (subst (Stands setting (new_host config 0)) (sym is.new)
+      (subst (λ (k : Config). Stands setting (new_host k 0) (new_base k 0)) is.same_config (new_stands setting 0)));
+  as_many = as_many ∙ ap (λ (k : Config). length k.tenants) (sym is.same_config);
+  each = λ t lt. blank t [] (omega (arith, as_many, ap (λ (k : Config). length k.tenants) is.same_config));
+  names = λ j. sym (ap (λ (host : HostState). is_active (row_at host j.tenant) j) is.new ∙ ap (λ row. is_active row j) (new_row config 0 j.tenant));
+}
 
 pub reverse_more : {X : Type 0} (xs : List X) (i : ℕ) (d : X) → i < length xs → reverse (take (i + 1) xs) ≡ get_or xs i d ∷ reverse (take i xs)
 reverse_more xs i d lt = ap reverse (take_more xs i d lt) ∙ reverse-append (take i xs) (get_or xs i d ∷ [])

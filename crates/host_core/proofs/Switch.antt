@@ -3,7 +3,7 @@ use Rattle.std.proofs.Common.{◌≡◌, ℕ, pos, List, [], ◌∷◌, ◌++◌
 use Rattle.std.specs.Prelude.{codes, if◌then◌else◌, nat_eq}
 use Rattle.host_core.specs.declared.events.Event.{Event}
 use Rattle.host_core.specs.declared.events.Event.TheVariants.{Own}
-use Rattle.tenant_state.specs.declared.commands.Command.TheVariants.{Load, Start}
+use Rattle.tenant_lines.specs.declared.commands.Command.TheVariants.{Load, Start}
 use Rattle.tenant_state.specs.declared.trace.Happening.TheVariants as happening
 use Rattle.host_core.specs.Grants.{granted_to}
 use Rattle.rig_config.specs.BuiltIn.{built_in_config}

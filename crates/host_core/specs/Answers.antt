@@ -1,7 +1,7 @@
 -- The bytes answered to a tenant.
 use Rattle.std.specs.Prelude.{ℕ, List, [], ◌∷◌, ◌++◌}
 use Rattle.host_core.specs.declared.events.Event.{Event}
-use Rattle.tenant_state.specs.Replies.{text_of_reply}
+use Rattle.tenant_lines.specs.Replies.{text_of_reply}
 use Rattle.host_core.specs.Setting.{Setting}
 use Rattle.host_core.specs.Views.{LocalEvent, command, instant, after_command, run_of, view_of}
 

@@ -1,17 +1,16 @@
 -- The two halves of an instant, for all tenants in turn, as the host's code goes through them.
 use Rattle.std.specs.Prelude.{◌≡◌, ◌<◌, ◌≤◌, ◌+◌, ℕ, Bool, false, ℤ, List, [], map, length, slice_index_or, sum}
-use Rattle.std.specs.List.{flat_map, enumerate_from}
 use Rattle.rig_config.specs.declared.Config.{Config}
 use Rattle.rig_config.specs.Roster.{budgets_at}
-use Rattle.tenant_state.specs.FirstHalf.{first_half_of}
-use Rattle.tenant_state.specs.Jobs.{JobValue, released_at}
+use Rattle.tenant_state.specs.FirstHalf.{unfinished_tasks, first_half_of}
+use Rattle.host_core.specs.HostStanding.{tenant_at}
 use Rattle.tenant_state.specs.Row.{ActiveTask, Row}
 use Rattle.tenant_state.specs.SecondHalf.{readings_within, second_half_of}
-use Rattle.tenant_state.specs.Standing.{Standing, empty_standing, StandsFor, uncompleted, bodies_invoked, RoomValue, IsRoomFor}
+use Rattle.tenant_state.specs.Standing.{Standing, StandsFor, bodies_invoked, RoomValue, IsRoomFor}
 
 -- a tenant before and behind its first half; it is granted nothing, since it has no binds
 pub record IsFirstHalf (before after : Standing) : Type 0 where
-  pub step : (row : Row) (completed : ActiveTask → Bool) → StandsFor before row completed → StandsFor after (first_half_of (uncompleted completed row) row) completed
+  pub step : (row : Row) (completed : ActiveTask → Bool) → StandsFor before row completed → StandsFor after (first_half_of (unfinished_tasks completed row) row) completed
   pub no_binds : before.row.binds ≡ []
   pub fewer : length after.row.active ≤ length before.row.active
   pub bodies : bodies_invoked after.row ≡ bodies_invoked before.row
@@ -23,9 +22,6 @@ pub record IsSecondHalf (reads : List ℕ) (frame : List ℤ) (before after : St
       → ((a : ActiveTask) → a.release ≡ row.count → completed a ≡ false)
       → StandsFor after (second_half_of (readings_within reads frame) [] row) completed
   pub count : after.row.count ≡ before.row.count + 1
-
-abbrev pub tenant_at : List Standing → ℕ → Standing
-tenant_at tenants t = slice_index_or tenants t (empty_standing 0)
 
 -- all tenants, by their places, the first `n` of which have gone through the step
 pub record AreStepped (step : ℕ → Standing → Standing → Type 0) (n : ℕ) (before after : List Standing) : Type 0 where
@@ -50,7 +46,3 @@ pub record AreReady (from : ℕ) (tenants : List Standing) (rooms : List RoomVal
 -- how many tasks there is room for in all
 abbrev pub places_of : List RoomValue → ℕ
 places_of rooms = sum (map (λ (r : RoomValue). length r.bodies) rooms)
-
--- the jobs that instant n released, tenant by tenant, from this place on
-abbrev pub released_from : ℕ → ℕ → List Standing → List JobValue
-released_from n from tenants = flat_map (λ (place : ℕ × Standing). released_at place.0 n place.1.row) (enumerate_from from tenants)

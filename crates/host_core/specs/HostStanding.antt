@@ -1,14 +1,14 @@
 -- What the host's code stands for.
-use Rattle.std.specs.Prelude.{◌≡◌, ◌<◌, ℕ, true, List, map, length, slice_get, slice_index_or, sum, Option}
+use Rattle.std.specs.Prelude.{◌≡◌, ◌<◌, ℕ, true, List, map, length, slice_get, slice_index_or, Option}
 use Rattle.std.specs.List.{flat_map, enumerate_from}
 use Rattle.std.specs.Option.{option_and_then}
 use Rattle.rig_config.specs.declared.Config.{Config}
 use Rattle.rig_config.specs.declared.TenantConfig.{TenantConfig}
 use Rattle.tenant_state.specs.declared.jobs.JobId.{JobId}
-use Rattle.host_core.specs.Host.{HostState, row_at, is_counted}
+use Rattle.host_core.specs.HostState.{HostState, row_at, is_counted}
 use Rattle.host_core.specs.Setting.{Setting}
 use Rattle.tenant_state.specs.Jobs.{JobValue, job_of, released_at}
-use Rattle.tenant_state.specs.Standing.{Standing, empty_standing, StandsFor, awaited_tasks, awaited_job}
+use Rattle.tenant_state.specs.Standing.{Standing, empty_standing, StandsFor, outstanding_tasks, awaited_job}
 
 pub record HostStanding : Type 0 where
   pub config : Config
@@ -21,8 +21,9 @@ pub record HostStanding : Type 0 where
 abbrev pub new_host : Config → ℕ → HostStanding
 new_host config first_tick = record { config = config; tenants = map (λ (t : TenantConfig). empty_standing first_tick) config.tenants; clock = first_tick }
 
-abbrev pub standing_at : HostStanding → ℕ → Standing
-standing_at host t = slice_index_or host.tenants t (empty_standing 0)
+-- the tenant at place t
+abbrev pub tenant_at : List Standing → ℕ → Standing
+tenant_at tenants t = slice_index_or tenants t (empty_standing 0)
 
 -- The host stands for a row for each tenant, and holds the jobs that were completed and are still active.
 pub record Stands (setting : Setting) (host : HostStanding) (state : HostState) : Type 0 where
@@ -30,8 +31,8 @@ pub record Stands (setting : Setting) (host : HostStanding) (state : HostState) 
   pub same_clock : host.clock ≡ state.clock
   pub as_many : length host.tenants ≡ length setting.config.tenants
   pub all_rows : length state.rows ≡ length setting.config.tenants
-  pub each : (t : ℕ) → t < length setting.config.tenants → StandsFor (standing_at host t) (row_at setting state t) (λ a. is_counted state (job_of t a))
-  pub counts : (t : ℕ) → t < length setting.config.tenants → (row_at setting state t).count ≡ state.clock
+  pub each : (t : ℕ) → t < length setting.config.tenants → StandsFor (tenant_at host.tenants t) (row_at state t) (λ a. is_counted state (job_of t a))
+  pub counts : (t : ℕ) → t < length setting.config.tenants → (row_at state t).count ≡ state.clock
   -- what is counted was released before the next instant
   pub early : (j : JobId) → is_counted state j ≡ true → j.tick < state.clock
 
@@ -39,14 +40,13 @@ pub record Stands (setting : Setting) (host : HostStanding) (state : HostState) 
 abbrev pub awaited_in : HostStanding → JobId → Option JobValue
 awaited_in host j = option_and_then (λ s. awaited_job s j) (slice_get host.tenants j.tenant)
 
--- the jobs that the instant of number n released, tenant by tenant
-abbrev pub released_in : ℕ → HostStanding → List JobValue
-released_in n host = flat_map (λ (place : ℕ × Standing). released_at place.0 n place.1.row) (enumerate_from 0 host.tenants)
+-- the jobs that the instant of number n released, tenant by tenant, from this place on
+abbrev pub released_from : ℕ → ℕ → List Standing → List JobValue
+released_from n from tenants = flat_map (λ (place : ℕ × Standing). released_at place.0 n place.1.row) (enumerate_from from tenants)
 
--- how many completions are awaited
-abbrev pub outstanding_in : HostStanding → ℕ
-outstanding_in host = sum (map (λ s. length (awaited_tasks s)) host.tenants)
+-- the names of the outstanding jobs, tenant by tenant, from this place on
+abbrev pub outstanding_from : ℕ → List Standing → List JobId
+outstanding_from from tenants = flat_map (λ (place : ℕ × Standing). map (job_of place.0) (outstanding_tasks place.1)) (enumerate_from from tenants)
 
--- the names of the jobs whose completions are awaited, tenant by tenant
 abbrev pub outstanding_jobs : HostStanding → List JobId
-outstanding_jobs host = flat_map (λ (place : ℕ × Standing). map (job_of place.0) (awaited_tasks place.1)) (enumerate_from 0 host.tenants)
+outstanding_jobs host = outstanding_from 0 host.tenants

@@ -1,25 +1,26 @@
 -- Which lists of events can happen, and which completions count.
-use Rattle.std.specs.Prelude.{ℕ, ◌+◌, ◌-◌, ◌^◌, nat_lt, Bool, true, false, not, ◌&&◌, ◌||◌, ◌==◌, List, [], ◌∷◌, length}
+use Rattle.std.specs.Prelude.{ℕ, ◌+◌, ◌-◌, ◌^◌, nat_lt, Bool, true, not, ◌&&◌, ◌||◌, ◌==◌, List, [], ◌∷◌, length}
 use Rattle.host_core.specs.declared.events.Event.{Event}
 use Rattle.host_core.specs.declared.events.Event.TheVariants.{Own, Tick, Done}
 use Rattle.tenant_state.specs.declared.jobs.JobId.{JobId}
 use Rattle.rig_config.specs.Roster.{is_tenant}
 use Rattle.host_core.specs.Completions.{has_completion}
 use Rattle.tenant_state.specs.Jobs.{is_active}
+use Rattle.host_core.specs.HostState.{row_at}
 use Rattle.host_core.specs.Setting.{Setting}
 use Rattle.host_core.specs.Views.{row_of}
 
 module _ (setting : Setting) where
   -- the number of the next instant
   abbrev pub next_tick : List Event → ℕ
-  next_tick [] = setting.first_tick
+  next_tick [] = setting.base.clock
   next_tick (Own t c ∷ past) = next_tick past
   next_tick (Tick frame ∷ past) = next_tick past + 1
   next_tick (Done j ∷ past) = next_tick past
 
-  -- the job was active at some place of the list, which is so exactly from its release on
+  -- the job was active in the base or at some place of the list, which is so exactly from its release on
   abbrev pub was_released : List Event → JobId → Bool
-  was_released [] j = false
+  was_released [] j = is_active (row_at setting.base j.tenant) j
   was_released (e ∷ past) j = is_active (row_of setting (e ∷ past) j.tenant) j || was_released past j
 
   -- this event may come next: a command of a tenant of the roster, a frame with a value for each line at a tick below the greatest, or the completion of a job that was released
@@ -34,4 +35,4 @@ module _ (setting : Setting) where
 
   -- a completion counts if its task is active with its release, and no completion of it came before
   abbrev pub counts : List Event → JobId → Bool
-  counts past j = is_active (row_of setting past j.tenant) j && not (has_completion past j)
+  counts past j = is_active (row_of setting past j.tenant) j && not (has_completion setting past j)

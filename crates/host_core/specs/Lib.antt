@@ -1,9 +1,11 @@
 pub mod Answers
+pub mod Base
 pub mod Completions
 pub mod Grants
 pub mod Halves
 pub mod Host
 pub mod HostStanding
+pub mod HostState
 pub mod Legal
 pub mod Playing
 pub mod Plays

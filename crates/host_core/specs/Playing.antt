@@ -6,6 +6,7 @@ use Rattle.host_core.specs.declared.events.Event.TheVariants.{Own, Tick, Done}
 use Rattle.rig_config.specs.declared.Config.{Config}
 use Rattle.tenant_state.specs.declared.jobs.JobId.{JobId}
 use Rattle.host_core.specs.Answers.{answers_of}
+use Rattle.host_core.specs.Base.{IsBase}
 use Rattle.host_core.specs.Host.{host_after}
 use Rattle.host_core.specs.HostStanding.{HostStanding, Stands}
 use Rattle.host_core.specs.Legal.{may_follow, was_released, is_legal}
@@ -15,6 +16,7 @@ use Rattle.tenant_state.specs.Jobs.{same_job}
 
 -- The host, each tenant's text and the names of the released jobs are those behind these events, the newest first.
 pub record IsPlayed (setting : Setting) (past : List Event) (host : HostStanding) (texts : List (List ℕ)) (released : List JobId) : Type 0 where
+  pub base : IsBase setting.config setting.base
   pub legal : is_legal setting past ≡ true
   pub stands : Stands setting host (host_after setting past)
   pub as_many : length texts ≡ length setting.config.tenants

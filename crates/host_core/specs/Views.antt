@@ -1,36 +1,33 @@
 -- The one-tenant machine, and each tenant's view of what happens to all tenants. Lists have the newest first.
-use Rattle.std.specs.Prelude.{ℕ, not, ◌==◌, if◌then◌else◌, ℤ, List, [], ◌∷◌, map, filter}
+use Rattle.std.specs.Prelude.{ℕ, ◌==◌, if◌then◌else◌, ℤ, List, [], ◌∷◌}
 use Rattle.giotto_tasks.specs.declared.names.Name.{Name}
 use Rattle.host_core.specs.declared.events.Event.{Event}
 use Rattle.host_core.specs.declared.events.Event.TheVariants.{Own, Tick, Done}
-use Rattle.tenant_state.specs.declared.commands.Command.{Command}
+use Rattle.tenant_lines.specs.declared.commands.Command.{Command}
 use Rattle.rig_config.specs.Roster.{budgets_at}
-use Rattle.tenant_state.specs.Row.{ActiveTask, Row, empty_row}
+use Rattle.tenant_state.specs.Row.{Row}
 use Rattle.tenant_state.specs.Commands.{Outcome, commanded}
-use Rattle.tenant_state.specs.FirstHalf.{due_tasks, first_half_of}
+use Rattle.tenant_state.specs.FirstHalf.{unfinished_tasks, first_half_of}
 use Rattle.tenant_state.specs.Jobs.{job_of}
 use Rattle.tenant_state.specs.Instants.{LocalInstant, after_instant}
 use Rattle.tenant_state.specs.SecondHalf.{Readings, readings_within}
 use Rattle.host_core.specs.Grants.{granted_to}
 use Rattle.host_core.specs.Completions.{has_completion}
+use Rattle.host_core.specs.HostState.{row_at}
 use Rattle.host_core.specs.Setting.{Setting}
 
 pub data LocalEvent : Type 0 where
   command : Command → LocalEvent
   instant : LocalInstant → LocalEvent
 
--- the due tasks of the tenant at place t whose jobs have no completion
-abbrev pub unfinished_of : List Event → ℕ → Row → List Name
-unfinished_of past t row = map (λ (a : ActiveTask). a.task) (filter (λ a. not (has_completion past (job_of t a))) (due_tasks row))
-
 module _ (setting : Setting) where
   -- the step of a command of the tenant at place t: its row after it, and its reply
   abbrev pub after_command : ℕ → Command → Row → Outcome
   after_command t c row = commanded setting.reader (budgets_at setting.config t) c row
 
-  -- the one-tenant machine: the row after the tenant's own events
+  -- the one-tenant machine: the row after the tenant's own events, from that of the base on
   abbrev pub run_of : ℕ → List LocalEvent → Row
-  run_of t [] = empty_row setting.first_tick
+  run_of t [] = row_at setting.base t
   run_of t (command c ∷ past) = (after_command t c (run_of t past)).row
   run_of t (instant i ∷ past) = after_instant i (run_of t past)
 
@@ -46,11 +43,11 @@ module _ (setting : Setting) where
   view_of (Done j ∷ past) t = view_of past t
   view_of (Tick frame ∷ past) t =
       let rows : ℕ → Row = λ u. run_of u (view_of past u) in
-      let unfinished : ℕ → List Name = λ u. unfinished_of past u (rows u) in
+      let left : ℕ → List Name = λ u. unfinished_tasks (λ a. has_completion setting past (job_of u a)) (rows u) in
       instant (record {
         readings = readings_of t frame;
-        unfinished = unfinished t;
-        granted = granted_to setting.config rows (λ u. first_half_of (unfinished u) (rows u)) t;
+        unfinished = left t;
+        granted = granted_to setting.config rows (λ u. first_half_of (left u) (rows u)) t;
       }) ∷ view_of past t
 
   -- the row of the tenant at place t after these events

@@ -2,7 +2,7 @@
 
 use giotto_tasks::lists::List;
 use rig_config::TenantId;
-use tenant_state::commands::Command;
+use tenant_lines::commands::Command;
 use tenant_state::jobs::JobId;
 
 /// An event of the host.

@@ -1,18 +1,19 @@
 //! The host of a rig: all its tenants, on one clock.
 
-ghost use Rattle.std.specs.Prelude.{◌≡◌, ◌≢◌, ◌<◌, ◌≤◌, ◌+◌, ◌-◌, ◌^◌, ◌↔◌, ℕ, [], ◌∷◌, ◌++◌, length, slice_get, is_some, IfOk, IfSome, OnOk, OnErr, Ok, Err, Some, None};
+ghost use Rattle.std.specs.Prelude.{◌≡◌, ◌≢◌, ◌<◌, ◌≤◌, ◌+◌, ◌-◌, ◌^◌, ◌↔◌, ℕ, [], ◌∷◌, ◌++◌, length, is_some, IfOk, IfSome, OnOk, OnErr, Ok, Err, Some, None};
 ghost use Rattle.std.specs.List.{All, AllByRecursion};
-ghost use Rattle.host_core.specs.Halves.{AreFirstHalves, AreSecondHalves, AreReady, places_of, released_from};
-ghost use Rattle.host_core.specs.Host.{HostState, row_at, awaits, after_event};
-ghost use Rattle.host_core.specs.HostStanding.{Stands, new_host, awaited_in, released_in, outstanding_in, outstanding_jobs};
+ghost use Rattle.host_core.specs.Halves.{AreFirstHalves, AreSecondHalves, AreReady, places_of};
+ghost use Rattle.host_core.specs.Host.{after_event};
+ghost use Rattle.host_core.specs.HostState.{HostState, row_at, awaits};
+ghost use Rattle.host_core.specs.HostStanding.{Stands, new_host, awaited_in, released_from, outstanding_jobs};
 ghost use Rattle.host_core.specs.Setting.{Setting};
 ghost use Rattle.tenant_state.specs.Commands.{IsTrueReader};
 ghost use Rattle.tenant_state.specs.Row.{ActiveTask};
 ghost use Rattle.tenant_state.specs.Standing.{Standing};
 ghost use Rattle.host_core.specs.Views.{after_command};
 ghost use Rattle.host_core.specs.declared.events.Event.{Event};
-ghost use Rattle.tenant_state.specs.declared.replies.Refusal.{Refusal};
-ghost use Rattle.tenant_state.specs.declared.replies.Reply.{Reply};
+ghost use Rattle.tenant_lines.specs.declared.replies.Refusal.{Refusal};
+ghost use Rattle.tenant_lines.specs.declared.replies.Reply.{Reply};
 ghost use Rattle.host_core.specs.declared.hosts.TickFault.{TickFault};
 ghost use Rattle.host_core.specs.declared.hosts.Counted.{Counted};
 
@@ -20,14 +21,11 @@ use rig_config::{Config, TenantId};
 use std::alloc::{AllocError, Global};
 use std::collections::VecDeque;
 use std::marker::Model;
-use tenant_state::commands::Command;
+use tenant_lines::commands::Command;
+use tenant_lines::replies::Reply;
 use tenant_state::jobs::{Done, Job, JobId, Jobs, run_job};
-use tenant_state::replies::Reply;
 use tenant_state::tenants::Tenant;
 use tenant_state::tenants::second_half::Room;
-
-#[cfg(test)]
-mod tests;
 
 /// Why an instant is refused.
 #[derive(Clone, Copy, Debug, PartialEq, Eq)]
@@ -102,7 +100,7 @@ impl Host {
         ensures memory { result ≡ Reply.Refused Refusal.Memory → self.new ≡ self.old }
         ensures config { self.new.config ≡ self.old.config }
         ensures reply { (setting : Setting) (state : HostState) → IsTrueReader setting.reader → Stands setting self.old state
-            → result ≢ Reply.Refused Refusal.Memory → result ≡ (after_command setting tenant command (row_at setting state tenant)).reply }
+            → result ≢ Reply.Refused Refusal.Memory → result ≡ (after_command setting tenant command (row_at state tenant)).reply }
         ensures step { (setting : Setting) (state : HostState) → IsTrueReader setting.reader → Stands setting self.old state
             → result ≢ Reply.Refused Refusal.Memory → Stands setting self.new (after_event setting state (Event.Own tenant command)) }
     {
@@ -118,7 +116,7 @@ impl Host {
     /// `Memory`. Nothing has changed then.
     pub fn tick(&mut self, frame: &[i64]) -> Result<Jobs, TickFault>
         ensures step { OnOk result ((setting : Setting) (state : HostState) → Stands setting self.old state → Stands setting self.new (after_event setting state (Event.Tick frame.now))) }
-        ensures jobs { IfOk result (λ jobs. jobs.jobs ≡ released_in self.old.clock self.new) }
+        ensures jobs { IfOk result (λ jobs. jobs.jobs ≡ released_from self.old.clock 0 self.new.tenants) }
         ensures refused { OnErr result (self.new ≡ self.old) }
         ensures bad_frame { result ≡ Err TickFault.BadFrame ↔ length frame.now ≢ self.old.config.lines }
         ensures clock_ended { result ≡ Err TickFault.ClockEnded ↔ ((length frame.now ≡ self.old.config.lines) × (self.old.clock ≡ 2 ^ 64 - 1)) }
@@ -151,7 +149,7 @@ impl Host {
         ensures late { result ≡ Counted.Late → self.new ≡ self.old }
         ensures step { result ≡ Counted.Counted → (setting : Setting) (state : HostState) → Stands setting self.old state
             → Stands setting self.new (record state { counted = done.id ∷ state.counted }) }
-        ensures left { result ≡ Counted.Counted → outstanding_in self.old ≡ outstanding_in self.new + 1 }
+        ensures left { result ≡ Counted.Counted → length (outstanding_jobs self.old) ≡ length (outstanding_jobs self.new) + 1 }
     {
         let place = done.id().tenant;
         if place >= self.tenants.len() {
@@ -172,7 +170,7 @@ impl Host {
     /// A share of the task's body is refused.
     pub fn job(&self, id: &JobId) -> Result<Option<Job>, AllocError>
         ensures job { IfOk result (λ job. job ≡ awaited_in self.now id.now) }
-        ensures awaited { IfOk result (λ job. (setting : Setting) (state : HostState) → Stands setting self.now state → is_some job ≡ awaits setting state id.now) }
+        ensures awaited { IfOk result (λ job. (setting : Setting) (state : HostState) → Stands setting self.now state → is_some job ≡ awaits state id.now) }
     {
         if id.tenant >= self.tenants.len() {
             return Ok(None);
@@ -205,29 +203,29 @@ impl Host {
         self.clock
     }
 
-    /// How many completions are awaited. Takes no memory.
+    /// How many jobs are outstanding: their tasks are active, and not completed. Takes no memory.
     pub fn outstanding(&self) -> u128
-        ensures { result ≡ outstanding_in self.now }
+        ensures { result ≡ length (outstanding_jobs self.now) }
     {
-        let mut awaited: u128 = 0;
+        let mut outstanding: u128 = 0;
         for tenant in &self.tenants {
-            awaited += tenant.outstanding() as u128;
+            outstanding += tenant.outstanding() as u128;
         }
-        awaited
+        outstanding
     }
 
-    /// The name of the first job whose completion is awaited, in the order of the roster.
-    pub fn first_outstanding(&self) -> Option<JobId>
-        ensures first { result ≡ slice_get (outstanding_jobs self.now) 0 }
-        ensures awaited { IfSome result (λ id. awaited_in self.now id ≢ None) }
+    /// The names of the outstanding jobs, tenant by tenant in the order of the roster.
+    ///
+    /// # Errors
+    /// Want of memory.
+    pub fn outstanding_jobs(&self) -> Result<Vec<JobId>, AllocError>
+        ensures { IfOk result (λ names. names.items ≡ outstanding_jobs self.now) }
     {
+        let mut names = Vec::new(self.alloc);
         for (place, tenant) in self.tenants.as_slice().iter().enumerate() {
-            known(tenant);
-            if let Some(id) = tenant.first_outstanding(place) {
-                return Some(id);
-            }
+            tenant.add_outstanding(place, &mut names)?;
         }
-        None
+        Ok(names)
     }
 }
 
@@ -238,7 +236,7 @@ impl Host {
 pub fn complete(host: &mut Host, id: &JobId) -> Result<Counted, AllocError>
     ensures counted { IfOk result (λ c. c ≡ Counted.Counted ↔ awaited_in host.old id.now ≢ None) }
     ensures step { OnOk result ((setting : Setting) (state : HostState) → Stands setting host.old state → Stands setting host.new (after_event setting state (Event.Done id.now))) }
-    ensures left { result ≡ Ok Counted.Counted → outstanding_in host.old ≡ outstanding_in host.new + 1 }
+    ensures left { result ≡ Ok Counted.Counted → length (outstanding_jobs host.old) ≡ length (outstanding_jobs host.new) + 1 }
     ensures memory { OnErr result (host.new ≡ host.old) }
 {
     let Some(job) = host.job(id)? else {

@@ -3,7 +3,10 @@
 ghost use Rattle.std.specs.Prelude.{◌≡◌, ℕ, List, true};
 ghost use Rattle.tenant_state.specs.declared.jobs.JobId.{JobId};
 ghost use Rattle.rig_config.specs.Roster.{is_tenant};
-ghost use Rattle.host_core.specs.Host.{host_after, row_at, awaits};
+ghost use Rattle.rig_config.specs.declared.Config.{Config};
+ghost use Rattle.host_core.specs.Base.{IsBase, new_base};
+ghost use Rattle.host_core.specs.Host.{host_after};
+ghost use Rattle.host_core.specs.HostState.{row_at, awaits};
 ghost use Rattle.host_core.specs.Legal.{next_tick, is_legal, counts};
 ghost use Rattle.host_core.specs.declared.events.Event.{Event};
 ghost use Rattle.host_core.specs.Answers.{answers_of};
@@ -16,12 +19,24 @@ pub fn equal_views_give_equal_answers()
         view_of setting past t ≡ view_of setting others t → answers_of setting past t ≡ answers_of setting others t }
 {}
 
-/// After every legal list of events, the newest first, each tenant's row in the whole host is that of the one-tenant machine
-/// over the tenant's own view, the host awaits just the completions that count, and its clock is the number of the next instant.
+/// After every legal list of events, the newest first, that begins with a base, each tenant's row in the whole host is that of
+/// the one-tenant machine over the tenant's own view, and the host awaits just the completions that count. Its clock is the
+/// number of the next instant.
 pub fn whole_host()
-    ensures rows { (setting : Setting) (past : List Event) (t : ℕ) → is_legal setting past ≡ true → is_tenant setting.config t ≡ true →
-        row_at setting (host_after setting past) t ≡ row_of setting past t }
-    ensures completions { (setting : Setting) (past : List Event) (j : JobId) → is_legal setting past ≡ true → is_tenant setting.config j.tenant ≡ true →
-        awaits setting (host_after setting past) j ≡ counts setting past j }
+    ensures rows { (setting : Setting) (past : List Event) (t : ℕ) → IsBase setting.config setting.base → is_legal setting past ≡ true
+        → is_tenant setting.config t ≡ true → row_at (host_after setting past) t ≡ row_of setting past t }
+    ensures completions { (setting : Setting) (past : List Event) (j : JobId) → IsBase setting.config setting.base → is_legal setting past ≡ true
+        → is_tenant setting.config j.tenant ≡ true → awaits (host_after setting past) j ≡ counts setting past j }
     ensures clock { (setting : Setting) (past : List Event) → (host_after setting past).clock ≡ next_tick setting past }
+{}
+
+/// A new host is a base: a history can begin with it.
+pub fn new_host_is_a_base()
+    ensures { (config : Config) (first_tick : ℕ) → IsBase config (new_base config first_tick) }
+{}
+
+/// What stands behind a legal list of events, the newest first, that begins with a base is a base again.
+pub fn later_host_is_a_base()
+    ensures { (setting : Setting) (past : List Event) → IsBase setting.config setting.base → is_legal setting past ≡ true
+        → IsBase setting.config (host_after setting past) }
 {}

@@ -6,8 +6,6 @@
 #![tactic(auto)]
 
 pub mod events;
-#[cfg(test)]
-mod examples;
 pub mod hosts;
 pub mod laws;
 pub mod plays;

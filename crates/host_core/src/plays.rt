@@ -7,23 +7,20 @@ ghost use Rattle.host_core.specs.Playing.{IsPlayed, IsStep, HasPlace};
 ghost use Rattle.host_core.specs.Plays.{IsSettingOf, AreAnswers, IsLeastIllegal};
 ghost use Rattle.host_core.specs.Setting.{Setting};
 ghost use Rattle.tenant_state.specs.Jobs.{JobValue, same_job};
-ghost use Rattle.tenant_state.specs.Replies.{text_of_reply};
+ghost use Rattle.tenant_lines.specs.Replies.{text_of_reply};
 ghost use Rattle.host_core.specs.declared.events.Event.{Event};
 ghost use Rattle.host_core.specs.declared.plays.PlayFault.{PlayFault};
-ghost use Rattle.tenant_state.specs.declared.replies.Refusal.{Refusal};
-ghost use Rattle.tenant_state.specs.declared.replies.Reply.{Reply};
+ghost use Rattle.tenant_lines.specs.declared.replies.Refusal.{Refusal};
+ghost use Rattle.tenant_lines.specs.declared.replies.Reply.{Reply};
 
 use crate::events::Event;
 use crate::hosts::{Host, complete};
 use rig_config::{Config, TenantId};
 use std::alloc::{AllocError, Global};
-use tenant_state::commands::Command;
+use tenant_lines::commands::Command;
+use tenant_lines::replies::{Refusal, Reply, print_reply};
+use tenant_lines::texts::Text;
 use tenant_state::jobs::{JobId, Jobs};
-use tenant_state::replies::{Refusal, Reply, print_reply};
-use tenant_state::texts::Text;
-
-#[cfg(test)]
-mod tests;
 
 /// Why a list of events isn't played to its end.
 #[derive(Clone, Copy, Debug, PartialEq, Eq)]

@@ -165,6 +165,3 @@ fn built_in_tenant(
         budgets,
     })
 }
-
-#[cfg(test)]
-mod tests;

@@ -9,13 +9,14 @@ use Rattle.host_core.specs.declared.events.Event.TheVariants.{Done}
 use Rattle.rig_config.specs.declared.TenantConfig.{TenantConfig}
 use Rattle.tenant_state.specs.declared.jobs.JobId.{JobId}
 use Rattle.host_core.specs.Completions.{has_completion}
-use Rattle.host_core.specs.Host.{HostState, row_at, is_counted, awaits, after_event, host_after}
+use Rattle.host_core.specs.Host.{after_event, host_after}
+use Rattle.host_core.specs.HostState.{HostState, row_at, is_counted, awaits}
 use Rattle.host_core.specs.HostStanding.{HostStanding, Stands, outstanding_in, outstanding_jobs}
 use Rattle.host_core.specs.Legal.{was_released, is_legal}
 use Rattle.host_core.specs.Setting.{Setting}
 use Rattle.host_core.specs.Views.{row_of}
 use Rattle.tenant_state.specs.Jobs.{job_of, same_job, is_active}
-use Rattle.tenant_state.specs.Standing.{Standing, awaited_tasks}
+use Rattle.tenant_state.specs.Standing.{Standing, outstanding_tasks}
 use Rattle.tenant_state.proofs.JobNames.{or_true, and_true, same_job_self, own_jobs_active}
 use Rattle.rig_host.specs.HostAnswers.{IsHostAfter}
 use Rattle.rig_host.specs.Script.{outstanding_of, all_outstanding}
@@ -76,16 +77,16 @@ all_middle P (x ∷ xs) y ys all = all_middle P xs y ys all.1
 
 -- as many as there are names
 awaited_count : (n : ℕ) (xs : List Standing)
-    → sum_by (λ s. length (awaited_tasks s)) xs ≡ length (flat_map (λ (place : ℕ × Standing). map (job_of place.0) (awaited_tasks place.1)) (enumerate_from n xs))
+    → sum_by (λ s. length (outstanding_tasks s)) xs ≡ length (flat_map (λ (place : ℕ × Standing). map (job_of place.0) (outstanding_tasks place.1)) (enumerate_from n xs))
 awaited_count n [] = refl
 awaited_count n (x ∷ xs) =
-    let here = map (job_of n) (awaited_tasks x) in
-    let later = flat_map (λ (place : ℕ × Standing). map (job_of place.0) (awaited_tasks place.1)) (enumerate_from (n + 1) xs) in
-    sum_by-cons (λ s. length (awaited_tasks s)) x xs ∙ ap (λ k. length (awaited_tasks x) + k) (awaited_count (n + 1) xs)
-    ∙ ap (λ k. k + length later) (sym (length-map (awaited_tasks x) (job_of n))) ∙ sym (length-append here later)
+    let here = map (job_of n) (outstanding_tasks x) in
+    let later = flat_map (λ (place : ℕ × Standing). map (job_of place.0) (outstanding_tasks place.1)) (enumerate_from (n + 1) xs) in
+    sum_by-cons (λ s. length (outstanding_tasks s)) x xs ∙ ap (λ k. length (outstanding_tasks x) + k) (awaited_count (n + 1) xs)
+    ∙ ap (λ k. k + length later) (sym (length-map (outstanding_tasks x) (job_of n))) ∙ sym (length-append here later)
 
 pub outstanding_count : (host : HostStanding) → outstanding_in host ≡ length (outstanding_jobs host)
-outstanding_count host = sum-map (λ s. length (awaited_tasks s)) host.tenants ∙ awaited_count 0 host.tenants
+outstanding_count host = sum-map (λ s. length (outstanding_tasks s)) host.tenants ∙ awaited_count 0 host.tenants
 
 pub first_is : (js : List JobId) (j : JobId) → Some j ≡ slice_get js 0 → js ≡ j ∷ drop 1 js
 first_is [] j e = absurd (cc)
@@ -99,30 +100,30 @@ module _ (setting : Setting) where
   -- one job more is counted
   jobs_less : (state : HostState) (j : JobId) → all_jobs setting (record state { counted = j ∷ state.counted }) ≡ filter (λ i. not (same_job j i)) (all_jobs setting state)
   jobs_less state j =
-      (λ k. flat_map (λ (place : ℕ × TenantConfig). neither (same_job j) (is_counted state) (map (job_of place.0) (row_at setting state place.0).active) k) (enumerate_from 0 setting.config.tenants))
+      (λ k. flat_map (λ (place : ℕ × TenantConfig). neither (same_job j) (is_counted state) (map (job_of place.0) (row_at state place.0).active) k) (enumerate_from 0 setting.config.tenants))
       ∙ filter_flat (λ i. not (same_job j i)) (λ (place : ℕ × TenantConfig). jobs_at setting state place.0) (enumerate_from 0 setting.config.tenants)
 
   -- the first of the jobs is completed, and the others are left
   one_completed : (host later : HostStanding) (state : HostState) (j : JobId) (rest : List JobId) → Stands setting host state → Stands setting later (after_event setting state (Done j))
       → outstanding_jobs host ≡ j ∷ rest → outstanding_in host ≡ outstanding_in later + 1 → outstanding_jobs later ≡ rest
-  one_completed host later state j rest before after first one = by (awaits setting state j) refl
+  one_completed host later state j rest before after first one = by (awaits state j) refl
     where
       counts : suc (length rest) ≡ length (outstanding_jobs later) + 1
       counts = ap (λ (l : List JobId). length l) (sym first) ∙ sym (outstanding_count host) ∙ one ∙ ap (λ k. k + 1) (outstanding_count later)
 
       jobs : all_jobs setting state ≡ j ∷ rest
-      jobs = sym (code_awaits setting host state before) ∙ first
+      jobs = sym (code_awaits host state before) ∙ first
 
-      by : (b : Bool) → awaits setting state j ≡ b → outstanding_jobs later ≡ rest
+      by : (b : Bool) → awaits state j ≡ b → outstanding_jobs later ≡ rest
       by false e =
           let same : Stands setting later state = rw e at after in
-          let all : outstanding_jobs later ≡ j ∷ rest = code_awaits setting later state same ∙ jobs in
+          let all : outstanding_jobs later ≡ j ∷ rest = code_awaits later state same ∙ jobs in
           absurd (omega (arith, counts, ap (λ (l : List JobId). length l) all))
       by true e =
           let more : Stands setting later (record state { counted = j ∷ state.counted }) = rw e at after in
           let skips : filter (λ i. not (same_job j i)) (j ∷ rest) ≡ filter (λ i. not (same_job j i)) rest = rw (same_job_self j) refl in
           let left : outstanding_jobs later ≡ filter (λ i. not (same_job j i)) rest =
-          code_awaits setting later (record state { counted = j ∷ state.counted }) more ∙ jobs_less state j ∙ ap (λ l. filter (λ i. not (same_job j i)) l) jobs ∙ skips in
+          code_awaits later (record state { counted = j ∷ state.counted }) more ∙ jobs_less state j ∙ ap (λ l. filter (λ i. not (same_job j i)) l) jobs ∙ skips in
           left ∙ filter_all (λ i. not (same_job j i)) rest (omega (arith, counts, ap (λ (l : List JobId). length l) left))
 
   released : (past : List Event) (j : JobId) → is_active (row_of setting past j.tenant) j ≡ true → was_released setting past j ≡ true
@@ -151,11 +152,11 @@ module _ (setting : Setting) where
   HasCompleted past host = (done : List JobId) × (all_outstanding setting past ≡ done ++ outstanding_jobs host) × IsHostAfter setting host (completed done past)
 
   pub none_completed : (past : List Event) (host : HostStanding) → IsHostAfter setting host past → HasCompleted past host
-  none_completed past host h = ([], sym (code_awaits setting host (host_after setting past) h.stands ∙ same_outstanding setting past h.legal), h)
+  none_completed past host h = ([], sym (code_awaits host (host_after setting past) h.stands ∙ same_outstanding setting past h.legal), h)
 
   pub work_count : (past : List Event) (host : HostStanding) → IsHostAfter setting host past → outstanding_in host ≡ length (all_outstanding setting past)
   work_count past host h =
-      outstanding_count host ∙ ap (λ (l : List JobId). length l) (code_awaits setting host (host_after setting past) h.stands ∙ same_outstanding setting past h.legal)
+      outstanding_count host ∙ ap (λ (l : List JobId). length l) (code_awaits host (host_after setting past) h.stands ∙ same_outstanding setting past h.legal)
 
   pub more_completed : (past : List Event) (host later : HostStanding) (j : JobId) → HasCompleted past host → outstanding_jobs host ≡ j ∷ drop 1 (outstanding_jobs host)
       → ((state : HostState) → Stands setting host state → Stands setting later (after_event setting state (Done j))) → outstanding_in host ≡ outstanding_in later + 1 → HasCompleted past later

@@ -16,7 +16,7 @@ use Rattle.tokio_util.specs.declared.codec.lines_codec.LinesCodecError.TheVarian
 use Rattle.tokio_util.specs.Codec.Next.{decoded, at_end}
 use Rattle.tokio_util.specs.Codec.Lines.{newline_from, without_carriage_return, Scan, line, too_long, unfinished, read_line, at_line_start, IsOutOfMemory, Answers, AnswersAtEnd, gives_lines}
 use Rattle.tokio_util.specs.Codec.LinesLaws.{read_line_found, read_line_long, read_line_short}
-use Rattle.tenant_state.specs.Words.{joined_to_first}
+use Rattle.tenant_lines.specs.Words.{joined_to_first}
 use Rattle.rig_host.specs.Lines.{cut, without_last_cr, text_of_line}
 
 -- the place of the first LF, or the length

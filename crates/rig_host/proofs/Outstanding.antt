@@ -7,14 +7,15 @@ use Rattle.rig_config.specs.declared.TenantConfig.{TenantConfig}
 use Rattle.tenant_state.specs.declared.jobs.JobId.{JobId}
 use Rattle.rig_config.specs.Roster.{is_tenant}
 use Rattle.host_core.specs.Completions.{has_completion}
-use Rattle.host_core.specs.Host.{HostState, row_at, is_counted, host_after}
-use Rattle.host_core.specs.HostStanding.{HostStanding, Stands, standing_at, outstanding_jobs}
+use Rattle.host_core.specs.Host.{host_after}
+use Rattle.host_core.specs.HostState.{HostState, row_at, is_counted}
+use Rattle.host_core.specs.HostStanding.{HostStanding, Stands, tenant_at, outstanding_jobs}
 use Rattle.host_core.specs.Legal.{is_legal}
 use Rattle.host_core.specs.Setting.{Setting}
 use Rattle.host_core.specs.Views.{row_of}
 use Rattle.tenant_state.specs.Jobs.{job_of, is_active}
 use Rattle.tenant_state.specs.Row.{ActiveTask, Row}
-use Rattle.tenant_state.specs.Standing.{Standing, StandsFor, awaited_tasks, empty_standing}
+use Rattle.tenant_state.specs.Standing.{Standing, StandsFor, outstanding_tasks, empty_standing}
 use Rattle.host_core.proofs.NewHost.{no_tenant}
 use Rattle.host_core.proofs.AloneAlong.{same_rows, same_awaits}
 use Rattle.tenant_state.proofs.JobNames.{own_jobs_active}
@@ -64,12 +65,12 @@ all_along P Q (x ∷ xs) f all = (f x all.0, all_along P Q xs f all.1)
 module _ (setting : Setting) where
   -- the jobs of a state's active tasks that aren't counted
   abbrev pub jobs_at : HostState → ℕ → List JobId
-  jobs_at state t = filter (λ j. not (is_counted state j)) (map (job_of t) (row_at setting state t).active)
+  jobs_at state t = filter (λ j. not (is_counted state j)) (map (job_of t) (row_at state t).active)
 
   abbrev pub all_jobs : HostState → List JobId
   all_jobs state = flat_map (λ (place : ℕ × TenantConfig). jobs_at state place.0) (enumerate_from 0 setting.config.tenants)
 
-  awaited_at : (s : Standing) (t : ℕ) (row : Row) (c : JobId → Bool) → StandsFor s row (λ a. c (job_of t a)) → map (job_of t) (awaited_tasks s) ≡ filter (λ j. not (c j)) (map (job_of t) row.active)
+  awaited_at : (s : Standing) (t : ℕ) (row : Row) (c : JobId → Bool) → StandsFor s row (λ a. c (job_of t a)) → map (job_of t) (outstanding_tasks s) ≡ filter (λ j. not (c j)) (map (job_of t) row.active)
   awaited_at s t row c h =
       ap (λ l. map (job_of t) (map (λ (p : ActiveTask × Bool). p.0) (filter (λ (p : ActiveTask × Bool). not p.1) (zip l s.completed)))) (ap (λ (r : Row). r.active) h.same_row)
       ∙ ap (λ l. map (job_of t) (map (λ (p : ActiveTask × Bool). p.0) (filter (λ (p : ActiveTask × Bool). not p.1) (zip row.active l)))) h.same_marks
@@ -78,8 +79,8 @@ module _ (setting : Setting) where
   -- what the code awaits is what its state's active tasks lack
   pub code_awaits : (host : HostStanding) (state : HostState) → Stands setting host state → outstanding_jobs host ≡ all_jobs state
   code_awaits host state h =
-      places_from_start (λ (place : ℕ × Standing). map (job_of place.0) (awaited_tasks place.1)) (λ (place : ℕ × TenantConfig). jobs_at state place.0) (empty_standing 0) no_tenant host.tenants setting.config.tenants h.as_many
-      (λ i lt. awaited_at (standing_at host i) i (row_at setting state i) (is_counted state) (h.each i lt))
+      places_from_start (λ (place : ℕ × Standing). map (job_of place.0) (outstanding_tasks place.1)) (λ (place : ℕ × TenantConfig). jobs_at state place.0) (empty_standing 0) no_tenant host.tenants setting.config.tenants h.as_many
+      (λ i lt. awaited_at (tenant_at host.tenants i) i (row_at state i) (is_counted state) (h.each i lt))
 
   tenant_is : (t : ℕ) → t < length setting.config.tenants → is_tenant setting.config t ≡ true
   tenant_is t lt = grind (arith, nat_tests)
@@ -105,6 +106,6 @@ module _ (setting : Setting) where
           ap (λ (r : Row). filter (λ j. not (is_counted state j)) (map (job_of t) r.active)) rows
           ∙ filter_same (job_of t) (λ j. not (is_counted state j)) (λ j. not (has_completion past j)) row.active
           (all_along (λ a. is_active row (job_of t a) ≡ true) (λ a. not (is_counted state (job_of t a)) ≡ not (has_completion past (job_of t a))) row.active
-          (λ a active. where_active (is_active (row_at setting state t) (job_of t a)) (is_active row (job_of t a)) (not (is_counted state (job_of t a))) (not (has_completion past (job_of t a)))
-          (ap (λ r. is_active r (job_of t a)) rows ∙ active) active (same_awaits setting past (job_of t a) legal is))
+          (λ a active. where_active (is_active (row_at state t) (job_of t a)) (is_active row (job_of t a)) (not (is_counted state (job_of t a))) (not (has_completion past (job_of t a)))
+          (ap (λ r. is_active r (job_of t a)) rows ∙ active) active (same_awaits past (job_of t a) legal is))
           (own_jobs_active t row))

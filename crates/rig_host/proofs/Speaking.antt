@@ -7,7 +7,7 @@ use Rattle.giotto_tasks.specs.Names.{same_name}
 use Rattle.rig_config.specs.declared.Config.{Config}
 use Rattle.rig_config.specs.declared.TenantConfig.{TenantConfig}
 use Rattle.rig_config.specs.Roster.{place_of}
-use Rattle.tenant_state.specs.Words.{first_word_of}
+use Rattle.tenant_lines.specs.Words.{first_word_of}
 use Rattle.rig_host.specs.declared.speakers.Speaker.TheVariants.{Nobody, Operator, Tenant, Unknown}
 use Rattle.rig_host.specs.Script.{operator, speaker_of}
 

@@ -9,20 +9,21 @@ use Rattle.giotto_tasks.specs.Names.{same_name}
 use Rattle.host_core.specs.declared.events.Event.{Event}
 use Rattle.host_core.specs.declared.events.Event.TheVariants.{Own, Tick}
 use Rattle.rig_config.specs.declared.Config.{Config}
-use Rattle.tenant_state.specs.declared.commands.Command.{Command}
-use Rattle.tenant_state.specs.declared.replies.Reply.{Reply}
-use Rattle.host_core.specs.Host.{row_at, after_event, host_after}
+use Rattle.tenant_lines.specs.declared.commands.Command.{Command}
+use Rattle.tenant_lines.specs.declared.replies.Reply.{Reply}
+use Rattle.host_core.specs.Host.{after_event, host_after}
+use Rattle.host_core.specs.HostState.{row_at}
 use Rattle.host_core.specs.HostStanding.{HostStanding, Stands}
 use Rattle.host_core.specs.Legal.{next_tick, may_follow, is_legal}
 use Rattle.host_core.specs.Setting.{Setting}
 use Rattle.host_core.specs.Views.{after_command, row_of}
 use Rattle.rig_config.specs.Roster.{is_tenant}
-use Rattle.tenant_state.specs.CommandLine.{command_of_line}
-use Rattle.tenant_state.specs.Replies.{text_of_reply}
-use Rattle.tenant_state.specs.Words.{words_of, first_word_of, behind_first_word, values_of_words}
+use Rattle.tenant_lines.specs.CommandLine.{command_of_line}
+use Rattle.tenant_lines.specs.Replies.{text_of_reply}
+use Rattle.tenant_lines.specs.Words.{words_of, first_word_of, behind_first_word, values_of_words}
 use Rattle.host_core.proofs.AloneAlong.{same_rows, same_clock}
 use Rattle.tenant_state.proofs.JobNames.{and_true}
-use Rattle.tenant_state.proofs.WordLemmas.{words_first, words_none}
+use Rattle.tenant_lines.proofs.WordLemmas.{words_first, words_none}
 use Rattle.rig_host.specs.Answered.{reply_line}
 use Rattle.rig_host.specs.HostAnswers.{IsHostAfter}
 use Rattle.rig_host.specs.Script.{Step, IsStep, operator, operator_line_of, operator_step, tenant_step, only_answered}
@@ -72,7 +73,7 @@ more_than_work line some = ap (λ ws. operator_line_of (codes "work" ∷ ws)) (w
 module _ (setting : Setting) (past : List Event) (host later : HostStanding) (h : IsHostAfter setting host past) (r : Result (String Global) AllocError) where
   -- a command was carried out
   pub command_done : (t : ℕ) (name line : List ℕ) (command : Command) (reply : Reply) → t < length host.config.tenants → command_of_line line ≡ Some command
-      → reply ≡ (after_command setting t command (row_at setting (host_after setting past) t)).reply → Stands setting later (after_event setting (host_after setting past) (Own t command))
+      → reply ≡ (after_command setting t command (row_at (host_after setting past) t)).reply → Stands setting later (after_event setting (host_after setting past) (Own t command))
       → IfOk r (λ text. string_bytes text ≡ reply_line name (text_of_reply reply)) → IsStep (tenant_step setting past t name line) past r (IsHostAfter setting later)
   command_done t name line command reply lt spelled answered after given =
       let same = h.stands.same_config in

@@ -2,7 +2,7 @@
 use Rattle.std.specs.Prelude.{◌≡◌, ℕ, List, [], ◌∷◌, ◌++◌, Option, Some, None, IsSome, codes}
 use Rattle.std.specs.List.{AllByRecursion}
 use Rattle.std.specs.Option.{option_map}
-use Rattle.tenant_state.specs.Words.{first_word_of}
+use Rattle.tenant_lines.specs.Words.{first_word_of}
 use Rattle.rig_host.specs.declared.faults.ScriptFault.{ScriptFault}
 use Rattle.rig_host.specs.declared.faults.ScriptFault.TheVariants.{Read, Write, Turns, Memory}
 use Rattle.rig_host.specs.Lines.{text_of_line}

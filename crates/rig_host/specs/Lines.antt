@@ -1,7 +1,7 @@
 -- How bytes are cut into lines.
 use Rattle.std.specs.Prelude.{ℕ, nat_le, ◌&&◌, ◌==◌, if◌then◌else◌, List, [], ◌∷◌, length, Option, Some, None}
 use Rattle.std.specs.Str.{is_utf8}
-use Rattle.tenant_state.specs.Words.{joined_to_first}
+use Rattle.tenant_lines.specs.Words.{joined_to_first}
 
 -- the bytes up to each LF; what follows the last LF is a line too, unless it is empty
 abbrev pub cut : List ℕ → List (List ℕ)

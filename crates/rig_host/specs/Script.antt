@@ -11,12 +11,12 @@ use Rattle.host_core.specs.declared.events.Event.TheVariants.{Own, Tick, Done}
 use Rattle.tenant_state.specs.declared.jobs.JobId.{JobId}
 use Rattle.rig_config.specs.declared.Config.{Config}
 use Rattle.rig_config.specs.declared.TenantConfig.{TenantConfig}
-use Rattle.tenant_state.specs.declared.commands.Command.{Command}
-use Rattle.tenant_state.specs.declared.replies.Refusal.TheVariants.{BadCommand}
+use Rattle.tenant_lines.specs.declared.commands.Command.{Command}
+use Rattle.tenant_lines.specs.declared.replies.Refusal.TheVariants.{BadCommand}
 use Rattle.rig_config.specs.Roster.{place_of}
-use Rattle.tenant_state.specs.CommandLine.{command_of_line}
-use Rattle.tenant_state.specs.Replies.{text_of_reply, text_of_refusal}
-use Rattle.tenant_state.specs.Words.{words_of, first_word_of, behind_first_word, values_of_words}
+use Rattle.tenant_lines.specs.CommandLine.{command_of_line}
+use Rattle.tenant_lines.specs.Replies.{text_of_reply, text_of_refusal}
+use Rattle.tenant_lines.specs.Words.{words_of, first_word_of, behind_first_word, values_of_words}
 use Rattle.host_core.specs.Completions.{has_completion}
 use Rattle.tenant_state.specs.Jobs.{job_of}
 use Rattle.host_core.specs.Legal.{next_tick}

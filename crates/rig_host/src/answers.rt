@@ -13,7 +13,7 @@ use crate::faults::ScriptFault;
 use crate::lines::{Line, Lines};
 use std::alloc::{AllocError, Global};
 use std::io::{Read, Write};
-use tenant_state::words;
+use tenant_lines::words;
 
 /// Who answers the lines of a script.
 pub trait Answers {

@@ -5,9 +5,9 @@ ghost use Rattle.std.specs.Io.KnownBytes.{Appends};
 ghost use Rattle.host_core.specs.Setting.{Setting};
 ghost use Rattle.tenant_state.specs.Commands.{IsTrueReader};
 ghost use Rattle.host_core.specs.declared.events.Event.{Event};
-ghost use Rattle.tenant_state.specs.declared.replies.Refusal.TheVariants as refusals;
-ghost use Rattle.tenant_state.specs.declared.replies.Reply.TheVariants as code;
-ghost use Rattle.tenant_state.specs.Words.{words_of};
+ghost use Rattle.tenant_lines.specs.declared.replies.Refusal.TheVariants as refusals;
+ghost use Rattle.tenant_lines.specs.declared.replies.Reply.TheVariants as code;
+ghost use Rattle.tenant_lines.specs.Words.{words_of};
 ghost use Rattle.rig_host.specs.Answered.{reply_line, IsText};
 ghost use Rattle.rig_host.specs.Lines.{cut};
 ghost use Rattle.rig_host.specs.HostAnswers.{IsHostAfter};
@@ -21,9 +21,9 @@ use host_core::hosts::{Host, TickFault, complete};
 use rig_config::{Config, TenantId};
 use std::alloc::{AllocError, Global};
 use std::io::{Read, Write};
-use tenant_state::command_lines::{LineFault, command_of};
-use tenant_state::replies::{Refusal, Reply, print_reply};
-use tenant_state::words;
+use tenant_lines::command_lines::{LineFault, command_of};
+use tenant_lines::replies::{Refusal, Reply, print_reply};
+use tenant_lines::words;
 
 impl Answers for Host {
     ghost stands = { λ host setting past. IsHostAfter setting host past };

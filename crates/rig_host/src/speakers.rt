@@ -4,7 +4,7 @@ ghost use Rattle.std.specs.Prelude.{◌≡◌};
 ghost use Rattle.rig_host.specs.Script.{speaker_of};
 
 use rig_config::{Config, TenantId};
-use tenant_state::words;
+use tenant_lines::words;
 
 /// Who speaks in a line.
 #[derive(Clone, Copy, Debug, PartialEq, Eq)]

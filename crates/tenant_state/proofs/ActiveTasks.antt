@@ -8,9 +8,9 @@ use Rattle.giotto_tasks.specs.Names.{Valuation}
 use Rattle.giotto_read.specs.declared.faults.ReadFault.{ReadFault}
 use Rattle.giotto_read.specs.Program.{TaskDeclaration, TaskInvocation, ModeDeclaration, GiottoProgram}
 use Rattle.rig_config.specs.declared.Budgets.{Budgets}
-use Rattle.tenant_state.specs.declared.commands.Command.{Command}
-use Rattle.tenant_state.specs.declared.commands.Command.TheVariants.{Load, Start, ShowPort}
-use Rattle.tenant_state.specs.declared.replies.Budget.{Budget}
+use Rattle.tenant_lines.specs.declared.commands.Command.{Command}
+use Rattle.tenant_lines.specs.declared.commands.Command.TheVariants.{Load, Start, ShowPort}
+use Rattle.tenant_lines.specs.declared.replies.Budget.{Budget}
 use Rattle.giotto_check.specs.Declarations.{task_of, mode_of}
 use Rattle.giotto_check.specs.Rules.{first_broken_rule}
 use Rattle.tenant_state.specs.Row.{ActiveTask, Row, StopReason, overrun, is_running, where_some, in_program, in_mode}

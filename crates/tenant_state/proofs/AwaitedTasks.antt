@@ -18,9 +18,9 @@ use Rattle.tenant_state.specs.declared.jobs.JobId.{JobId}
 use Rattle.tenant_state.specs.declared.tenants.Active.{Active}
 use Rattle.tenant_state.specs.declared.tenants.State as code
 use Rattle.tenant_state.specs.Jobs.{JobValue, body_in, job_in, job_of, same_job}
-use Rattle.tenant_state.specs.PortTables.{PortTables}
+use Rattle.tenant_ports.specs.PortTables.{PortTables}
 use Rattle.tenant_state.specs.Row.{ActiveTask}
-use Rattle.tenant_state.specs.Standing.{awaited_tasks, awaited_job}
+use Rattle.tenant_state.specs.Standing.{outstanding_tasks, awaited_job}
 use Rattle.tenant_state.specs.Tenants.{active_of, is_completed, standing_of, is_another, all_different_releases, IsResultOf, IsActiveAsSome}
 use Rattle.tenant_state.proofs.JobNames.{both, not_true, same_number, same_number_self, same_job_is, same_job_self}
 
@@ -97,10 +97,10 @@ found_nowhere test xs e =
     find_at test xs ∙ outside xs n (no_place (nat_lt n (length xs)) n e)
 
 module _ (state : code.State) (program : Option GiottoProgram) (mode : Name) (time : ℕ) (active : List Active) (ports : PortTables) (count : ℕ) where
-  pub awaited_tasks_are : awaited_tasks (standing_of state program mode time active ports count) ≡ map active_of (awaited_of active)
+  pub awaited_tasks_are : outstanding_tasks (standing_of state program mode time active ports count) ≡ map active_of (awaited_of active)
   awaited_tasks_are = unmarked active
 
-  pub first_awaited_is : slice_get (awaited_tasks (standing_of state program mode time active ports count)) 0 ≡ option_map active_of (find (λ a. not (is_completed a)) active)
+  pub first_awaited_is : slice_get (outstanding_tasks (standing_of state program mode time active ports count)) 0 ≡ option_map active_of (find (λ a. not (is_completed a)) active)
   first_awaited_is = ap (λ xs. slice_get xs 0) (unmarked active) ∙ first_of active
 
   pub awaited_job_is : (j : JobId) → awaited_job (standing_of state program mode time active ports count) j

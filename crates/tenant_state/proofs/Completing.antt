@@ -17,9 +17,9 @@ use Rattle.tenant_state.specs.declared.tenants.Active.{Active}
 use Rattle.tenant_state.specs.declared.tenants.State as code
 use Rattle.giotto_check.specs.Declarations.{task_of}
 use Rattle.tenant_state.specs.Jobs.{JobValue, IsComputable, job_in}
-use Rattle.tenant_state.specs.PortTables.{PortTables}
+use Rattle.tenant_ports.specs.PortTables.{PortTables}
 use Rattle.tenant_state.specs.Row.{ActiveTask, Row}
-use Rattle.tenant_state.specs.Standing.{StandsFor, awaited_tasks, awaited_job}
+use Rattle.tenant_state.specs.Standing.{StandsFor, outstanding_tasks, awaited_job}
 use Rattle.tenant_state.specs.Tenants.{active_of, is_completed, standing_of, IsResultOf, IsActiveAs, IsActiveAsSome, IsActiveIn, IsTenant}
 use Rattle.tenant_state.proofs.JobNames.{both}
 use Rattle.tenant_state.proofs.AwaitedTasks.{awaited_of, awaited_tasks_are, filter_set, is_awaited, is_named, awaited_at, named_at, all_at, all_set, same_releases, still_different, marks_with, marks_after, counts_if, counts_only_if, with_result, completed_as}
@@ -110,8 +110,8 @@ module _ (state : code.State) (p : GiottoProgram) (mode : Name) (time : ℕ) (ac
       }
 
   -- one completion fewer is awaited
-  pub one_fewer : length (awaited_tasks (standing_of state (Some p) mode time active ports count))
-      ≡ length (awaited_tasks (standing_of state (Some p) mode time (set active i (with_result p a d)) ports count)) + 1
+  pub one_fewer : length (outstanding_tasks (standing_of state (Some p) mode time active ports count))
+      ≡ length (outstanding_tasks (standing_of state (Some p) mode time (set active i (with_result p a d)) ports count)) + 1
   one_fewer =
       let b = with_result p a d in
       let there = named_at d.id active i a found at in

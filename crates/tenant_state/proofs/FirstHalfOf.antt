@@ -15,13 +15,13 @@ use Rattle.giotto_read.specs.ProgramTrees as tree
 use Rattle.giotto_read.specs.ProgramTrees.{invocation_of, update_of}
 use Rattle.tenant_state.specs.declared.tenants.Active.{Active}
 use Rattle.giotto_check.specs.Declarations.{mode_of}
-use Rattle.tenant_state.specs.FirstHalf.{is_due_at, due_in_mode, due_tasks, names_due, all_ended, all_updated, first_half_with, completed_in_mode, first_half_of, stopped_with, happening_of, still_active}
-use Rattle.tenant_state.specs.Ports.{actuators_reset}
-use Rattle.tenant_state.specs.PortTables.{PortTables, all_ports}
+use Rattle.tenant_state.specs.FirstHalf.{unfinished_tasks, is_due_at, due_in_mode, due_tasks, names_due, all_ended, all_updated, first_half_with, completed_in_mode, first_half_of, stopped_with, happening_of, still_active}
+use Rattle.tenant_ports.specs.Ports.{actuators_reset}
+use Rattle.tenant_ports.specs.PortTables.{PortTables, all_ports}
 use Rattle.tenant_state.specs.declared.tenants.State.TheVariants as states
 use Rattle.tenant_state.specs.declared.tenants.Reason.TheVariants.{Overrun}
 use Rattle.tenant_state.specs.Row.{running, stopped, overrun, ActiveTask, Row, is_running_state, where_some, in_mode, recorded}
-use Rattle.tenant_state.specs.Standing.{StandsFor, uncompleted}
+use Rattle.tenant_state.specs.Standing.{StandsFor}
 use Rattle.tenant_state.specs.Tenants.{active_of, is_completed, is_another, all_different_releases, standing_of}
 use Rattle.tenant_state.proofs.ActiveTasks.{all_filter}
 use Rattle.tenant_state.proofs.DueTasks.{names_of_tasks, group, unfinished_of, among_both, one_of, same_answers, group_not_due, first_name, no_names, group_has_only, group_has_all, open_names, open_both, Marked, marked, marks, group_open, none_open, found_open}
@@ -192,15 +192,15 @@ module _ (row : Row) (p : GiottoProgram) (m : ModeDeclaration) (active : List Ac
     all_marked = marked completed active (same ∙ ap (map completed) h.tasks)
 
     -- no due task is left open
-    pub goes_on : find (is_open due_here active) is ≡ None → first_half_of (uncompleted completed row) row ≡ first_half_with [] row
+    pub goes_on : find (is_open due_here active) is ≡ None → first_half_of (unfinished_tasks completed row) row ≡ first_half_with [] row
     goes_on e =
-        let none : uncompleted completed row ≡ [] = ap (open_names completed) due_are ∙ none_left due_here active completed all_marked is e in
+        let none : unfinished_tasks completed row ≡ [] = ap (open_names completed) due_are ∙ none_left due_here active completed all_marked is e in
         ap (λ names. first_half_with (filter (is_among names) (names_due row)) row) none ∙ ap (λ names. first_half_with names row) (none_among (names_due row))
 
     -- the first due task that is left open stops the tenant
-    pub stops : (i : Invocation) → find (is_open due_here active) is ≡ Some i → first_half_of (uncompleted completed row) row ≡ stopped_with (overrun i.task) row
+    pub stops : (i : Invocation) → find (is_open due_here active) is ≡ Some i → first_half_of (unfinished_tasks completed row) row ≡ stopped_with (overrun i.task) row
     stops i e =
-        let names = uncompleted completed row in
+        let names = unfinished_tasks completed row in
         let are : names ≡ open_names completed (groups due_here active is) = ap (open_names completed) due_are in
         let there : is_among names i.task ≡ true = ap (λ ns. is_among ns i.task) are ∙ found_is_open due_here active completed all_marked i is e in
         let first = head_is due_here active completed all_marked names i is (λ x k. open_is_unfinished due_here active completed all_marked x is (sym (ap (λ ns. is_among ns x) are) ∙ k)) there e in
@@ -255,7 +255,7 @@ pub finished : (md : Mode) (p : GiottoProgram) (mode : Name) (time : ℕ) (activ
     → all_ports after ≡ all_updated (tree.mode_of md) time (map update_of md.updates) (all_ports ended)
     → (row : Row) (completed : ActiveTask → Bool) → StandsFor (standing_of states.Running (Some p) mode time active ports count) row completed
     → StandsFor (standing_of states.Running (Some p) mode time (filter (λ (a : Active). not (ends (λ (i : Invocation). is_due_at time (tree.mode_of md) i.frequency) md.invocations a.task)) active) after count)
-    (first_half_of (uncompleted completed row) row) completed
+    (first_half_of (unfinished_tasks completed row) row) completed
 finished md p mode time active ports ended after count found none end_value update_value row completed st =
     let m = tree.mode_of md in
     let is = md.invocations in
@@ -263,7 +263,7 @@ finished md p mode time active ports ended after count found none end_value upda
     let at : time ≡ row.mode_time = ap (λ (r : Row). r.mode_time) st.same_row in
     let due : ℕ → Invocation → Bool = λ (t : ℕ) (i : Invocation). is_due_at t m i.frequency in
     let none' : find (is_open (due row.mode_time) active) is ≡ None = subst (λ t. find (is_open (due t) active) is ≡ None) at none in
-    let steps : first_half_of (uncompleted completed row) row ≡ completed_in_mode p m row =
+    let steps : first_half_of (unfinished_tasks completed row) row ≡ completed_in_mode p m row =
     goes_on row p m active is h completed st.same_marks none'
     ∙ ap (λ s. cond (is_running_state s) (in_mode completed_in_mode row) row) h.state
     ∙ ap (λ o. where_some (λ p. where_some (completed_in_mode p) (mode_of p row.mode)) o row) h.program
@@ -291,7 +291,7 @@ pub halted : (md : Mode) (i : Invocation) (p : GiottoProgram) (mode : Name) (tim
     → find (is_open (λ (i : Invocation). is_due_at time (tree.mode_of md) i.frequency) active) md.invocations ≡ Some i
     → all_ports after ≡ actuators_reset p (all_ports ports)
     → (row : Row) (completed : ActiveTask → Bool) → StandsFor (standing_of states.Running (Some p) mode time active ports count) row completed
-    → StandsFor (standing_of (states.Stopped (Overrun i.task)) (Some p) mode time [] after count) (first_half_of (uncompleted completed row) row) completed
+    → StandsFor (standing_of (states.Stopped (Overrun i.task)) (Some p) mode time [] after count) (first_half_of (unfinished_tasks completed row) row) completed
 halted md i p mode time active ports after count found first reset row completed st =
     let m = tree.mode_of md in
     let is = md.invocations in
@@ -301,7 +301,7 @@ halted md i p mode time active ports after count found first reset row completed
     let first' : find (is_open (due row.mode_time) active) is ≡ Some i = subst (λ t. find (is_open (due t) active) is ≡ Some i) at first in
     let without : Row = record row { state = stopped (overrun i.task); active = []; waiting = None } in
     let stopping : GiottoProgram → Row → Row = λ p row. record row { ports = actuators_reset p row.ports } in
-    let steps : first_half_of (uncompleted completed row) row ≡ recorded (happening_of (overrun i.task)) (stopping p without) =
+    let steps : first_half_of (unfinished_tasks completed row) row ≡ recorded (happening_of (overrun i.task)) (stopping p without) =
     stops row p m active is h completed st.same_marks i first'
     ∙ ap (λ o. recorded (happening_of (overrun i.task)) (where_some stopping o without)) h.program in
     let same_ports : all_ports ports ≡ row.ports = ap (λ (r : Row). r.ports) st.same_row in

@@ -11,8 +11,8 @@ use Rattle.tenant_state.specs.declared.tenants.Active.{Active}
 use Rattle.tenant_state.specs.declared.tenants.State as code
 use Rattle.tenant_state.specs.declared.tenants.State.TheVariants as states
 use Rattle.tenant_state.specs.Jobs.{JobValue, job_in, released_at}
-use Rattle.tenant_state.specs.PortTables.{PortTables}
-use Rattle.tenant_state.specs.Ports.{with_values}
+use Rattle.tenant_ports.specs.PortTables.{PortTables}
+use Rattle.tenant_ports.specs.Ports.{with_values}
 use Rattle.tenant_state.specs.Row.{running, ActiveTask, Row, is_running_state}
 use Rattle.tenant_state.specs.SecondHalf.{Readings, reading_taken, all_invoked, all_released, counted, second_half_of}
 use Rattle.tenant_state.specs.Standing.{StandsFor, without_records}

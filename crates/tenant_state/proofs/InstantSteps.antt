@@ -6,9 +6,9 @@ use Rattle.giotto_tasks.specs.Names.{Valuation, names_in, is_among}
 use Rattle.giotto_tasks.specs.Sound.{is_once_among, reads_only, AreSourcesOf}
 use Rattle.giotto_tasks.specs.Syntax.{Expression}
 use Rattle.giotto_read.specs.Program.{ActuatorDeclaration, ActuatorUpdate, GiottoProgram}
-use Rattle.tenant_state.specs.GuardSources.{AreGuardSources}
-use Rattle.tenant_state.specs.PortTables.{PortTables, all_ports, HaveSameNames, ArePortsOf}
-use Rattle.tenant_state.specs.Ports.{with_values}
+use Rattle.tenant_ports.specs.GuardSources.{AreGuardSources}
+use Rattle.tenant_ports.specs.PortTables.{PortTables, all_ports, HaveSameNames, ArePortsOf}
+use Rattle.tenant_ports.specs.Ports.{with_values}
 
 abbrev pub IsPort : PortTables → Name → Type 0
 IsPort ports x = is_among (names_in (all_ports ports)) x ≡ true

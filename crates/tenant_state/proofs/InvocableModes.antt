@@ -14,8 +14,8 @@ use Rattle.giotto_check.specs.Declarations.{task_of, mode_of, sensor_names, actu
 use Rattle.tenant_state.specs.declared.tenants.Active.{Active}
 use Rattle.tenant_state.specs.Tenants.{IsActiveIn}
 use Rattle.tenant_state.specs.Invocable.{IsInvocationOf, IsInvocationOfSome, IsInvocable, AreInvocable}
-use Rattle.tenant_state.specs.PortTables.{PortTables, all_ports, ArePortsOf}
-use Rattle.tenant_state.specs.Ports.{initial_shared, initial_own}
+use Rattle.tenant_ports.specs.PortTables.{PortTables, all_ports, ArePortsOf}
+use Rattle.tenant_ports.specs.Ports.{initial_shared, initial_own}
 use Rattle.tenant_state.proofs.ProgramFacts.{shared_port, InvocationFits, mode_fits, task_fits, found_passes, all_with, all_pass}
 use Rattle.giotto_check.proofs.RulesKept.{RulesKept, rules_kept}
 

@@ -22,7 +22,7 @@ use Rattle.tenant_state.specs.declared.tenants.Active.{Active}
 use Rattle.giotto_tasks.specs.declared.bodies.Expr.{Expr}
 use Rattle.giotto_tasks.specs.Trees.{expression_of}
 use Rattle.giotto_tasks.specs.Meaning.{value_of}
-use Rattle.tenant_state.specs.Ports.{own_ports}
+use Rattle.tenant_ports.specs.Ports.{own_ports}
 use Rattle.tenant_state.proofs.ProgramFacts.{task_named}
 use Rattle.std.specs.Prelude.{IfSome}
 use Rattle.tenant_state.specs.SecondHalf.{is_invoked, released, with_inputs, invoked, all_invoked, all_released}

@@ -1,6 +1,5 @@
 pub mod ActiveTasks
 pub mod AwaitedTasks
-pub mod CommandLines
 pub mod Completing
 pub mod DueTasks
 pub mod FirstHalfOf
@@ -9,8 +8,6 @@ pub mod InstantSteps
 pub mod InvocableModes
 pub mod Invoked
 pub mod JobNames
-pub mod PortLemmas
-pub mod PortNames
 pub mod ProgramFacts
 pub mod ProgramLines
 pub mod Readings
@@ -19,5 +16,3 @@ pub mod SoundBodies
 pub mod TenantBehind
 pub mod TenantCommands
 pub mod TenantFacts
-pub mod ValueLemmas
-pub mod WordLemmas

@@ -14,9 +14,9 @@ use Rattle.giotto_tasks.specs.Syntax.{Expression, number, port, unary, binary}
 use Rattle.giotto_read.specs.Program.{SensorDeclaration, ActuatorDeclaration, OutputDeclaration, TaskDeclaration, ActuatorUpdate, ModeSwitch, TaskInvocation, ModeDeclaration, GiottoProgram, names_of}
 use Rattle.giotto_check.specs.Declarations.{sensor_names, actuator_names, output_names, task_names, mode_names, task_of, mode_of, names_read}
 use Rattle.giotto_check.specs.Rules.{are_among, names_in_guard}
-use Rattle.tenant_state.specs.GuardSources.{AreGuardSources}
-use Rattle.tenant_state.specs.PortTables.{PortTables, all_ports, ArePortsOf}
-use Rattle.tenant_state.specs.Ports.{own_port, own_ports, initial_shared, initial_of_task}
+use Rattle.tenant_ports.specs.GuardSources.{AreGuardSources}
+use Rattle.tenant_ports.specs.PortTables.{PortTables, all_ports, ArePortsOf}
+use Rattle.tenant_ports.specs.Ports.{own_port, own_ports, initial_shared, initial_of_task}
 use Rattle.giotto_check.proofs.RulesKept.{RulesKept}
 
 -- what a test that all elements pass says of each

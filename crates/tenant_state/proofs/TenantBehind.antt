@@ -13,7 +13,7 @@ use Rattle.giotto_tasks.specs.Sound.{all_different}
 use Rattle.giotto_read.specs.Program.{TaskDeclaration, TaskInvocation, ModeDeclaration, GiottoProgram}
 use Rattle.giotto_check.specs.Declarations.{task_of, mode_of}
 use Rattle.tenant_state.specs.declared.tenants.Active.{Active}
-use Rattle.tenant_state.specs.PortTables.{PortTables, HaveSameNames}
+use Rattle.tenant_ports.specs.PortTables.{PortTables, HaveSameNames}
 use Rattle.tenant_state.specs.Row.{ActiveTask}
 use Rattle.tenant_state.specs.SecondHalf.{is_invoked, released, invoked, all_released}
 use Rattle.tenant_state.specs.Tenants.{active_of, is_another, all_different_releases, IsActiveIn, IsTenantOf, IsTenant}
@@ -21,7 +21,7 @@ use Rattle.tenant_state.proofs.ActiveTasks.{all_append}
 use Rattle.tenant_state.proofs.HalfStands.{new_releases, older_releases}
 use Rattle.tenant_state.proofs.InvocableModes.{active_later}
 use Rattle.tenant_state.proofs.Invoked.{found_name}
-use Rattle.tenant_state.proofs.PortNames.{ports_of_on}
+use Rattle.tenant_ports.proofs.PortNames.{ports_of_on}
 use Rattle.tenant_state.proofs.ProgramFacts.{found_passes, mode_fits}
 use Rattle.giotto_check.proofs.RulesKept.{RulesKept}
 

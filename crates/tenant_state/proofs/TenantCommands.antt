@@ -7,14 +7,14 @@ use Rattle.giotto_read.specs.Program.{GiottoProgram}
 use Rattle.giotto_read.specs.Reading.{Reads}
 use Rattle.giotto_read.proofs.OneReading.{one_reading}
 use Rattle.rig_config.specs.declared.Budgets.{Budgets}
-use Rattle.tenant_state.specs.declared.replies.Budget.{Budget}
-use Rattle.tenant_state.specs.declared.replies.Refusal.TheVariants.{Rule, Running}
+use Rattle.tenant_lines.specs.declared.replies.Budget.{Budget}
+use Rattle.tenant_lines.specs.declared.replies.Refusal.TheVariants.{Rule, Running}
 use Rattle.tenant_state.specs.declared.tenants.Active.{Active}
 use Rattle.tenant_state.specs.declared.tenants.State as code
 use Rattle.giotto_check.specs.Rules.{first_broken_rule}
 use Rattle.tenant_state.specs.Commands.{Reader, IsTrueReader, refusal_of, refused, at_beginning, broken_budget, load_within, load_checked, load_read}
-use Rattle.tenant_state.specs.PortTables.{PortTables, all_ports}
-use Rattle.tenant_state.specs.Ports.{initial_ports}
+use Rattle.tenant_ports.specs.PortTables.{PortTables, all_ports}
+use Rattle.tenant_ports.specs.Ports.{initial_ports}
 use Rattle.tenant_state.specs.Row.{ActiveTask, Row, is_running}
 use Rattle.tenant_state.specs.Standing.{StandsFor}
 use Rattle.tenant_state.specs.Tenants.{state_of, standing_of}

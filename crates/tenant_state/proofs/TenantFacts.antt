@@ -3,7 +3,7 @@ use Rattle.std.proofs.Common.{ℕ, ◌<◌, List, [], ◌∷◌, map, Option, So
 use Rattle.std.specs.List.{AllByRecursion}
 use Rattle.giotto_read.specs.Program.{GiottoProgram}
 use Rattle.tenant_state.specs.declared.tenants.Active.{Active}
-use Rattle.tenant_state.specs.PortTables.{PortTables}
+use Rattle.tenant_ports.specs.PortTables.{PortTables}
 use Rattle.tenant_state.specs.Row.{ActiveTask}
 use Rattle.tenant_state.specs.Tenants.{active_of, IsActiveIn, IsTenantOf}
 

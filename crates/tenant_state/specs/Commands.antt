@@ -8,20 +8,20 @@ use Rattle.giotto_read.specs.declared.faults.ReadFault.TheVariants as faults
 use Rattle.giotto_read.specs.Program.{GiottoProgram}
 use Rattle.giotto_read.specs.Reading.{Reads}
 use Rattle.rig_config.specs.declared.Budgets.{Budgets}
-use Rattle.tenant_state.specs.declared.commands.Command.{Command}
-use Rattle.tenant_state.specs.declared.commands.Command.TheVariants.{Load, Start, ShowPort}
-use Rattle.tenant_state.specs.declared.replies.Budget.{Budget}
-use Rattle.tenant_state.specs.declared.replies.Budget.TheVariants.{Lines}
-use Rattle.tenant_state.specs.declared.replies.Refusal.{Refusal}
-use Rattle.tenant_state.specs.declared.replies.Refusal.TheVariants.{Syntax, TooDeep, TooMany, Rule, Running, NotLoaded, NoPort, OverBudget, Memory}
-use Rattle.tenant_state.specs.declared.replies.Reply.{Reply}
-use Rattle.tenant_state.specs.declared.replies.Reply.TheVariants.{Loaded, Started, Port, Refused}
+use Rattle.tenant_lines.specs.declared.commands.Command.{Command}
+use Rattle.tenant_lines.specs.declared.commands.Command.TheVariants.{Load, Start, ShowPort}
+use Rattle.tenant_lines.specs.declared.replies.Budget.{Budget}
+use Rattle.tenant_lines.specs.declared.replies.Budget.TheVariants.{Lines}
+use Rattle.tenant_lines.specs.declared.replies.Refusal.{Refusal}
+use Rattle.tenant_lines.specs.declared.replies.Refusal.TheVariants.{Syntax, TooDeep, TooMany, Rule, Running, NotLoaded, NoPort, OverBudget, Memory}
+use Rattle.tenant_lines.specs.declared.replies.Reply.{Reply}
+use Rattle.tenant_lines.specs.declared.replies.Reply.TheVariants.{Loaded, Started, Port, Refused}
 use Rattle.tenant_state.specs.declared.trace.Happening.TheVariants as happening
 use Rattle.giotto_check.specs.Declarations.{lines_read, lines_written}
 use Rattle.giotto_check.specs.Rules.{first_broken_rule}
 use Rattle.rig_config.specs.Roster.{may_use}
 use Rattle.tenant_state.specs.Row.{State, loaded, running, Row, is_running, recorded}
-use Rattle.tenant_state.specs.Ports.{initial_ports}
+use Rattle.tenant_ports.specs.Ports.{initial_ports}
 
 -- what each program text reads as
 abbrev pub Reader : Type 0

@@ -10,7 +10,7 @@ use Rattle.tenant_state.specs.declared.trace.Happening.{Happening}
 use Rattle.tenant_state.specs.declared.trace.Happening.TheVariants as happening
 use Rattle.giotto_check.specs.Declarations.{task_of, mode_of}
 use Rattle.tenant_state.specs.Row.{StopReason, asked, overrun, stopped, ActiveTask, Row, is_running, in_program, in_mode, recorded, with_happenings}
-use Rattle.tenant_state.specs.Ports.{own_ports, with_values, actuators_reset, holds}
+use Rattle.tenant_ports.specs.Ports.{own_ports, with_values, actuators_reset, holds}
 
 -- what has frequency w in a mode happens at the mode times that are multiples of P / w
 abbrev pub is_due_at : ℕ → ModeDeclaration → ℕ → Bool
@@ -29,6 +29,10 @@ due_tasks row = if is_running row then option_map_or (due_in_program row) row.pr
 
 abbrev pub names_due : Row → List Name
 names_due row = map (λ (a : ActiveTask). a.task) (due_tasks row)
+
+-- the due tasks that are not completed
+abbrev pub unfinished_tasks : (ActiveTask → Bool) → Row → List Name
+unfinished_tasks completed row = map (λ (a : ActiveTask). a.task) (filter (λ a. not (completed a)) (due_tasks row))
 
 abbrev pub happening_of : StopReason → Happening
 happening_of asked = happening.Asked

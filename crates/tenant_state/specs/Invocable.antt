@@ -6,8 +6,8 @@ use Rattle.giotto_tasks.specs.Sound.{IsSound, AreSourcesOf}
 use Rattle.giotto_read.specs.Program.{TaskDeclaration, TaskInvocation, ModeDeclaration, GiottoProgram, body_of}
 use Rattle.giotto_read.specs.Reading.{IsOfFewPorts}
 use Rattle.giotto_check.specs.Declarations.{task_of}
-use Rattle.tenant_state.specs.GuardSources.{AreGuardSources}
-use Rattle.tenant_state.specs.Ports.{own_ports, initial_shared, initial_ports}
+use Rattle.tenant_ports.specs.GuardSources.{AreGuardSources}
+use Rattle.tenant_ports.specs.Ports.{own_ports, initial_shared, initial_ports}
 
 -- an invocation of this task
 pub record IsInvocationOf (p : GiottoProgram) (i : TaskInvocation) (t : TaskDeclaration) : Type 0 where

@@ -1,16 +1,10 @@
-pub mod CommandLine
 pub mod Commands
 pub mod FirstHalf
-pub mod GuardSources
 pub mod Instants
 pub mod Invocable
 pub mod JobLists
 pub mod Jobs
-pub mod PortTables
-pub mod Ports
-pub mod Replies
 pub mod Row
 pub mod SecondHalf
 pub mod Standing
 pub mod Tenants
-pub mod Words

@@ -11,7 +11,7 @@ use Rattle.tenant_state.specs.declared.trace.Happening.TheVariants as happening
 use Rattle.giotto_check.specs.Declarations.{sensor_names, actuator_names, task_of, mode_of, period_of_task}
 use Rattle.rig_config.specs.Roster.{may_use}
 use Rattle.tenant_state.specs.Row.{ActiveTask, Row, is_running, where_some, in_program, in_mode, recorded}
-use Rattle.tenant_state.specs.Ports.{own_ports, initial_ports, with_values, holds}
+use Rattle.tenant_ports.specs.Ports.{own_ports, initial_ports, with_values, holds}
 use Rattle.tenant_state.specs.FirstHalf.{is_due_at}
 
 -- the input value of each line that the tenant may read

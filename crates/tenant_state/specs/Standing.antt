@@ -2,13 +2,11 @@
 use Rattle.std.specs.Prelude.{◌≡◌, ◌+◌, ◌≤◌, ℕ, Bool, not, List, [], map, filter, length, Option}
 use Rattle.std.specs.List.{find, zip}
 use Rattle.std.specs.Option.{option_and_then, option_map, option_map_or}
-use Rattle.giotto_tasks.specs.declared.names.Name.{Name}
 use Rattle.giotto_tasks.specs.Syntax.{TaskBody}
 use Rattle.giotto_read.specs.Program.{TaskInvocation}
 use Rattle.giotto_check.specs.Declarations.{mode_of}
-use Rattle.tenant_state.specs.FirstHalf.{due_tasks}
 use Rattle.tenant_state.specs.declared.jobs.JobId.{JobId}
-use Rattle.tenant_state.specs.declared.replies.Reply.{Reply}
+use Rattle.tenant_lines.specs.declared.replies.Reply.{Reply}
 use Rattle.tenant_state.specs.Commands.{Outcome}
 use Rattle.tenant_state.specs.Jobs.{JobValue, body_in, job_in, job_of, same_job}
 use Rattle.tenant_state.specs.Row.{ActiveTask, Row, empty_row}
@@ -29,10 +27,6 @@ pub record StandsFor (standing : Standing) (row : Row) (completed : ActiveTask �
   pub same_row : standing.row ≡ without_records row
   pub same_marks : standing.completed ≡ map completed row.active
 
--- the due tasks that are not completed
-abbrev pub uncompleted : (ActiveTask → Bool) → Row → List Name
-uncompleted completed row = map (λ (a : ActiveTask). a.task) (filter (λ a. not (completed a)) (due_tasks row))
-
 -- the bodies of the tasks that the row's mode invokes, in text order
 abbrev pub bodies_invoked : Row → List TaskBody
 bodies_invoked row =
@@ -43,13 +37,13 @@ pub record IsOutcome (outcome : Outcome) (reply : Reply) (standing : Standing) (
   pub same_reply : reply ≡ outcome.reply
   pub stands : StandsFor standing outcome.row completed
 
--- the active tasks whose completion is awaited
-abbrev pub awaited_tasks : Standing → List ActiveTask
-awaited_tasks s = map (λ (p : ActiveTask × Bool). p.0) (filter (λ (p : ActiveTask × Bool). not p.1) (zip s.row.active s.completed))
+-- the outstanding tasks: active, and not completed
+abbrev pub outstanding_tasks : Standing → List ActiveTask
+outstanding_tasks s = map (λ (p : ActiveTask × Bool). p.0) (filter (λ (p : ActiveTask × Bool). not p.1) (zip s.row.active s.completed))
 
--- the job of this name, if its completion is awaited
+-- the job of this name, if its completion is awaited: its task is outstanding
 abbrev pub awaited_job : Standing → JobId → Option JobValue
-awaited_job s j = option_and_then (λ p. option_map (job_in p j.tenant) (find (λ a. same_job (job_of j.tenant a) j) (awaited_tasks s))) s.row.program
+awaited_job s j = option_and_then (λ p. option_map (job_in p j.tenant) (find (λ a. same_job (job_of j.tenant a) j) (outstanding_tasks s))) s.row.program
 
 -- room for what an instant releases: places for active tasks, and a share of each body
 pub record RoomValue : Type 0 where

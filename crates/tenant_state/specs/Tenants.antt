@@ -11,7 +11,7 @@ use Rattle.tenant_state.specs.declared.tenants.Reason.TheVariants.{Overrun}
 use Rattle.tenant_state.specs.declared.tenants.State as code
 use Rattle.tenant_state.specs.declared.tenants.State.TheVariants as states
 use Rattle.tenant_state.specs.Jobs.{JobValue}
-use Rattle.tenant_state.specs.PortTables.{PortTables, all_ports, ArePortsOf}
+use Rattle.tenant_ports.specs.PortTables.{PortTables, all_ports, ArePortsOf}
 use Rattle.tenant_state.specs.Row.{StopReason, overrun, State, empty, loaded, running, stopped, ActiveTask}
 use Rattle.tenant_state.specs.Standing.{Standing}
 

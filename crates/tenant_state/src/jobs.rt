@@ -91,7 +91,7 @@ impl Model for Done {
 impl Job {
     /// The job of this name. Its inputs and states are as many as its body has, and its body is sound: at most 16 inputs,
     /// outputs and states each, all of different names, and a block that reads only these and assigns only outputs and states.
-    pub fn new(id: JobId, body: Arc<Body, Global>, inputs: Values, states: Values) -> Job
+    pub(crate) fn new(id: JobId, body: Arc<Body, Global>, inputs: Values, states: Values) -> Job
         requires { IsComputable (record { id = id; body = arc_value body; inputs = inputs; states = states }) }
         ensures { result ≡ record { id = id; body = arc_value body; inputs = inputs; states = states } }
     {
@@ -251,6 +251,3 @@ impl Jobs {
         self.jobs.is_empty()
     }
 }
-
-#[cfg(test)]
-mod tests;

@@ -11,12 +11,12 @@ pub mod first_half;
 pub mod second_half;
 
 use crate::jobs::Done;
-use crate::ports::Ports;
 use giotto_check::Checked;
 use giotto_tasks::names::Name;
 use giotto_tasks::values::Values;
 use std::alloc::Global;
 use std::marker::Model;
+use tenant_ports::Ports;
 
 /// Why a tenant was stopped.
 #[derive(Drop)]

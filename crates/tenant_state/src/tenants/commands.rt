@@ -2,12 +2,12 @@
 
 ghost use Rattle.std.specs.Prelude.{◌≡◌, ◌≢◌, ◌&&◌, Bool, Ok, Err, None, IfOk, IfErr, OnOk, OnErr, if◌then◌else◌, Some};
 ghost use Rattle.rig_config.specs.declared.Budgets.{Budgets};
-ghost use Rattle.tenant_state.specs.declared.replies.Budget.{Budget};
+ghost use Rattle.tenant_lines.specs.declared.replies.Budget.{Budget};
 ghost use Rattle.std.specs.List.{list_all};
 ghost use Rattle.tenant_state.specs.Commands.{IsTrueReader};
-ghost use Rattle.tenant_state.specs.declared.commands.Command.{Command};
-ghost use Rattle.tenant_state.specs.declared.replies.Refusal.{Refusal};
-ghost use Rattle.tenant_state.specs.declared.replies.Reply.{Reply};
+ghost use Rattle.tenant_lines.specs.declared.commands.Command.{Command};
+ghost use Rattle.tenant_lines.specs.declared.replies.Refusal.{Refusal};
+ghost use Rattle.tenant_lines.specs.declared.replies.Reply.{Reply};
 ghost use Rattle.giotto_check.specs.Declarations.{lines_read, lines_written};
 ghost use Rattle.giotto_check.specs.Rules.{first_broken_rule};
 ghost use Rattle.rig_config.specs.Roster.{may_use};
@@ -15,9 +15,6 @@ ghost use Rattle.tenant_state.specs.Commands.{Reader, commanded, refusal_of, loa
 ghost use Rattle.tenant_state.specs.Row.{ActiveTask, Row, is_running};
 ghost use Rattle.tenant_state.specs.Standing.{StandsFor, IsOutcome, without_records};
 
-use crate::commands::Command;
-use crate::ports::Ports;
-use crate::replies::{Budget, Refusal, Reply};
 use crate::tenants::{State, Tenant};
 use giotto_check::{self, CheckFault, Checked};
 use giotto_read::faults::ReadFault;
@@ -26,6 +23,9 @@ use giotto_read::reading;
 use giotto_tasks::names::Name;
 use rig_config::Budgets;
 use std::alloc::Global;
+use tenant_lines::commands::Command;
+use tenant_lines::replies::{Budget, Refusal, Reply};
+use tenant_ports::Ports;
 
 impl Tenant {
     /// Carries out a command. A refusal changes nothing, want of memory included.

@@ -1,15 +1,14 @@
 //! The jobs of a tenant whose completion is awaited.
 
-ghost use Rattle.std.specs.Prelude.{◌≡◌, ◌+◌, ◌↔◌, ◌||◌, ◌&&◌, not, nat_eq, Bool, filter, length, slice_get, IsTrue, IfOk, Some};
+ghost use Rattle.std.specs.Prelude.{◌≡◌, ◌+◌, ◌↔◌, ◌||◌, ◌&&◌, not, nat_eq, Bool, filter, length, map, ◌++◌, IsTrue, IfOk, OnOk, Some};
 ghost use Rattle.std.specs.Arc.{arc_value};
 ghost use Rattle.std.specs.Bool.{OnTrue, OnFalse};
 ghost use Rattle.std.specs.List.{position};
-ghost use Rattle.std.specs.Option.{option_map};
 ghost use Rattle.giotto_tasks.specs.Names.{same_name};
 ghost use Rattle.tenant_state.specs.Jobs.{job_of, same_job};
 ghost use Rattle.tenant_state.specs.Row.{ActiveTask, Row};
-ghost use Rattle.tenant_state.specs.Standing.{StandsFor, awaited_tasks, awaited_job};
-ghost use Rattle.tenant_state.specs.Tenants.{is_completed};
+ghost use Rattle.tenant_state.specs.Standing.{StandsFor, outstanding_tasks, awaited_job};
+ghost use Rattle.tenant_state.specs.Tenants.{active_of, is_completed};
 
 use crate::jobs::{Done, Job, JobId};
 use crate::tenants::{Active, Tenant};
@@ -50,7 +49,7 @@ impl Tenant {
         ensures counted { IsTrue result ↔ (awaited_job self.old done.id ≡ Some done) }
         ensures row { self.new.row ≡ self.old.row }
         ensures late { OnFalse result (self.new ≡ self.old) }
-        ensures left { OnTrue result (length (awaited_tasks self.old) ≡ length (awaited_tasks self.new) + 1) }
+        ensures left { OnTrue result (length (outstanding_tasks self.old) ≡ length (outstanding_tasks self.new) + 1) }
         ensures step { OnTrue result ((row : Row) (completed : ActiveTask → Bool) → StandsFor self.old row completed
             → StandsFor self.new row (λ a. same_job done.id (job_of done.id.tenant a) || completed a)) }
     {
@@ -71,33 +70,45 @@ impl Tenant {
         true
     }
 
-    /// The name of the first job whose completion is awaited, for the tenant at this place of the roster.
-    pub fn first_outstanding(&self, tenant: TenantId) -> Option<JobId>
-        ensures { result ≡ option_map (job_of tenant) (slice_get (awaited_tasks self.now) 0) }
+    /// Adds the names of the outstanding jobs, in the order of their release, for the tenant at this place of the roster.
+    ///
+    /// # Errors
+    /// Want of memory.
+    pub fn add_outstanding(&self, tenant: TenantId, names: &mut Vec<JobId>) -> Result<(), AllocError>
+        ensures { OnOk result (names.new.items ≡ names.old.items ++ map (job_of tenant) (outstanding_tasks self.now)) }
     {
-        let Some(place) = first_awaited(&self.active) else {
-            return None;
-        };
-        let active = &self.active[place];
-        Some(JobId {
-            tenant,
-            tick: active.release,
-            task: active.task.copy(),
-        })
+        add_names(tenant, &self.active, names)
     }
 
-    /// How many completions are awaited.
+    /// How many jobs are outstanding: their tasks are active, and not completed.
     pub fn outstanding(&self) -> usize
-        ensures { result ≡ length (awaited_tasks self.now) }
+        ensures { result ≡ length (outstanding_tasks self.now) }
     {
         count_awaited(&self.active)
     }
 }
 
-fn first_awaited(active: &[Active]) -> Option<usize>
-    ensures { result ≡ position (λ a. not (is_completed a)) active.now }
+// Adds the names of the jobs that have no result.
+fn add_names(tenant: TenantId, active: &[Active], names: &mut Vec<JobId>) -> Result<(), AllocError>
+    ensures { OnOk result (names.new.items ≡ names.old.items ++ map (job_of tenant) (map active_of (filter (λ a. not (is_completed a)) active.now))) }
 {
-    active.iter().position(|active| is_awaited(active))
+    for entry in active {
+        if is_awaited(entry) {
+            names.push(name_of(tenant, entry))?;
+        }
+    }
+    Ok(())
+}
+
+// The name of an active task's job.
+fn name_of(tenant: TenantId, active: &Active) -> JobId
+    ensures { result ≡ job_of tenant (active_of active.now) }
+{
+    JobId {
+        tenant,
+        tick: active.release,
+        task: active.task.copy(),
+    }
 }
 
 fn count_awaited(active: &[Active]) -> usize

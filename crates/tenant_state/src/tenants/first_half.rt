@@ -9,26 +9,26 @@ ghost use Rattle.giotto_read.specs.Program.{ActuatorUpdate, TaskInvocation};
 ghost use Rattle.giotto_read.specs.declared.programs.Invocation.{Invocation};
 ghost use Rattle.giotto_read.specs.ProgramTrees.{mode_of, update_of, invocation_of};
 ghost use Rattle.giotto_check.specs.Declarations as declared;
-ghost use Rattle.tenant_state.specs.FirstHalf.{is_due_at, all_ended, all_updated, first_half_of};
-ghost use Rattle.tenant_state.specs.GuardSources.{AreGuardSources};
-ghost use Rattle.tenant_state.specs.PortTables.{all_ports, ArePortsOf, HaveSameNames};
-ghost use Rattle.tenant_state.specs.Ports.{actuators_reset};
+ghost use Rattle.tenant_state.specs.FirstHalf.{unfinished_tasks, is_due_at, all_ended, all_updated, first_half_of};
+ghost use Rattle.tenant_ports.specs.GuardSources.{AreGuardSources};
+ghost use Rattle.tenant_ports.specs.PortTables.{all_ports, ArePortsOf, HaveSameNames};
+ghost use Rattle.tenant_ports.specs.Ports.{actuators_reset};
 ghost use Rattle.tenant_state.specs.Row.{ActiveTask, Row};
-ghost use Rattle.tenant_state.specs.Standing.{StandsFor, uncompleted, bodies_invoked};
+ghost use Rattle.tenant_state.specs.Standing.{StandsFor, bodies_invoked};
 ghost use Rattle.tenant_state.specs.Tenants.{active_of, is_completed, IsActiveAsSome};
 
-use crate::ports::Ports;
 use crate::tenants::{Active, Reason, State, Tenant};
 use giotto_check::{Checked, find_mode, find_task};
 use giotto_read::programs::Mode;
 use giotto_tasks::names::Name;
+use tenant_ports::Ports;
 
 impl Tenant {
     /// The first half of an instant. The due tasks write their results, and the due actuators are updated; or the tenant is
     /// stopped where the computation of a due task isn't completed. Takes no memory.
     pub fn first_half(&mut self)
         ensures step { (row : Row) (completed : ActiveTask → Bool) → StandsFor self.old row completed
-            → StandsFor self.new (first_half_of (uncompleted completed row) row) completed }
+            → StandsFor self.new (first_half_of (unfinished_tasks completed row) row) completed }
         ensures fewer { length self.new.row.active ≤ length self.old.row.active }
         ensures bodies { bodies_invoked self.new.row ≡ bodies_invoked self.old.row }
         ensures count { self.new.row.count ≡ self.old.row.count }

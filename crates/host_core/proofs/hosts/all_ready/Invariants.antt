@@ -1,5 +1,6 @@
 use Rattle.std.proofs.Common.{◌≡◌, ℕ, ◌<◌, length, get_or}
-use Rattle.host_core.specs.Halves.{tenant_at, no_room}
+use Rattle.host_core.specs.HostStanding.{tenant_at}
+use Rattle.host_core.specs.Halves.{no_room}
 use Rattle.tenant_state.specs.Standing.{IsRoomFor}
 use Rattle.host_core.proofs.hosts.all_ready.Given as goal
 

@@ -1,7 +1,8 @@
 use Rattle.std.proofs.Common.{◌≡◌, ◌≤◌, List, get_or, sym, ap, subst, ◌∙◌, arith}
 use Rattle.rig_config.specs.declared.TenantConfig.{TenantConfig}
 use Rattle.rig_config.specs.declared.Budgets.{Budgets}
-use Rattle.host_core.specs.Halves.{IsSecondHalf, AreReady, tenant_at, places_of}
+use Rattle.host_core.specs.HostStanding.{tenant_at}
+use Rattle.host_core.specs.Halves.{IsSecondHalf, AreReady, places_of}
 use Rattle.rig_config.specs.Roster.{budgets_at}
 use Rattle.tenant_state.specs.Standing.{Standing, IsRoomFor}
 use Rattle.host_core.proofs.HostSteps.{budgets_here}

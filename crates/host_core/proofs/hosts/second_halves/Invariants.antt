@@ -1,6 +1,7 @@
 use Rattle.std.proofs.Common.{◌≡◌, ℕ, ◌≤◌, ◌++◌, take}
 use Rattle.std.specs.List.{All}
-use Rattle.host_core.specs.Halves.{AreSecondHalves, AreReady, places_of, released_from}
+use Rattle.host_core.specs.HostStanding.{released_from}
+use Rattle.host_core.specs.Halves.{AreSecondHalves, AreReady, places_of}
 use Rattle.tenant_state.specs.Standing.{Standing}
 use Rattle.host_core.proofs.hosts.second_halves.Given as goal
 

@@ -1,5 +1,5 @@
 use Rattle.std.proofs.Common.{codes, refl, sym, subst, arith}
-use Rattle.tenant_state.specs.Words.{words_of}
+use Rattle.tenant_lines.specs.Words.{words_of}
 use Rattle.rig_host.specs.HostAnswers.{IsHostAfter}
 use Rattle.rig_host.specs.Script.{IsStep, operator_step}
 use Rattle.rig_host.proofs.Steps.{words_with, other_line, operator_refused}

@@ -1,7 +1,7 @@
 use Rattle.std.proofs.Common.{◌≡◌, IfOk, string_bytes, ◌∙◌, subst}
 use Rattle.host_core.specs.Host.{host_after}
-use Rattle.tenant_state.specs.declared.replies.Refusal.TheVariants.{Memory}
-use Rattle.tenant_state.specs.declared.replies.Reply.TheVariants.{Refused}
+use Rattle.tenant_lines.specs.declared.replies.Refusal.TheVariants.{Memory}
+use Rattle.tenant_lines.specs.declared.replies.Reply.TheVariants.{Refused}
 use Rattle.rig_host.specs.Answered.{reply_line}
 use Rattle.rig_host.proofs.Steps.{command_done}
 use Rattle.rig_host.proofs.script.tenant_line.Goals as goal

@@ -1,6 +1,6 @@
 use Rattle.std.proofs.Common.{rules, ◌≡◌, ◌<◌, ◌^◌, Some, Err, ap, ◌∙◌, sym}
 use Rattle.host_core.specs.Host.{host_after}
-use Rattle.tenant_state.specs.Words.{words_of, values_of_words}
+use Rattle.tenant_lines.specs.Words.{words_of, values_of_words}
 use Rattle.rig_host.proofs.Steps.{tick_done, tick_ended}
 use Rattle.rig_host.proofs.script.tick.Goals as goal
 

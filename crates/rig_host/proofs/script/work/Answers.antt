@@ -1,7 +1,7 @@
 use Rattle.std.proofs.Common.{◌≡◌, ◌<◌, ◌∷◌, [], List, ℕ, codes, length, refl, ap, ◌∙◌, sym, subst, arith}
 use Rattle.std.proofs.lemmas.Bool.Decides.{nat_tests}
-use Rattle.tenant_state.specs.Words.{words_of, first_word_of}
-use Rattle.tenant_state.proofs.WordLemmas.{words_none}
+use Rattle.tenant_lines.specs.Words.{words_of, first_word_of}
+use Rattle.tenant_lines.proofs.WordLemmas.{words_none}
 use Rattle.rig_host.specs.HostAnswers.{IsHostAfter}
 use Rattle.rig_host.specs.Script.{IsStep, operator_step}
 use Rattle.rig_host.proofs.Steps.{more_than_work, operator_refused}

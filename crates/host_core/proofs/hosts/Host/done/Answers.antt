@@ -1,6 +1,6 @@
 use Rattle.std.proofs.Common.{◌<◌, length, sym, ap, subst, ◌∙◌, arith, refl}
 use Rattle.std.specs.Prelude.{is_some}
-use Rattle.host_core.specs.HostStanding.{HostStanding, Stands, outstanding_in}
+use Rattle.host_core.specs.HostStanding.{HostStanding, Stands, outstanding_jobs}
 use Rattle.tenant_state.specs.declared.jobs.JobId.{JobId}
 use Rattle.tenant_state.specs.Standing.{Standing}
 use Rattle.host_core.proofs.HostSteps.{done_counts}
@@ -27,7 +27,7 @@ returns-clause-left c = λ counted.
     let within : c.id.result.now.tenant < length host.tenants = omega (arith, c.if-place-len.false) in
     elim c.if-complete.branch [
       | then-complete w ↦
-          ap outstanding_in (sym c.self.view_is)
+          ap (λ (h : HostStanding). length (outstanding_jobs h)) (sym c.self.view_is)
           ∙ one_fewer_in host.tenants c.id.result.now.tenant c.index_mut-tenant.result.now c.complete.new.self within c.index_mut-tenant.ensures.value w.if-complete.ensures.left
       | else-complete w ↦ absurd (cc)
     ]

@@ -1,6 +1,6 @@
 use Rattle.std.proofs.Common.{◌≡◌, ◌<◌, length, subst, arith}
 use Rattle.std.specs.Prelude.{is_some, IfOk}
-use Rattle.host_core.specs.Host.{HostState, awaits}
+use Rattle.host_core.specs.HostState.{HostState, awaits}
 use Rattle.host_core.specs.HostStanding.{HostStanding, Stands}
 use Rattle.host_core.specs.Setting.{Setting}
 use Rattle.host_core.proofs.HostSteps.{job_awaits}
@@ -10,5 +10,5 @@ pub returns-clause-awaited : goal.returns-clause-awaited
 returns-clause-awaited c =
     let host : HostStanding = record { config = c.self.inside.config; tenants = c.self.inside.tenants.items; clock = c.self.inside.clock } in
     let within : c.args.id.now.tenant < length host.tenants = omega (arith, c.if-id-len.false) in
-    subst (λ (h : HostStanding). IfOk c.job.result (λ job. (setting : Setting) (state : HostState) → Stands setting h state → is_some job ≡ awaits setting state c.args.id.now)) c.self.view_is
+    subst (λ (h : HostStanding). IfOk c.job.result (λ job. (setting : Setting) (state : HostState) → Stands setting h state → is_some job ≡ awaits state c.args.id.now)) c.self.view_is
     (job_awaits host c.args.id.now c.index-tenant.result.now c.job.result within c.index-tenant.ensures c.known.ensures.tasks c.job.ensures)

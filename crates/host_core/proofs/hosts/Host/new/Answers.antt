@@ -1,6 +1,6 @@
 use Rattle.std.proofs.Common.{◌≡◌, length, take, ap, arith}
 use Rattle.tenant_state.specs.Standing.{Standing, empty_standing}
-use Rattle.host_core.proofs.FirstAwaited.{equal_more, equal_all, equal_each}
+use Rattle.host_core.proofs.EqualTenants.{equal_more, equal_all, equal_each}
 use Rattle.host_core.proofs.hosts.Host.new.Goals as goal
 
 pub loop-place-preserved : goal.loop-place-preserved

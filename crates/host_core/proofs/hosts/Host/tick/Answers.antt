@@ -1,10 +1,10 @@
 use Rattle.std.proofs.Common.{◌≡◌, ◌+◌, List, length, take, drop, ◌++◌, sym, ap, subst, ◌∙◌, arith}
 use Rattle.std.specs.List.{All}
-use Rattle.host_core.specs.Halves.{AreFirstHalves, AreReady, released_from}
+use Rattle.host_core.specs.Halves.{AreFirstHalves, AreReady}
 use Rattle.host_core.specs.Host.{after_event}
 use Rattle.host_core.specs.declared.events.Event.TheVariants.{Tick}
 use Rattle.tenant_state.specs.Jobs.{JobValue}
-use Rattle.host_core.specs.HostStanding.{HostStanding, Stands}
+use Rattle.host_core.specs.HostStanding.{HostStanding, Stands, released_from}
 use Rattle.tenant_state.specs.Standing.{Standing}
 use Rattle.host_core.proofs.HostSteps.{stands_after_tick}
 use Rattle.host_core.proofs.HostLoops.{counts_behind, counts_after, ready_behind, whole_slice}

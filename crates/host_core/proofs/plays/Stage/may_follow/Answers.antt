@@ -6,6 +6,6 @@ use Rattle.host_core.proofs.plays.Stage.may_follow.Goals as goal
 
 pub returns-then-as_slice-config-clause-legal : goal.returns-then-as_slice-config-clause-legal
 returns-then-as_slice-config-clause-legal c = λ setting past played.
-    tick_legal setting past c.in-Tick.frame c.args.self.now.host c.args.self.now.texts.items c.args.self.now.released.items c.clock.result c.config-in-Tick.result.now.lines
+    tick_legal setting played.base past c.in-Tick.frame c.args.self.now.host c.args.self.now.texts.items c.args.self.now.released.items c.clock.result c.config-in-Tick.result.now.lines
     c.clock.ensures (sym c.if-as_slice-config.true ∙ ap length c.as_slice-in-Tick.ensures) (ap (λ (k : Config). k.lines) c.config-in-Tick.ensures) played
     ∙ ap (may_follow setting past) (sym c.in-Tick.is)

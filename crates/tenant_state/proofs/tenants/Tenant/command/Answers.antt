@@ -1,6 +1,6 @@
 use Rattle.std.proofs.Common.{◌≡◌, refl, ap}
-use Rattle.tenant_state.specs.declared.replies.Refusal.TheVariants.{Memory}
-use Rattle.tenant_state.specs.declared.replies.Reply.TheVariants.{Refused}
+use Rattle.tenant_lines.specs.declared.replies.Refusal.TheVariants.{Memory}
+use Rattle.tenant_lines.specs.declared.replies.Reply.TheVariants.{Refused}
 use Rattle.tenant_state.proofs.tenants.Tenant.command.Goals as goal
 
 pub returns-in-Ok-clause-step : goal.returns-in-Ok-clause-step

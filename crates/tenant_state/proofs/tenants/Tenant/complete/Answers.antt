@@ -4,7 +4,7 @@ use Rattle.std.proofs.lemmas.Bool.{false≢true}
 use Rattle.std.proofs.lemmas.List.{get_or_read}
 use Rattle.giotto_read.specs.ProgramTrees as trees
 use Rattle.giotto_check.specs.Declarations.{task_of}
-use Rattle.tenant_state.specs.Standing.{Standing, StandsFor, awaited_tasks, awaited_job}
+use Rattle.tenant_state.specs.Standing.{Standing, StandsFor, outstanding_tasks, awaited_job}
 use Rattle.tenant_state.specs.Tenants.{standing_of, IsTenant}
 use Rattle.tenant_state.proofs.AwaitedTasks.{is_awaited, awaited_nowhere, named_at, with_result}
 use Rattle.tenant_state.proofs.Completing.{IsJobOf, counted_if, counted_only_if, still_tenant, same_row_with_result, one_fewer, stands_completed}
@@ -113,6 +113,6 @@ returns-clause-left c =
     let found : position (is_awaited d.id) items ≡ Some c.in-Some-place_of.place = sym (rw (c.deref.ensures.value, c.id.ensures) at c.in-Some-place_of.ensures) in
     let b = c.index_mut.result.now in
     let new = set items c.in-Some-place_of.place (with_result p b d) in
-    let fewer : length (awaited_tasks c.args.self.now) ≡ length (awaited_tasks (standing_of inside.state (Some p) inside.mode inside.mode_time new inside.ports inside.count)) + 1 =
-    ap (λ s. length (awaited_tasks s)) (sym here) ∙ one_fewer inside.state p inside.mode inside.mode_time items inside.ports inside.count d c.in-Some-place_of.place b found c.index_mut.ensures.value known in
-    subst (λ o. length (awaited_tasks c.args.self.now) ≡ length (awaited_tasks (standing_of inside.state o inside.mode inside.mode_time new inside.ports inside.count)) + 1) (sym c.in-Some.is) fewer
+    let fewer : length (outstanding_tasks c.args.self.now) ≡ length (outstanding_tasks (standing_of inside.state (Some p) inside.mode inside.mode_time new inside.ports inside.count)) + 1 =
+    ap (λ s. length (outstanding_tasks s)) (sym here) ∙ one_fewer inside.state p inside.mode inside.mode_time items inside.ports inside.count d c.in-Some-place_of.place b found c.index_mut.ensures.value known in
+    subst (λ o. length (outstanding_tasks c.args.self.now) ≡ length (outstanding_tasks (standing_of inside.state o inside.mode inside.mode_time new inside.ports inside.count)) + 1) (sym c.in-Some.is) fewer

@@ -8,10 +8,10 @@ use Rattle.tenant_state.specs.declared.tenants.Active.{Active}
 use Rattle.tenant_state.specs.declared.tenants.Reason.TheVariants.{Overrun}
 use Rattle.tenant_state.specs.declared.tenants.State.TheVariants as states
 use Rattle.giotto_check.specs.Declarations.{task_of, mode_of}
-use Rattle.tenant_state.specs.FirstHalf.{is_due_at, all_ended, first_half_of}
-use Rattle.tenant_state.specs.PortTables.{all_ports}
+use Rattle.tenant_state.specs.FirstHalf.{unfinished_tasks, is_due_at, all_ended, first_half_of}
+use Rattle.tenant_ports.specs.PortTables.{all_ports}
 use Rattle.tenant_state.specs.Row.{ActiveTask}
-use Rattle.tenant_state.specs.Standing.{Standing, StandsFor, uncompleted}
+use Rattle.tenant_state.specs.Standing.{Standing, StandsFor}
 use Rattle.tenant_state.specs.Tenants.{active_of, standing_of, all_different_releases, IsActiveIn, IsActiveAsSome, IsTenantOf}
 use Rattle.tenant_state.proofs.ActiveTasks.{all_filter}
 use Rattle.tenant_state.proofs.FirstHalfOf.{is_open, ends, finished, halted, map_none, map_some, each_of, different_filter, fewer_filter}
@@ -37,7 +37,7 @@ returns-in-Some-first_unfinished-clause-step c =
     let is = ap (λ x. standing_of (states.Stopped (Overrun x)) s.program s.mode s.mode_time c.clear.new.self.items after s.count) name
     ∙ ap (λ o. standing_of (states.Stopped (Overrun i.task)) o s.mode s.mode_time c.clear.new.self.items after s.count) c.in-Some.is
     ∙ ap (λ acts. standing_of (states.Stopped (Overrun i.task)) (Some p) s.mode s.mode_time acts after s.count) c.clear.ensures.items in
-    λ row completed st. subst (λ t. StandsFor t (first_half_of (uncompleted completed row) row) completed) (sym is)
+    λ row completed st. subst (λ t. StandsFor t (first_half_of (unfinished_tasks completed row) row) completed) (sym is)
     (halted md i p s.mode s.mode_time s.active.items s.ports after s.count found first c.reset_actuators.ensures.value row completed (subst (λ t. StandsFor t row completed) was st))
 
 pub end_due-requires-clause-active : goal.end_due-requires-clause-active
@@ -97,7 +97,7 @@ returns-clause-step c =
     let is = ap (λ x. standing_of x s.program s.mode s.mode_time c.drop_due.new.active.items after s.count) c.in-Running.is
     ∙ ap (λ o. standing_of states.Running o s.mode s.mode_time c.drop_due.new.active.items after s.count) c.in-Some.is
     ∙ ap (λ acts. standing_of states.Running (Some p) s.mode s.mode_time acts after s.count) c.drop_due.ensures in
-    λ row completed st. subst (λ t. StandsFor t (first_half_of (uncompleted completed row) row) completed) (sym is)
+    λ row completed st. subst (λ t. StandsFor t (first_half_of (unfinished_tasks completed row) row) completed) (sym is)
     (finished md p s.mode s.mode_time s.active.items s.ports c.end_due.new.ports after s.count found none ended c.update_due.ensures.value row completed (subst (λ t. StandsFor t row completed) was st))
 
 pub returns-clause-fewer : goal.returns-clause-fewer

@@ -1,10 +1,10 @@
 use Rattle.std.proofs.Common.{◌≡◌, true, false, Some, None, sym, ap, ◌∙◌, subst, refl}
-use Rattle.tenant_state.specs.declared.replies.Budget.TheVariants.{Lines}
+use Rattle.tenant_lines.specs.declared.replies.Budget.TheVariants.{Lines}
 use Rattle.tenant_state.specs.declared.tenants.State.TheVariants as states
 use Rattle.tenant_state.specs.Commands.{broken_budget}
 use Rattle.giotto_read.specs.Program.{GiottoProgram}
-use Rattle.tenant_state.specs.PortTables.{all_ports}
-use Rattle.tenant_state.specs.Ports.{initial_ports}
+use Rattle.tenant_ports.specs.PortTables.{all_ports}
+use Rattle.tenant_ports.specs.Ports.{initial_ports}
 use Rattle.tenant_state.specs.Row.{is_running}
 use Rattle.tenant_state.specs.Standing.{StandsFor}
 use Rattle.tenant_state.proofs.TenantCommands.{refused_while_running, loaded_within, stands_at_beginning}

@@ -6,7 +6,7 @@ use Rattle.giotto_read.specs.ProgramTrees.{mode_of}
 use Rattle.giotto_check.specs.Checked.{HasNoSwitches, IsChecked}
 use Rattle.giotto_check.specs.Declarations as declared
 use Rattle.tenant_state.specs.Jobs.{released_at}
-use Rattle.tenant_state.specs.PortTables.{all_ports}
+use Rattle.tenant_ports.specs.PortTables.{all_ports}
 use Rattle.tenant_state.specs.Row.{ActiveTask, Row}
 use Rattle.tenant_state.specs.SecondHalf.{readings_within, all_invoked, all_released}
 use Rattle.tenant_state.specs.Standing.{Standing, RoomValue}
@@ -14,7 +14,7 @@ use Rattle.tenant_state.specs.Tenants.{state_of, active_of, is_completed, standi
 use Rattle.tenant_state.proofs.HalfStands.{new_releases, older_releases, Ran, running_stands, idle_stands, not_running, jobs_behind, no_jobs, jobs_as_before}
 use Rattle.tenant_state.proofs.Invoked.{bodies_in_mode}
 use Rattle.tenant_state.proofs.InvocableModes.{found_has, all_invocable, sensors_are_ports, active_later}
-use Rattle.tenant_state.proofs.PortNames.{same_names_on}
+use Rattle.tenant_ports.proofs.PortNames.{same_names_on}
 use Rattle.tenant_state.proofs.ProgramFacts.{mode_fits}
 use Rattle.giotto_check.proofs.RulesKept.{rules_kept}
 use Rattle.tenant_state.proofs.TenantBehind.{tenant_later, tenant_behind}

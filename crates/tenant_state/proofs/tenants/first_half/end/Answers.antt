@@ -11,8 +11,8 @@ use Rattle.giotto_read.specs.Program.{GiottoProgram, body_of, names_of}
 use Rattle.giotto_read.specs.ProgramTrees as tree
 use Rattle.giotto_check.specs.Declarations.{task_of}
 use Rattle.tenant_state.specs.FirstHalf.{ended_with}
-use Rattle.tenant_state.specs.PortTables.{all_ports}
-use Rattle.tenant_state.specs.Ports.{own_ports}
+use Rattle.tenant_ports.specs.PortTables.{all_ports}
+use Rattle.tenant_ports.specs.Ports.{own_ports}
 use Rattle.tenant_state.specs.Tenants.{active_of, IsActiveAs, IsActiveAsSome, IsResultOf}
 use Rattle.tenant_state.proofs.InstantSteps.{ports_again}
 use Rattle.tenant_state.proofs.ProgramFacts.{task_fits}

@@ -5,7 +5,7 @@ use Rattle.giotto_read.specs.Program.{TaskInvocation}
 use Rattle.giotto_read.specs.declared.programs.Invocation.{Invocation}
 use Rattle.giotto_read.specs.ProgramTrees.{mode_of, invocation_of}
 use Rattle.tenant_state.specs.FirstHalf.{is_due_at, all_ended}
-use Rattle.tenant_state.specs.PortTables.{all_ports, HaveSameNames}
+use Rattle.tenant_ports.specs.PortTables.{all_ports, HaveSameNames}
 use Rattle.tenant_state.specs.Row.{ActiveTask}
 use Rattle.tenant_state.specs.Tenants.{active_of, is_completed}
 use Rattle.tenant_state.proofs.tenants.first_half.end_due.Given as goal

@@ -3,7 +3,7 @@ use Rattle.std.specs.List.{list_any, AllByRecursion}
 use Rattle.giotto_tasks.specs.Names.{same_name}
 use Rattle.giotto_check.specs.Declarations.{task_of}
 use Rattle.tenant_state.specs.FirstHalf.{all_ended}
-use Rattle.tenant_state.specs.PortTables.{all_ports, HaveSameNames}
+use Rattle.tenant_ports.specs.PortTables.{all_ports, HaveSameNames}
 use Rattle.tenant_state.specs.Row.{ActiveTask}
 use Rattle.tenant_state.specs.Tenants.{active_of, is_completed, IsActiveAsSome}
 use Rattle.tenant_state.proofs.tenants.first_half.end_each.Given as goal

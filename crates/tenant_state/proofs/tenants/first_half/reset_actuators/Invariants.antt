@@ -1,7 +1,7 @@
 use Rattle.std.proofs.Common.{◌≡◌, map, drop}
 use Rattle.std.specs.List.{AllByRecursion}
 use Rattle.giotto_read.specs.ProgramTrees.{actuator_of}
-use Rattle.tenant_state.specs.PortTables.{all_ports, HaveSameNames}
+use Rattle.tenant_ports.specs.PortTables.{all_ports, HaveSameNames}
 use Rattle.tenant_state.proofs.InstantSteps.{IsPort, all_reset}
 use Rattle.tenant_state.proofs.tenants.first_half.reset_actuators.Given as goal
 

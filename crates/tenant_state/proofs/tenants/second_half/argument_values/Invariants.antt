@@ -1,7 +1,7 @@
 use Rattle.std.proofs.Common.{◌≡◌, map, take}
 use Rattle.giotto_tasks.specs.Meaning.{value_of}
 use Rattle.giotto_tasks.specs.Trees.{expression_of}
-use Rattle.tenant_state.specs.PortTables.{all_ports}
+use Rattle.tenant_ports.specs.PortTables.{all_ports}
 use Rattle.tenant_state.proofs.tenants.second_half.argument_values.Given as goal
 
 abbrev pub invariant-loop-argument : goal.invariant-loop-argument

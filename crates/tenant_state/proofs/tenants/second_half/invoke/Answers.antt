@@ -3,13 +3,13 @@ use Rattle.std.specs.Arc.{arc_value}
 use Rattle.std.specs.List.{AllByRecursion}
 use Rattle.giotto_read.specs.ProgramTrees.{mode_of, task_of, invocation_of}
 use Rattle.tenant_state.specs.Jobs.{JobValue, body_in, job_of, job_in}
-use Rattle.tenant_state.specs.PortTables.{all_ports}
-use Rattle.tenant_state.specs.Ports.{own_ports}
+use Rattle.tenant_ports.specs.PortTables.{all_ports}
+use Rattle.tenant_ports.specs.Ports.{own_ports}
 use Rattle.tenant_state.specs.Row.{ActiveTask}
 use Rattle.tenant_state.specs.SecondHalf.{released}
 use Rattle.tenant_state.specs.Tenants.{IsActiveIn}
 use Rattle.tenant_state.proofs.Invoked.{its_task, found_name, one_released, all_and_one, active_fits}
-use Rattle.tenant_state.proofs.PortNames.{sources_in, ports_in}
+use Rattle.tenant_ports.proofs.PortNames.{sources_in, ports_in}
 use Rattle.tenant_state.proofs.tenants.second_half.invoke.Goals as goal
 
 pub activate-started-requires-clause-arguments : goal.activate-started-requires-clause-arguments

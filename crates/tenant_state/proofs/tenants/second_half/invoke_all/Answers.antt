@@ -7,12 +7,12 @@ use Rattle.giotto_read.specs.declared.programs.Invocation.{Invocation}
 use Rattle.giotto_read.specs.ProgramTrees.{mode_of, invocation_of}
 use Rattle.tenant_state.specs.Invocable.{IsInvocable}
 use Rattle.tenant_state.specs.Jobs.{body_in, job_in}
-use Rattle.tenant_state.specs.PortTables.{all_ports}
+use Rattle.tenant_ports.specs.PortTables.{all_ports}
 use Rattle.tenant_state.specs.Row.{ActiveTask}
 use Rattle.tenant_state.specs.SecondHalf.{all_invoked, all_released}
 use Rattle.tenant_state.specs.Tenants.{active_of, is_completed}
 use Rattle.tenant_state.proofs.Invoked.{released_first, stepped}
-use Rattle.tenant_state.proofs.PortNames.{same_names_again, same_names_on, ports_of_on}
+use Rattle.tenant_ports.proofs.PortNames.{same_names_again, same_names_on, ports_of_on}
 use Rattle.tenant_state.proofs.tenants.second_half.invoke_all.Goals as goal
 
 pub loop-invocation-init : goal.loop-invocation-init

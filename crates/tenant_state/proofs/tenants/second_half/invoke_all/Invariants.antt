@@ -6,7 +6,7 @@ use Rattle.giotto_read.specs.declared.programs.Invocation.{Invocation}
 use Rattle.giotto_read.specs.ProgramTrees.{mode_of, invocation_of}
 use Rattle.tenant_state.specs.Invocable.{IsInvocable}
 use Rattle.tenant_state.specs.Jobs.{body_in, job_in}
-use Rattle.tenant_state.specs.PortTables.{PortTables, all_ports, ArePortsOf, HaveSameNames}
+use Rattle.tenant_ports.specs.PortTables.{PortTables, all_ports, ArePortsOf, HaveSameNames}
 use Rattle.tenant_state.specs.Row.{ActiveTask}
 use Rattle.tenant_state.specs.SecondHalf.{all_invoked, all_released}
 use Rattle.tenant_state.specs.Tenants.{active_of, is_completed, IsActiveIn}

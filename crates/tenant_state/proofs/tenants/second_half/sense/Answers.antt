@@ -7,10 +7,10 @@ use Rattle.giotto_tasks.specs.Names.{Valuation, names_in, is_among, with_value}
 use Rattle.giotto_read.specs.declared.programs.Sensor.{Sensor}
 use Rattle.giotto_read.specs.Program.{SensorDeclaration, GiottoProgram}
 use Rattle.giotto_read.specs.ProgramTrees.{sensor_of}
-use Rattle.tenant_state.specs.PortTables.{all_ports}
-use Rattle.tenant_state.specs.Ports.{with_values}
+use Rattle.tenant_ports.specs.PortTables.{all_ports}
+use Rattle.tenant_ports.specs.Ports.{with_values}
 use Rattle.tenant_state.specs.SecondHalf.{readings_within, reading_taken}
-use Rattle.tenant_state.proofs.PortNames.{same_names_again, same_names_on, same_all_names}
+use Rattle.tenant_ports.proofs.PortNames.{same_names_again, same_names_on, same_all_names}
 use Rattle.tenant_state.proofs.tenants.second_half.sense.Goals as goal
 
 pub loop-sensor-init : goal.loop-sensor-init

@@ -1,0 +1,15 @@
+use Rattle.std.proofs.Common.{◌≡◌, List, length, take, sym, ap, ◌∙◌, arith}
+use Rattle.std.proofs.lemmas.List.{take_all}
+use Rattle.host_core.specs.HostStanding.{HostStanding, outstanding_from, outstanding_jobs}
+use Rattle.tenant_state.specs.Standing.{Standing}
+use Rattle.host_core.proofs.Outstanding.{counted_in_all}
+use Rattle.host_core.proofs.hosts.Host.outstanding.Goals as goal
+
+pub returns : goal.returns
+returns c =
+    let items = c.deref-tenant-items.result.now in
+    let all : take c.loop-tenant.tenant-index items ≡ items = take_all c.loop-tenant.tenant-index items c.loop-tenant-test.false in
+    c.loop-tenant.invariant.0
+    ∙ (counted_in_all (take c.loop-tenant.tenant-index items)
+    ∙ (ap (λ (xs : List Standing). length (outstanding_from 0 xs)) (all ∙ c.deref-tenant-items.ensures.value)
+    ∙ ap (λ (h : HostStanding). length (outstanding_jobs h)) c.self.view_is))

@@ -1,0 +1,15 @@
+//! Tests of the public calls of all crates, on values from outside. They stand here so that no library is proved a second time for its tests.
+#![tactic(auto)]
+
+#[cfg(test)]
+mod completions;
+#[cfg(test)]
+mod examples;
+#[cfg(test)]
+mod initial_ports;
+#[cfg(test)]
+mod lines_and_replies;
+#[cfg(test)]
+mod plays;
+#[cfg(test)]
+mod roster;

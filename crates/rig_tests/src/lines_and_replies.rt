@@ -1,0 +1,157 @@
+//! The calls that take memory succeed, with the values that the documents name.
+
+use giotto_tasks::names::Name;
+use std::test::Fail;
+use tenant_lines::command_lines::{LineFault, command_of};
+use tenant_lines::commands::Command;
+use tenant_lines::replies::{Budget, Refusal, Reply, print_reply};
+use tenant_lines::texts::Text;
+use tenant_lines::words::{is_name, value_of_word, values_of_words};
+
+#[test]
+fn texts_of_replies(rt: HostRuntime) -> Result<(), Fail> {
+    let name = Name::new("a").ok_or("a name of one byte")?;
+    for (reply, text) in [
+        (Reply::Loaded, "ok load"),
+        (Reply::Started, "ok start"),
+        (
+            Reply::Port(name, i64::MIN),
+            "ok port a -9223372036854775808",
+        ),
+        (Reply::Refused(Refusal::Syntax(29)), "err syntax 29"),
+        (Reply::Refused(Refusal::TooMany), "err syntax many"),
+        (Reply::Refused(Refusal::Rule(10)), "err rule 10"),
+        (
+            Reply::Refused(Refusal::OverBudget(Budget::Lines)),
+            "err budget lines",
+        ),
+        (Reply::Refused(Refusal::NotLoaded), "err not-loaded"),
+    ] {
+        let printed = print_reply(rt.alloc(), &reply)?;
+        assert_eq!(rt; printed.as_str(), text);
+    }
+    Ok(())
+}
+
+#[test]
+fn lines_that_start(rt: HostRuntime) {
+    for line in ["start", "  start\t"] {
+        assert!(rt;
+            matches!(command_of(rt.alloc(), line), Ok(Command::Start)),
+            "at {line}"
+        );
+    }
+}
+
+#[test]
+fn ports_shown(rt: HostRuntime) -> Result<(), Fail> {
+    for (line, port) in [
+        ("show port a", "a"),
+        ("show  port\ta ", "a"),
+        (
+            "show port abcdefghijklmnopqrstuvwxyz_01234",
+            "abcdefghijklmnopqrstuvwxyz_01234",
+        ),
+    ] {
+        let command = command_of(rt.alloc(), line);
+        let Ok(Command::ShowPort(name)) = &command else {
+            return Err("the line shows a port".into());
+        };
+        assert_eq!(rt; name.as_str(), port, "at {line}");
+    }
+    Ok(())
+}
+
+#[test]
+fn texts_of_load(rt: HostRuntime) -> Result<(), Fail> {
+    for (line, text) in [
+        ("load", ""),
+        ("load ", ""),
+        ("load  x ", " x "),
+        (" load\tx\r", "x\r"),
+    ] {
+        let Ok(Command::Load(loaded)) = command_of(rt.alloc(), line) else {
+            return Err("the line loads a text".into());
+        };
+        assert_eq!(rt; loaded.as_str(), text, "at {line}");
+    }
+    Ok(())
+}
+
+#[test]
+fn lines_without_command(rt: HostRuntime) {
+    for line in [
+        "",
+        " \t",
+        "start x",
+        "Start",
+        "show",
+        "show port",
+        "show port 9x",
+        "show port a b",
+        "show port T.i",
+        "show ports a",
+        "show port abcdefghijklmnopqrstuvwxyz_012345",
+        "load;",
+    ] {
+        let command = command_of(rt.alloc(), line);
+        assert!(rt; matches!(command, Err(LineFault::BadCommand)), "at {line}");
+    }
+}
+
+#[test]
+fn names_and_values(rt: HostRuntime) {
+    for (word, is) in [
+        ("_a9", true),
+        ("Z", true),
+        ("9a", false),
+        ("a-b", false),
+        ("", false),
+    ] {
+        assert_eq!(rt; is_name(word), is, "at {word}");
+    }
+    for (word, value) in [
+        ("-0", Some(0)),
+        ("-007", Some(-7)),
+        ("0000000000000000000000000000005", Some(5)),
+        ("9223372036854775807", Some(i64::MAX)),
+        ("-9223372036854775808", Some(i64::MIN)),
+        ("9223372036854775808", None),
+        ("-9223372036854775809", None),
+        ("+5", None),
+        ("-", None),
+        ("--5", None),
+        ("-+5", None),
+        ("5x", None),
+        ("", None),
+    ] {
+        assert_eq!(rt; value_of_word(word), value, "at {word}");
+    }
+}
+
+#[test]
+fn values_of_a_line(rt: HostRuntime) -> Result<(), Fail> {
+    let values = values_of_words(rt.alloc(), "  1 -2\t03 ")?.ok_or("three values")?;
+    assert_eq!(rt; values.as_slice(), [1, -2, 3].as_slice());
+    let values = values_of_words(rt.alloc(), " ")?.ok_or("no word")?;
+    assert!(rt; values.is_empty());
+    assert!(rt; values_of_words(rt.alloc(), "1 x")?.is_none());
+    Ok(())
+}
+
+#[test]
+fn copies(rt: HostRuntime) -> Result<(), Fail> {
+    let load = Command::Load(Text::from_str(rt.alloc(), "start T;")?);
+    let Command::Load(text) = load.copy(rt.alloc())? else {
+        return Err("a copy of `load`".into());
+    };
+    assert_eq!(rt; text.as_str(), "start T;");
+    let name = Name::new("a").ok_or("a name of one byte")?;
+    let Command::ShowPort(port) = Command::ShowPort(name.copy()).copy(rt.alloc())? else {
+        return Err("a copy of `show port`".into());
+    };
+    assert_eq!(rt; port.as_str(), "a");
+    let reply = print_reply(rt.alloc(), &Reply::Port(name, -1).copy())?;
+    assert_eq!(rt; reply.as_str(), "ok port a -1");
+    Ok(())
+}

@@ -1,0 +1,134 @@
+//! Lines as words: one or more blanks separate words, and mean nothing at the ends.
+
+ghost use Rattle.std.specs.Prelude.{◌≡◌, ◌≤◌, IfOk, length};
+ghost use Rattle.std.specs.List.{list_all, prefix_len};
+ghost use Rattle.std.specs.Option.{option_map};
+ghost use Rattle.giotto_read.specs.Bytes.{is_letter, is_name_byte};
+ghost use Rattle.tenant_lines.specs.Words.{is_blank, is_word_byte, words_of, from_first_word, first_word_of, behind_first_word, is_name, value_of_word, values_of_words};
+
+use std::alloc::{AllocError, Global};
+
+/// The first word of a line, or no byte where the line is blank.
+pub fn first_word(line: &str) -> &str
+    ensures { result.now ≡ first_word_of line.now }
+{
+    let rest = skip_blanks(line);
+    &rest[..word_len(rest.as_bytes())]
+}
+
+/// What stands behind the first word of a line, its blanks included.
+pub fn behind_first_word(line: &str) -> &str
+    ensures { result.now ≡ behind_first_word line.now }
+{
+    let rest = skip_blanks(line);
+    &rest[word_len(rest.as_bytes())..]
+}
+
+/// Whether a byte of a line is a blank: space, tab or CR. A line has no LF.
+pub fn blank(byte: u8) -> bool
+    ensures { result ≡ is_blank byte }
+{
+    matches!(byte, b' ' | b'\t' | b'\r')
+}
+
+/// Whether a word has the shape of a name: a letter or `_`, then letters, digits or `_`; at most 32 bytes.
+#[tactic(auto, using(crate::proofs::WordLemmas::name_by_parts))]
+pub fn is_name(word: &str) -> bool
+    ensures { result ≡ is_name word.now }
+{
+    let [first, rest @ ..] = word.as_bytes() else {
+        return false;
+    };
+    is_letter(*first) && are_name_bytes(rest) && word.len() <= 32
+}
+
+/// The value of a word: an optional `-`, then digits, leading zeros allowed. `None` where the word has another shape,
+/// or its value is no i64.
+pub fn value_of_word(word: &str) -> Option<i64>
+    ensures { result ≡ value_of_word word.now }
+{
+    let [first, ..] = word.as_bytes() else {
+        return None;
+    };
+    if *first == b'+' {
+        return None;
+    }
+    word.parse().ok()
+}
+
+/// The values of all words of a line, in their order, or `None` where a word has none. Takes memory for the values alone.
+///
+/// # Errors
+/// Want of memory.
+#[tactic(auto, using(crate::proofs::ValueLemmas::values_fault, crate::proofs::WordLemmas::behind_shorter))]
+pub fn values_of_words(alloc: Global, line: &str) -> Result<Option<Vec<i64>>, AllocError>
+    ensures { IfOk result (λ values. option_map (λ v. v.items) values ≡ values_of_words (words_of line.now)) }
+{
+    let mut values = Vec::new(alloc);
+    let mut rest = line;
+    loop {
+        let word = first_word(rest);
+        if word.is_empty() {
+            return Ok(Some(values));
+        }
+        let Some(value) = value_of_word(word) else {
+            return Ok(None);
+        };
+        values.push(value)?;
+        rest = behind_first_word(rest);
+    }
+}
+
+// The line from its first word on.
+fn skip_blanks(line: &str) -> &str
+    ensures { result.now ≡ from_first_word line.now }
+{
+    &line[blank_len(line.as_bytes())..]
+}
+
+// How many blanks stand at the front.
+#[tactic(auto, using(crate::proofs::WordLemmas::prefix_more, crate::proofs::WordLemmas::prefix_end))]
+fn blank_len(line: &[u8]) -> usize
+    ensures len { result ≡ prefix_len is_blank line.now }
+    ensures within { result ≤ length line.now }
+{
+    for (i, byte) in line.iter().enumerate() {
+        if !blank(*byte) {
+            return i;
+        }
+    }
+    line.len()
+}
+
+// How many bytes at the front are no blanks.
+#[tactic(auto, using(crate::proofs::WordLemmas::prefix_more, crate::proofs::WordLemmas::prefix_end))]
+fn word_len(line: &[u8]) -> usize
+    ensures len { result ≡ prefix_len is_word_byte line.now }
+    ensures within { result ≤ length line.now }
+{
+    for (i, byte) in line.iter().enumerate() {
+        if blank(*byte) {
+            return i;
+        }
+    }
+    line.len()
+}
+
+fn are_name_bytes(bytes: &[u8]) -> bool
+    ensures { result ≡ list_all is_name_byte bytes.now }
+{
+    bytes.iter().all(|byte| is_name_byte(*byte))
+}
+
+// Whether a byte is `A` to `Z`, `a` to `z`, or `_`.
+fn is_letter(byte: u8) -> bool
+    ensures { result ≡ is_letter byte }
+{
+    byte.is_ascii_alphabetic() || byte == b'_'
+}
+
+fn is_name_byte(byte: u8) -> bool
+    ensures { result ≡ is_name_byte byte }
+{
+    is_letter(byte) || byte.is_ascii_digit()
+}

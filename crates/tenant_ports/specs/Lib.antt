@@ -1,0 +1,3 @@
+pub mod GuardSources
+pub mod PortTables
+pub mod Ports

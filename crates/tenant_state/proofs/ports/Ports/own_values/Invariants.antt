@@ -1,8 +1,0 @@
-use Rattle.std.proofs.Common.{◌≡◌, take}
-use Rattle.giotto_tasks.specs.Names.{values_of}
-use Rattle.tenant_state.specs.PortTables.{all_ports}
-use Rattle.tenant_state.specs.Ports.{own_ports}
-use Rattle.tenant_state.proofs.ports.Ports.own_values.Given as goal
-
-abbrev pub invariant-loop-name : goal.invariant-loop-name
-invariant-loop-name l = l.values ≡ values_of (all_ports l.self) (own_ports l.task (take l.name-index l.names))

@@ -1,7 +1,0 @@
-use Rattle.std.proofs.Common.{◌≡◌, ◌+◌, drop}
-use Rattle.std.specs.List.{prefix_len}
-use Rattle.tenant_state.specs.Words.{is_word_byte}
-use Rattle.tenant_state.proofs.words.word_len.Given as goal
-
-abbrev pub invariant-loop-i : goal.invariant-loop-i
-invariant-loop-i l = prefix_len is_word_byte l.line ≡ l.i + prefix_len is_word_byte (drop l.i l.line)
