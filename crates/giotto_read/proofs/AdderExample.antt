@@ -1,5 +1,5 @@
 -- The first example program: its tokens, its canonical text, and that its text is read as it.
-use Rattle.std.proofs.Common.{◌≡◌, ◌<◌, ◌^◌, ℕ, pos, List, ◌∷◌, Ok, codes, refl, lit<, lit≤}
+use Rattle.std.proofs.Common.{◌≡◌, ◌<◌, ◌^◌, ℕ, pos, List, ◌∷◌, Ok, codes, refl, lit<}
 use Rattle.std.specs.Fmt.{digits}
 use Rattle.std.specs.Result.{result_map_both}
 use Rattle.giotto_read.specs.declared.tokens.Token.{Token}
@@ -60,7 +60,7 @@ adder_spelled =
     (all_spelled)))))))))))))))))))))))))))))))))))))))))))))))))))))))))))))))))))))))))
 
 pub adder_read : Reads adder_text (Ok adder)
-adder_read = reads_program adder_tokens tokens_of-adder_text adder_spelled (record { inputs = lit≤ tt; outputs = lit≤ tt; states = lit≤ tt }, tt)
+adder_read = reads_program adder_tokens tokens_of-adder_text adder_spelled refl
 
 -- the premises of the law on canonical texts, at this program
 pub adder_writable : IsWritable adder

@@ -1,7 +1,7 @@
 -- The canonical text of a program reads as the program.
 use Rattle.std.specs.Prelude.{nat_le, Option, is_none}
 use Rattle.std.proofs.Common.{◌≡◌, ℕ, suc, ◌+◌, ◌-◌, ◌^◌, ◌<◌, ◌≤◌, Bool, true, false, ◌&&◌, ◌⊎◌, inl, inr, List, [], ◌∷◌, ◌++◌, map, length, get_or, take, Some, None, Ok, refl, ap, sym, ◌∙◌, subst, arith, length-append, lit<}
-use Rattle.std.proofs.lemmas.Bool.{le-leb}
+use Rattle.std.proofs.lemmas.Bool.{and_parts, and_from, or_left, le-leb}
 use Rattle.std.proofs.lemmas.Bool.Decides.{nat_tests}
 use Rattle.std.proofs.lemmas.Fmt.{digits_decimal, digits_value-decimal, decimal_nonempty, length-decimal-le}
 use Rattle.std.proofs.lemmas.List.{append-nil, get_or_default}
@@ -18,7 +18,7 @@ use Rattle.giotto_read.specs.declared.tokens.Symbol.TheVariants.{Becomes}
 use Rattle.giotto_read.specs.declared.tokens.Token.{Token}
 use Rattle.giotto_read.specs.declared.tokens.Token.TheVariants as tokens
 use Rattle.giotto_read.specs.declared.tokens.PlacedToken.{PlacedToken}
-use Rattle.giotto_read.specs.Bytes.{is_digit, is_letter, is_name_byte, is_blank}
+use Rattle.giotto_read.specs.Bytes.{is_digit, is_letter, is_name, is_name_byte, is_blank_of_text}
 use Rattle.giotto_read.specs.Tokens.{first_token, word, number, after_token, tokens_from, bare, text_of_keyword, text_of_symbol, keyword_of}
 use Rattle.giotto_read.specs.Canonical.{text_of, canonical_tokens, canonical_of}
 use Rattle.giotto_read.specs.Program.{GiottoProgram}
@@ -34,15 +34,11 @@ data Tail : List ℕ → Type 0 where
   nothing : Tail []
   space : {rest : List ℕ} → Tail (32 ∷ rest)
 
-both_true : (a b : Bool) → (a && b) ≡ true → (a ≡ true) × (b ≡ true)
-both_true true b e = (refl, e)
-both_true false b e = absurd (cc)
-
 run_ends : (p : ℕ → Bool) (cs : List ℕ) {tail : List ℕ} → p 32 ≡ false → list_all p cs ≡ true → Tail tail → prefix_len p (cs ++ tail) ≡ length cs
 run_ends p [] stops all nothing = refl
 run_ends p [] stops all space = rw stops refl
 run_ends p (c ∷ cs) {tail = tail} stops all t =
-    let parts = both_true (p c) (list_all p cs) all in
+    let parts = and_parts (p c) (list_all p cs) all in
     let here : p c ≡ true = parts.0 in
     let rest : prefix_len p (cs ++ tail) ≡ length cs = run_ends p cs stops parts.1 t in
     rw (here, rest) (omega arith)
@@ -75,13 +71,14 @@ at_most m n e = grind (arith, nat_tests)
 name_first : (x : Name) {tail : List ℕ} → is_sound_name x ≡ true → Tail tail → first_token (x ++ tail) ≡ Some (tokens.Name x, length x)
 name_first [] sound t = absurd (cc)
 name_first (c ∷ cs) {tail = tail} sound t =
-    let letter = both_true (is_letter c) _ sound in
-    let bytes = both_true (list_all is_name_byte (c ∷ cs)) _ letter.1 in
-    let short = both_true (nat_le (length (c ∷ cs)) 32) _ bytes.1 in
-    let other = no_keyword (keyword_of (c ∷ cs)) short.1 in
-    word_begins c (cs ++ tail) letter.0
-    ∙ ap word (run_taken is_name_byte (c ∷ cs) {tail = tail} refl bytes.0 t)
-    ∙ word-name (c ∷ cs) other (at_most (length (c ∷ cs)) 32 short.0)
+    let parts = and_parts (is_name (c ∷ cs)) (is_none (keyword_of (c ∷ cs))) sound in
+    let short = and_parts (is_letter c && list_all is_name_byte cs) (nat_le (length (c ∷ cs)) 32) parts.0 in
+    let shape = and_parts (is_letter c) (list_all is_name_byte cs) short.0 in
+    let bytes : list_all is_name_byte (c ∷ cs) ≡ true = and_from (is_name_byte c) (list_all is_name_byte cs) (or_left (is_letter c) (is_digit c) shape.0) shape.1 in
+    let other = no_keyword (keyword_of (c ∷ cs)) parts.1 in
+    word_begins c (cs ++ tail) shape.0
+    ∙ ap word (run_taken is_name_byte (c ∷ cs) {tail = tail} refl bytes t)
+    ∙ word-name (c ∷ cs) other (at_most (length (c ∷ cs)) 32 short.1)
 
 keyword_first : (k : Keyword) {tail : List ℕ} → Tail tail → first_token (text_of_keyword k ++ tail) ≡ Some (tokens.Keyword k, length (text_of_keyword k))
 keyword_first Sensor nothing = refl
@@ -105,7 +102,7 @@ digits_first : (ds : List ℕ) {tail : List ℕ} → 0 < length ds → list_all 
     → first_token (ds ++ tail) ≡ Some (tokens.Number (digits_value 10 ds), length ds)
 digits_first [] some digits short small t = absurd (omega arith)
 digits_first (c ∷ cs) {tail = tail} some digits short small t =
-    let digit = (both_true (is_digit c) (list_all is_digit cs) digits).0 in
+    let digit = (and_parts (is_digit c) (list_all is_digit cs) digits).0 in
     let no_letter = digit_no_letter c digit in
     number_begins c (cs ++ tail) no_letter digit ∙ ap number (run_taken is_digit (c ∷ cs) {tail = tail} refl digits t) ∙ number-value (c ∷ cs) short small
 
@@ -122,13 +119,13 @@ number_first n {tail = tail} small t =
     rw value at found
 
 -- no token begins with a blank
-no_blank_first : (c : ℕ) (cs : List ℕ) (t : Token) (n : ℕ) → first_token (c ∷ cs) ≡ Some (t, n) → is_blank c ≡ false
-no_blank_first c cs t n e = by (is_blank c) refl
+no_blank_first : (c : ℕ) (cs : List ℕ) (t : Token) (n : ℕ) → first_token (c ∷ cs) ≡ Some (t, n) → is_blank_of_text c ≡ false
+no_blank_first c cs t n e = by (is_blank_of_text c) refl
   where
     at : (b : ℕ) → first_token (b ∷ cs) ≡ None → c ≡ b → ⊥
     at b none same = let first : first_token (b ∷ cs) ≡ Some (t, n) = rw same at e in cc (sym none ∙ first)
 
-    by : (b : Bool) → is_blank c ≡ b → b ≡ false
+    by : (b : Bool) → is_blank_of_text c ≡ b → b ≡ false
     by false is = refl
     by true is = absurd (four (grind (arith, nat_tests)))
       where
@@ -172,21 +169,21 @@ some_text (tokens.Number n) sound = let small = at_most n (2 ^ 63) sound in deci
 some_text (tokens.Symbol s) sound = some_symbol s
 
 -- the tokens of a joined text, at their places
-record Found (i : ℕ) (ks : List Token) : Type 0 where
+record TokensFound (i : ℕ) (ks : List Token) : Type 0 where
   placed : List PlacedToken
   are : tokens_from 0 i (join_with_byte 32 (map text_of ks)) ≡ Ok placed
   same : bare placed ≡ ks
 
-joined_found : (i : ℕ) (ks : List Token) → list_all is_sound_token ks ≡ true → Found i ks
+joined_found : (i : ℕ) (ks : List Token) → list_all is_sound_token ks ≡ true → TokensFound i ks
 joined_found i [] sound = record { placed = []; are = refl; same = refl }
 joined_found i (k ∷ []) sound =
     let text = text_of k in
-    let here = (both_true (is_sound_token k) true sound).0 in
+    let here = (and_parts (is_sound_token k) true sound).0 in
     let passed = text_passed k text [] i (sound_first k here nothing) (some_text k here) in
     record { placed = record { token = k; offset = i } ∷ []; are = rw append-nil at passed; same = refl }
 joined_found i (k ∷ l ∷ ks) sound =
     let text = text_of k in
-    let each = both_true (is_sound_token k) (list_all is_sound_token (l ∷ ks)) sound in
+    let each = and_parts (is_sound_token k) (list_all is_sound_token (l ∷ ks)) sound in
     let here = each.0 in
     let h = joined_found ((i + length text) + 1) (l ∷ ks) each.1 in
     let passed = text_passed k text (32 ∷ join_with_byte 32 (map text_of (l ∷ ks))) i (sound_first k here space) (some_text k here) in

@@ -24,7 +24,7 @@ least_initial =
     (word Output 0 ∷ named (codes "o") 7 ∷ mark Becomes 9 ∷ mark Minus 12 ∷ count 9223372036854775808 13 ∷ mark Semicolon 32 ∷ word Start 34
     ∷ named (codes "m") 40 ∷ mark Semicolon 41 ∷ []) refl
     (line a_program (line an_output (s (s (s (line (a_negative_initial (lit≤ tt) refl) (s (s (s (s (s (s all_spelled))))))))))))
-    tt
+    refl
 
 pub minus_zero : Reads (codes "output o := - 0; start m;") (Ok (with_output (pos 0)))
 minus_zero =
@@ -32,7 +32,7 @@ minus_zero =
     (word Output 0 ∷ named (codes "o") 7 ∷ mark Becomes 9 ∷ mark Minus 12 ∷ count 0 14 ∷ mark Semicolon 15 ∷ word Start 17 ∷ named (codes "m") 23
     ∷ mark Semicolon 24 ∷ []) refl
     (line a_program (line an_output (s (s (s (line (a_negative_initial (lit≤ tt) refl) (s (s (s (s (s (s all_spelled))))))))))))
-    tt
+    refl
 
 -- 9223372036854775808 without "-" is no initial value
 too_great : (o : OutputDeclaration) (x : List ℕ) (ps : List Part)

@@ -12,7 +12,7 @@ use Rattle.std.specs.List.{prefix_len, AllPass}
 use Rattle.std.specs.Str.Parse.{digits_value, ParsesUnsigned}
 use Rattle.giotto_read.specs.declared.tokens.Token.{Token}
 use Rattle.giotto_read.specs.declared.tokens.PlacedToken.{PlacedToken}
-use Rattle.giotto_read.specs.Bytes.{is_name_byte, is_digit, is_blank}
+use Rattle.giotto_read.specs.Bytes.{is_name_byte, is_digit, is_blank_of_text}
 use Rattle.giotto_read.specs.Tokens.{Tokens, first_token, after_token, tokens_from}
 
 -- each byte of a run passes
@@ -54,25 +54,25 @@ tokens_from-within (suc k) offset (c ∷ cs) le = tokens_from-within k (offset +
 at_byte : (text : List ℕ) (i : ℕ) → i < length text → drop i text ≡ get_or text i 0 ∷ drop (i + 1) text
 at_byte text i lt = rw add-one (drop-cons text i 0 lt)
 
-blank_first : (c : ℕ) (cs : List ℕ) (i : ℕ) → is_blank c ≡ true → tokens_from 0 i (c ∷ cs) ≡ tokens_from 0 (i + 1) cs
+blank_first : (c : ℕ) (cs : List ℕ) (i : ℕ) → is_blank_of_text c ≡ true → tokens_from 0 i (c ∷ cs) ≡ tokens_from 0 (i + 1) cs
 blank_first c cs i e = rw e refl
 
-pub token_first : (c : ℕ) (cs : List ℕ) (i len : ℕ) (t : Token) → is_blank c ≡ false → first_token (c ∷ cs) ≡ Some (t, len)
+pub token_first : (c : ℕ) (cs : List ℕ) (i len : ℕ) (t : Token) → is_blank_of_text c ≡ false → first_token (c ∷ cs) ≡ Some (t, len)
     → tokens_from 0 i (c ∷ cs) ≡ after_token t i (tokens_from (len - 1) (i + 1) cs)
 token_first c cs i len t e is = rw (e, is) refl
 
-fault_first : (c : ℕ) (cs : List ℕ) (i : ℕ) → is_blank c ≡ false → first_token (c ∷ cs) ≡ None → tokens_from 0 i (c ∷ cs) ≡ Err i
+fault_first : (c : ℕ) (cs : List ℕ) (i : ℕ) → is_blank_of_text c ≡ false → first_token (c ∷ cs) ≡ None → tokens_from 0 i (c ∷ cs) ≡ Err i
 fault_first c cs i e is = rw (e, is) refl
 
-pub tokens_from-blank : (text : List ℕ) (i : ℕ) → i < length text → is_blank (get_or text i 0) ≡ true
+pub tokens_from-blank : (text : List ℕ) (i : ℕ) → i < length text → is_blank_of_text (get_or text i 0) ≡ true
     → tokens_from 0 i (drop i text) ≡ tokens_from 0 (i + 1) (drop (i + 1) text)
 tokens_from-blank text i lt e = rw (at_byte text i lt) (blank_first (get_or text i 0) (drop (i + 1) text) i e)
 
-pub tokens_from-fault : (text : List ℕ) (i : ℕ) → i < length text → is_blank (get_or text i 0) ≡ false → first_token (drop i text) ≡ None
+pub tokens_from-fault : (text : List ℕ) (i : ℕ) → i < length text → is_blank_of_text (get_or text i 0) ≡ false → first_token (drop i text) ≡ None
     → tokens_from 0 i (drop i text) ≡ Err i
 tokens_from-fault text i lt e is = let whole = at_byte text i lt in rw whole (fault_first (get_or text i 0) (drop (i + 1) text) i e (rw whole at is))
 
-pub tokens_from-token : (text : List ℕ) (i len : ℕ) (t : Token) → i < length text → is_blank (get_or text i 0) ≡ false
+pub tokens_from-token : (text : List ℕ) (i len : ℕ) (t : Token) → i < length text → is_blank_of_text (get_or text i 0) ≡ false
     → first_token (drop i text) ≡ Some (t, len) → 0 < len → len ≤ length (drop i text)
     → tokens_from 0 i (drop i text) ≡ after_token t i (tokens_from 0 (i + len) (drop (i + len) text))
 tokens_from-token text i len t lt e is positive within =

@@ -10,6 +10,7 @@ pub mod FirstTokens
 pub mod InitialExamples
 pub mod LastToken
 pub mod Lexing
+pub mod NameBytes
 pub mod OneProgram
 pub mod OneReading
 pub mod OperatorFaults

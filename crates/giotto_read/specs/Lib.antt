@@ -9,6 +9,5 @@ pub mod ReaderForms
 pub mod Reading
 pub mod Sound
 pub mod Spelling
-pub mod TokenReading
 pub mod Tokens
 pub mod Writable

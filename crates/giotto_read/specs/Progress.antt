@@ -1,5 +1,6 @@
 -- How far a reader comes through the tokens, and what it has read on the way.
 use Rattle.std.specs.Prelude.{◌≡◌, ℕ, ◌+◌, ◌^◌, ◌≤◌, Bool, true, false, List, [], ◌∷◌, ◌++◌, slice_get, slice_range, Some, Result, Ok, Err}
+use Rattle.std.specs.Option.{option_map_or}
 use Rattle.giotto_read.specs.declared.reader.Reader.{Reader}
 use Rattle.giotto_read.specs.declared.reader.Stop.{Stop}
 use Rattle.giotto_read.specs.declared.reader.Stop.TheVariants.{Unexpected, Memory}
@@ -21,6 +22,10 @@ with_end ts = bare ts ++ end_mark ∷ []
 -- the tokens from place i up to place k
 unfoldable pub between : List Token → ℕ → ℕ → List Token
 between ts i k = slice_range ts i k
+
+-- the offset of a token in its text, or the end where there is none
+abbrev pub offset_at : List PlacedToken → ℕ → ℕ → ℕ
+offset_at ts i end = option_map_or (λ (t : PlacedToken). t.offset) (slice_get ts i) end
 
 -- How the values of a type are written.
 pub record Form (V : Type 0) : Type 1 where

@@ -3,7 +3,7 @@ use Rattle.std.specs.Prelude.{ℕ, zero, suc, ◌+◌, ◌-◌, ◌^◌, nat_eq,
 use Rattle.std.specs.List.{find, starts_with, take_while}
 use Rattle.std.specs.Str.Parse.{digits_value}
 use Rattle.giotto_tasks.specs.Names.{same_name}
-use Rattle.giotto_read.specs.Bytes.{is_digit, is_letter, is_name_byte, is_blank}
+use Rattle.giotto_read.specs.Bytes.{is_digit, is_letter, is_name_byte, is_blank_of_text}
 use Rattle.giotto_read.specs.declared.tokens.Keyword.{Keyword}
 use Rattle.giotto_read.specs.declared.tokens.Keyword.TheVariants as keywords
 use Rattle.giotto_read.specs.declared.tokens.Symbol.{Symbol}
@@ -66,9 +66,9 @@ all_symbols =
     ∷ symbols.Semicolon ∷ symbols.Comma ∷ symbols.OpenParenthesis ∷ symbols.CloseParenthesis ∷ symbols.OpenBrace ∷ symbols.CloseBrace
     ∷ symbols.Plus ∷ symbols.Minus ∷ symbols.Star ∷ symbols.Slash ∷ symbols.Percent ∷ symbols.Less ∷ symbols.Greater ∷ symbols.Not ∷ []
 
--- a token and its length in bytes
-abbrev pub Found : Type 0
-Found = Option (Token × ℕ)
+-- the token that was found, and its length in bytes
+abbrev pub FoundToken : Type 0
+FoundToken = Option (Token × ℕ)
 
 -- the keyword that is written so
 abbrev pub keyword_of : List ℕ → Option Keyword
@@ -79,26 +79,26 @@ abbrev pub symbol_at : List ℕ → Option Symbol
 symbol_at text = find (λ s. starts_with nat_eq text (text_of_symbol s)) all_symbols
 
 -- a run of name bytes: a keyword, or a name of at most 32 bytes
-abbrev pub word : List ℕ → Found
+abbrev pub word : List ℕ → FoundToken
 word run = by (keyword_of run)
   where
-    by : Option Keyword → Found
+    by : Option Keyword → FoundToken
     by (Some k) = Some (Word k, length run)
     by None = if nat_le (length run) 32 then Some (Name run, length run) else None
 
 -- a run of digits: at most 19 of them, and at most 9223372036854775808
-abbrev pub number : List ℕ → Found
+abbrev pub number : List ℕ → FoundToken
 number run = if nat_le (length run) 19 && nat_le (digits_value 10 run) (2 ^ 63) then Some (Number (digits_value 10 run), length run) else None
 
-abbrev pub mark : List ℕ → Found
+abbrev pub mark : List ℕ → FoundToken
 mark text = by (symbol_at text)
   where
-    by : Option Symbol → Found
+    by : Option Symbol → FoundToken
     by (Some s) = Some (Mark s, length (text_of_symbol s))
     by None = None
 
 -- the token that begins a text, as long as possible
-abbrev pub first_token : List ℕ → Found
+abbrev pub first_token : List ℕ → FoundToken
 first_token [] = None
 first_token (c ∷ cs) =
     if is_letter c then word (take_while is_name_byte (c ∷ cs))
@@ -118,10 +118,10 @@ abbrev pub tokens_from : ℕ → ℕ → List ℕ → Tokens
 tokens_from within offset [] = Ok []
 tokens_from (suc within) offset (c ∷ cs) = tokens_from within (offset + 1) cs
 tokens_from zero offset (c ∷ cs) =
-    if is_blank c then tokens_from 0 (offset + 1) cs
+    if is_blank_of_text c then tokens_from 0 (offset + 1) cs
     else begin (first_token (c ∷ cs)) (λ len. tokens_from (len - 1) (offset + 1) cs)
   where
-    begin : Found → (ℕ → Tokens) → Tokens
+    begin : FoundToken → (ℕ → Tokens) → Tokens
     begin None rest = Err offset
     begin (Some f) rest = after_token f.0 offset (rest f.1)
 

@@ -2,11 +2,12 @@
 
 ghost use Rattle.std.specs.Prelude.{◌≡◌, ◌<◌, ◌≤◌, IfOk, IfErr, IfSome, Ok, length};
 ghost use Rattle.std.specs.List.{prefix_len, AllPass};
-ghost use Rattle.giotto_read.specs.Bytes.{is_digit, is_letter, is_name_byte, is_blank};
+ghost use Rattle.giotto_read.specs.Bytes.{is_digit, is_name_byte, is_blank_of_text};
 ghost use Rattle.giotto_read.specs.Tokens.{first_token, word, number, mark, tokens_of, keyword_of, symbol_at};
-ghost use Rattle.giotto_read.specs.Reading.{IsTokenFault};
+ghost use Rattle.giotto_read.specs.Reading.{IsLexicalFault};
 
 use crate::faults::ReadFault;
+use crate::name_bytes::{is_digit, is_letter, is_name_byte};
 use crate::tokens::{Keyword, PlacedToken, Symbol, Token};
 use giotto_tasks::names::Name;
 use std::alloc::Global;
@@ -18,7 +19,7 @@ use std::alloc::Global;
 /// more than 19 digits or above 9223372036854775808.
 pub fn tokens(alloc: Global, text: &[u8]) -> Result<Vec<PlacedToken>, ReadFault>
     ensures ok { IfOk result (λ ts. tokens_of text.now ≡ Ok ts.items) }
-    ensures fault { IfErr result (IsTokenFault text.now) }
+    ensures fault { IfErr result (IsLexicalFault text.now) }
 {
     let mut found = Vec::new(alloc);
     let mut start = 0;
@@ -143,29 +144,8 @@ fn digits_len(text: &[u8]) -> usize
     text.iter().take_while(|c| is_digit(**c)).count()
 }
 
-fn is_name_byte(c: u8) -> bool
-    ensures { result ≡ is_name_byte c }
-{
-    is_letter(c) || is_digit(c)
-}
-
-fn is_letter(c: u8) -> bool
-    ensures { result ≡ is_letter c }
-{
-    c.is_ascii_alphabetic() || c == b'_'
-}
-
-fn is_digit(c: u8) -> bool
-    ensures { result ≡ is_digit c }
-{
-    c.is_ascii_digit()
-}
-
 fn is_blank(c: u8) -> bool
-    ensures { result ≡ is_blank c }
+    ensures { result ≡ is_blank_of_text c }
 {
     matches!(c, b' ' | b'\t' | b'\r' | b'\n')
 }
-
-#[cfg(test)]
-mod tests;

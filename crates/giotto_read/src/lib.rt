@@ -28,6 +28,7 @@
 pub mod faults;
 pub mod laws;
 pub mod lexer;
+pub mod name_bytes;
 pub mod programs;
 mod reader;
 pub mod reading;

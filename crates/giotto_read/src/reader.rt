@@ -69,9 +69,8 @@ impl<'a> Reader<'a> {
 }
 
 impl Reader<'_> {
-    ghost use Rattle.giotto_read.specs.Progress.{Accepts, ComesNext, Halts, IsRead, ReadsAs, end_mark, mark};
+    ghost use Rattle.giotto_read.specs.Progress.{Accepts, ComesNext, Halts, IsRead, ReadsAs, end_mark, mark, offset_at};
     ghost use Rattle.giotto_read.specs.ReaderForms.{a_name, an_int, a_size, an_initial, a_program, a_start};
-    ghost use Rattle.giotto_read.specs.TokenReading.{offset_at};
     ghost use Rattle.giotto_read.specs.declared.tokens.Token.TheVariants as token;
 
     // program = {sensor} {actuator} {output} {task} {mode} "start" NAME ";"

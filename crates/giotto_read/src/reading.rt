@@ -1,10 +1,11 @@
 //! Reads a program from a text.
 
-ghost use Rattle.std.specs.Prelude.{◌≡◌, ◌≢◌, ◌≤◌, ◌↔◌, length, map, IfOk, IsTrue, Ok, Err};
-ghost use Rattle.std.specs.List.{All};
+ghost use Rattle.std.specs.Prelude.{◌≡◌, ◌≢◌, ◌↔◌, length, map, IfOk, IsTrue, Ok, Err};
+ghost use Rattle.std.specs.List.{list_all};
+ghost use Rattle.giotto_tasks.specs.Sound.{is_small};
+ghost use Rattle.giotto_read.specs.Program.{body_of};
 ghost use Rattle.giotto_read.specs.ProgramTrees.{task_of};
-ghost use Rattle.giotto_read.specs.Reading.{HasSmallTasks, IsOfFewPorts, Reads};
-ghost use Rattle.giotto_read.specs.TokenReading.{ReadsTokens};
+ghost use Rattle.giotto_read.specs.Reading.{HasSmallTasks, Reads, ReadsTokens};
 ghost use Rattle.giotto_read.specs.declared.faults.ReadFault.{ReadFault};
 
 use crate::faults::ReadFault;
@@ -12,7 +13,6 @@ use crate::lexer;
 use crate::programs::{Program, Task};
 use crate::reader::{Reader, Stop};
 use crate::tokens::PlacedToken;
-use giotto_tasks::bodies::Body;
 use std::alloc::Global;
 
 /// The program that a text spells.
@@ -35,8 +35,8 @@ pub fn read(alloc: Global, text: &str) -> Result<Program, ReadFault>
 /// program, or else with `end`; a program with a task of more than 16 inputs or outputs with `TooMany`; and want of
 /// memory is `Memory`.
 pub fn read_tokens(alloc: Global, tokens: &[PlacedToken], end: usize) -> Result<Program, ReadFault>
-    ensures found { IfOk result (λ p. ReadsTokens tokens.now end (Ok p)) }
-    ensures fault { (f : ReadFault) → result ≡ Err f → f ≢ ReadFault.Memory → ReadsTokens tokens.now end (Err f) }
+    ensures found { IfOk result (λ p. ReadsTokens (Ok tokens.now) end (Ok p)) }
+    ensures fault { (f : ReadFault) → result ≡ Err f → f ≢ ReadFault.Memory → ReadsTokens (Ok tokens.now) end (Err f) }
 {
     let mut reader = Reader::new(alloc, tokens);
     let program = match reader.program() {
@@ -60,25 +60,13 @@ fn has_small_tasks(program: &Program) -> bool
 }
 
 fn are_small(tasks: &[Task]) -> bool
-    ensures { IsTrue result ↔ All (λ t. IsOfFewPorts (task_of t)) tasks.now }
+    ensures { result ≡ list_all (λ t. is_small (body_of (task_of t))) tasks.now }
 {
     tasks.iter().all(|task| is_small(task))
 }
 
 fn is_small(task: &Task) -> bool
-    ensures { IsTrue result ↔ IsOfFewPorts (task_of task.now) }
+    ensures { result ≡ is_small (body_of (task_of task.now)) }
 {
-    let body: &Body = &task.body;
-    has_few_ports(body)
+    task.body.is_small()
 }
-
-fn has_few_ports(body: &Body) -> bool
-    ensures { IsTrue result ↔ ((length body.now.inputs ≤ 16) × (length body.now.outputs ≤ 16) × (length body.now.states ≤ 16)) }
-{
-    body.inputs.as_slice().len() <= 16
-        && body.outputs.as_slice().len() <= 16
-        && body.states.as_slice().len() <= 16
-}
-
-#[cfg(test)]
-mod tests;

@@ -1,6 +1,7 @@
 //! The trees of task bodies and of the expressions in drivers.
 
 ghost use Rattle.std.specs.Prelude.{◌≡◌, ◌↔◌, IsTrue};
+ghost use Rattle.giotto_tasks.specs.Sound.{is_small};
 ghost use Rattle.giotto_tasks.specs.Trees.{expression_of, statement_of, block_of};
 
 use crate::lists::List;
@@ -73,6 +74,15 @@ impl Body {
             && same_names(&self.outputs, &other.outputs)
             && same_names(&self.states, &other.states)
             && same_block(&self.block, &other.block)
+    }
+
+    /// Whether the body has at most 16 inputs, 16 outputs and 16 states.
+    pub fn is_small(&self) -> bool
+        ensures { result ≡ is_small self.now }
+    {
+        self.inputs.as_slice().len() <= 16
+            && self.outputs.as_slice().len() <= 16
+            && self.states.as_slice().len() <= 16
     }
 }
 

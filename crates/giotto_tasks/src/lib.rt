@@ -24,6 +24,4 @@ pub mod lists;
 pub mod names;
 pub mod operators;
 pub mod steps;
-#[cfg(test)]
-mod tests;
 pub mod values;

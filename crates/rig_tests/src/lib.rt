@@ -2,6 +2,8 @@
 #![tactic(auto)]
 
 #[cfg(test)]
+mod bodies_and_drivers;
+#[cfg(test)]
 mod completions;
 #[cfg(test)]
 mod examples;
@@ -12,4 +14,10 @@ mod lines_and_replies;
 #[cfg(test)]
 mod plays;
 #[cfg(test)]
+mod programs_checked;
+#[cfg(test)]
+mod programs_read;
+#[cfg(test)]
 mod roster;
+#[cfg(test)]
+mod tokens;

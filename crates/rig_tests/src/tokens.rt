@@ -1,9 +1,9 @@
-use super::*;
-use std::test::Fail;
+//! The tokens of program texts.
 
-const ADDER: &str =
-    "sensor s := 0 line 0; actuator a := 0; output o := 0; task T(i) output o { o := i + 1; } \
-    mode m period 2 { actfreq 1 do a := o; taskfreq 1 do T(s); } start m;";
+use crate::programs_read::ADDER;
+use giotto_read::faults::ReadFault;
+use giotto_read::lexer::tokens;
+use std::test::Fail;
 
 #[test]
 fn places_the_tokens_of_a_program(rt: HostRuntime) -> Result<(), Fail> {

@@ -1,18 +1,18 @@
-//! Bodies and drivers with known values and costs.
+//! Bodies, drivers and names of `giotto_tasks`: known values and costs.
 
 ghost use Rattle.std.specs.Prelude.{◌≡◌, ◌≤◌, [], ◌∷◌, codes, length, IfOk};
 ghost use Rattle.giotto_tasks.specs.Sound.{IsSound};
 ghost use Rattle.giotto_tasks.specs.Syntax.{unary, binary};
 ghost use Rattle.giotto_tasks.specs.Trees.{expression_of, block_of};
 
-use crate::bodies::{Body, Expr, Stmt};
-use crate::cost::{cost, driver_cost};
-use crate::evaluation::{driver, eval};
-use crate::lists::List;
-use crate::names::Name;
-use crate::operators::{BinaryOperator, UnaryOperator};
-use crate::steps::Steps;
-use crate::values::Values;
+use giotto_tasks::bodies::{Body, Expr, Stmt};
+use giotto_tasks::cost::{cost, driver_cost};
+use giotto_tasks::evaluation::{driver, eval};
+use giotto_tasks::lists::List;
+use giotto_tasks::names::Name;
+use giotto_tasks::operators::{BinaryOperator, UnaryOperator};
+use giotto_tasks::steps::Steps;
+use giotto_tasks::values::Values;
 use std::alloc::{AllocError, Global};
 use std::marker::Brand;
 use std::sync::ledger::{Blank, Ledger};
