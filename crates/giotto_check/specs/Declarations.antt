@@ -4,7 +4,7 @@ use Rattle.std.specs.List.{find, filter_map, flat_map}
 use Rattle.giotto_tasks.specs.declared.names.Name.{Name}
 use Rattle.giotto_tasks.specs.Names.{same_name}
 use Rattle.giotto_tasks.specs.Syntax.{Expression, number, port, unary, binary}
-use Rattle.giotto_read.specs.Program.{Source, from_line, from_grant, SensorDeclaration, ActuatorDeclaration, TaskDeclaration, TaskInvocation, ModeDeclaration, GiottoProgram}
+use Rattle.giotto_read.specs.Program.{Source, from_line, from_grant, SensorDeclaration, ActuatorDeclaration, TaskDeclaration, ActuatorUpdate, ModeSwitch, TaskInvocation, ModeDeclaration, GiottoProgram}
 
 abbrev pub sensor_names : GiottoProgram → List Name
 sensor_names p = map (λ s. s.name) p.sensors
@@ -21,6 +21,14 @@ task_names p = map (λ t. t.name) p.tasks
 abbrev pub mode_names : GiottoProgram → List Name
 mode_names p = map (λ m. m.name) p.modes
 
+-- what a driver may read at most: sensors, actuators and outputs
+abbrev pub driver_ports : GiottoProgram → List Name
+driver_ports p = sensor_names p ++ (actuator_names p ++ output_names p)
+
+-- the names of the five groups, which are one name space
+abbrev pub declared_names : GiottoProgram → List Name
+declared_names p = sensor_names p ++ (actuator_names p ++ (output_names p ++ (task_names p ++ mode_names p)))
+
 abbrev pub task_of : GiottoProgram → Name → Option TaskDeclaration
 task_of p x = find (λ t. same_name t.name x) p.tasks
 
@@ -33,6 +41,16 @@ outputs_of_task p x = outputs (task_of p x)
     outputs : Option TaskDeclaration → List Name
     outputs None = []
     outputs (Some t) = t.outputs
+
+abbrev pub invoked_tasks : ModeDeclaration → List Name
+invoked_tasks m = map (λ (i : TaskInvocation). i.task) m.invocations
+
+abbrev pub updated_actuators : ModeDeclaration → List Name
+updated_actuators m = map (λ (u : ActuatorUpdate). u.actuator) m.updates
+
+-- the outputs to which a switch gives values
+abbrev pub destinations_of : ModeSwitch → List Name
+destinations_of s = map (λ d. d.0) s.destinations
 
 -- the mode ports of a mode: the outputs of the tasks that it invokes
 abbrev pub mode_ports : GiottoProgram → ModeDeclaration → List Name
