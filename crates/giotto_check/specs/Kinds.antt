@@ -17,6 +17,7 @@ pub record Kinds : Type 0 where
   -- what drivers may read
   pub ports : List Name
 
+-- the kinds of a program's names
 abbrev pub kinds_of : GiottoProgram → Kinds
 kinds_of p = record { actuators = actuator_names p; outputs = output_names p; tasks = task_names p; modes = mode_names p; ports = driver_ports p }
 
@@ -36,5 +37,6 @@ switch_uses k s = is_among k.modes s.target && are_among k.outputs (destinations
 abbrev pub invocation_uses : Kinds → TaskInvocation → Bool
 invocation_uses k i = is_among k.tasks i.task && are_among k.ports (names_in_invocation i)
 
+-- each driver of a mode uses names as what they are
 abbrev pub mode_uses : Kinds → ModeDeclaration → Bool
 mode_uses k m = list_all (update_uses k) m.updates && list_all (switch_uses k) m.switches && list_all (invocation_uses k) m.invocations

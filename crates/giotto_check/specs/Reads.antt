@@ -11,11 +11,14 @@ abbrev pub names_in_guard : Option Expression → List Name
 names_in_guard None = []
 names_in_guard (Some e) = names_read e
 
+-- what an update reads, in its guard and its value
 abbrev pub names_in_update : ActuatorUpdate → List Name
 names_in_update u = names_in_guard u.guard ++ names_read u.value
 
+-- what a switch reads, in its guard and in the values that it gives
 abbrev pub names_in_switch : ModeSwitch → List Name
 names_in_switch s = names_in_guard s.guard ++ flat_map (λ (d : Name × Expression). names_read d.1) s.destinations
 
+-- what an invocation reads, in its guard and its arguments
 abbrev pub names_in_invocation : TaskInvocation → List Name
 names_in_invocation i = names_in_guard i.guard ++ flat_map names_read i.arguments

@@ -65,6 +65,7 @@ switches_keep_periods p = each_mode (mode_keeps_periods p) p
 abbrev pub starts_in_a_mode : GiottoProgram → Bool
 starts_in_a_mode p = is_among (mode_names p) p.start
 
+-- the eleven, in their order
 abbrev pub rules : List (GiottoProgram → Bool)
 rules =
     declares_once ∷ uses_right_kinds ∷ bodies_use_own_ports ∷ frequencies_divide ∷ invokes_once ∷ tasks_share_no_output ∷ updates_once
@@ -75,5 +76,6 @@ abbrev pub first_broken : ℕ → List (GiottoProgram → Bool) → GiottoProgra
 first_broken n [] p = None
 first_broken n (rule ∷ rules) p = if rule p then first_broken (n + 1) rules p else Some n
 
+-- the number of the first rule that the program breaks, and None where it is well-formed
 abbrev pub first_broken_rule : GiottoProgram → Option ℕ
 first_broken_rule p = first_broken 1 rules p

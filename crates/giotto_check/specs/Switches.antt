@@ -20,8 +20,10 @@ abbrev pub keeps_period : GiottoProgram → ℕ → ModeSwitch → TaskInvocatio
 keeps_period p period s i =
     (period / s.frequency) % (period / i.frequency) == 0 || goes_on_with (mode_of p s.target) i.task (period / i.frequency)
 
+-- a switch keeps the period of each task that its mode invokes
 abbrev pub switch_keeps_periods : GiottoProgram → ModeDeclaration → ModeSwitch → Bool
 switch_keeps_periods p m s = list_all (keeps_period p m.period s) m.invocations
 
+-- so does each switch of the mode
 abbrev pub mode_keeps_periods : GiottoProgram → ModeDeclaration → Bool
 mode_keeps_periods p m = list_all (switch_keeps_periods p m) m.switches

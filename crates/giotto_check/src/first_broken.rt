@@ -1,4 +1,4 @@
-//! The rules, one after the other.
+//! All eleven rules, in their order.
 
 ghost use Rattle.std.specs.Prelude.{◌≡◌, IfOk};
 ghost use Rattle.giotto_check.specs.Rules.{first_broken_rule};

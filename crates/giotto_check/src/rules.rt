@@ -1,4 +1,4 @@
-//! The eleven rules that a well-formed program keeps, a file for each group of them.
+//! The eleven rules that a well-formed program keeps: a file for each group of them. `first_broken` has them in their order.
 
 pub(crate) mod bodies;
 pub(crate) mod declared_once;
