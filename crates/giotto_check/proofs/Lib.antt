@@ -3,5 +3,4 @@ pub mod NameLists
 pub mod NoSwitches
 pub mod ProgramParts
 pub mod RuleExamples
-pub mod RuleForms
 pub mod RulesKept

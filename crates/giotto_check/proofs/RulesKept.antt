@@ -1,27 +1,19 @@
--- A program that breaks no rule keeps each.
+-- A program breaks no rule where it keeps each, and only there.
 use Rattle.std.proofs.Common.{◌≡◌, ℕ, Bool, true, false, cond, Option, Some, None, refl}
 use Rattle.giotto_read.specs.Program.{GiottoProgram}
+use Rattle.giotto_check.specs.KeepsRules.{KeepsRules}
 use Rattle.giotto_check.specs.Rules.{declares_once, uses_right_kinds, bodies_use_own_ports, frequencies_divide, invokes_once, tasks_share_no_output, updates_once, arguments_fit, drivers_read_mode_ports, switches_keep_periods, starts_in_a_mode, first_broken_rule}
 
-pub record RulesKept (p : GiottoProgram) : Type 0 where
-  pub declares_once : declares_once p ≡ true
-  pub uses_right_kinds : uses_right_kinds p ≡ true
-  pub bodies_use_own_ports : bodies_use_own_ports p ≡ true
-  pub frequencies_divide : frequencies_divide p ≡ true
-  pub invokes_once : invokes_once p ≡ true
-  pub tasks_share_no_output : tasks_share_no_output p ≡ true
-  pub updates_once : updates_once p ≡ true
-  pub arguments_fit : arguments_fit p ≡ true
-  pub drivers_read_mode_ports : drivers_read_mode_ports p ≡ true
-  pub switches_keep_periods : switches_keep_periods p ≡ true
-  pub starts_in_a_mode : starts_in_a_mode p ≡ true
+-- the name that crates above use, until they name the definition itself
+abbrev pub RulesKept : GiottoProgram → Type 0
+RulesKept p = KeepsRules p
 
 -- a rule holds where neither it nor a later one is the first that is broken
 kept : (holds : Bool) (n : ℕ) (later : Option ℕ) → cond holds later (Some n) ≡ None → (holds ≡ true) × (later ≡ None)
 kept true n later e = (refl, e)
 kept false n later e = absurd (cc)
 
-pub rules_kept : (p : GiottoProgram) → first_broken_rule p ≡ None → RulesKept p
+pub rules_kept : (p : GiottoProgram) → first_broken_rule p ≡ None → KeepsRules p
 rules_kept p h =
     let one = kept (declares_once p) 1 _ h in
     let two = kept (uses_right_kinds p) 2 _ one.1 in
@@ -47,3 +39,21 @@ rules_kept p h =
       switches_keep_periods = ten.0;
       starts_in_a_mode = eleven.0;
     }
+
+none_first : (holds : Bool) (n : ℕ) (later : Option ℕ) → holds ≡ true → later ≡ None → cond holds later (Some n) ≡ None
+none_first true n later h e = e
+none_first false n later h e = absurd (cc)
+
+pub none_broken : (p : GiottoProgram) → KeepsRules p → first_broken_rule p ≡ None
+none_broken p k =
+    none_first _ 1 _ k.declares_once
+    (none_first _ 2 _ k.uses_right_kinds
+    (none_first _ 3 _ k.bodies_use_own_ports
+    (none_first _ 4 _ k.frequencies_divide
+    (none_first _ 5 _ k.invokes_once
+    (none_first _ 6 _ k.tasks_share_no_output
+    (none_first _ 7 _ k.updates_once
+    (none_first _ 8 _ k.arguments_fit
+    (none_first _ 9 _ k.drivers_read_mode_ports
+    (none_first _ 10 _ k.switches_keep_periods
+    (none_first _ 11 _ k.starts_in_a_mode refl))))))))))

@@ -9,6 +9,7 @@ use Rattle.giotto_check.specs.Rules.{first_broken_rule}
 abbrev pub HasNoSwitches : ModeDeclaration → Type 0
 HasNoSwitches m = m.switches ≡ []
 
+-- a well-formed program of small tasks, whose modes have no switches
 pub record IsChecked (p : GiottoProgram) : Type 0 where
   pub keeps_rules : first_broken_rule p ≡ None
   pub small : HasSmallTasks p

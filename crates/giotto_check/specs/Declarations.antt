@@ -4,35 +4,63 @@ use Rattle.std.specs.List.{find, filter_map, flat_map}
 use Rattle.giotto_tasks.specs.declared.names.Name.{Name}
 use Rattle.giotto_tasks.specs.Names.{same_name}
 use Rattle.giotto_tasks.specs.Syntax.{Expression, number, port, unary, binary}
-use Rattle.giotto_read.specs.Program.{Source, from_line, from_grant, SensorDeclaration, ActuatorDeclaration, TaskDeclaration, TaskInvocation, ModeDeclaration, GiottoProgram}
+use Rattle.giotto_read.specs.Program.{Source, from_line, from_grant, SensorDeclaration, ActuatorDeclaration, TaskDeclaration, ActuatorUpdate, ModeSwitch, TaskInvocation, ModeDeclaration, GiottoProgram}
 
+-- the sensors that a program declares, in text order
 abbrev pub sensor_names : GiottoProgram → List Name
 sensor_names p = map (λ s. s.name) p.sensors
 
+-- the actuators that it declares
 abbrev pub actuator_names : GiottoProgram → List Name
 actuator_names p = map (λ a. a.name) p.actuators
 
+-- the outputs that it declares
 abbrev pub output_names : GiottoProgram → List Name
 output_names p = map (λ o. o.name) p.outputs
 
+-- the tasks that it declares
 abbrev pub task_names : GiottoProgram → List Name
 task_names p = map (λ t. t.name) p.tasks
 
+-- the modes that it declares
 abbrev pub mode_names : GiottoProgram → List Name
 mode_names p = map (λ m. m.name) p.modes
 
+-- what a driver may read at most: sensors, actuators and outputs
+abbrev pub driver_ports : GiottoProgram → List Name
+driver_ports p = sensor_names p ++ (actuator_names p ++ output_names p)
+
+-- the names of the five groups, which are one name space
+abbrev pub declared_names : GiottoProgram → List Name
+declared_names p = sensor_names p ++ (actuator_names p ++ (output_names p ++ (task_names p ++ mode_names p)))
+
+-- the first task of this name
 abbrev pub task_of : GiottoProgram → Name → Option TaskDeclaration
 task_of p x = find (λ t. same_name t.name x) p.tasks
 
+-- the first mode of this name
 abbrev pub mode_of : GiottoProgram → Name → Option ModeDeclaration
 mode_of p x = find (λ m. same_name m.name x) p.modes
 
+-- the outputs of the task of this name, and none where there is no such task
 abbrev pub outputs_of_task : GiottoProgram → Name → List Name
 outputs_of_task p x = outputs (task_of p x)
   where
     outputs : Option TaskDeclaration → List Name
     outputs None = []
     outputs (Some t) = t.outputs
+
+-- the tasks that a mode invokes, in text order
+abbrev pub invoked_tasks : ModeDeclaration → List Name
+invoked_tasks m = map (λ (i : TaskInvocation). i.task) m.invocations
+
+-- the actuators that a mode updates
+abbrev pub updated_actuators : ModeDeclaration → List Name
+updated_actuators m = map (λ (u : ActuatorUpdate). u.actuator) m.updates
+
+-- the outputs to which a switch gives values
+abbrev pub destinations_of : ModeSwitch → List Name
+destinations_of s = map (λ d. d.0) s.destinations
 
 -- the mode ports of a mode: the outputs of the tasks that it invokes
 abbrev pub mode_ports : GiottoProgram → ModeDeclaration → List Name
@@ -53,7 +81,7 @@ names_read (port x) = x ∷ []
 names_read (unary o e) = names_read e
 names_read (binary o a b) = names_read a ++ names_read b
 
--- the lines that sensors read, and those that actuators drive
+-- the lines that sensors read
 abbrev pub lines_read : GiottoProgram → List ℕ
 lines_read p = filter_map (λ (s : SensorDeclaration). line s.source) p.sensors
   where
@@ -61,5 +89,6 @@ lines_read p = filter_map (λ (s : SensorDeclaration). line s.source) p.sensors
     line (from_line k) = Some k
     line from_grant = None
 
+-- the lines that actuators drive
 abbrev pub lines_written : GiottoProgram → List ℕ
 lines_written p = filter_map (λ (a : ActuatorDeclaration). a.line) p.actuators

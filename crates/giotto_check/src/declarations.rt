@@ -1,10 +1,8 @@
 //! What a program declares, as lists of names.
 
-ghost use Rattle.std.specs.Prelude.{◌≡◌, ◌++◌, map, IfOk};
-ghost use Rattle.giotto_read.specs.Program as tree;
+ghost use Rattle.std.specs.Prelude.{◌≡◌, IfOk};
 ghost use Rattle.giotto_read.specs.ProgramTrees.{mode_of, switch_of};
 ghost use Rattle.giotto_check.specs.Declarations as declared;
-ghost use Rattle.giotto_check.specs.Rules as rules;
 
 use crate::find_task;
 use crate::names::push_names;
@@ -65,7 +63,7 @@ pub(crate) fn mode_names(alloc: Global, program: &Program) -> Result<Vec<Name>, 
 
 /// The names of sensors, actuators and outputs.
 pub(crate) fn driver_ports(alloc: Global, program: &Program) -> Result<Vec<Name>, AllocError>
-    ensures { IfOk result (λ names. names.items ≡ declared.sensor_names program.now ++ (declared.actuator_names program.now ++ declared.output_names program.now)) }
+    ensures { IfOk result (λ names. names.items ≡ declared.driver_ports program.now) }
 {
     let mut names = sensor_names(alloc, program)?;
     push_names(&mut names, &actuator_names(alloc, program)?)?;
@@ -75,7 +73,7 @@ pub(crate) fn driver_ports(alloc: Global, program: &Program) -> Result<Vec<Name>
 
 /// All names that the program declares at its top.
 pub(crate) fn declared_names(alloc: Global, program: &Program) -> Result<Vec<Name>, AllocError>
-    ensures { IfOk result (λ names. names.items ≡ declared.sensor_names program.now ++ (declared.actuator_names program.now ++ (declared.output_names program.now ++ (declared.task_names program.now ++ declared.mode_names program.now)))) }
+    ensures { IfOk result (λ names. names.items ≡ declared.declared_names program.now) }
 {
     let mut names = driver_ports(alloc, program)?;
     push_names(&mut names, &task_names(alloc, program)?)?;
@@ -102,7 +100,8 @@ pub(crate) fn mode_ports(
     program: &Program,
     mode: &Mode,
 ) -> Result<Vec<Name>, AllocError>
-    ensures { IfOk result (λ names. names.items ≡ declared.mode_ports program.now (mode_of mode.now)) }
+    ensures { IfOk result
+        (λ names. names.items ≡ declared.mode_ports program.now (mode_of mode.now)) }
 {
     let mut names = Vec::new(alloc);
     for invocation in mode.invocations.as_slice() {
@@ -125,7 +124,7 @@ fn outputs_of_task(alloc: Global, program: &Program, task: &Name) -> Result<Vec<
 
 /// The tasks that a mode invokes.
 pub(crate) fn invoked_tasks(alloc: Global, mode: &Mode) -> Result<Vec<Name>, AllocError>
-    ensures { IfOk result (λ names. names.items ≡ map (λ (i : tree.TaskInvocation). i.task) (mode_of mode.now).invocations) }
+    ensures { IfOk result (λ names. names.items ≡ declared.invoked_tasks (mode_of mode.now)) }
 {
     let mut names = Vec::new(alloc);
     for invocation in mode.invocations.as_slice() {
@@ -136,7 +135,7 @@ pub(crate) fn invoked_tasks(alloc: Global, mode: &Mode) -> Result<Vec<Name>, All
 
 /// The actuators that a mode updates.
 pub(crate) fn updated_actuators(alloc: Global, mode: &Mode) -> Result<Vec<Name>, AllocError>
-    ensures { IfOk result (λ names. names.items ≡ map (λ (u : tree.ActuatorUpdate). u.actuator) (mode_of mode.now).updates) }
+    ensures { IfOk result (λ names. names.items ≡ declared.updated_actuators (mode_of mode.now)) }
 {
     let mut names = Vec::new(alloc);
     for update in mode.updates.as_slice() {
@@ -147,7 +146,7 @@ pub(crate) fn updated_actuators(alloc: Global, mode: &Mode) -> Result<Vec<Name>,
 
 /// The outputs to which a switch gives values.
 pub(crate) fn destinations(alloc: Global, switch: &Switch) -> Result<Vec<Name>, AllocError>
-    ensures { IfOk result (λ names. names.items ≡ rules.destinations_of (switch_of switch.now)) }
+    ensures { IfOk result (λ names. names.items ≡ declared.destinations_of (switch_of switch.now)) }
 {
     let mut names = Vec::new(alloc);
     for destination in switch.destinations.as_slice() {

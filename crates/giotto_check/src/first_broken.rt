@@ -1,9 +1,11 @@
-//! The rules, one after the other.
+//! All eleven rules, in their order.
 
 ghost use Rattle.std.specs.Prelude.{◌≡◌, IfOk};
 ghost use Rattle.giotto_check.specs.Rules.{first_broken_rule};
 
-use crate::{bodies, frequencies, kinds, mode_drivers, rules, switches};
+use crate::rules::{
+    bodies, declared_once, drivers, frequencies, invocations, kinds, start, switches, updates,
+};
 use giotto_read::programs::Program;
 use std::alloc::{AllocError, Global};
 
@@ -11,7 +13,7 @@ use std::alloc::{AllocError, Global};
 pub(crate) fn first_broken(alloc: Global, program: &Program) -> Result<Option<usize>, AllocError>
     ensures { IfOk result (λ rule. rule ≡ first_broken_rule program.now) }
 {
-    if !rules::declares_once(alloc, program)? {
+    if !declared_once::declares_once(alloc, program)? {
         return Ok(Some(1));
     }
     if !kinds::uses_right_kinds(alloc, program)? {
@@ -23,25 +25,25 @@ pub(crate) fn first_broken(alloc: Global, program: &Program) -> Result<Option<us
     if !frequencies::frequencies_divide(program) {
         return Ok(Some(4));
     }
-    if !rules::invokes_once(alloc, program)? {
+    if !invocations::invokes_once(alloc, program)? {
         return Ok(Some(5));
     }
-    if !rules::tasks_share_no_output(alloc, program)? {
+    if !invocations::tasks_share_no_output(alloc, program)? {
         return Ok(Some(6));
     }
-    if !rules::updates_once(alloc, program)? {
+    if !updates::updates_once(alloc, program)? {
         return Ok(Some(7));
     }
-    if !rules::arguments_fit(program) {
+    if !invocations::arguments_fit(program) {
         return Ok(Some(8));
     }
-    if !mode_drivers::drivers_read_mode_ports(alloc, program)? {
+    if !drivers::drivers_read_mode_ports(alloc, program)? {
         return Ok(Some(9));
     }
     if !switches::switches_keep_periods(program) {
         return Ok(Some(10));
     }
-    if !rules::starts_in_a_mode(alloc, program)? {
+    if !start::starts_in_a_mode(alloc, program)? {
         return Ok(Some(11));
     }
     Ok(None)

@@ -6,8 +6,8 @@
 //! let checked = check(alloc, program)?;
 //! ```
 //!
-//! The rules stand in `specs/Rules.antt`, over what a program declares (`specs/Declarations.antt`); `proofs/RuleExamples.antt`
-//! computes them on examples.
+//! The rules stand in `specs/Rules.antt`, over what a program declares (`specs/Declarations.antt`), and the code that tests
+//! them in `src/rules/`; `proofs/RuleExamples.antt` computes them on examples. [`laws`] says what follows from them.
 #![tactic(auto)]
 
 ghost use Rattle.std.specs.Prelude.{◌≡◌, ℕ, Some, None, Err, IfOk, IfSome};
@@ -16,19 +16,16 @@ ghost use Rattle.giotto_read.specs.Reading.{HasSmallTasks};
 ghost use Rattle.std.specs.List.{AllByRecursion};
 ghost use Rattle.giotto_check.specs.Checked.{HasNoSwitches, IsChecked};
 ghost use Rattle.giotto_check.specs.Declarations as declared;
+ghost use Rattle.giotto_check.specs.KeepsRules.{KeepsRules};
 ghost use Rattle.giotto_check.specs.Rules.{first_broken_rule};
 ghost use Rattle.giotto_check.specs.declared.CheckFault.{CheckFault};
 
-mod bodies;
 mod declarations;
-mod drivers;
 mod first_broken;
-mod frequencies;
-mod kinds;
-mod mode_drivers;
+pub mod laws;
 mod names;
+mod reads;
 mod rules;
-mod switches;
 
 use giotto_read::programs::{Mode, Program, Task};
 use giotto_tasks::names::Name;
@@ -69,6 +66,7 @@ impl Checked {
     pub fn program(&self) -> &Program
         ensures tree { result.now ≡ self.now }
         ensures checked { IsChecked self.now }
+        ensures rules { KeepsRules self.now }
     {
         &self.program
     }
@@ -93,7 +91,8 @@ pub fn check(alloc: Global, program: Program) -> Result<Checked, CheckFault>
 
 /// The task of this name.
 pub fn find_task<'a>(program: &'a Program, name: &Name) -> Option<&'a Task>
-    ensures found { IfSome result (λ t. declared.task_of program.now name.now ≡ Some (task_of t.now)) }
+    ensures found { IfSome result
+        (λ t. declared.task_of program.now name.now ≡ Some (task_of t.now)) }
     ensures missing { result ≡ None → declared.task_of program.now name.now ≡ None }
 {
     for task in program.tasks.as_slice() {
@@ -106,7 +105,8 @@ pub fn find_task<'a>(program: &'a Program, name: &Name) -> Option<&'a Task>
 
 /// The mode of this name.
 pub fn find_mode<'a>(program: &'a Program, name: &Name) -> Option<&'a Mode>
-    ensures found { IfSome result (λ m. declared.mode_of program.now name.now ≡ Some (mode_of m.now)) }
+    ensures found { IfSome result
+        (λ m. declared.mode_of program.now name.now ≡ Some (mode_of m.now)) }
     ensures missing { result ≡ None → declared.mode_of program.now name.now ≡ None }
 {
     for mode in program.modes.as_slice() {
@@ -116,6 +116,3 @@ pub fn find_mode<'a>(program: &'a Program, name: &Name) -> Option<&'a Mode>
     }
     None
 }
-
-#[cfg(test)]
-mod tests;

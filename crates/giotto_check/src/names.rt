@@ -4,7 +4,7 @@ ghost use Rattle.std.specs.Prelude.{◌≡◌, ◌++◌};
 ghost use Rattle.std.specs.Result.{OnOk};
 ghost use Rattle.giotto_tasks.specs.Names as tasks;
 ghost use Rattle.giotto_tasks.specs.Sound as sound;
-ghost use Rattle.giotto_check.specs.Rules as rules;
+ghost use Rattle.giotto_check.specs.Names as tests;
 
 use giotto_tasks::names::Name;
 use std::alloc::AllocError;
@@ -18,14 +18,14 @@ pub(crate) fn is_among(names: &[Name], name: &Name) -> bool
 
 /// Whether each of some names is one of these.
 pub(crate) fn are_among(names: &[Name], some: &[Name]) -> bool
-    ensures { result ≡ rules.are_among names.now some.now }
+    ensures { result ≡ tests.are_among names.now some.now }
 {
     some.iter().all(|name| is_among(names, name))
 }
 
 /// Whether none of some names is one of these.
 pub(crate) fn share_none(names: &[Name], some: &[Name]) -> bool
-    ensures { result ≡ rules.share_none names.now some.now }
+    ensures { result ≡ tests.share_none names.now some.now }
 {
     for name in some {
         if is_among(names, name) {
@@ -49,7 +49,7 @@ pub(crate) fn all_different(names: &[Name]) -> bool
 
 /// Whether no number stands twice.
 pub(crate) fn all_different_numbers(numbers: &[u64]) -> bool
-    ensures { result ≡ rules.all_different_numbers numbers.now }
+    ensures { result ≡ tests.all_different_numbers numbers.now }
 {
     for i in 0..numbers.len() {
         if numbers[i + 1..].contains(&numbers[i]) {

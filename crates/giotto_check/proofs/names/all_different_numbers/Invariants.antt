@@ -1,5 +1,5 @@
 use Rattle.std.proofs.Common.{◌≡◌, drop}
-use Rattle.giotto_check.specs.Rules.{all_different_numbers}
+use Rattle.giotto_check.specs.Names.{all_different_numbers}
 use Rattle.giotto_check.proofs.names.all_different_numbers.Given as goal
 
 abbrev pub invariant-loop-i : goal.invariant-loop-i

@@ -1,5 +1,5 @@
 use Rattle.std.proofs.Common.{◌∙◌}
-use Rattle.giotto_check.proofs.NameLists.{any_is_among}
+use Rattle.giotto_tasks.proofs.NameLemmas.{any_is_among}
 use Rattle.giotto_check.proofs.names.is_among.Goals as goal
 
 pub returns : goal.returns

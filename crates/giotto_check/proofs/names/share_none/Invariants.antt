@@ -1,5 +1,5 @@
 use Rattle.std.proofs.Common.{◌≡◌, drop}
-use Rattle.giotto_check.specs.Rules.{share_none}
+use Rattle.giotto_check.specs.Names.{share_none}
 use Rattle.giotto_check.proofs.names.share_none.Given as goal
 
 abbrev pub invariant-loop-name : goal.invariant-loop-name

@@ -1,0 +1,84 @@
+//! Rules 5, 6 and 8: a mode invokes a task once, two tasks of a mode share no output, and an invocation has an argument
+//! for each input.
+
+ghost use Rattle.std.specs.Prelude.{◌≡◌, map, IfOk};
+ghost use Rattle.std.specs.List.{list_all};
+ghost use Rattle.giotto_tasks.specs.Sound as sound;
+ghost use Rattle.giotto_read.specs.ProgramTrees.{mode_of, invocation_of};
+ghost use Rattle.giotto_check.specs.Declarations as declared;
+ghost use Rattle.giotto_check.specs.Invocations.{argument_for_each_input};
+ghost use Rattle.giotto_check.specs.Rules as rules;
+
+use crate::{declarations, find_task, names};
+use giotto_read::programs::{Invocation, Mode, Program};
+use giotto_tasks::bodies::Body;
+use std::alloc::{AllocError, Global};
+
+/// Whether each mode invokes a task once.
+pub(crate) fn invokes_once(alloc: Global, program: &Program) -> Result<bool, AllocError>
+    ensures { IfOk result (λ holds. holds ≡ rules.invokes_once program.now) }
+{
+    for mode in program.modes.as_slice() {
+        if !mode_invokes_once(alloc, mode)? {
+            return Ok(false);
+        }
+    }
+    Ok(true)
+}
+
+fn mode_invokes_once(alloc: Global, mode: &Mode) -> Result<bool, AllocError>
+    ensures { IfOk result
+        (λ holds. holds ≡ sound.all_different (declared.invoked_tasks (mode_of mode.now))) }
+{
+    let tasks = declarations::invoked_tasks(alloc, mode)?;
+    Ok(names::all_different(&tasks))
+}
+
+/// Whether two tasks of a mode share no output.
+pub(crate) fn tasks_share_no_output(alloc: Global, program: &Program) -> Result<bool, AllocError>
+    ensures { IfOk result (λ holds. holds ≡ rules.tasks_share_no_output program.now) }
+{
+    for mode in program.modes.as_slice() {
+        let ports = declarations::mode_ports(alloc, program, mode)?;
+        if !names::all_different(&ports) {
+            return Ok(false);
+        }
+    }
+    Ok(true)
+}
+
+/// Whether each invocation has an argument for each input of its task.
+pub(crate) fn arguments_fit(program: &Program) -> bool
+    ensures { result ≡ rules.arguments_fit program.now }
+{
+    for mode in program.modes.as_slice() {
+        if !invocations_fit(program, mode.invocations.as_slice()) {
+            return false;
+        }
+    }
+    true
+}
+
+fn invocations_fit(program: &Program, invocations: &[Invocation]) -> bool
+    ensures { result
+        ≡ list_all (argument_for_each_input program.now) (map invocation_of invocations.now) }
+{
+    for invocation in invocations {
+        if !invocation_fits(program, invocation) {
+            return false;
+        }
+    }
+    true
+}
+
+fn invocation_fits(program: &Program, invocation: &Invocation) -> bool
+    ensures { result ≡ argument_for_each_input program.now (invocation_of invocation.now) }
+{
+    match find_task(program, &invocation.task) {
+        Some(task) => {
+            let body: &Body = &task.body;
+            invocation.arguments.as_slice().len() == body.inputs.as_slice().len()
+        }
+        None => false,
+    }
+}

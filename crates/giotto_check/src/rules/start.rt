@@ -1,0 +1,16 @@
+//! Rule 11: the start mode is declared.
+
+ghost use Rattle.std.specs.Prelude.{◌≡◌, IfOk};
+ghost use Rattle.giotto_check.specs.Rules as rules;
+
+use crate::{declarations, names};
+use giotto_read::programs::Program;
+use std::alloc::{AllocError, Global};
+
+/// Whether the start mode is declared.
+pub(crate) fn starts_in_a_mode(alloc: Global, program: &Program) -> Result<bool, AllocError>
+    ensures { IfOk result (λ holds. holds ≡ rules.starts_in_a_mode program.now) }
+{
+    let modes = declarations::mode_names(alloc, program)?;
+    Ok(names::is_among(&modes, &program.start))
+}

@@ -1,0 +1,31 @@
+//! Rule 7: a mode updates an actuator once.
+
+ghost use Rattle.std.specs.Prelude.{◌≡◌, IfOk};
+ghost use Rattle.giotto_tasks.specs.Sound as sound;
+ghost use Rattle.giotto_read.specs.ProgramTrees.{mode_of};
+ghost use Rattle.giotto_check.specs.Declarations as declared;
+ghost use Rattle.giotto_check.specs.Rules as rules;
+
+use crate::{declarations, names};
+use giotto_read::programs::{Mode, Program};
+use std::alloc::{AllocError, Global};
+
+/// Whether each mode updates an actuator once.
+pub(crate) fn updates_once(alloc: Global, program: &Program) -> Result<bool, AllocError>
+    ensures { IfOk result (λ holds. holds ≡ rules.updates_once program.now) }
+{
+    for mode in program.modes.as_slice() {
+        if !mode_updates_once(alloc, mode)? {
+            return Ok(false);
+        }
+    }
+    Ok(true)
+}
+
+fn mode_updates_once(alloc: Global, mode: &Mode) -> Result<bool, AllocError>
+    ensures { IfOk result
+        (λ holds. holds ≡ sound.all_different (declared.updated_actuators (mode_of mode.now))) }
+{
+    let actuators = declarations::updated_actuators(alloc, mode)?;
+    Ok(names::all_different(&actuators))
+}
