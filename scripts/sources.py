@@ -31,7 +31,7 @@ def between(text, what, path):
     """What stands before, between and behind the two markers of a made part."""
     begin, end = f"<!-- {what}: begin -->\n", f"<!-- {what}: end -->\n"
     if text.count(begin) != 1 or text.count(end) != 1 or text.index(begin) > text.index(end):
-        sys.exit(f"{path}: the markers of the made part are missing: {begin.strip()} and {end.strip()}")
+        sys.exit(f"{path}:1: the markers of the made part are missing: {begin.strip()} and {end.strip()}")
     before, rest = text.split(begin)
     made, behind = rest.split(end)
     return before + begin, made, end + behind
