@@ -24,29 +24,11 @@ use Rattle.host_core.specs.HostState.{HostState, is_counted, row_at}
 use Rattle.host_core.specs.Legal.{next_tick}
 use Rattle.host_core.specs.Setting.{Setting}
 use Rattle.host_core.specs.Views.{after_command, readings_of, run_of, view_of, row_of}
-use Rattle.tenant_state.proofs.ActiveTasks.{Keeps, kept_by_command, all_filter, all_append}
+use Rattle.tenant_state.proofs.ActiveTasks.{Keeps, kept_by_command}
 use Rattle.host_core.proofs.Histories.{own_row, releases}
-use Rattle.tenant_state.proofs.JobNames.{either, or_true, same_job_is, all_map, own_jobs_active}
-
-pub all_of : {X : Type 0} {P : X → Type 0} → ((x : X) → P x) → (xs : List X) → AllByRecursion P xs
-all_of f [] = tt
-all_of f (x ∷ xs) = (f x, all_of f xs)
-
-pub all_zip : {X : Type 0} (P Q : X → Type 0) (xs : List X) → AllByRecursion P xs → AllByRecursion Q xs → AllByRecursion (λ x. P x × Q x) xs
-all_zip P Q [] ps qs = tt
-all_zip P Q (x ∷ xs) ps qs = ((ps.0, qs.0), all_zip P Q xs ps.1 qs.1)
-
-all_flat : {X Y : Type 0} (P : Y → Type 0) (f : X → List Y) (xs : List X) → ((x : X) → AllByRecursion P (f x)) → AllByRecursion P (flat_map f xs)
-all_flat P f [] each = tt
-all_flat P f (x ∷ xs) each = all_append P (f x) (flat_map f xs) (each x) (all_flat P f xs each)
-
-all_option : {X Y : Type 0} (P : Y → Type 0) (f : X → List Y) (o : Option X) → ((x : X) → AllByRecursion P (f x)) → AllByRecursion P (option_map_or f o [])
-all_option P f None each = tt
-all_option P f (Some x) each = each x
-
-all_if : {Y : Type 0} (P : Y → Type 0) (b : Bool) (xs : List Y) → AllByRecursion P xs → AllByRecursion P (cond b xs [])
-all_if P true xs all = all
-all_if P false xs all = tt
+use Rattle.tenant_state.proofs.JobNames.{same_job_is, own_jobs_active}
+use Rattle.giotto_tasks.proofs.TestLemmas.{either, or_true}
+use Rattle.giotto_tasks.proofs.ListLemmas.{all_append, all_filter, all_flat, all_if, all_map, all_of, all_option, all_zip, any_of_filter, same_filter, same_filter_map}
 
 -- due tasks are active tasks
 pub all_due : (P : ActiveTask → Type 0) (row : Row) → AllByRecursion P row.active → AllByRecursion P (due_tasks row)
@@ -56,14 +38,6 @@ all_due P row all =
     all_option P (due_in_mode row) (mode_of p row.mode) (λ m.
     all_flat P (λ (i : TaskInvocation). filter (λ (a : ActiveTask). same_name a.task i.task && is_due_at row.mode_time m i.frequency) row.active) m.invocations (λ i. all_filter P _ row.active all))))
 
-pub same_filter : {X : Type 0} (f g : X → Bool) (xs : List X) → AllByRecursion (λ x. f x ≡ g x) xs → filter f xs ≡ filter g xs
-same_filter f g [] all = refl
-same_filter f g (x ∷ xs) all = ap (λ b. cond b (x ∷ filter f xs) (filter f xs)) all.0 ∙ ap (λ ys. cond (g x) (x ∷ ys) ys) (same_filter f g xs all.1)
-
-pub same_filter_map : {X Y : Type 0} (f g : X → Option Y) (xs : List X) → ((x : X) → f x ≡ g x) → filter_map f xs ≡ filter_map g xs
-same_filter_map f g [] each = refl
-same_filter_map f g (x ∷ xs) each = ap (λ o. cons_option o (filter_map f xs)) (each x) ∙ ap (cons_option (g x)) (same_filter_map f g xs each)
-
 -- a job that is active behind the event is counted exactly if it was
 pub counted_of_active : (host : HostState) (rows : List Row) (j : JobId) → is_active (get_or rows j.tenant (empty_row host.clock)) j ≡ true
     → is_counted (with_rows host rows) j ≡ is_counted host j
@@ -71,14 +45,6 @@ counted_of_active host rows j active =
     let rest : HostState = with_rows host rows in
     any-filter_same (λ i. same_job i j) (λ (i : JobId). is_active (get_or rows i.tenant (empty_row host.clock)) i) true
     (λ i e. ap (λ (k : JobId). is_active (get_or rows k.tenant (empty_row host.clock)) k) (same_job_is i j e) ∙ active) host.counted
-
-pub any_of_filter : (p q : JobId → Bool) (js : List JobId) → list_any p (filter q js) ≡ true → list_any p js ≡ true
-any_of_filter p q [] e = e
-any_of_filter p q (j ∷ js) e = kept (q j) e (any_of_filter p q js)
-  where
-    kept : (b : Bool) → list_any p (cond b (j ∷ filter q js) (filter q js)) ≡ true → (list_any p (filter q js) ≡ true → list_any p js ≡ true) → (p j || list_any p js) ≡ true
-    kept true e rest = either (p j) (list_any p (filter q js)) _ e (λ h. ap (λ b. b || list_any p js) h) (λ h. ap (λ b. p j || b) (rest h) ∙ or_true (p j))
-    kept false e rest = ap (λ b. p j || b) (rest e) ∙ or_true (p j)
 
 module _ (setting : Setting) where
   -- an active task's job is counted exactly if it was completed

@@ -28,9 +28,12 @@ use Rattle.host_core.specs.Views.{readings_of, row_of}
 use Rattle.tenant_state.specs.Instants.{after_instant}
 use Rattle.tenant_state.proofs.ActiveTasks.{kept_by_instant}
 use Rattle.host_core.proofs.NewHost.{no_tenant}
-use Rattle.host_core.proofs.Alone.{Agrees, all_due, all_of, all_zip, same_filter, same_filter_map, marks_after, known_after, own_event}
+use Rattle.host_core.proofs.Alone.{Agrees, all_due, marks_after, known_after, own_event}
 use Rattle.host_core.proofs.Histories.{unfinished_of, own_instant, releases, completed_is_early}
-use Rattle.tenant_state.proofs.JobNames.{both, either, or_true, and_true, not_true, same_job_is, all_map, own_jobs_active}
+use Rattle.tenant_state.proofs.JobNames.{same_job_is, own_jobs_active}
+use Rattle.std.proofs.lemmas.Bool.{and_from, and_parts, false_from_ne_true}
+use Rattle.giotto_tasks.proofs.TestLemmas.{either, or_true}
+use Rattle.giotto_tasks.proofs.ListLemmas.{all_map, all_of, all_zip, same_filter, same_filter_map}
 
 -- the due tasks of the tenant at place t whose jobs aren't counted
 abbrev pub unfinished_at : HostState → ℕ → List Name
@@ -56,7 +59,7 @@ module _ (setting : Setting) where
               counted : (c : Bool) → is_counted host k ≡ c → c ≡ true
               counted true f = refl
               counted false f =
-                  let awaited : awaits host k ≡ true = and_true _ _ active (ap not f) in
+                  let awaited : awaits host k ≡ true = and_from _ _ active (ap not f) in
                   let bad : true ≡ false = sym awaited ∙ (ap (awaits host) (sym (same_job_is j k s)) ∙ e) in
                   absurd (cc)
 
@@ -155,7 +158,7 @@ module _ (setting : Setting) where
       fresh : (t : ℕ) (a : ActiveTask) → a.release ≡ next_tick setting past → is_counted host (job_of t a) ≡ has_completion setting past (job_of t a)
       fresh t a e =
           let none : has_completion setting past (job_of t a) ≡ true → ⊥ = λ h. let lt = completed_is_early setting base past (job_of t a) legal h in absurd (omega arith) in
-          not_true _ (λ h. none (agrees.known _ h)) ∙ sym (not_true _ none)
+          false_from_ne_true _ (λ h. none (agrees.known _ h)) ∙ sym (false_from_ne_true _ none)
 
       instant_marks : (t : ℕ) → t < length setting.config.tenants → AllByRecursion (λ a. is_counted host (job_of t a) ≡ has_completion setting past (job_of t a)) (row_of setting (Tick frame ∷ past) t).active
       instant_marks t lt =
@@ -201,13 +204,13 @@ module _ (setting : Setting) where
     pub agrees_along : (past : List Event) → is_legal setting past ≡ true → Agrees setting (host_after setting past) past
     agrees_along [] legal = base_agrees base
     agrees_along (Own u c ∷ past) legal =
-        let parts = both (is_tenant setting.config u) (is_legal setting past) legal in
+        let parts = and_parts (is_tenant setting.config u) (is_legal setting past) legal in
         own_event setting base (host_after setting past) past u c (within u parts.0) (agrees_along past parts.1)
     agrees_along (Tick frame ∷ past) legal =
-        let parts = both (may_follow setting past (Tick frame)) (is_legal setting past) legal in
+        let parts = and_parts (may_follow setting past (Tick frame)) (is_legal setting past) legal in
         tick_event base (host_after setting past) past frame parts.1 (agrees_along past parts.1)
     agrees_along (Done j ∷ past) legal =
-        let parts = both (may_follow setting past (Done j)) (is_legal setting past) legal in
+        let parts = and_parts (may_follow setting past (Done j)) (is_legal setting past) legal in
         done_event (host_after setting past) past j (agrees_along past parts.1)
 
     pub same_rows : (past : List Event) (t : ℕ) → is_legal setting past ≡ true → is_tenant setting.config t ≡ true → row_at (host_after setting past) t ≡ row_of setting past t

@@ -1,7 +1,7 @@
 -- What holds along every list of events: counts of instants, releases, and completions.
 use Rattle.std.proofs.Common.{◌≡◌, ℕ, ◌+◌, ◌<◌, ⊎_elim, Bool, true, false, cond, eqb, ℤ, List, [], ◌∷◌, length, refl, sym, ap, subst, arith}
 use Rattle.std.specs.List.{list_any, AllByRecursion}
-use Rattle.std.proofs.lemmas.Bool.{cases_lt}
+use Rattle.std.proofs.lemmas.Bool.{cases_lt, and_parts}
 use Rattle.std.proofs.Math.ListN.{get_or-eq_default}
 use Rattle.giotto_tasks.specs.declared.names.Name.{Name}
 use Rattle.host_core.specs.declared.events.Event.{Event}
@@ -21,7 +21,9 @@ use Rattle.host_core.specs.Setting.{Setting}
 use Rattle.host_core.specs.Views.{command, after_command, readings_of, run_of, view_of, row_of}
 use Rattle.tenant_state.specs.Instants.{LocalInstant}
 use Rattle.tenant_state.proofs.ActiveTasks.{Keeps, kept_by_instant, kept_by_command}
-use Rattle.tenant_state.proofs.JobNames.{both, either, same_job_is, all_map}
+use Rattle.tenant_state.proofs.JobNames.{same_job_is}
+use Rattle.giotto_tasks.proofs.TestLemmas.{either}
+use Rattle.giotto_tasks.proofs.ListLemmas.{all_map}
 
 module _ (setting : Setting) where
   -- the due tasks of the tenant at place t whose jobs have no completion
@@ -93,10 +95,10 @@ module _ (setting : Setting) where
     -- in a legal list each completed job was released before the next tick
     pub completed_is_early : (past : List Event) (j : JobId) → is_legal setting past ≡ true → has_completion setting past j ≡ true → j.tick < next_tick setting past
     completed_is_early [] j legal e = released_is_early [] j (base.active j e)
-    completed_is_early (Own u c ∷ past) j legal e = completed_is_early past j (both _ _ legal).1 e
-    completed_is_early (Tick frame ∷ past) j legal e = next_grows (Tick frame) past j.tick (completed_is_early past j (both _ _ legal).1 e)
+    completed_is_early (Own u c ∷ past) j legal e = completed_is_early past j (and_parts _ _ legal).1 e
+    completed_is_early (Tick frame ∷ past) j legal e = next_grows (Tick frame) past j.tick (completed_is_early past j (and_parts _ _ legal).1 e)
     completed_is_early (Done i ∷ past) j legal e =
-        let parts = both _ _ legal in
+        let parts = and_parts _ _ legal in
         either (same_job i j) (has_completion setting past j) _ e
         (λ here. let same = ap (λ (k : JobId). k.tick) (same_job_is i j here) in subst (λ r. r < next_tick setting past) same (released_is_early past i parts.0))
         (λ before. completed_is_early past j parts.1 before)

@@ -10,6 +10,7 @@ use Rattle.host_core.specs.Halves.{AreStepped, AreFirstHalves, AreSecondHalves, 
 use Rattle.rig_config.specs.declared.Config.{Config}
 use Rattle.tenant_state.specs.Jobs.{JobValue, released_at}
 use Rattle.tenant_state.specs.Standing.{Standing, empty_standing, RoomValue, IsRoomFor}
+use Rattle.giotto_tasks.proofs.ListLemmas.{whole_slice}
 
 pub stepped_none : (R : ℕ → Standing → Standing → Type 0) (xs : List Standing) → AreStepped R 0 xs xs
 stepped_none R xs = record { as_many = refl; stepped = λ t lt. absurd (omega arith); others = λ t le. refl }
@@ -84,10 +85,6 @@ ready_behind before middle rooms ready first = record {
       let room = ready.each k lt in
       record { enough = omega (arith, one.fewer, room.enough); same_bodies = room.same_bodies ∙ sym one.bodies };
 }
-
--- a whole slice that is written back
-pub whole_slice : {X : Type 0} (n : ℕ) (ys xs : List X) → n ≡ length ys → take n (ys ++ drop (length ys) xs) ≡ ys
-whole_slice n ys xs e = ap (λ k. take k (ys ++ drop (length ys) xs)) e ∙ take-append_seam ys (drop (length ys) xs)
 
 pub space_left : (room : RoomValue) (rest : List RoomValue) (before after : ℕ) → places_of (room ∷ rest) ≤ before → before ≤ after + length room.bodies → places_of rest ≤ after
 space_left room rest before after enough less =

@@ -3,11 +3,11 @@ use Rattle.std.proofs.Common.{◌≡◌, ℕ, ◌+◌, ◌<◌, ◌≤◌, ◌�
 use Rattle.std.specs.Prelude.{is_some, slice_get, Result, Ok, Err, IfOk}
 use Rattle.std.specs.List.{list_any, find, zip, filter_map, enumerate_from, AllByRecursion}
 use Rattle.std.specs.Option.{option_map, option_map_or, option_and_then}
-use Rattle.std.proofs.lemmas.Bool.{cases_eq}
+use Rattle.std.proofs.lemmas.Bool.{cases_eq, and_parts, false_from_ne_true}
 use Rattle.std.proofs.lemmas.List.{length-map, get_or-map, get_or_default, get_or-set_same, get_or-set_other}
 use Rattle.std.proofs.lemmas.List.FromFn.{length-enumerate_from, get_or-enumerate_from}
 use Rattle.std.proofs.lemmas.Map.Views.{any-filter_same}
-use Rattle.std.proofs.lemmas.Option.{slice_get-get_or, slice_get_cases}
+use Rattle.std.proofs.lemmas.Option.{slice_get_past, slice_get-get_or, slice_get_cases}
 use Rattle.std.proofs.Math.ListN.{get_or-eq_default}
 use Rattle.giotto_read.specs.Program.{GiottoProgram}
 use Rattle.host_core.specs.declared.events.Event.TheVariants.{Own, Tick, Done}
@@ -34,14 +34,12 @@ use Rattle.tenant_state.specs.Jobs.{JobValue, job_of, job_in, same_job, is_activ
 use Rattle.tenant_state.specs.Row.{ActiveTask, Row, empty_row}
 use Rattle.tenant_state.specs.SecondHalf.{second_half_of, readings_within}
 use Rattle.tenant_state.specs.Standing.{Standing, empty_standing, StandsFor, IsOutcome, outstanding_tasks, awaited_job}
-use Rattle.host_core.proofs.Alone.{counted_of_active, any_of_filter, all_of}
+use Rattle.host_core.proofs.Alone.{counted_of_active}
 use Rattle.host_core.proofs.AloneAlong.{unfinished_at}
-use Rattle.tenant_state.proofs.JobNames.{both, either, not_true, same_job_is, all_map, own_jobs_active}
+use Rattle.tenant_state.proofs.JobNames.{same_job_is, own_jobs_active}
 use Rattle.tenant_state.proofs.TenantFacts.{AreEarly}
-
-pub map_same : {X Y : Type 0} (f g : X → Y) (xs : List X) → AllByRecursion (λ x. f x ≡ g x) xs → map f xs ≡ map g xs
-map_same f g [] all = refl
-map_same f g (x ∷ xs) all = ap (λ y. y ∷ map f xs) all.0 ∙ ap (λ ys. g x ∷ ys) (map_same f g xs all.1)
+use Rattle.giotto_tasks.proofs.TestLemmas.{and_turned, either}
+use Rattle.giotto_tasks.proofs.ListLemmas.{all_map, all_of, any_of_filter, find_is_any, find_passes, is_some-option_map, map_same}
 
 -- marks may be told by another test that agrees on the active tasks
 pub stands_by : (s : Standing) (row : Row) (f g : ActiveTask → Bool) → AllByRecursion (λ a. f a ≡ g a) row.active → StandsFor s row f → StandsFor s row g
@@ -49,9 +47,6 @@ stands_by s row f g same stands = record { same_row = stands.same_row; same_mark
 
 pub same_count : (s : Standing) (row : Row) (f : ActiveTask → Bool) → StandsFor s row f → row.count ≡ s.row.count
 same_count s row f stands = sym (ap (λ (r : Row). r.count) stands.same_row)
-
-slice_get-past : {X : Type 0} (xs : List X) (i : ℕ) → length xs ≤ i → slice_get xs i ≡ None
-slice_get-past xs i le = ⊎_elim (λ inside. absurd (let lt : i < length xs = inside.1 in omega arith)) (λ past. past.1) (slice_get_cases xs i).1
 
 -- the budgets of a tenant of the roster
 pub budgets_here : (config : Config) (t : ℕ) (d : TenantConfig) → t < length config.tenants → budgets_at config t ≡ (get_or config.tenants t d).budgets
@@ -171,7 +166,7 @@ module _ (setting : Setting) where
       half_count = same_count (tenant_at middle t) half completed half_stands ∙ (one.count ∙ (sym (same_count (tenant_at host.tenants t) row completed (stands.each t lt)) ∙ stands.counts t lt))
 
       fresh : (a : ActiveTask) → a.release ≡ half.count → completed a ≡ false
-      fresh a e = not_true (completed a) (λ h. let before = stands.early (job_of t a) h in absurd (omega (arith, half_count)))
+      fresh a e = false_from_ne_true (completed a) (λ h. let before = stands.early (job_of t a) h in absurd (omega (arith, half_count)))
 
       no_binds : row.binds ≡ []
       no_binds = sym (ap (λ (r : Row). r.binds) (stands.each t lt).same_row) ∙ one.no_binds
@@ -214,15 +209,6 @@ module _ (setting : Setting) where
       (step setting.reader (row_at state t) (λ a. is_counted state (job_of t a)) true_reader
       (subst (λ s. StandsFor s (row_at state t) (λ a. is_counted state (job_of t a))) (sym same) (stands.each t lt)) given)
 
--- the job of an awaited task
-find_is_any : {X : Type 0} (p : X → Bool) (xs : List X) → is_some (find p xs) ≡ list_any p xs
-find_is_any p [] = refl
-find_is_any p (x ∷ xs) = by (p x) (find_is_any p xs)
-  where
-    by : (b : Bool) → is_some (find p xs) ≡ list_any p xs → is_some (cond b (Some x) (find p xs)) ≡ (b || list_any p xs)
-    by true rest = refl
-    by false rest = rest
-
 awaited_along : (f : ActiveTask → Bool) (xs : List ActiveTask)
     → map (λ (p : ActiveTask × Bool). p.0) (filter (λ (p : ActiveTask × Bool). not p.1) (zip xs (map f xs))) ≡ filter (λ a. not (f a)) xs
 awaited_along f [] = refl
@@ -234,23 +220,13 @@ awaited_along f (x ∷ xs) = by (f x) (awaited_along f xs)
     by true rest = rest
     by false rest = ap (λ ys. x ∷ ys) rest
 
-some_map : {X Y : Type 0} (f : X → Y) (o : Option X) → is_some (option_map f o) ≡ is_some o
-some_map f None = refl
-some_map f (Some x) = refl
-
-and_swap : (a b : Bool) → (a && b) ≡ (b && a)
-and_swap true true = refl
-and_swap true false = refl
-and_swap false true = refl
-and_swap false false = refl
-
 -- active tasks only with a program
 abbrev pub HasTasksWithProgram : Standing → Type 0
 HasTasksWithProgram s = s.row.program ≡ None → s.row.active ≡ []
 
 awaited_is : (s : Standing) (row : Row) (j : JobId) (counted : JobId → Bool) → ((i k : JobId) → i ≡ k → counted i ≡ counted k) → HasTasksWithProgram s
     → StandsFor s row (λ a. counted (job_of j.tenant a)) → is_some (awaited_job s j) ≡ (is_active row j && not (counted j))
-awaited_is s row j counted same has stands = program s.row.program refl ∙ (any_awaited ∙ and_swap (not (counted j)) (is_active row j))
+awaited_is s row j counted same has stands = program s.row.program refl ∙ (any_awaited ∙ and_turned (not (counted j)) (is_active row j))
   where
     same_active : s.row.active ≡ row.active
     same_active = ap (λ (r : Row). r.active) stands.same_row
@@ -269,7 +245,7 @@ awaited_is s row j counted same has stands = program s.row.program refl ∙ (any
         ∙ sym (ap (λ xs. list_any (λ a. same_job (job_of j.tenant a) j) (map (λ (p : ActiveTask × Bool). p.0) (filter (λ (p : ActiveTask × Bool). not p.1) (zip xs s.completed)))) (has e))
     program (Some p) e =
         ap (λ o. is_some (option_and_then (λ p. option_map (job_in p j.tenant) (find (λ a. same_job (job_of j.tenant a) j) (outstanding_tasks s))) o)) e
-        ∙ (some_map (job_in p j.tenant) (find (λ a. same_job (job_of j.tenant a) j) (outstanding_tasks s)) ∙ find_is_any (λ a. same_job (job_of j.tenant a) j) (outstanding_tasks s))
+        ∙ (is_some-option_map (job_in p j.tenant) (find (λ a. same_job (job_of j.tenant a) j) (outstanding_tasks s)) ∙ find_is_any (λ a. same_job (job_of j.tenant a) j) (outstanding_tasks s))
 
     any_awaited : list_any (λ a. same_job (job_of j.tenant a) j) (outstanding_tasks s) ≡ (not (counted j) && is_active row j)
     any_awaited =
@@ -296,7 +272,7 @@ module _ (setting : Setting) where
       → awaits state j ≡ is_some (awaited_in host j)
   awaits_nowhere host state j le stands =
       ap (λ row. is_active row j && not (is_counted state j)) (get_or-eq_default state.rows (empty_row state.clock) (omega (arith, stands.all_rows)))
-      ∙ sym (ap (λ o. is_some (option_and_then (λ s. awaited_job s j) o)) (slice_get-past host.tenants j.tenant (omega (arith, stands.as_many))))
+      ∙ sym (ap (λ o. is_some (option_and_then (λ s. awaited_job s j) o)) (slice_get_past host.tenants j.tenant (omega (arith, stands.as_many))))
 
   -- a completion
   module _ (host : HostStanding) (state : HostState) (j : JobId) (s : Standing) (stands : Stands setting host state) where
@@ -313,7 +289,7 @@ module _ (setting : Setting) where
           (own (row_at state j.tenant) (λ a. is_counted state (job_of j.tenant a)) (stands.each j.tenant within)))
 
       other_tenant : (t : ℕ) → j.tenant ≢ t → (a : ActiveTask) → is_counted state (job_of t a) ≡ is_counted counting (job_of t a)
-      other_tenant t differ a = sym (ap (λ b. b || is_counted state (job_of t a)) (not_true (same_job j (job_of t a)) (λ e. differ (ap (λ (k : JobId). k.tenant) (same_job_is j (job_of t a) e)))))
+      other_tenant t differ a = sym (ap (λ b. b || is_counted state (job_of t a)) (false_from_ne_true (same_job j (job_of t a)) (λ e. differ (ap (λ (k : JobId). k.tenant) (same_job_is j (job_of t a) e)))))
 
       done_there : (t : ℕ) → j.tenant ≢ t → t < length setting.config.tenants
           → StandsFor (get_or (set host.tenants j.tenant s) t (empty_standing 0)) (row_at state t) (λ a. is_counted counting (job_of t a))
@@ -342,7 +318,7 @@ module _ (setting : Setting) where
   awaited_is_early host state j lt stands has early e =
       let s : Standing = tenant_at host.tenants j.tenant in
       let row : Row = row_at state j.tenant in
-      let parts = both (is_active row j) (not (is_counted state j)) (sym (awaited_is s row j (is_counted state) (λ i k e. ap (is_counted state) e) has (stands.each j.tenant lt)) ∙ e) in
+      let parts = and_parts (is_active row j) (not (is_counted state j)) (sym (awaited_is s row j (is_counted state) (λ i k e. ap (is_counted state) e) has (stands.each j.tenant lt)) ∙ e) in
       early_active j.tenant s.row.count j row.active (subst (AreEarly s.row.count) (ap (λ (r : Row). r.active) (stands.each j.tenant lt).same_row) early) parts.0
 
   pub done_counts : (host : HostStanding) (state : HostState) (j : JobId) (place : ℕ) (before after : Standing)
@@ -360,14 +336,6 @@ module _ (setting : Setting) where
       (stands_after_done host state j after stands lt
       (λ row completed st. own row completed (subst (λ s. StandsFor s row completed) (sym same) st))
       (subst (λ n. j.tick < n) (sym (ap (λ (s : Standing). s.row.count) same) ∙ count) tick))
-
-find_passes : {X : Type 0} (p : X → Bool) (xs : List X) (x : X) → find p xs ≡ Some x → p x ≡ true
-find_passes p [] x e = absurd (cc)
-find_passes p (y ∷ xs) x e = by (p y) refl e (find_passes p xs x)
-  where
-    by : (b : Bool) → p y ≡ b → cond b (Some y) (find p xs) ≡ Some x → (find p xs ≡ Some x → p x ≡ true) → p x ≡ true
-    by true here e rest = let same : y ≡ x = cc in ap p (sym same) ∙ here
-    by false here e rest = rest e
 
 -- an awaited job has the name that was asked for
 pub awaited_name : (s : Standing) (j : JobId) (d : JobValue) → awaited_job s j ≡ Some d → d.id ≡ j

@@ -1,7 +1,7 @@
 -- What stands behind a legal list is a base again, and so is a new host.
 use Rattle.std.proofs.Common.{◌≡◌, ℕ, ◌<◌, ◌≤◌, ⊎_elim, Bool, true, false, cond, ◌&&◌, ◌||◌, List, [], ◌∷◌, length, map, filter, refl, sym, ap, ◌∙◌, subst, arith}
 use Rattle.std.specs.List.{list_any, enumerate_from, AllByRecursion}
-use Rattle.std.proofs.lemmas.Bool.{cases_lt}
+use Rattle.std.proofs.lemmas.Bool.{cases_lt, and_parts}
 use Rattle.std.proofs.lemmas.List.{length-map, get_or-map}
 use Rattle.std.proofs.Math.ListN.{get_or-eq_default}
 use Rattle.rig_config.specs.declared.Config.{Config}
@@ -21,7 +21,8 @@ use Rattle.host_core.proofs.Alone.{Agrees}
 use Rattle.host_core.proofs.AloneAlong.{agrees_along, same_clock}
 use Rattle.host_core.proofs.Histories.{releases}
 use Rattle.host_core.proofs.NewHost.{no_tenant}
-use Rattle.tenant_state.proofs.JobNames.{both, either, same_job_is}
+use Rattle.tenant_state.proofs.JobNames.{same_job_is}
+use Rattle.giotto_tasks.proofs.TestLemmas.{either}
 
 -- a name among the jobs that pass a test passes it
 passes : (test : JobId → Bool) (j : JobId) (js : List JobId) → list_any (λ i. same_job i j) (filter test js) ≡ true → test j ≡ true
@@ -47,7 +48,7 @@ module _ (setting : Setting) (base : IsBase setting.config setting.base) where
           → (is_counted host j ≡ true → is_active (row_at host j.tenant) j ≡ true) → is_active (row_at (cond b (record host { counted = i ∷ host.counted }) host) j.tenant) j ≡ true
       by true is f rest =
           either (same_job i j) (is_counted host j) _ f
-          (λ here. let same = same_job_is i j here in subst (λ (k : JobId). is_active (row_at host k.tenant) k ≡ true) same (both (is_active (row_at host i.tenant) i) _ is).0)
+          (λ here. let same = same_job_is i j here in subst (λ (k : JobId). is_active (row_at host k.tenant) k ≡ true) same (and_parts (is_active (row_at host i.tenant) i) _ is).0)
           rest
       by false is f rest = rest f
 

@@ -3,7 +3,7 @@ use Rattle.std.proofs.Common.{◌≡◌, ℕ, zero, suc, ◌+◌, ◌<◌, ◌�
 use Rattle.std.specs.Prelude.{nat_lt, ◌-◌, ◌^◌}
 use Rattle.std.specs.List.{list_any, All, AllByRecursion}
 use Rattle.std.specs.Option.{option_map_or}
-use Rattle.std.proofs.lemmas.Bool.{cases_eq, cases_lt}
+use Rattle.std.proofs.lemmas.Bool.{cases_eq, cases_lt, and_from, and_parts, eq-eqb}
 use Rattle.std.proofs.lemmas.Bool.Decides.{nat_tests}
 use Rattle.std.proofs.lemmas.List.{get_or-set_same, get_or-set_other, reverse-append, take_more}
 use Rattle.std.proofs.lemmas.List.Folds.{list_any-append}
@@ -38,29 +38,9 @@ use Rattle.host_core.proofs.Histories.{unfinished_of, own_instant, own_row, rele
 use Rattle.host_core.proofs.HostSteps.{HasTasksWithProgram}
 use Rattle.host_core.proofs.LaterBase.{new_is_base, new_row}
 use Rattle.host_core.proofs.NewHost.{new_stands}
-use Rattle.tenant_state.proofs.JobNames.{both, either, or_true, and_true, same_number_self, same_job_is}
-
-all_if_any : {X : Type 0} (q : X → Bool) (C : Type 0) (xs : List X) → (list_any q xs ≡ true → C) → AllByRecursion (λ x. q x ≡ true → C) xs
-all_if_any q C [] f = tt
-all_if_any q C (x ∷ xs) f = (λ e. f (ap (λ b. b || list_any q xs) e), all_if_any q C xs (λ e. f (ap (λ b. q x || b) e ∙ or_true (q x))))
-
-any_if_all : {X : Type 0} (q : X → Bool) (C : Type 0) (xs : List X) → AllByRecursion (λ x. q x ≡ true → C) xs → list_any q xs ≡ true → C
-any_if_all q C [] all e = absurd (cc)
-any_if_all q C (x ∷ xs) all e = either (q x) (list_any q xs) C e all.0 (any_if_all q C xs all.1)
-
-any_map : {X Y : Type 0} (q : Y → Bool) (f : X → Y) (xs : List X) → list_any q (map f xs) ≡ list_any (λ x. q (f x)) xs
-any_map q f [] = refl
-any_map q f (x ∷ xs) = ap (λ b. q (f x) || b) (any_map q f xs)
-
-same_truth : (a b : Bool) → (a ≡ true → b ≡ true) → (b ≡ true → a ≡ true) → a ≡ b
-same_truth true true f g = refl
-same_truth true false f g = sym (f refl)
-same_truth false true f g = g refl
-same_truth false false f g = refl
-
-absorbed : (a b : Bool) → (a ≡ true → b ≡ true) → (a || b) ≡ b
-absorbed true b f = sym (f refl)
-absorbed false b f = refl
+use Rattle.tenant_state.proofs.JobNames.{same_job_is}
+use Rattle.giotto_tasks.proofs.TestLemmas.{absorbed, either, or_true, same_answers}
+use Rattle.giotto_tasks.proofs.ListLemmas.{all_if_any, any_if_all, any_map, reverse_more}
 
 -- the jobs of one name among those that an instant released
 module _ (j : JobId) where
@@ -117,7 +97,7 @@ module _ (j : JobId) where
       at_it h true is = ap (λ b. b || list_any is_it (jobs left)) h
       at_it h false is =
           let release : x.release ≡ n = ap (λ (k : JobId). k.tick) (same_job_is (job_of j.tenant x) j h) ∙ tick in
-          let bad : true ≡ false = sym (same_number_self n) ∙ (ap (λ k. eqb k n) (sym release) ∙ is) in
+          let bad : true ≡ false = sym (eq-eqb n n refl) ∙ (ap (λ k. eqb k n) (sym release) ∙ is) in
           absurd (cc)
 
       behind : (b : Bool) → list_any is_it (jobs left) ≡ true → list_any is_it (jobs (cond b (x ∷ left) left)) ≡ true
@@ -168,14 +148,14 @@ module _ (setting : Setting) (base : IsBase setting.config setting.base) where
   row_outside : (past : List Event) (t : ℕ) → is_legal setting past ≡ true → length setting.config.tenants ≤ t → row_of setting past t ≡ empty_row (next_tick setting past)
   row_outside [] t legal le = get_or-eq_default setting.base.rows (empty_row setting.base.clock) (omega (arith, base.as_many))
   row_outside (Own u c ∷ past) t legal le =
-      let parts = both (is_tenant setting.config u) (is_legal setting past) legal in
+      let parts = and_parts (is_tenant setting.config u) (is_legal setting past) legal in
       let lt = within u parts.0 in
       let other : eqb u t ≡ false = grind (arith, nat_tests) in
       ap (λ b. run_of setting t (cond b (Rattle.host_core.specs.Views.command c ∷ view_of setting past t) (view_of setting past t))) other ∙ row_outside past t parts.1 le
-  row_outside (Done i ∷ past) t legal le = row_outside past t (both (may_follow setting past (Done i)) (is_legal setting past) legal).1 le
+  row_outside (Done i ∷ past) t legal le = row_outside past t (and_parts (may_follow setting past (Done i)) (is_legal setting past) legal).1 le
   row_outside (Tick frame ∷ past) t legal le =
       ap (λ r. second_half_of (readings_of setting t frame) (own_instant setting past frame t).granted (first_half_of (unfinished_of setting past t r) r))
-      (row_outside past t (both (may_follow setting past (Tick frame)) (is_legal setting past) legal).1 le)
+      (row_outside past t (and_parts (may_follow setting past (Tick frame)) (is_legal setting past) legal).1 le)
 
   released_if_active : (past : List Event) (j : JobId) → is_active (row_of setting past j.tenant) j ≡ true → was_released setting past j ≡ true
   released_if_active [] j e = e
@@ -228,7 +208,7 @@ module _ (setting : Setting) (base : IsBase setting.config setting.base) where
       → All HasTasksWithProgram host.tenants
       → (was_released setting past j || list_any (is_it j) (released_from (next_tick setting past) 0 host.tenants)) ≡ was_released setting (Tick frame ∷ past) j
   released_tick past frame host j legal stands has =
-      same_truth (before || among) (active || before)
+      same_answers (before || among) (active || before)
       (λ e. either before among ((active || before) ≡ true) e (λ h. ap (λ b. active || b) h ∙ or_true active) (λ h. ap (λ b. b || before) (active_if_among h)))
       (λ e. either active before ((before || among) ≡ true) e among_if_active (λ h. ap (λ b. b || among) h))
     where
@@ -270,7 +250,7 @@ module _ (setting : Setting) (base : IsBase setting.config setting.base) where
       → Stands setting host_new (host_after setting (Done i ∷ past)) → IsPlayed setting past host texts released → IsPlayed setting (Done i ∷ past) host_new texts released
   step_done past i host host_new texts released may stands played = record {
     base = base;
-    legal = and_true (may_follow setting past (Done i)) (is_legal setting past) may played.legal;
+    legal = and_from (may_follow setting past (Done i)) (is_legal setting past) may played.legal;
     stands = stands;
     as_many = played.as_many;
     each = played.each;
@@ -282,7 +262,7 @@ module _ (setting : Setting) (base : IsBase setting.config setting.base) where
       → jobs ≡ released_from host.clock 0 host_new.tenants → released_new ≡ released ++ map (λ (k : JobValue). k.id) jobs
       → IsPlayed setting past host texts released → IsPlayed setting (Tick frame ∷ past) host_new texts released_new
   step_tick past frame host host_new texts released released_new jobs may stands has are more played =
-      let legal : is_legal setting (Tick frame ∷ past) ≡ true = and_true (may_follow setting past (Tick frame)) (is_legal setting past) may played.legal in
+      let legal : is_legal setting (Tick frame ∷ past) ≡ true = and_from (may_follow setting past (Tick frame)) (is_legal setting past) may played.legal in
       let clock : host.clock ≡ next_tick setting past = played.stands.same_clock ∙ same_clock setting past in
       record {
         base = base;
@@ -305,7 +285,7 @@ module _ (setting : Setting) (base : IsBase setting.config setting.base) where
       → IsPlayed setting past host texts released → IsPlayed setting (Own u c ∷ past) host_new (set texts u text) released
   step_own past u c host host_new texts released reply text may stands replied printed played = record {
     base = base;
-    legal = and_true (may_follow setting past (Own u c)) (is_legal setting past) may played.legal;
+    legal = and_from (may_follow setting past (Own u c)) (is_legal setting past) may played.legal;
     stands = stands;
     as_many = length-set texts u text ∙ played.as_many;
     each = λ t lt. ⊎_elim
@@ -337,7 +317,7 @@ module _ (setting : Setting) (base : IsBase setting.config setting.base) where
   tick_legal past frame host texts released clock lines now as_many same played =
       let next : clock ≡ next_tick setting past = now ∙ (played.stands.same_clock ∙ same_clock setting past) in
       let lines_are : length frame ≡ setting.config.lines = sym as_many ∙ (same ∙ ap (λ (k : Config). k.lines) played.stands.same_config) in
-      let is : eqb (length frame) setting.config.lines ≡ true = ap (λ n. eqb (length frame) n) (sym lines_are) ∙ same_number_self (length frame) in
+      let is : eqb (length frame) setting.config.lines ≡ true = ap (λ n. eqb (length frame) n) (sym lines_are) ∙ eq-eqb (length frame) (length frame) refl in
       ap (λ n. nat_lt n (2 ^ 64 - 1)) next ∙ sym (ap (λ b. b && nat_lt (next_tick setting past) (2 ^ 64 - 1)) is)
 
 -- no event yet
@@ -355,5 +335,3 @@ nothing_played setting config host texts is new as_many blank = record {
   names = λ j. sym (ap (λ (host : HostState). is_active (row_at host j.tenant) j) is.new ∙ ap (λ row. is_active row j) (new_row config 0 j.tenant));
 }
 
-pub reverse_more : {X : Type 0} (xs : List X) (i : ℕ) (d : X) → i < length xs → reverse (take (i + 1) xs) ≡ get_or xs i d ∷ reverse (take i xs)
-reverse_more xs i d lt = ap reverse (take_more xs i d lt) ∙ reverse-append (take i xs) (get_or xs i d ∷ [])

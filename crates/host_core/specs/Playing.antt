@@ -24,8 +24,8 @@ pub record IsPlayed (setting : Setting) (past : List Event) (host : HostStanding
   pub names : (j : JobId) → list_any (λ r. same_job r j) released ≡ was_released setting past j
 
 -- one event more is played, where it may come
-abbrev pub IsStep : Event → HostStanding → List (List ℕ) → List JobId → HostStanding → List (List ℕ) → List JobId → Type 0
-IsStep e host texts released host_new texts_new released_new =
+abbrev pub IsPlayedOn : Event → HostStanding → List (List ℕ) → List JobId → HostStanding → List (List ℕ) → List JobId → Type 0
+IsPlayedOn e host texts released host_new texts_new released_new =
     (setting : Setting) (past : List Event) → IsTrueReader setting.reader → may_follow setting past e ≡ true
     → IsPlayed setting past host texts released → IsPlayed setting (e ∷ past) host_new texts_new released_new
 

@@ -3,7 +3,7 @@
 ghost use Rattle.std.specs.Prelude.{◌≡◌, ◌<◌, ◌↔◌, ◌++◌, ◌∷◌, ℕ, List, [], map, length, IfOk, OnOk, IsTrue, Err};
 ghost use Rattle.std.specs.List.{list_any};
 ghost use Rattle.host_core.specs.Legal.{may_follow};
-ghost use Rattle.host_core.specs.Playing.{IsPlayed, IsStep, HasPlace};
+ghost use Rattle.host_core.specs.Playing.{IsPlayed, IsPlayedOn, HasPlace};
 ghost use Rattle.host_core.specs.Plays.{IsSettingOf, AreAnswers, IsLeastIllegal};
 ghost use Rattle.host_core.specs.Setting.{Setting};
 ghost use Rattle.tenant_state.specs.Jobs.{JobValue, same_job};
@@ -100,7 +100,7 @@ impl Stage {
     // Plays one event more.
     fn play(&mut self, alloc: Global, event: &Event) -> Result<(), AllocError>
         requires { HasPlace event.now self.old.host.config self.old.texts.items }
-        ensures { OnOk result (IsStep event.now self.old.host self.old.texts.items self.old.released.items self.new.host self.new.texts.items self.new.released.items) }
+        ensures { OnOk result (IsPlayedOn event.now self.old.host self.old.texts.items self.old.released.items self.new.host self.new.texts.items self.new.released.items) }
     {
         match event {
             Event::Own(tenant, command) => self.own(alloc, *tenant, command),
@@ -116,7 +116,7 @@ impl Stage {
     fn own(&mut self, alloc: Global, tenant: TenantId, command: &Command) -> Result<(), AllocError>
         requires host { tenant < length self.old.host.config.tenants }
         requires text { tenant < length self.old.texts.items }
-        ensures { OnOk result (IsStep (Event.Own tenant command.now) self.old.host self.old.texts.items self.old.released.items self.new.host self.new.texts.items self.new.released.items) }
+        ensures { OnOk result (IsPlayedOn (Event.Own tenant command.now) self.old.host self.old.texts.items self.old.released.items self.new.host self.new.texts.items self.new.released.items) }
     {
         let reply = self.host.command(tenant, command.copy(alloc)?);
         if is_memory(&reply) {
@@ -128,7 +128,7 @@ impl Stage {
 
     // An instant, and the names of its jobs behind those of the others.
     fn tick(&mut self, frame: &[i64]) -> Result<(), AllocError>
-        ensures { OnOk result (IsStep (Event.Tick frame.now) self.old.host self.old.texts.items self.old.released.items self.new.host self.new.texts.items self.new.released.items) }
+        ensures { OnOk result (IsPlayedOn (Event.Tick frame.now) self.old.host self.old.texts.items self.old.released.items self.new.host self.new.texts.items self.new.released.items) }
     {
         let Ok(jobs) = self.host.tick(frame) else {
             return Err(AllocError);

@@ -1,6 +1,0 @@
-pub mod Answered
-pub mod Faults
-pub mod HostAnswers
-pub mod Lines
-pub mod Reading
-pub mod Script

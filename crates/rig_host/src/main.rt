@@ -1,19 +1,10 @@
 //! The program `rig_host`: its arguments, and the statuses with which it ends.
 #![tactic(auto)]
 
-pub mod answers;
-pub mod faults;
-pub mod lines;
-pub mod script;
-#[cfg(test)]
-mod script_tests;
-pub mod speakers;
-#[cfg(test)]
-mod tests;
-
-use crate::faults::ScriptFault;
 use clap::Command;
 use rig_config::built_in;
+use rig_script::faults::ScriptFault;
+use rig_script::script;
 use std::io;
 use std::io::BufWriter;
 use std::process::ExitCode;

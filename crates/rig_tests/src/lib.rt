@@ -12,6 +12,8 @@ mod initial_ports;
 #[cfg(test)]
 mod lines_and_replies;
 #[cfg(test)]
+mod lines_of_readers;
+#[cfg(test)]
 mod plays;
 #[cfg(test)]
 mod programs_checked;
@@ -19,5 +21,7 @@ mod programs_checked;
 mod programs_read;
 #[cfg(test)]
 mod roster;
+#[cfg(test)]
+mod scripts;
 #[cfg(test)]
 mod tokens;

@@ -1,14 +1,11 @@
 //! Programs that are checked: well-formed ones, the first rule that a wrong one breaks, and tasks and modes by name.
 
+use crate::examples::ADDER;
 use giotto_check::{CheckFault, check, find_mode, find_task, laws};
 use giotto_read::reading::read;
 use giotto_tasks::names::Name;
 use std::alloc::Global;
 use std::test::Fail;
-
-const ADDER: &str =
-    "sensor s := 0 line 0; actuator a := 0; output o := 0; task T(i) output o { o := i + 1; } \
-    mode m period 2 { actfreq 1 do a := o; taskfreq 1 do T(s); } start m;";
 
 fn fault_of(alloc: Global, text: &str) -> Result<Option<CheckFault>, Fail> {
     let program = read(alloc, text)?;

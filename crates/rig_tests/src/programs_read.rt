@@ -1,16 +1,12 @@
 //! Program texts, the programs that they spell, and where those that spell none are at fault.
 
+use crate::examples::ADDER;
 use giotto_read::faults::ReadFault;
 use giotto_read::programs::Source;
 use giotto_read::reading::read;
 use giotto_tasks::bodies::{Expr, Stmt};
 use std::alloc::Global;
 use std::test::Fail;
-
-/// Reads a sensor, adds 1, and drives an actuator with the sum.
-pub(crate) const ADDER: &str =
-    "sensor s := 0 line 0; actuator a := 0; output o := 0; task T(i) output o { o := i + 1; } \
-    mode m period 2 { actfreq 1 do a := o; taskfreq 1 do T(s); } start m;";
 
 fn fault_of(alloc: Global, text: &str) -> Option<ReadFault> {
     read(alloc, text).err()

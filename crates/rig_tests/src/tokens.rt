@@ -1,6 +1,6 @@
 //! The tokens of program texts.
 
-use crate::programs_read::ADDER;
+use crate::examples::ADDER;
 use giotto_read::faults::ReadFault;
 use giotto_read::lexer::tokens;
 use std::test::Fail;

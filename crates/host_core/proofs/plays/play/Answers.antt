@@ -1,7 +1,7 @@
 use Rattle.std.proofs.Common.{◌∙◌, ◌∷◌, sym, ap, subst, take, reverse}
 use Rattle.host_core.specs.Playing.{IsPlayed}
-use Rattle.host_core.proofs.Played.{reverse_more}
 use Rattle.host_core.proofs.plays.play.Goals as goal
+use Rattle.giotto_tasks.proofs.ListLemmas.{reverse_more}
 
 pub loop-i-preserved : goal.loop-i-preserved
 loop-i-preserved c = λ setting is.

@@ -7,8 +7,9 @@ use Rattle.tenant_state.specs.Jobs.{JobValue}
 use Rattle.host_core.specs.HostStanding.{HostStanding, Stands, released_from}
 use Rattle.tenant_state.specs.Standing.{Standing}
 use Rattle.host_core.proofs.HostSteps.{stands_after_tick}
-use Rattle.host_core.proofs.HostLoops.{counts_behind, counts_after, ready_behind, whole_slice}
+use Rattle.host_core.proofs.HostLoops.{counts_behind, counts_after, ready_behind}
 use Rattle.host_core.proofs.hosts.Host.tick.Goals as goal
+use Rattle.giotto_tasks.proofs.ListLemmas.{whole_slice}
 
 pub second_halves-requires-clause-counts : goal.second_halves-requires-clause-counts
 second_halves-requires-clause-counts c = λ k d lt.

@@ -1,0 +1,36 @@
+-- Scripts, from their bytes to the bytes that are answered, computed from the definitions.
+use Rattle.std.proofs.Common.{◌≡◌, ℕ, List, [], ◌∷◌, ◌++◌, refl}
+use Rattle.std.specs.Prelude.{codes}
+use Rattle.std.specs.Char.{encode_utf8}
+use Rattle.std.specs.Fmt.{digits}
+use Rattle.std.specs.List.{flat_map}
+use Rattle.std.specs.Str.{chars, is_utf8}
+use Rattle.giotto_read.proofs.Adder.{adder_text}
+use Rattle.host_core.proofs.Rig.{rig}
+use Rattle.rig_script.specs.Script.{script_text_of}
+
+-- lines, each with LF behind it
+abbrev lines : List (List ℕ) → List ℕ
+lines ls = flat_map (λ l. l ++ 10 ∷ []) ls
+
+first_script : script_text_of rig (lines (
+    (codes "alpha load " ++ adder_text) ∷ codes "alpha start" ∷ codes "op tick 5" ∷ codes "op tick 7" ∷ codes "op work" ∷ codes "op tick 9" ∷ codes "alpha show port a" ∷ []))
+    ≡ lines (codes "alpha ok load" ∷ codes "alpha ok start" ∷ codes "op ok tick 0" ∷ codes "op ok tick 1" ∷ codes "op ok work 1" ∷ codes "op ok tick 2" ∷ codes "alpha ok port a 6" ∷ [])
+unfolding digits is_utf8 chars encode_utf8
+first_script = refl
+
+-- A frame needs a value for each line; a tick that is refused isn't counted.
+bad_frame : script_text_of rig (lines (codes "op tick" ∷ codes "op tick 5" ∷ [])) ≡ lines (codes "op err bad-frame" ∷ codes "op ok tick 0" ∷ [])
+unfolding digits is_utf8 chars encode_utf8
+bad_frame = refl
+
+-- Who speaks comes before what is said; blank lines have no reply; a CR before LF and a missing last LF don't matter.
+speakers : script_text_of rig (lines (codes "nobody fly" ∷ codes "alpha" ∷ codes "op" ∷ codes "  " ∷ codes "alpha fly" ∷ codes "op work 9x" ∷ []) ++ (13 ∷ 10 ∷ codes "alpha start" ++ 13 ∷ []))
+    ≡ lines (codes "host err who" ∷ codes "alpha err bad-command" ∷ codes "op err bad-command" ∷ codes "alpha err bad-command" ∷ codes "op err bad-command" ∷ codes "alpha err not-loaded" ∷ [])
+unfolding digits is_utf8 chars encode_utf8
+speakers = refl
+
+-- A byte that is no text ends the script.
+no_text : script_text_of rig (lines (codes "alpha start" ∷ (0xff ∷ []) ∷ codes "alpha start" ∷ [])) ≡ lines (codes "alpha err not-loaded" ∷ codes "host bye bad-line" ∷ [])
+unfolding digits is_utf8 chars encode_utf8
+no_text = refl

@@ -1,0 +1,65 @@
+-- A script begins with a new host.
+use Rattle.std.proofs.Common.{◌≡◌, ℕ, List, [], ◌∷◌, ◌++◌, All, Option, Some, None, refl, sym, ap, ◌∙◌, subst, inr}
+use Rattle.std.specs.Prelude.{Result, Ok, Err, IfSome, IfErr, OnOk}
+use Rattle.host_core.specs.Base.{IsBase, new_base}
+use Rattle.host_core.specs.HostStanding.{HostStanding, Stands, new_host}
+use Rattle.host_core.specs.Setting.{Setting}
+use Rattle.host_core.specs.declared.events.Event.{Event}
+use Rattle.rig_config.specs.declared.Config.{Config}
+use Rattle.host_core.specs.Plays.{IsSettingOf}
+use Rattle.host_core.proofs.LaterBase.{new_is_base}
+use Rattle.host_core.proofs.NewHost.{new_stands}
+use Rattle.rig_script.specs.Answered.{IsBrokenOff, IsText}
+use Rattle.rig_script.specs.HostAnswers.{IsHostAfter}
+use Rattle.rig_script.specs.Lines.{cut}
+use Rattle.rig_script.specs.Reading.{IsLeft}
+use Rattle.rig_script.specs.declared.lines.Lines.{Lines}
+use Rattle.rig_script.specs.Script.{reply_to_line, past_behind, script_from, script_text_of, IsScriptBrokenOff}
+use Rattle.rig_script.specs.declared.faults.ScriptFault.{ScriptFault}
+
+-- what a reader has is left of new lines
+pub all_left : (lines : Lines) (known : Option (List ℕ)) → ((bytes : List ℕ) → IsLeft lines (Some bytes) bytes) → IfSome known (IsLeft lines known)
+all_left lines None left = tt
+all_left lines (Some bytes) left = left bytes
+
+nothing_left : (lines : Lines) (known : Option (List ℕ)) → IsLeft lines known [] → known ≡ Some []
+nothing_left lines None left = absurd left
+nothing_left lines (Some more) left = ap (λ xs. Some xs) (empty_behind lines.buffer.items more left.2)
+  where
+    empty_behind : (xs more : List ℕ) → [] ≡ xs ++ more → more ≡ []
+    empty_behind [] more e = sym e
+    empty_behind (x ∷ xs) more e = cc
+
+pub none_left : {T E : Type 0} (r : Result T E) (new later : Lines) (known after : Option (List ℕ)) → ((bytes : List ℕ) → IsLeft new (Some bytes) bytes)
+    → OnOk r ((bytes : List ℕ) → IsLeft new known bytes → All IsText (cut bytes) → IsLeft later after [])
+    → OnOk r (IfSome known (λ bytes. All IsText (cut bytes) → after ≡ Some []))
+none_left (Err e) new later known after left h = tt
+none_left (Ok x) new later None after left h = tt
+none_left (Ok x) new later (Some bytes) after left h = λ all. nothing_left later after (h bytes (left bytes) all)
+
+module _ (host : HostStanding) (config : Config) (is : host ≡ new_host config 0) where
+  starts : (setting : Setting) → IsSettingOf config setting → IsHostAfter setting host []
+  starts setting of = record {
+    true_reader = of.true_reader;
+    base = subst (IsBase setting.config) (sym of.new) (subst (λ (c : Config). IsBase c (new_base config 0)) (sym of.same_config) (new_is_base config 0));
+    legal = refl;
+    stands =
+        subst (λ h. Stands setting h setting.base) (sym is)
+        (subst (Stands setting (new_host config 0)) (sym of.new)
+        (subst (λ (c : Config). Stands setting (new_host c 0) (new_base c 0)) of.same_config (new_stands setting 0)));
+  }
+
+  pub all_written : {T E : Type 0} (r : Result T E) (known : Option (List ℕ)) (Left Written : List ℕ → Type 0) → IfSome known Left
+      → OnOk r ((setting : Setting) (past : List Event) (bytes : List ℕ) → IsHostAfter setting host past → Left bytes → Written (script_from setting past (cut bytes)))
+      → OnOk r ((setting : Setting) → IsSettingOf config setting → IfSome known (λ bytes. Written (script_text_of setting bytes)))
+  all_written (Err e) known Left Written left h = tt
+  all_written (Ok x) None Left Written left h = λ setting of. tt
+  all_written (Ok x) (Some bytes) Left Written left h = λ setting of. h setting [] bytes (starts setting of) left
+
+  pub broken_off : {T : Type 0} (r : Result T ScriptFault) (known after : Option (List ℕ)) (Left Written : List ℕ → Type 0) → IfSome known Left
+      → IfErr r (λ fault. (setting : Setting) (past : List Event) (bytes : List ℕ) → IsHostAfter setting host past → Left bytes
+      → IsBrokenOff (reply_to_line setting) (past_behind setting) past (cut bytes) Written fault)
+      → IfErr r (λ fault. (setting : Setting) → IsSettingOf config setting → IfSome known (λ bytes. IsScriptBrokenOff setting bytes after Written fault))
+  broken_off (Ok x) known after Left Written left h = tt
+  broken_off (Err fault) None after Left Written left h = λ setting of. tt
+  broken_off (Err fault) (Some bytes) after Left Written left h = λ setting of. inr (h setting [] bytes (starts setting of) left)

@@ -1,0 +1,131 @@
+-- What a step answers, and the host behind it.
+use Rattle.std.proofs.Common.{◌≡◌, ℕ, ◌-◌, ◌^◌, ◌<◌, ◌==◌, nat_lt, Bool, true, false, ℤ, List, [], ◌∷◌, ◌++◌, length, Some, None, Result, Ok, Err, IfOk, String, Global, string_bytes, codes, refl, sym, ap, ◌∙◌, subst, arith}
+use Rattle.std.proofs.lemmas.Bool.Decides.{nat_tests}
+use Rattle.std.proofs.lemmas.Bool.{eqb-true, and_from}
+use Rattle.std.specs.Cmp.Lexicographic.{same_text}
+use Rattle.std.specs.Fmt.{decimal}
+use Rattle.std.specs.declared.alloc.AllocError.{AllocError}
+use Rattle.giotto_tasks.specs.Names.{same_name}
+use Rattle.host_core.specs.declared.events.Event.{Event}
+use Rattle.host_core.specs.declared.events.Event.TheVariants.{Own, Tick}
+use Rattle.rig_config.specs.declared.Config.{Config}
+use Rattle.tenant_lines.specs.declared.commands.Command.{Command}
+use Rattle.tenant_lines.specs.declared.replies.Reply.{Reply}
+use Rattle.host_core.specs.Host.{after_event, host_after}
+use Rattle.host_core.specs.HostState.{row_at}
+use Rattle.host_core.specs.HostStanding.{HostStanding, Stands}
+use Rattle.host_core.specs.Legal.{next_tick, may_follow, is_legal}
+use Rattle.host_core.specs.Setting.{Setting}
+use Rattle.host_core.specs.Views.{after_command, row_of}
+use Rattle.rig_config.specs.Roster.{is_tenant}
+use Rattle.tenant_lines.specs.CommandLine.{command_of_line}
+use Rattle.tenant_lines.specs.Replies.{text_of_reply}
+use Rattle.tenant_lines.specs.Words.{words_of, first_word_of, behind_first_word, values_of_words}
+use Rattle.host_core.proofs.AloneAlong.{same_rows, same_clock}
+use Rattle.tenant_lines.proofs.WordLemmas.{words_first, words_none}
+use Rattle.rig_script.specs.Answered.{reply_line}
+use Rattle.rig_script.specs.HostAnswers.{IsHostAfter}
+use Rattle.rig_script.specs.Script.{Step, IsStep, operator, operator_line_of, operator_step, tenant_step, only_answered}
+
+-- this text was answered, and the events have happened
+pub step_done : (step : Step) (past : List Event) (r : Result (String Global) AllocError) (After : List Event → Type 0) (text : List ℕ)
+    → IfOk r (λ t. string_bytes t ≡ text) → text ≡ step.reply → After (step.events ++ past) → IsStep step past r After
+step_done step past (Ok t) After text given is after = (given ∙ is, after)
+step_done step past (Err e) After text given is after = tt
+
+decided : (m n : ℕ) → ((m ≡ n → ⊥) → ⊥) → m ≡ n
+decided m n h = by (m == n) refl
+  where
+    by : (b : Bool) → (m == n) ≡ b → m ≡ n
+    by true e = eqb-true m n e
+    by false e = absurd (h (λ same. grind (arith, nat_tests, e, same)))
+
+-- the words of a line, by its first word and what stands behind it
+pub words_with : (line first rest word : List ℕ) → first ≡ first_word_of line → rest ≡ behind_first_word line → first ≡ word → 0 < length word → words_of line ≡ word ∷ words_of rest
+words_with line first rest word f b is some =
+    let front : first_word_of line ≡ word = sym f ∙ is in
+    words_first line (subst (λ w. 0 < length w) (sym front) some) ∙ ap (λ w. w ∷ words_of (behind_first_word line)) front ∙ ap (λ l. word ∷ words_of l) (sym b)
+
+other_words : (w : List ℕ) (ws : List (List ℕ)) → (w ≡ codes "tick" → ⊥) → (w ≡ codes "work" → ⊥) → operator_line_of (w ∷ ws) ≡ None
+other_words w ws no_tick no_work = by (same_name w (codes "tick")) refl (same_name w (codes "work")) refl ws
+  where
+    by : (a : Bool) → same_name w (codes "tick") ≡ a → (b : Bool) → same_name w (codes "work") ≡ b → (vs : List (List ℕ)) → operator_line_of (w ∷ vs) ≡ None
+    by true e b f vs = absurd (no_tick (same_text w (codes "tick") (sym e)))
+    by false e true f vs = absurd (no_work (same_text w (codes "work") (sym f)))
+    by false e false f [] = rw (e, f) refl
+    by false e false f (v ∷ vs) = rw e refl
+
+pub other_line : (line first : List ℕ) → first ≡ first_word_of line → (first ≡ codes "tick" → ⊥) → (first ≡ codes "work" → ⊥) → operator_line_of (words_of line) ≡ None
+other_line line first f no_tick no_work = by (first_word_of line) refl
+  where
+    by : (w : List ℕ) → first_word_of line ≡ w → operator_line_of (words_of line) ≡ None
+    by [] is = ap operator_line_of (words_none line (ap (λ (l : List ℕ). length l) is))
+    by (c ∷ cs) is =
+        let some : 0 < length (first_word_of line) = subst (λ (w : List ℕ). 0 < length w) (sym is) (omega arith) in
+        ap operator_line_of (words_first line some)
+        ∙ other_words (first_word_of line) (words_of (behind_first_word line)) (λ e. no_tick (f ∙ e)) (λ e. no_work (f ∙ e))
+
+-- `work` with words behind it
+pub more_than_work : (line : List ℕ) → 0 < length (first_word_of line) → operator_line_of (codes "work" ∷ words_of line) ≡ None
+more_than_work line some = ap (λ ws. operator_line_of (codes "work" ∷ ws)) (words_first line some)
+
+module _ (setting : Setting) (past : List Event) (host later : HostStanding) (h : IsHostAfter setting host past) (r : Result (String Global) AllocError) where
+  -- a command was carried out
+  pub command_done : (t : ℕ) (name line : List ℕ) (command : Command) (reply : Reply) → t < length host.config.tenants → command_of_line line ≡ Some command
+      → reply ≡ (after_command setting t command (row_at (host_after setting past) t)).reply → Stands setting later (after_event setting (host_after setting past) (Own t command))
+      → IfOk r (λ text. string_bytes text ≡ reply_line name (text_of_reply reply)) → IsStep (tenant_step setting past t name line) past r (IsHostAfter setting later)
+  command_done t name line command reply lt spelled answered after given =
+      let same = h.stands.same_config in
+      let within : t < length setting.config.tenants = subst (λ (c : Config). t < length c.tenants) same lt in
+      let is : is_tenant setting.config t ≡ true = grind (arith, nat_tests, within) in
+      let row = same_rows setting h.base past t h.legal is in
+      let step : Step = record { events = Own t command ∷ []; reply = reply_line name (text_of_reply (after_command setting t command (row_of setting past t)).reply) } in
+      let steps : tenant_step setting past t name line ≡ step = rw spelled refl in
+      subst (λ (s : Step). IsStep s past r (IsHostAfter setting later)) (sym steps)
+      (step_done step past r (IsHostAfter setting later) (reply_line name (text_of_reply reply)) given
+      (ap (λ p. reply_line name (text_of_reply p)) (answered ∙ ap (λ w. (after_command setting t command w).reply) row))
+      (record { true_reader = h.true_reader; base = h.base; legal = and_from (is_tenant setting.config t) (is_legal setting past) is h.legal; stands = after }))
+
+  -- a line of no form
+  pub operator_refused : (words : List (List ℕ)) → operator_line_of words ≡ None → later ≡ host → IfOk r (λ text. string_bytes text ≡ reply_line operator (codes "err bad-command"))
+      → IsStep (operator_step setting past words) past r (IsHostAfter setting later)
+  operator_refused words none kept given =
+      let step : Step = only_answered (reply_line operator (codes "err bad-command")) in
+      let steps : operator_step setting past words ≡ step = rw none refl in
+      subst (λ (s : Step). IsStep s past r (IsHostAfter setting later)) (sym steps)
+      (step_done step past r (IsHostAfter setting later) (reply_line operator (codes "err bad-command")) given refl (subst (λ s. IsHostAfter setting s past) (sym kept) h))
+
+  module _ (words : List (List ℕ)) (frame : List ℤ) (values : values_of_words words ≡ Some frame) where
+    -- an instant happened
+    pub tick_done : (n : ℕ) → n ≡ host.clock → n < 2 ^ 64 → ((length frame ≡ host.config.lines → ⊥) → ⊥) → ((length frame ≡ host.config.lines) × (host.clock ≡ 2 ^ 64 - 1) → ⊥)
+        → Stands setting later (after_event setting (host_after setting past) (Tick frame))
+        → IfOk r (λ text. string_bytes text ≡ reply_line operator (codes "ok tick " ++ decimal n)) → IsStep (operator_step setting past (codes "tick" ∷ words)) past r (IsHostAfter setting later)
+    tick_done n is fits whole goes_on after given =
+        let long : length frame ≡ host.config.lines = decided (length frame) host.config.lines whole in
+        let lines : length frame ≡ setting.config.lines = long ∙ ap (λ (c : Config). c.lines) h.stands.same_config in
+        let next : n ≡ next_tick setting past = is ∙ h.stands.same_clock ∙ same_clock setting past in
+        let last : n ≡ 2 ^ 64 - 1 → ⊥ = λ e. goes_on (long, sym is ∙ e) in
+        let low : n < 2 ^ 64 - 1 = below n fits last in
+        let lines_fit : (length frame == setting.config.lines) ≡ true = grind (arith, nat_tests, lines) in
+        let clock_fits : nat_lt (next_tick setting past) (2 ^ 64 - 1) ≡ true = subst (λ k. nat_lt k (2 ^ 64 - 1) ≡ true) next (grind (arith, nat_tests, low)) in
+        let step : Step = record { events = Tick frame ∷ []; reply = reply_line operator (codes "ok tick " ++ decimal (next_tick setting past)) } in
+        let steps : operator_step setting past (codes "tick" ∷ words) ≡ step = rw (values, lines_fit, clock_fits) refl in
+        subst (λ (s : Step). IsStep s past r (IsHostAfter setting later)) (sym steps)
+        (step_done step past r (IsHostAfter setting later) (reply_line operator (codes "ok tick " ++ decimal n)) given (ap (λ k. reply_line operator (codes "ok tick " ++ decimal k)) next)
+        (record { true_reader = h.true_reader; base = h.base; legal = and_from (may_follow setting past (Tick frame)) (is_legal setting past) (and_from _ _ lines_fit clock_fits) h.legal; stands = after }))
+      where
+        below : (n : ℕ) → n < 2 ^ 64 → (n ≡ 2 ^ 64 - 1 → ⊥) → n < 2 ^ 64 - 1
+        below n lt other = omega (arith, lt, other)
+
+    -- the clock has ended
+    pub tick_ended : length frame ≡ host.config.lines → host.clock ≡ 2 ^ 64 - 1 → later ≡ host
+        → IfOk r (λ text. string_bytes text ≡ reply_line operator (codes "err clock-ended")) → IsStep (operator_step setting past (codes "tick" ∷ words)) past r (IsHostAfter setting later)
+    tick_ended long ended kept given =
+        let lines : length frame ≡ setting.config.lines = long ∙ ap (λ (c : Config). c.lines) h.stands.same_config in
+        let next : next_tick setting past ≡ 2 ^ 64 - 1 = sym (h.stands.same_clock ∙ same_clock setting past) ∙ ended in
+        let lines_fit : (length frame == setting.config.lines) ≡ true = grind (arith, nat_tests, lines) in
+        let clock_ends : nat_lt (next_tick setting past) (2 ^ 64 - 1) ≡ false = subst (λ k. nat_lt k (2 ^ 64 - 1) ≡ false) (sym next) refl in
+        let step : Step = only_answered (reply_line operator (codes "err clock-ended")) in
+        let steps : operator_step setting past (codes "tick" ∷ words) ≡ step = rw (values, lines_fit, clock_ends) refl in
+        subst (λ (s : Step). IsStep s past r (IsHostAfter setting later)) (sym steps)
+        (step_done step past r (IsHostAfter setting later) (reply_line operator (codes "err clock-ended")) given refl (subst (λ s. IsHostAfter setting s past) (sym kept) h))

@@ -1,0 +1,39 @@
+use Rattle.std.proofs.Common.{ℕ, List, [], All, Some, ap, ◌∙◌, refl, sym}
+use Rattle.rig_script.specs.Answered.{IsText}
+use Rattle.rig_script.specs.Lines.{cut}
+use Rattle.rig_script.specs.Reading.{IsLeft}
+use Rattle.rig_script.specs.Script.{reply_to_line, past_behind}
+use Rattle.rig_script.proofs.AnsweredLines.{come_further, texts_further, bad_is_no_text, on_ok}
+use Rattle.rig_script.proofs.answers.answer_lines.Goals as goal
+
+pub returns-in-Bad-clause-end : goal.returns-in-Bad-clause-end
+returns-in-Bad-clause-end g c =
+    let remaining = g.R.Read.remaining in
+    on_ok c.say_bye.result ((bytes : List ℕ) → IsLeft c.args.lines.now (remaining c.args.reader.now) bytes → All IsText (cut bytes) → IsLeft c.next_line.new.self (remaining c.next_line.new.reader) []) (λ bytes left.
+    let so_far = c.loop-line.invariant.reading bytes left in
+    let next = rw c.in-Bad.is at (c.in_ok-line.ensures.line so_far.0 so_far.1) in
+    λ all. absurd (bad_is_no_text (cut bytes) (cut so_far.0) so_far.2 next.0 next.1 next.2 next.3 all))
+
+pub loop-line-preserved : goal.loop-line-preserved
+loop-line-preserved g c =
+    let contents = g.W.Write.contents in
+    let l = c.loop-line in
+    let done = c.in_ok-answer_line-in-Whole.ensures in
+    record {
+      reading = λ bytes left.
+          let so_far = l.invariant.reading bytes left in
+          let next = rw c.in-Whole.is at (c.in_ok-line.ensures.line so_far.0 so_far.1) in
+          (next.1, next.4, texts_further (cut bytes) (cut so_far.0) so_far.2 next.0 (cut next.1) next.2);
+      answering = λ setting past bytes stands left.
+          let so_far = l.invariant.answering setting past bytes stands left in
+          let next = rw c.in-Whole.is at (c.in_ok-line.ensures.line so_far.0 so_far.1) in
+          let now = so_far.2 in (
+            next.1,
+            next.4,
+            past_behind setting now c.as_str.result.now,
+            done.stands setting now so_far.3,
+            come_further (reply_to_line setting) (past_behind setting) past (cut bytes) (contents c.args.writer.now) now (cut so_far.0) (contents l.writer) so_far.4
+                (contents c.next_line.new.writer) c.in_ok-line.ensures.written next.0 (cut next.1) c.as_str.result.now (past_behind setting now c.as_str.result.now) (contents c.answer_line.new.writer) next.2
+                (next.3 ∙ ap (λ t. Some t) (sym c.as_str.ensures.value)) refl (done.written setting now so_far.3),
+          );
+    }

@@ -1,0 +1,21 @@
+use Rattle.std.proofs.Common.{ℕ, List, All}
+use Rattle.host_core.specs.Setting.{Setting}
+use Rattle.host_core.specs.declared.events.Event.{Event}
+use Rattle.rig_script.specs.Answered.{IsText}
+use Rattle.rig_script.specs.Lines.{cut}
+use Rattle.rig_script.specs.Reading.{IsLeft}
+use Rattle.rig_script.specs.Script.{reply_to_line, past_behind}
+use Rattle.rig_script.proofs.AnsweredLines.{HasCome}
+use Rattle.rig_script.proofs.answers.answer_lines.Given as goal
+
+abbrev pub invariant-loop-line : goal.invariant-loop-line
+invariant-loop-line g l =
+    let left = g.R.Read.remaining in
+    let contents = g.W.Write.contents in
+    let stands = g.A.Answers.stands in
+    record {
+      reading : (bytes : List ℕ) → IsLeft l.initial.lines (left l.initial.reader) bytes → (rest : List ℕ) × IsLeft l.lines (left l.reader) rest × (All IsText (cut bytes) → All IsText (cut rest));
+      answering : (setting : Setting) (past : List Event) (bytes : List ℕ) → stands l.initial.answers setting past → IsLeft l.initial.lines (left l.initial.reader) bytes
+          → (rest : List ℕ) × IsLeft l.lines (left l.reader) rest
+          × (now : List Event) × stands l.answers setting now × HasCome (reply_to_line setting) (past_behind setting) past (cut bytes) (contents l.initial.writer) now (cut rest) (contents l.writer);
+    }

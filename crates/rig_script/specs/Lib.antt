@@ -1,0 +1,6 @@
+pub mod Answered
+pub mod Faults
+pub mod HostAnswers
+pub mod Lines
+pub mod Reading
+pub mod Script

@@ -1,0 +1,123 @@
+//! A script's lines and who answers them.
+
+ghost use Rattle.std.specs.Prelude.{◌≡◌, ℕ, List, [], codes, All, IfErr, OnOk, ◌⊎◌};
+ghost use Rattle.std.specs.Io.KnownBytes.{Appends, Keeps};
+ghost use Rattle.host_core.specs.Setting.{Setting};
+ghost use Rattle.host_core.specs.declared.events.Event.{Event};
+ghost use Rattle.rig_script.specs.Answered.{reply_line, bye_bad_line, err_memory, IsText, state_after, IsBrokenOff};
+ghost use Rattle.rig_script.specs.Lines.{cut};
+ghost use Rattle.rig_script.specs.Reading.{IsLeft};
+ghost use Rattle.rig_script.specs.Script.{IsStep, line_step, reply_to_line, past_behind, script_from};
+
+use crate::faults::ScriptFault;
+use crate::lines::{Line, Lines};
+use std::alloc::{AllocError, Global};
+use std::io::{Read, Write};
+use tenant_lines::words;
+
+/// Who answers the lines of a script.
+pub trait Answers {
+    // it stands for what these events, the newest first, make of a rig
+    ghost stands: { Self → Setting → List Event → Type 0 };
+
+    /// The bytes that are written for a line, and no byte for a line that has no reply.
+    ///
+    /// # Errors
+    /// Where there is want of memory for the reply.
+    fn answer(&mut self, alloc: Global, line: &str) -> Result<String, AllocError>
+        ensures { (setting : Setting) (past : List Event) → stands self.old setting past → IsStep (line_step setting past line.now) past result (stands self.new setting) };
+}
+
+/// Answers the lines, in their order, until the input ends or a line is too long or no text. Such a
+/// line is answered `host bye bad-line`, and what stands behind it isn't read.
+///
+/// The writer is flushed before each read and at the end.
+///
+/// # Errors
+/// `Read`, `Write` and `Turns` as `Lines::next_line`. `Memory` where there is want of memory for a
+/// reply: `err memory` behind the line's first word is written in its place.
+pub fn answer_lines<R: Read, W: Write, A: Answers>(
+    alloc: Global,
+    lines: &mut Lines,
+    reader: &mut R,
+    writer: &mut W,
+    answers: &mut A,
+) -> Result<(), ScriptFault>
+    ensures written { OnOk result ((setting : Setting) (past : List Event) (bytes : List ℕ) → A.stands answers.old setting past → IsLeft lines.old (R.remaining reader.old) bytes
+        → Appends (W.contents writer.old) (W.contents writer.new) (script_from setting past (cut bytes))) }
+    ensures state { OnOk result ((setting : Setting) (past : List Event) (bytes : List ℕ) → A.stands answers.old setting past → IsLeft lines.old (R.remaining reader.old) bytes
+        → A.stands answers.new setting (state_after (reply_to_line setting) (past_behind setting) past (cut bytes))) }
+    ensures end { OnOk result ((bytes : List ℕ) → IsLeft lines.old (R.remaining reader.old) bytes
+        → All IsText (cut bytes) → IsLeft lines.new (R.remaining reader.new) []) }
+    ensures fault { IfErr result (λ fault. (setting : Setting) (past : List Event) (bytes : List ℕ) → A.stands answers.old setting past → IsLeft lines.old (R.remaining reader.old) bytes
+        → IsBrokenOff (reply_to_line setting) (past_behind setting) past (cut bytes) (Appends (W.contents writer.old) (W.contents writer.new)) fault) }
+{
+    for _line in 0..u64::MAX {
+        match lines.next_line(reader, writer)? {
+            Line::Whole(line) => answer_line(alloc, writer, answers, line.as_str())?,
+            Line::Bad => return say_bye(writer),
+            Line::End => return flush(writer),
+        }
+    }
+    Err(ScriptFault::Turns)
+}
+
+// Writes the reply to a line.
+fn answer_line<W: Write, A: Answers>(
+    alloc: Global,
+    writer: &mut W,
+    answers: &mut A,
+    line: &str,
+) -> Result<(), ScriptFault>
+    ensures stands { OnOk result ((setting : Setting) (past : List Event) → A.stands answers.old setting past → A.stands answers.new setting (past_behind setting past line.now)) }
+    ensures written { OnOk result ((setting : Setting) (past : List Event) → A.stands answers.old setting past → Appends (W.contents writer.old) (W.contents writer.new) (reply_to_line setting past line.now)) }
+    ensures fault { IfErr result (λ fault. (fault ≡ ScriptFault.Write)
+        ⊎ ((fault ≡ ScriptFault.Memory) × Appends (W.contents writer.old) (W.contents writer.new) (err_memory line.now))) }
+{
+    match answers.answer(alloc, line) {
+        Ok(reply) => write(writer, reply.as_str().as_bytes()),
+        Err(_) => {
+            say_memory(writer, words::first_word(line).as_bytes())?;
+            Err(ScriptFault::Memory)
+        }
+    }
+}
+
+// Writes that a line is too long or no text.
+fn say_bye<W: Write>(writer: &mut W) -> Result<(), ScriptFault>
+    ensures written { OnOk result (Appends (W.contents writer.old) (W.contents writer.new) bye_bad_line) }
+    ensures fault { IfErr result (λ fault. fault ≡ ScriptFault.Write) }
+{
+    write(writer, b"host bye bad-line\n")?;
+    flush(writer)
+}
+
+// Writes that there is want of memory for a reply to who speaks.
+fn say_memory<W: Write>(writer: &mut W, who: &[u8]) -> Result<(), ScriptFault>
+    ensures written { OnOk result (Appends (W.contents writer.old) (W.contents writer.new) (reply_line who.now (codes "err memory"))) }
+    ensures fault { IfErr result (λ fault. fault ≡ ScriptFault.Write) }
+{
+    write(writer, who)?;
+    write(writer, b" err memory\n")?;
+    flush(writer)
+}
+
+fn write<W: Write>(writer: &mut W, bytes: &[u8]) -> Result<(), ScriptFault>
+    ensures written { OnOk result (Appends (W.contents writer.old) (W.contents writer.new) bytes.now) }
+    ensures fault { IfErr result (λ fault. fault ≡ ScriptFault.Write) }
+{
+    match writer.write_all(bytes) {
+        Ok(()) => Ok(()),
+        Err(_) => Err(ScriptFault::Write),
+    }
+}
+
+fn flush<W: Write>(writer: &mut W) -> Result<(), ScriptFault>
+    ensures kept { Keeps (W.contents writer.old) (W.contents writer.new) }
+    ensures fault { IfErr result (λ fault. fault ≡ ScriptFault.Write) }
+{
+    match writer.flush() {
+        Ok(()) => Ok(()),
+        Err(_) => Err(ScriptFault::Write),
+    }
+}

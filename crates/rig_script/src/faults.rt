@@ -1,0 +1,31 @@
+//! Why a script ends before its input does.
+
+ghost use Rattle.std.specs.Prelude.{◌≡◌};
+ghost use Rattle.rig_script.specs.Faults.{text_of_fault};
+
+/// Why a script ended before its input did.
+#[derive(Clone, Copy, Debug, PartialEq, Eq)]
+pub enum ScriptFault {
+    /// A read failed, or there was want of memory for a line.
+    Read,
+    /// A write failed.
+    Write,
+    /// The input had not ended after 1,048,576 reads.
+    Turns,
+    /// Want of memory for a reply.
+    Memory,
+}
+
+impl ScriptFault {
+    /// The line that the program writes to standard error.
+    pub fn as_str(self) -> &'static str
+        ensures { result.now ≡ text_of_fault self }
+    {
+        match self {
+            ScriptFault::Read => "io: read",
+            ScriptFault::Write => "io: write",
+            ScriptFault::Turns => "io: turns",
+            ScriptFault::Memory => "io: memory",
+        }
+    }
+}

@@ -1,0 +1,16 @@
+//! Scripts: the lines of a reader, each answered before the next one is read.
+//!
+//! ```text
+//! script(alloc, &mut reader, &mut writer, &config)?;
+//! ```
+//!
+//! [`lines`] cuts what a reader gives, [`speakers`] tells who speaks in a line, [`answers`] has whoever answers lines, and
+//! [`script`](script::script) is a host that answers them. `specs/Lines.antt` says how bytes are cut, `specs/Script.antt` what a
+//! script is answered.
+#![tactic(auto)]
+
+pub mod answers;
+pub mod faults;
+pub mod lines;
+pub mod script;
+pub mod speakers;

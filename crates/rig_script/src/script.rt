@@ -1,0 +1,162 @@
+//! A script: each line is answered before the next one is read.
+
+ghost use Rattle.std.specs.Prelude.{◌≡◌, ◌↔◌, [], ◌∷◌, ◌<◌, List, Some, codes, length, All, IsTrue, IfOk, IfErr, IfSome, OnOk, string_bytes};
+ghost use Rattle.std.specs.Io.KnownBytes.{Appends};
+ghost use Rattle.host_core.specs.Setting.{Setting};
+ghost use Rattle.host_core.specs.Plays.{IsSettingOf};
+ghost use Rattle.host_core.specs.declared.events.Event.{Event};
+ghost use Rattle.tenant_lines.specs.declared.replies.Refusal.TheVariants as refusals;
+ghost use Rattle.tenant_lines.specs.declared.replies.Reply.TheVariants as code;
+ghost use Rattle.tenant_lines.specs.Words.{words_of};
+ghost use Rattle.rig_script.specs.Answered.{reply_line, IsText};
+ghost use Rattle.rig_script.specs.Lines.{cut};
+ghost use Rattle.rig_script.specs.HostAnswers.{IsHostAfter};
+ghost use Rattle.rig_script.specs.Script.{IsStep, tenant_step, operator_step, work_step, outstanding_after, script_text_of, IsScriptBrokenOff};
+
+use crate::answers::{Answers, answer_lines};
+use crate::faults::ScriptFault;
+use crate::lines::Lines;
+use crate::speakers::{Speaker, who_speaks};
+use host_core::hosts::{Host, TickFault, complete};
+use rig_config::{Config, TenantId};
+use std::alloc::{AllocError, Global};
+use std::io::{Read, Write};
+use tenant_lines::command_lines::{LineFault, command_of};
+use tenant_lines::replies::{Refusal, Reply, print_reply};
+use tenant_lines::words;
+
+impl Answers for Host {
+    ghost stands = { λ host setting past. IsHostAfter setting host past };
+
+    fn answer(&mut self, alloc: Global, line: &str) -> Result<String, AllocError> {
+        let rest = words::behind_first_word(line);
+        match who_speaks(self.config(), line) {
+            Speaker::Nobody => Ok(String::new(alloc)),
+            Speaker::Operator => operator_line(alloc, self, rest),
+            Speaker::Tenant(tenant) => {
+                tenant_line(alloc, self, tenant, words::first_word(line), rest)
+            }
+            Speaker::Unknown => reply_line(alloc, "host", "err who"),
+        }
+    }
+}
+
+/// Answers the lines of a reader, in their order, until the input or the script ends: a tenant's by
+/// its command, and the operator's by `tick` and `work`. The host is new, and its first tick is 0.
+/// Nothing is left unread where each line is text of at most 16,384 bytes; another line ends the script.
+///
+/// # Errors
+/// `Read`, `Write`, `Turns` and `Memory` as `answer_lines`; `Memory` also where there is want of memory for the host, and then nothing
+/// was read or written.
+pub fn script<R: Read, W: Write>(
+    alloc: Global,
+    reader: &mut R,
+    writer: &mut W,
+    config: &Config,
+) -> Result<(), ScriptFault>
+    ensures written { OnOk result ((setting : Setting) → IsSettingOf config.now setting → IfSome (R.remaining reader.old) (λ bytes. Appends (W.contents writer.old) (W.contents writer.new) (script_text_of setting bytes))) }
+    ensures end { OnOk result (IfSome (R.remaining reader.old) (λ bytes. All IsText (cut bytes) → R.remaining reader.new ≡ Some [])) }
+    ensures fault { IfErr result (λ fault. (setting : Setting) → IsSettingOf config.now setting → IfSome (R.remaining reader.old) (λ bytes. IsScriptBrokenOff setting bytes (R.remaining reader.new) (Appends (W.contents writer.old) (W.contents writer.new)) fault)) }
+{
+    let Ok(mut host) = Host::new(alloc, config, 0) else {
+        return Err(ScriptFault::Memory);
+    };
+    let mut lines = Lines::new(alloc);
+    answer_lines(alloc, &mut lines, reader, writer, &mut host)
+}
+
+// The step of a tenant's line, which stands behind its name.
+fn tenant_line(
+    alloc: Global,
+    host: &mut Host,
+    tenant: TenantId,
+    name: &str,
+    line: &str,
+) -> Result<String, AllocError>
+    requires { tenant < length host.old.config.tenants }
+    ensures { (setting : Setting) (past : List Event) → IsHostAfter setting host.old past
+        → IsStep (tenant_step setting past tenant name.now line.now) past result (IsHostAfter setting host.new) }
+{
+    let command = match command_of(alloc, line) {
+        Ok(command) => command,
+        Err(LineFault::BadCommand) => return reply_line(alloc, name, "err bad-command"),
+        Err(LineFault::Memory) => return Err(AllocError),
+    };
+    let reply = host.command(tenant, command);
+    if is_memory(&reply) {
+        return Err(AllocError);
+    }
+    let text = print_reply(alloc, &reply)?;
+    reply_line(alloc, name, text.as_str())
+}
+
+// Whether the reply is that a command found no memory.
+fn is_memory(reply: &Reply) -> bool
+    ensures { IsTrue result ↔ (reply.now ≡ code.Refused refusals.Memory) }
+{
+    matches!(reply, Reply::Refused(Refusal::Memory))
+}
+
+// The step of an operator's line, which stands behind `op`.
+fn operator_line(alloc: Global, host: &mut Host, line: &str) -> Result<String, AllocError>
+    ensures { (setting : Setting) (past : List Event) → IsHostAfter setting host.old past
+        → IsStep (operator_step setting past (words_of line.now)) past result (IsHostAfter setting host.new) }
+{
+    let rest = words::behind_first_word(line);
+    match words::first_word(line) {
+        "tick" => tick(alloc, host, rest),
+        "work" => work(alloc, host, rest),
+        _ => reply_line(alloc, "op", "err bad-command"),
+    }
+}
+
+// The step of `tick` with these words behind it.
+fn tick(alloc: Global, host: &mut Host, line: &str) -> Result<String, AllocError>
+    ensures { (setting : Setting) (past : List Event) → IsHostAfter setting host.old past
+        → IsStep (operator_step setting past (codes "tick" ∷ words_of line.now)) past result (IsHostAfter setting host.new) }
+{
+    let Some(frame) = words::values_of_words(alloc, line)? else {
+        return reply_line(alloc, "op", "err bad-command");
+    };
+    let number = host.clock();
+    match host.tick(frame.as_slice()) {
+        Ok(_) => format!(in alloc; "op ok tick {number}\n"),
+        Err(TickFault::BadFrame) => reply_line(alloc, "op", "err bad-frame"),
+        Err(TickFault::ClockEnded) => reply_line(alloc, "op", "err clock-ended"),
+        Err(TickFault::Memory) => Err(AllocError),
+    }
+}
+
+// The step of `work` with these words behind it.
+fn work(alloc: Global, host: &mut Host, line: &str) -> Result<String, AllocError>
+    ensures { (setting : Setting) (past : List Event) → IsHostAfter setting host.old past
+        → IsStep (operator_step setting past (codes "work" ∷ words_of line.now)) past result (IsHostAfter setting host.new) }
+{
+    if words::first_word(line).is_empty() {
+        return complete_all(alloc, host);
+    }
+    reply_line(alloc, "op", "err bad-command")
+}
+
+// Runs and completes all outstanding jobs, and says how many they were.
+fn complete_all(alloc: Global, host: &mut Host) -> Result<String, AllocError>
+    ensures { (setting : Setting) (past : List Event) → IsHostAfter setting host.old past
+        → IsStep (work_step (outstanding_after setting past)) past result (IsHostAfter setting host.new) }
+{
+    let names = host.outstanding_jobs()?;
+    for name in &names {
+        complete(host, name)?;
+    }
+    let number = names.len();
+    format!(in alloc; "op ok work {number}\n")
+}
+
+/// A reply as it is written: who is answered, a space, the reply, and LF.
+///
+/// # Errors
+/// Want of memory.
+pub fn reply_line(alloc: Global, who: &str, reply: &str) -> Result<String, AllocError>
+    ensures { IfOk result (λ line. string_bytes line ≡ reply_line who.now reply.now) }
+{
+    format!(in alloc; "{who} {reply}\n")
+}

@@ -1,0 +1,37 @@
+//! Who speaks in a line of a script.
+
+ghost use Rattle.std.specs.Prelude.{◌≡◌};
+ghost use Rattle.rig_script.specs.Script.{speaker_of};
+
+use rig_config::{Config, TenantId};
+use tenant_lines::words;
+
+/// Who speaks in a line.
+#[derive(Clone, Copy, Debug, PartialEq, Eq)]
+pub enum Speaker {
+    /// The line is blank.
+    Nobody,
+    /// The line begins with `op`.
+    Operator,
+    /// The line begins with the name of the tenant at this place of the roster.
+    Tenant(TenantId),
+    /// The line begins with another word.
+    Unknown,
+}
+
+/// Who speaks in a line, by its first word.
+pub fn who_speaks(config: &Config, line: &str) -> Speaker
+    ensures { result ≡ speaker_of config.now line.now }
+{
+    let word = words::first_word(line);
+    if word.is_empty() {
+        return Speaker::Nobody;
+    }
+    if word == "op" {
+        return Speaker::Operator;
+    }
+    match config.place_of(word) {
+        Some(tenant) => Speaker::Tenant(tenant),
+        None => Speaker::Unknown,
+    }
+}
