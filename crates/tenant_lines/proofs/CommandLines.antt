@@ -4,9 +4,11 @@ use Rattle.std.proofs.lemmas.Bool.Decides.{nat_tests}
 use Rattle.std.specs.Bool.{then_some}
 use Rattle.std.specs.Cmp.Lexicographic.{same_text}
 use Rattle.giotto_tasks.specs.Names.{same_name}
+use Rattle.giotto_read.specs.Bytes.{is_name}
+use Rattle.giotto_tasks.proofs.NameLemmas.{same_name_is}
 use Rattle.tenant_lines.specs.declared.commands.Command.TheVariants.{Start, ShowPort}
 use Rattle.tenant_lines.specs.CommandLine.{command_of_words}
-use Rattle.tenant_lines.specs.Words.{words_of, first_word_of, behind_first_word, is_name}
+use Rattle.tenant_lines.specs.Words.{words_of, first_word_of, behind_first_word}
 use Rattle.tenant_lines.proofs.WordLemmas.{words_first, words_none}
 
 -- by cases on whether a line has a word
@@ -81,7 +83,7 @@ not_same : (x y : List ℕ) → (x ≡ y → ⊥) → same_name x y ≡ false
 not_same x y differ = by (same_name x y) refl
   where
     by : (b : Bool) → same_name x y ≡ b → same_name x y ≡ false
-    by true e = absurd (differ (same_text x y (sym e)))
+    by true e = absurd (differ (same_name_is x y e))
     by false e = e
 
 -- no command begins with another word

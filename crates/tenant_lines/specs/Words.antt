@@ -1,12 +1,12 @@
 -- Lines as words: one or more blanks separate words, and mean nothing at the ends.
-use Rattle.std.specs.Prelude.{ℕ, ◌-◌, ◌^◌, nat_le, Bool, false, not, ◌&&◌, ◌||◌, ◌==◌, if◌then◌else◌, ℤ, pos, neg_ℤ, List, [], ◌∷◌, length, drop, Option, Some, None}
+use Rattle.std.specs.Prelude.{ℕ, ◌-◌, ◌^◌, nat_le, Bool, not, ◌||◌, ◌==◌, if◌then◌else◌, ℤ, pos, neg_ℤ, List, [], ◌∷◌, drop, Option, Some, None}
 use Rattle.std.specs.List.{list_all, prefix_len, take_while}
 use Rattle.std.specs.Str.Parse.{digits_value}
-use Rattle.giotto_read.specs.Bytes.{is_digit, is_letter, is_name_byte}
+use Rattle.giotto_read.specs.Bytes.{is_digit}
 
 -- space, tab or CR: a line has no LF
-abbrev pub is_blank : ℕ → Bool
-is_blank c = c == 32 || c == 9 || c == 13
+abbrev pub is_blank_of_line : ℕ → Bool
+is_blank_of_line c = c == 32 || c == 9 || c == 13
 
 -- the byte at the front of the first of these texts
 abbrev pub joined_to_first : ℕ → List (List ℕ) → List (List ℕ)
@@ -16,18 +16,18 @@ joined_to_first c (w ∷ ws) = (c ∷ w) ∷ ws
 -- the runs of bytes that are no blanks
 abbrev pub words_of : List ℕ → List (List ℕ)
 words_of [] = []
-words_of (c ∷ cs) = if is_blank c then words_of cs else by cs (words_of cs)
+words_of (c ∷ cs) = if is_blank_of_line c then words_of cs else by cs (words_of cs)
   where
     by : List ℕ → List (List ℕ) → List (List ℕ)
     by [] ws = (c ∷ []) ∷ []
-    by (d ∷ ds) ws = if is_blank d then (c ∷ []) ∷ ws else joined_to_first c ws
+    by (d ∷ ds) ws = if is_blank_of_line d then (c ∷ []) ∷ ws else joined_to_first c ws
 
 abbrev pub is_word_byte : ℕ → Bool
-is_word_byte c = not (is_blank c)
+is_word_byte c = not (is_blank_of_line c)
 
 -- the line from its first word on
 abbrev pub from_first_word : List ℕ → List ℕ
-from_first_word line = drop (prefix_len is_blank line) line
+from_first_word line = drop (prefix_len is_blank_of_line line) line
 
 -- the first word, or nothing where a line has none; and what stands behind it
 abbrev pub first_word_of : List ℕ → List ℕ
@@ -35,11 +35,6 @@ first_word_of line = take_while is_word_byte (from_first_word line)
 
 abbrev pub behind_first_word : List ℕ → List ℕ
 behind_first_word line = drop (prefix_len is_word_byte (from_first_word line)) (from_first_word line)
-
--- a word has the shape of a name: a letter or _, then letters, digits or _; at most 32 bytes
-abbrev pub is_name : List ℕ → Bool
-is_name [] = false
-is_name (c ∷ cs) = is_letter c && list_all is_name_byte cs && nat_le (length (c ∷ cs)) 32
 
 -- the value of decimal digits, if it is one
 abbrev pub digits_as : (ℕ → Option ℤ) → List ℕ → Option ℤ

@@ -6,7 +6,8 @@ ghost use Rattle.tenant_lines.specs.Words.{words_of, behind_first_word};
 
 use crate::commands::Command;
 use crate::texts::Text;
-use crate::words::{behind_first_word, first_word, is_name};
+use crate::words::{behind_first_word, first_word};
+use giotto_read::name_bytes::is_name;
 use giotto_tasks::names::Name;
 use std::alloc::Global;
 
@@ -74,7 +75,7 @@ fn show(rest: &str) -> Option<Command>
     }
     let rest = behind_first_word(rest);
     let word = first_word(rest);
-    if !is_name(word) {
+    if !is_name(word.as_bytes()) {
         return None;
     }
     if !first_word(behind_first_word(rest)).is_empty() {

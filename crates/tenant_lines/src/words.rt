@@ -1,10 +1,9 @@
 //! Lines as words: one or more blanks separate words, and mean nothing at the ends.
 
 ghost use Rattle.std.specs.Prelude.{◌≡◌, ◌≤◌, IfOk, length};
-ghost use Rattle.std.specs.List.{list_all, prefix_len};
+ghost use Rattle.std.specs.List.{prefix_len};
 ghost use Rattle.std.specs.Option.{option_map};
-ghost use Rattle.giotto_read.specs.Bytes.{is_letter, is_name_byte};
-ghost use Rattle.tenant_lines.specs.Words.{is_blank, is_word_byte, words_of, from_first_word, first_word_of, behind_first_word, is_name, value_of_word, values_of_words};
+ghost use Rattle.tenant_lines.specs.Words.{is_blank_of_line, is_word_byte, words_of, from_first_word, first_word_of, behind_first_word, value_of_word, values_of_words};
 
 use std::alloc::{AllocError, Global};
 
@@ -25,21 +24,10 @@ pub fn behind_first_word(line: &str) -> &str
 }
 
 /// Whether a byte of a line is a blank: space, tab or CR. A line has no LF.
-pub fn blank(byte: u8) -> bool
-    ensures { result ≡ is_blank byte }
+pub fn is_blank(byte: u8) -> bool
+    ensures { result ≡ is_blank_of_line byte }
 {
     matches!(byte, b' ' | b'\t' | b'\r')
-}
-
-/// Whether a word has the shape of a name: a letter or `_`, then letters, digits or `_`; at most 32 bytes.
-#[tactic(auto, using(crate::proofs::WordLemmas::name_by_parts))]
-pub fn is_name(word: &str) -> bool
-    ensures { result ≡ is_name word.now }
-{
-    let [first, rest @ ..] = word.as_bytes() else {
-        return false;
-    };
-    is_letter(*first) && are_name_bytes(rest) && word.len() <= 32
 }
 
 /// The value of a word: an optional `-`, then digits, leading zeros allowed. `None` where the word has another shape,
@@ -89,11 +77,11 @@ fn skip_blanks(line: &str) -> &str
 // How many blanks stand at the front.
 #[tactic(auto, using(crate::proofs::WordLemmas::prefix_more, crate::proofs::WordLemmas::prefix_end))]
 fn blank_len(line: &[u8]) -> usize
-    ensures len { result ≡ prefix_len is_blank line.now }
+    ensures len { result ≡ prefix_len is_blank_of_line line.now }
     ensures within { result ≤ length line.now }
 {
     for (i, byte) in line.iter().enumerate() {
-        if !blank(*byte) {
+        if !is_blank(*byte) {
             return i;
         }
     }
@@ -107,28 +95,9 @@ fn word_len(line: &[u8]) -> usize
     ensures within { result ≤ length line.now }
 {
     for (i, byte) in line.iter().enumerate() {
-        if blank(*byte) {
+        if is_blank(*byte) {
             return i;
         }
     }
     line.len()
-}
-
-fn are_name_bytes(bytes: &[u8]) -> bool
-    ensures { result ≡ list_all is_name_byte bytes.now }
-{
-    bytes.iter().all(|byte| is_name_byte(*byte))
-}
-
-// Whether a byte is `A` to `Z`, `a` to `z`, or `_`.
-fn is_letter(byte: u8) -> bool
-    ensures { result ≡ is_letter byte }
-{
-    byte.is_ascii_alphabetic() || byte == b'_'
-}
-
-fn is_name_byte(byte: u8) -> bool
-    ensures { result ≡ is_name_byte byte }
-{
-    is_letter(byte) || byte.is_ascii_digit()
 }

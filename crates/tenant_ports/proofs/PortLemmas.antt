@@ -8,6 +8,7 @@ use Rattle.giotto_tasks.specs.Names.{Valuation, names_in, same_name, is_among, v
 use Rattle.giotto_tasks.specs.Meaning.{value_of}
 use Rattle.giotto_tasks.specs.Sound.{is_once_among, reads_only}
 use Rattle.giotto_tasks.specs.Syntax.{Expression, number, port, unary, binary}
+use Rattle.giotto_tasks.proofs.NameLemmas.{among_other}
 use Rattle.tenant_ports.specs.PortTables.{PortTables, all_ports, HaveSameNames}
 use Rattle.tenant_ports.specs.Ports.{own_ports, with_values}
 
@@ -52,13 +53,7 @@ is_among_none (v ∷ vs) x e = by (same_name v.0 x) e (is_among_none vs x)
 
 -- a name of two lists that isn't in the first is in the second
 pub is_among_second : (vs ws : Valuation) (x : Name) → is_among (names_in (vs ++ ws)) x ≡ true → is_among (names_in vs) x ≡ false → is_among (names_in ws) x ≡ true
-is_among_second [] ws x there e = there
-is_among_second (v ∷ vs) ws x there e = by (same_name v.0 x) there e (is_among_second vs ws x)
-  where
-    by : (b : Bool) → (b || is_among (names_in (vs ++ ws)) x) ≡ true → (b || is_among (names_in vs) x) ≡ false
-        → (is_among (names_in (vs ++ ws)) x ≡ true → is_among (names_in vs) x ≡ false → is_among (names_in ws) x ≡ true) → is_among (names_in ws) x ≡ true
-    by true there e further = absurd (cc)
-    by false there e further = further there e
+is_among_second vs ws x there e = among_other (names_in vs) (names_in ws) x (ap (λ ns. is_among ns x) (sym (map-append _ vs ws)) ∙ there) e
 
 -- a name of the first list is given its value there
 pub with_value_first : (vs ws : Valuation) (x : Name) (z : ℤ) → is_among (names_in vs) x ≡ true → with_value (vs ++ ws) x z ≡ with_value vs x z ++ ws

@@ -12,7 +12,7 @@ returns-then-ne c =
 
 pub returns-then-not-is_name : goal.returns-then-not-is_name
 returns-then-not-is_name c =
-    let bad = rw (c.first_word-word.ensures, c.behind_first_word-rest.ensures) at c.if-not-is_name.ensures in
+    let bad = rw (c.as_bytes.ensures.value, c.first_word-word.ensures, c.behind_first_word-rest.ensures) at c.if-not-is_name.ensures in
     sym (show_no_name c.args.rest.now (sym bad))
 
 pub returns-then-not-is_empty : goal.returns-then-not-is_empty
@@ -25,7 +25,7 @@ pub returns : goal.returns
 returns c =
     let rest = c.args.rest.now in
     let port : same_name c.first_word.result.now (codes "port") ≡ true = grind (arith, c.if-ne.ensures) in
-    let name = rw (c.first_word-word.ensures, c.behind_first_word-rest.ensures) at c.if-not-is_name.ensures in
+    let name = rw (c.as_bytes.ensures.value, c.first_word-word.ensures, c.behind_first_word-rest.ensures) at c.if-not-is_name.ensures in
     let none : length (first_word_of (behind_first_word (behind_first_word rest))) ≡ 0 =
     grind (arith, nat_tests, c.if-not-is_empty.ensures, c.first_word-2.ensures, c.behind_first_word.ensures, c.behind_first_word-rest.ensures) in
     rw (c.in_ok-new.ensures.bytes, c.first_word-word.ensures, c.behind_first_word-rest.ensures) (sym (show_port rest (rw c.first_word.ensures at port) (sym name) none))
