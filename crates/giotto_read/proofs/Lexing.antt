@@ -64,10 +64,6 @@ token_first c cs i len t e is = rw (e, is) refl
 fault_first : (c : ℕ) (cs : List ℕ) (i : ℕ) → is_blank_of_text c ≡ false → first_token (c ∷ cs) ≡ None → tokens_from 0 i (c ∷ cs) ≡ Err i
 fault_first c cs i e is = rw (e, is) refl
 
-pub tokens_from-blank : (text : List ℕ) (i : ℕ) → i < length text → is_blank_of_text (get_or text i 0) ≡ true
-    → tokens_from 0 i (drop i text) ≡ tokens_from 0 (i + 1) (drop (i + 1) text)
-tokens_from-blank text i lt e = rw (at_byte text i lt) (blank_first (get_or text i 0) (drop (i + 1) text) i e)
-
 pub tokens_from-fault : (text : List ℕ) (i : ℕ) → i < length text → is_blank_of_text (get_or text i 0) ≡ false → first_token (drop i text) ≡ None
     → tokens_from 0 i (drop i text) ≡ Err i
 tokens_from-fault text i lt e is = let whole = at_byte text i lt in rw whole (fault_first (get_or text i 0) (drop (i + 1) text) i e (rw whole at is))

@@ -136,6 +136,3 @@ list_halt_first {P = P} {d = d} {On = On} not f = halt_as (list_writes P d On) (
 
 pub list_moves_on : {V : Type 0} {P : V → Part} {d : V} {On : Token → Type 0} {s n u : Reader} {v : V} → ¬ On comma → IsRead (mark comma) s tt n → IsRead (element P d On) n v u → s.at < u.at
 list_moves_on {P = P} {d = d} {On = On} not next f = moves_on (comma_repeats P d On not) (read_as (comma_writes P d On) (then (λ t h. h) next f))
-
-pub list_isnt_empty : {V : Type 0} {P : V → Part} {d : V} {On : Token → Type 0} {r s : Reader} {vs : List V} → ListBegun P d On r vs s → vs ≢ []
-list_isnt_empty h e = let same : h.first ∷ h.rest ≡ [] = sym h.is ∙ e in cc

@@ -125,19 +125,6 @@ list_all-filter p test (x ∷ xs) h = let both = and_parts (p x) (list_all p xs)
     at_head true e others = and_from _ _ e others
     at_head false e others = others
 
--- a loop over the elements that ends where one fails the test, and else goes on
-pub all_stops : {X Y : Type 0} (p : X → Bool) (v : Y → X) (ys : List Y) (i : ℕ) (x : Y) (b : Bool) → list_all p (map v (drop i ys)) ≡ b
-    → i < length ys → x ≡ get_or ys i x → p (v x) ≡ false → false ≡ b
-all_stops p v ys i x b whole lt here fails =
-    let failed : p (v (get_or ys i x)) ≡ false = ap (λ y. p (v y)) (sym here) ∙ fails in
-    sym (at_drop_more (λ zs. list_all p (map v zs)) ys i x lt ∙ ap (λ c. c && list_all p (map v (drop (i + 1) ys))) failed) ∙ whole
-
-pub all_goes_on : {X Y : Type 0} (p : X → Bool) (v : Y → X) (ys : List Y) (i : ℕ) (x : Y) (b : Bool) → list_all p (map v (drop i ys)) ≡ b
-    → i < length ys → x ≡ get_or ys i x → p (v x) ≡ true → list_all p (map v (drop (i + 1) ys)) ≡ b
-all_goes_on p v ys i x b whole lt here passes =
-    let passed : p (v (get_or ys i x)) ≡ true = ap (λ y. p (v y)) (sym here) ∙ passes in
-    sym (at_drop_more (λ zs. list_all p (map v zs)) ys i x lt ∙ ap (λ c. c && list_all p (map v (drop (i + 1) ys))) passed) ∙ whole
-
 pub any_map : {X Y : Type 0} (q : Y → Bool) (f : X → Y) (xs : List X) → list_any q (map f xs) ≡ list_any (λ x. q (f x)) xs
 any_map q f [] = refl
 any_map q f (x ∷ xs) = ap (λ b. q (f x) || b) (any_map q f xs)

@@ -1,6 +1,6 @@
 //! Lines of a reader: at most 16,384 bytes before each LF, one CR at the end taken off, and UTF-8.
 
-ghost use Rattle.std.specs.Prelude.{◌≡◌, ◌≢◌, ℕ, true, false, List, Option, Some, IfErr, OnOk};
+ghost use Rattle.std.specs.Prelude.{◌≡◌, ◌≢◌, ◌≤◌, ◌+◌, ℕ, true, false, List, Option, Some, IfErr, OnOk, Err};
 ghost use Rattle.std.specs.Io.KnownBytes.{Keeps};
 ghost use Rattle.tokio_util.specs.Codec.Lines.{IsOutOfMemory};
 ghost use Rattle.rig_script.specs.Reading.{IsReading, IsLeft, IsNextLine};
@@ -42,7 +42,8 @@ pub struct Lines {
 impl Lines {
     /// The lines of a reader from which nothing was read yet.
     pub fn new(alloc: Global) -> Lines
-        ensures { (bytes : List ℕ) → IsLeft result (Some bytes) bytes }
+        ensures left { (bytes : List ℕ) → IsLeft result (Some bytes) bytes }
+        ensures count { result.reads ≡ 0 }
     {
         Lines {
             alloc,
@@ -66,6 +67,7 @@ impl Lines {
     ) -> Result<Line, ScriptFault>
         ensures line { (bytes : List ℕ) → IsLeft self.old (R.remaining reader.old) bytes → IsNextLine bytes result (IsLeft self.new (R.remaining reader.new)) }
         ensures faults { IfErr result (λ fault. fault ≢ ScriptFault.Memory) }
+        ensures turns { result ≡ Err ScriptFault.Turns → 1048576 ≤ self.new.reads }
         ensures written { Keeps (W.contents writer.old) (W.contents writer.new) }
     {
         for _read in 0..=MAX_READS {
@@ -89,7 +91,7 @@ impl Lines {
     fn last_line(&mut self) -> Result<Line, ScriptFault>
         requires { self.old.at_end ≡ true }
         ensures line { (remaining : Option (List ℕ)) (bytes : List ℕ) → IsReading bytes self.old.codec self.old.buffer.items remaining self.old.at_end → IsNextLine bytes result (IsLeft self.new remaining) }
-        ensures faults { IfErr result (λ fault. fault ≢ ScriptFault.Memory) }
+        ensures faults { IfErr result (λ fault. fault ≡ ScriptFault.Read) }
     {
         match self.codec.decode_eof(&mut self.buffer) {
             Ok(Some(text)) => Ok(Line::Whole(text)),
@@ -111,6 +113,8 @@ impl Lines {
         ensures filled { OnOk result ((bytes : List ℕ) → IsReading bytes self.old.codec self.old.buffer.items (R.remaining reader.old) false
             → IsReading bytes self.new.codec self.new.buffer.items (R.remaining reader.new) self.new.at_end) }
         ensures faults { IfErr result (λ fault. fault ≢ ScriptFault.Memory) }
+        ensures count { OnOk result (self.new.reads ≡ self.old.reads + 1) }
+        ensures turns { result ≡ Err ScriptFault.Turns → 1048576 ≤ self.new.reads }
     {
         if self.reads >= MAX_READS {
             return Err(ScriptFault::Turns);
@@ -135,6 +139,7 @@ impl Lines {
 
 // What a line that the codec refuses is.
 fn unread(error: LinesCodecError) -> Result<Line, ScriptFault>
+    ensures fault { IfErr result (λ fault. fault ≡ ScriptFault.Read) }
     ensures memory { IsOutOfMemory {T = ℕ} (Err error) → result ≡ Err ScriptFault.Read }
     ensures other { ¬ IsOutOfMemory {T = ℕ} (Err error) → result ≡ Ok Line.Bad }
 {

@@ -54,9 +54,11 @@ pub fn script<R: Read, W: Write>(
     writer: &mut W,
     config: &Config,
 ) -> Result<(), ScriptFault>
-    ensures written { OnOk result ((setting : Setting) → IsSettingOf config.now setting → IfSome (R.remaining reader.old) (λ bytes. Appends (W.contents writer.old) (W.contents writer.new) (script_text_of setting bytes))) }
+    ensures written { OnOk result ((setting : Setting) → IsSettingOf config.now setting
+        → IfSome (R.remaining reader.old) (λ bytes. Appends (W.contents writer.old) (W.contents writer.new) (script_text_of setting bytes))) }
     ensures end { OnOk result (IfSome (R.remaining reader.old) (λ bytes. All IsText (cut bytes) → R.remaining reader.new ≡ Some [])) }
-    ensures fault { IfErr result (λ fault. (setting : Setting) → IsSettingOf config.now setting → IfSome (R.remaining reader.old) (λ bytes. IsScriptBrokenOff setting bytes (R.remaining reader.new) (Appends (W.contents writer.old) (W.contents writer.new)) fault)) }
+    ensures fault { IfErr result (λ fault. (setting : Setting) → IsSettingOf config.now setting
+        → IfSome (R.remaining reader.old) (λ bytes. IsScriptBrokenOff setting bytes (R.remaining reader.new) (Appends (W.contents writer.old) (W.contents writer.new)) fault)) }
 {
     let Ok(mut host) = Host::new(alloc, config, 0) else {
         return Err(ScriptFault::Memory);

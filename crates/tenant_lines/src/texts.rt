@@ -1,6 +1,6 @@
 //! Text of any length.
 
-ghost use Rattle.std.specs.Prelude.{◌≡◌, ◌++◌, [], IfOk, OnOk, string_bytes};
+ghost use Rattle.std.specs.Prelude.{◌≡◌, ◌++◌, [], IfOk, OnOk, OnErr, string_bytes};
 
 use std::alloc::{AllocError, Global};
 use std::marker::Model;
@@ -64,9 +64,10 @@ impl Text {
     /// Adds these bytes behind the text.
     ///
     /// # Errors
-    /// Want of memory.
+    /// Want of memory. The text stays as it was then.
     pub fn push_str(&mut self, text: &str) -> Result<(), AllocError>
-        ensures { OnOk result (self.new ≡ self.old ++ text.now) }
+        ensures added { OnOk result (self.new ≡ self.old ++ text.now) }
+        ensures refused { OnErr result (self.new ≡ self.old) }
     {
         self.text.push_str(text)
     }
