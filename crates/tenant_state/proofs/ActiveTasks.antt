@@ -18,18 +18,7 @@ use Rattle.tenant_state.specs.Commands.{Reader, Outcome, load_within, load_check
 use Rattle.tenant_state.specs.FirstHalf.{stopped_with, completed_in_mode, first_half_with, first_half_of}
 use Rattle.tenant_state.specs.SecondHalf.{Readings, installed, replaced_if_due, sensed, entered, switch_taken, switched, is_invoked, released, invoked, all_released, invoked_in_mode, second_half_running}
 use Rattle.tenant_state.specs.Instants.{LocalInstant, after_instant}
-
-pub all_filter : {X : Type 0} (P : X → Type 0) (test : X → Bool) (xs : List X) → AllByRecursion P xs → AllByRecursion P (filter test xs)
-all_filter P test [] all = all
-all_filter P test (x ∷ xs) all = kept (test x) all.0 (all_filter P test xs all.1)
-  where
-    kept : (b : Bool) → P x → AllByRecursion P (filter test xs) → AllByRecursion P (cond b (x ∷ filter test xs) (filter test xs))
-    kept true h rest = (h, rest)
-    kept false h rest = rest
-
-pub all_append : {X : Type 0} (P : X → Type 0) (xs ys : List X) → AllByRecursion P xs → AllByRecursion P ys → AllByRecursion P (xs ++ ys)
-all_append P [] ys all others = others
-all_append P (x ∷ xs) ys all others = (all.0, all_append P xs ys all.1 others)
+use Rattle.giotto_tasks.proofs.ListLemmas.{all_filter, all_append}
 
 module _ (P : ActiveTask → Type 0) (n : ℕ) where
   -- each active task has the property, and the row is at this number

@@ -6,7 +6,7 @@ use Rattle.std.specs.Prelude.{slice_get, IfSome}
 use Rattle.std.specs.Cmp.Lexicographic.{same_text, bytes_decides}
 use Rattle.std.proofs.lemmas.List.Folds.{find_at, list_all_at}
 use Rattle.std.proofs.lemmas.List.Quantifiers.{position-Some}
-use Rattle.std.proofs.lemmas.Bool.{false≢true}
+use Rattle.std.proofs.lemmas.Bool.{false≢true, and_parts, false_from_ne_true, eqb-true, eq-eqb}
 use Rattle.std.proofs.lemmas.Bool.Decides.{nat_tests}
 use Rattle.std.proofs.lemmas.Option.{slice_get-get_or, slice_get_past}
 use Rattle.giotto_tasks.specs.declared.names.Name.{Name}
@@ -22,7 +22,9 @@ use Rattle.tenant_ports.specs.PortTables.{PortTables}
 use Rattle.tenant_state.specs.Row.{ActiveTask}
 use Rattle.tenant_state.specs.Standing.{outstanding_tasks, awaited_job}
 use Rattle.tenant_state.specs.Tenants.{active_of, is_completed, standing_of, is_another, all_different_releases, IsResultOf, IsActiveAsSome}
-use Rattle.tenant_state.proofs.JobNames.{both, not_true, same_number, same_number_self, same_job_is, same_job_self}
+use Rattle.tenant_state.proofs.JobNames.{same_job_is, same_job_self}
+use Rattle.giotto_tasks.proofs.NameLemmas.{same_name_is}
+use Rattle.giotto_tasks.proofs.ListLemmas.{found_at, found_nowhere}
 
 -- the release of this name
 abbrev pub is_named : JobId → Active → Bool
@@ -35,7 +37,7 @@ abbrev pub awaited_of : List Active → List Active
 awaited_of active = filter (λ a. not (is_completed a)) active
 
 named_so : (j : JobId) (a : Active) → same_job (job_of j.tenant (active_of a)) j ≡ is_named j a
-named_so j a = ap (λ b. (b && nat_eq a.release j.tick) && same_name a.task j.task) (same_number_self j.tenant)
+named_so j a = ap (λ b. (b && nat_eq a.release j.tick) && same_name a.task j.task) (eq-eqb j.tenant j.tenant refl)
 
 unmarked : (tasks : List Active) → map (λ (p : ActiveTask × Bool). p.0) (filter (λ (p : ActiveTask × Bool). not p.1) (zip (map active_of tasks) (map is_completed tasks))) ≡ map active_of (awaited_of tasks)
 unmarked [] = refl
@@ -74,28 +76,6 @@ first_of (a ∷ tasks) = kept (not (is_completed a)) (first_of tasks)
     kept true e = refl
     kept false e = e
 
-place_is : (b : Bool) (n i : ℕ) → cond b (Some n) None ≡ Some i → n ≡ i
-place_is true n i e = cc
-place_is false n i e = absurd (cc)
-
--- what is found at a place
-pub found_at : {X : Type 0} (test : X → Bool) (xs : List X) (i : ℕ) (x : X) → position test xs ≡ Some i → find test xs ≡ Some (get_or xs i x)
-found_at test xs i x e =
-    let n = position_or_len test xs in
-    find_at test xs ∙ ap (slice_get xs) (place_is (nat_lt n (length xs)) n i e) ∙ slice_get-get_or xs i x (position-Some test xs i x e).0
-
-outside : {X : Type 0} (xs : List X) (n : ℕ) → nat_lt n (length xs) ≡ false → slice_get xs n ≡ None
-outside xs n e = slice_get_past xs n (grind (arith, nat_tests, e))
-
-no_place : (b : Bool) (n : ℕ) → cond b (Some n) None ≡ None → b ≡ false
-no_place true n e = absurd (cc)
-no_place false n e = refl
-
-pub found_nowhere : {X : Type 0} (test : X → Bool) (xs : List X) → position test xs ≡ None → find test xs ≡ None
-found_nowhere test xs e =
-    let n = position_or_len test xs in
-    find_at test xs ∙ outside xs n (no_place (nat_lt n (length xs)) n e)
-
 module _ (state : code.State) (program : Option GiottoProgram) (mode : Name) (time : ℕ) (active : List Active) (ports : PortTables) (count : ℕ) where
   pub awaited_tasks_are : outstanding_tasks (standing_of state program mode time active ports count) ≡ map active_of (awaited_of active)
   awaited_tasks_are = unmarked active
@@ -127,32 +107,7 @@ pub named_at : (j : JobId) (active : List Active) (i : ℕ) (a : Active) → pos
 named_at j active i a e at =
     let there = position-Some (is_awaited j) active i a e in
     let named : is_awaited j a ≡ true = ap (is_awaited j) at ∙ there.1 in
-    (there.0, (both (not (is_completed a)) (is_named j a) named).1)
-
--- a filter finds one fewer where what it finds at a place is put out
-pub filter_set : {X : Type 0} (test : X → Bool) (xs : List X) (i : ℕ) (x : X) → i < length xs → test (get_or xs i x) ≡ true → test x ≡ false
-    → length (filter test xs) ≡ length (filter test (set xs i x)) + 1
-filter_set test [] i x lt here not_now = absurd (omega (arith, lt))
-filter_set test (y ∷ ys) zero x lt here not_now =
-    let one : suc (length (filter test ys)) ≡ length (filter test ys) + 1 = omega arith in
-    ap (λ b. length (cond b (y ∷ filter test ys) (filter test ys))) here ∙ (one ∙ ap (λ b. length (cond b (x ∷ filter test ys) (filter test ys)) + 1) (sym not_now))
-filter_set test (y ∷ ys) (suc i) x lt here not_now = by (test y) (filter_set test ys i x (omega (arith, lt)) here not_now)
-  where
-    by : (b : Bool) → length (filter test ys) ≡ length (filter test (set ys i x)) + 1
-        → length (cond b (y ∷ filter test ys) (filter test ys)) ≡ length (cond b (y ∷ filter test (set ys i x)) (filter test (set ys i x))) + 1
-    by true e = omega (arith, e)
-    by false e = e
-
--- at each place
-pub all_at : {X : Type 0} (P : X → Type 0) (xs : List X) (i : ℕ) (x : X) → i < length xs → AllByRecursion P xs → P (get_or xs i x)
-all_at P [] i x lt all = absurd (omega (arith, lt))
-all_at P (y ∷ ys) zero x lt all = all.0
-all_at P (y ∷ ys) (suc i) x lt all = all_at P ys i x (omega (arith, lt)) all.1
-
-pub all_set : {X : Type 0} (P : X → Type 0) (xs : List X) (i : ℕ) (x : X) → P x → AllByRecursion P xs → AllByRecursion P (set xs i x)
-all_set P [] i x p all = all
-all_set P (y ∷ ys) zero x p all = (p, all.1)
-all_set P (y ∷ ys) (suc i) x p all = (all.0, all_set P ys i x p all.1)
+    (there.0, (and_parts (not (is_completed a)) (is_named j a) named).1)
 
 -- a result changes no release
 pub same_releases : (tasks : List Active) (i : ℕ) (b : Active) → active_of b ≡ active_of (get_or tasks i b) → map active_of (set tasks i b) ≡ map active_of tasks
@@ -161,10 +116,10 @@ same_releases (a ∷ tasks) zero b e = ap (λ x. x ∷ map active_of tasks) e
 same_releases (a ∷ tasks) (suc i) b e = ap (λ xs. active_of a ∷ xs) (same_releases tasks i b e)
 
 -- the test sees only the releases
-abbrev is_another_release : ActiveTask → ActiveTask → Bool
+abbrev pub is_another_release : ActiveTask → ActiveTask → Bool
 is_another_release a b = not (same_name a.task b.task && nat_eq a.release b.release)
 
-abbrev are_different : List ActiveTask → Bool
+abbrev pub are_different : List ActiveTask → Bool
 are_different [] = true
 are_different (a ∷ rest) = list_all (is_another_release a) rest && are_different rest
 
@@ -172,7 +127,7 @@ others_different : (a : Active) (tasks : List Active) → list_all (is_another a
 others_different a [] = refl
 others_different a (b ∷ tasks) = ap (λ t. is_another a b && t) (others_different a tasks)
 
-releases_different : (tasks : List Active) → all_different_releases tasks ≡ are_different (map active_of tasks)
+pub releases_different : (tasks : List Active) → all_different_releases tasks ≡ are_different (map active_of tasks)
 releases_different [] = refl
 releases_different (a ∷ tasks) =
     ap (λ t. t && all_different_releases tasks) (others_different a tasks) ∙ ap (λ t. list_all (is_another_release (active_of a)) (map active_of tasks) && t) (releases_different tasks)
@@ -183,12 +138,12 @@ still_different tasks bs e h = releases_different tasks ∙ ap are_different e �
 -- two releases of one name are one
 named_alike : (j : JobId) (a b : Active) → is_named j a ≡ true → is_named j b ≡ true → is_another a b ≡ false
 named_alike j a b na nb =
-    let at_a = both (nat_eq a.release j.tick) (same_name a.task j.task) na in
-    let at_b = both (nat_eq b.release j.tick) (same_name b.task j.task) nb in
-    let ticks : a.release ≡ b.release = same_number a.release j.tick at_a.0 ∙ sym (same_number b.release j.tick at_b.0) in
-    let tasks : a.task ≡ b.task = same_text a.task j.task (sym at_a.1) ∙ sym (same_text b.task j.task (sym at_b.1)) in
+    let at_a = and_parts (nat_eq a.release j.tick) (same_name a.task j.task) na in
+    let at_b = and_parts (nat_eq b.release j.tick) (same_name b.task j.task) nb in
+    let ticks : a.release ≡ b.release = eqb-true a.release j.tick at_a.0 ∙ sym (eqb-true b.release j.tick at_b.0) in
+    let tasks : a.task ≡ b.task = same_name_is a.task j.task at_a.1 ∙ sym (same_name_is b.task j.task at_b.1) in
     ap (λ t. not (t && nat_eq a.release b.release)) ((bytes_decides a.task b.task).1 tasks)
-    ∙ ap (λ n. not (nat_eq n b.release)) ticks ∙ ap (λ t. not t) (same_number_self b.release)
+    ∙ ap (λ n. not (nat_eq n b.release)) ticks ∙ ap (λ t. not t) (eq-eqb b.release b.release refl)
 
 abbrev pub marks_with : JobId → (ActiveTask → Bool) → ActiveTask → Bool
 marks_with j completed a = same_job j (job_of j.tenant a) || completed a
@@ -201,7 +156,7 @@ marked_named j completed a named =
     sym (ap (λ i. same_job j i || completed (active_of a)) (named_is j a named) ∙ ap (λ t. t || completed (active_of a)) (same_job_self j))
 
 marked_other : (j : JobId) (completed : ActiveTask → Bool) (a : Active) → is_named j a ≡ false → completed (active_of a) ≡ marks_with j completed (active_of a)
-marked_other j completed a other = sym (ap (λ t. t || completed (active_of a)) (not_true _ differs))
+marked_other j completed a other = sym (ap (λ t. t || completed (active_of a)) (false_from_ne_true _ differs))
   where
     differs : same_job j (job_of j.tenant (active_of a)) ≡ true → ⊥
     differs h =
@@ -212,8 +167,8 @@ others_marked : (j : JobId) (completed : ActiveTask → Bool) (a : Active) (task
     → map is_completed tasks ≡ map completed (map active_of tasks) → map is_completed tasks ≡ map (marks_with j completed) (map active_of tasks)
 others_marked j completed a [] named others e = refl
 others_marked j completed a (b ∷ tasks) named others e =
-    let parts = both (is_another a b) (list_all (is_another a) tasks) others in
-    let other : is_named j b ≡ false = not_true (is_named j b) (λ h. false≢true (sym (named_alike j a b named h) ∙ parts.0)) in
+    let parts = and_parts (is_another a b) (list_all (is_another a) tasks) others in
+    let other : is_named j b ≡ false = false_from_ne_true (is_named j b) (λ h. false≢true (sym (named_alike j a b named h) ∙ parts.0)) in
     let head : is_completed b ≡ completed (active_of b) = cc in
     let tail : map is_completed tasks ≡ map completed (map active_of tasks) = cc in
     let first = head ∙ marked_other j completed b other in
@@ -226,18 +181,18 @@ pub marks_after : (j : JobId) (completed : ActiveTask → Bool) (tasks : List Ac
     → map is_completed (set tasks i b) ≡ map (marks_with j completed) (map active_of tasks)
 marks_after j completed [] i b lt different named done e = absurd (omega (arith, lt))
 marks_after j completed (a ∷ tasks) zero b lt different named done e =
-    let parts = both (list_all (is_another a) tasks) (all_different_releases tasks) different in
+    let parts = and_parts (list_all (is_another a) tasks) (all_different_releases tasks) different in
     let tail : map is_completed tasks ≡ map completed (map active_of tasks) = cc in
     let first = done ∙ marked_named j completed a named in
     let rest = others_marked j completed a tasks named parts.0 tail in
     cc
 marks_after j completed (a ∷ tasks) (suc i) b lt different named done e =
-    let parts = both (list_all (is_another a) tasks) (all_different_releases tasks) different in
+    let parts = and_parts (list_all (is_another a) tasks) (all_different_releases tasks) different in
     let within : i < length tasks = omega (arith, lt) in
     let differs : is_named j a ≡ true → ⊥ = λ h. false≢true (sym (list_all_at (is_another a) tasks i b within (named_alike j a (get_or tasks i b) h named)) ∙ parts.0) in
     let head : is_completed a ≡ completed (active_of a) = cc in
     let tail : map is_completed tasks ≡ map completed (map active_of tasks) = cc in
-    let first = head ∙ marked_other j completed a (not_true (is_named j a) differs) in
+    let first = head ∙ marked_other j completed a (false_from_ne_true (is_named j a) differs) in
     let rest = marks_after j completed tasks i b within parts.1 named done tail in
     cc
 

@@ -21,13 +21,10 @@ use Rattle.tenant_ports.specs.PortTables.{PortTables}
 use Rattle.tenant_state.specs.Row.{ActiveTask, Row}
 use Rattle.tenant_state.specs.Standing.{StandsFor, outstanding_tasks, awaited_job}
 use Rattle.tenant_state.specs.Tenants.{active_of, is_completed, standing_of, IsResultOf, IsActiveAs, IsActiveAsSome, IsActiveIn, IsTenant}
-use Rattle.tenant_state.proofs.JobNames.{both}
-use Rattle.tenant_state.proofs.AwaitedTasks.{awaited_of, awaited_tasks_are, filter_set, is_awaited, is_named, awaited_at, named_at, all_at, all_set, same_releases, still_different, marks_with, marks_after, counts_if, counts_only_if, with_result, completed_as}
-
-pub body_of_task : (t : Task) → body_of (trees.task_of t) ≡ arc_value t.body
-body_of_task t =
-    let b = arc_value t.body in
-    λ k. record { inputs = b.inputs; outputs = b.outputs; states = firsts-zip b.states t.states t.each_state k; block = b.block }
+use Rattle.tenant_state.proofs.AwaitedTasks.{awaited_of, awaited_tasks_are, is_awaited, is_named, awaited_at, named_at, same_releases, still_different, marks_with, marks_after, counts_if, counts_only_if, with_result, completed_as}
+use Rattle.std.proofs.lemmas.Bool.{and_parts}
+use Rattle.giotto_tasks.proofs.ListLemmas.{filter_set, all_at, all_set, some_same}
+use Rattle.tenant_state.proofs.Invoked.{body_of_task}
 
 abbrev pub IsJobOf : Task → Active → JobValue → Type 0
 IsJobOf t a d = (arc_value t.body ≡ d.body) × (a.inputs ≡ d.inputs) × (a.states ≡ d.states)
@@ -37,9 +34,6 @@ result_of_job t a d is = record { same_body = sym is.0 ∙ sym (body_of_task t);
 
 pub job_of_result : (t : Task) (a : Active) (d : JobValue) → IsResultOf a (trees.task_of t) d → IsJobOf t a d
 job_of_result t a d is = (sym (body_of_task t) ∙ sym is.same_body, sym is.same_inputs, sym is.same_states)
-
-some_same : {X : Type 0} (x y : X) → Some x ≡ Some y → x ≡ y
-some_same x y e = cc
 
 -- the job of the active task at place i, which is this task of the program
 pub job_is : (state : code.State) (p : GiottoProgram) (mode : Name) (time : ℕ) (active : List Active) (ports : PortTables) (count : ℕ) (j : JobId) (i : ℕ) (a : Active)
@@ -116,7 +110,7 @@ module _ (state : code.State) (p : GiottoProgram) (mode : Name) (time : ℕ) (ac
       let b = with_result p a d in
       let there = named_at d.id active i a found at in
       let open_there : not (is_completed (get_or active i b)) ≡ true =
-      (both _ _ (position-Some (is_awaited d.id) active i b found).1).0 in
+      (and_parts _ _ (position-Some (is_awaited d.id) active i b found).1).0 in
       ap length (awaited_tasks_are state (Some p) mode time active ports count)
       ∙ (length-map (awaited_of active) active_of
       ∙ (filter_set (λ x. not (is_completed x)) active i b there.0 open_there refl

@@ -2,7 +2,7 @@
 use Rattle.std.proofs.Common.{◌≡◌, Bool, true, false, not, cond, ◌&&◌, ◌||◌, ◌⊎◌, inl, inr, ⊎_elim, List, [], ◌∷◌, ◌++◌, map, filter, sym, refl, ap, subst, ◌∙◌}
 use Rattle.std.specs.List.{list_any, AllByRecursion}
 use Rattle.std.specs.Cmp.Lexicographic.{same_text}
-use Rattle.std.proofs.lemmas.Bool.{and_parts, and_from, and_left, or_left, or_right, or_parts, cases_Bool, true≢false, false≢true}
+use Rattle.std.proofs.lemmas.Bool.{and_parts, and_from, and_left, or_left, or_right, or_parts, cases_Bool, true≢false, false≢true, or_cases, not-false}
 use Rattle.std.proofs.lemmas.List.{map-append}
 use Rattle.std.proofs.lemmas.List.Elements.{filter-append}
 use Rattle.giotto_tasks.specs.declared.names.Name.{Name}
@@ -10,6 +10,8 @@ use Rattle.giotto_tasks.specs.Names.{same_name, is_among}
 use Rattle.tenant_state.specs.declared.tenants.Active.{Active}
 use Rattle.tenant_state.specs.Row.{ActiveTask}
 use Rattle.tenant_state.specs.Tenants.{active_of, is_completed}
+use Rattle.giotto_tasks.proofs.NameLemmas.{same_name_is, filter_in, filter_out}
+use Rattle.giotto_tasks.proofs.TestLemmas.{and_false}
 
 abbrev pub names_of_tasks : List ActiveTask → List Name
 names_of_tasks tasks = map (λ (a : ActiveTask). a.task) tasks
@@ -21,28 +23,6 @@ group x due active = filter (λ (a : ActiveTask). same_name a.task x && due) (ma
 abbrev pub unfinished_of : Name → List Active → Bool
 unfinished_of x active = list_any (λ (a : Active). same_name a.task x && not (is_completed a)) active
 
-pub among_both : (ns ms : List Name) (x : Name) → is_among (ns ++ ms) x ≡ (is_among ns x || is_among ms x)
-among_both [] ms x = refl
-among_both (n ∷ ns) ms x = at_head (same_name n x) (among_both ns ms x)
-  where
-    at_head : (b : Bool) → is_among (ns ++ ms) x ≡ (is_among ns x || is_among ms x) → (b || is_among (ns ++ ms) x) ≡ ((b || is_among ns x) || is_among ms x)
-    at_head true e = refl
-    at_head false e = e
-
-pub one_of : (b c : Bool) → (b || c) ≡ true → (b ≡ true) ⊎ (c ≡ true)
-one_of true c h = inl refl
-one_of false c h = inr h
-
-from_not : (b : Bool) → not b ≡ false → b ≡ true
-from_not true h = refl
-from_not false h = absurd (true≢false h)
-
-pub same_answers : (b c : Bool) → (b ≡ true → c ≡ true) → (c ≡ true → b ≡ true) → b ≡ c
-same_answers true true f g = refl
-same_answers false false f g = refl
-same_answers true false f g = sym (f refl)
-same_answers false true f g = g refl
-
 group_cons : (y : Name) (due : Bool) (a : Active) (rest : List Active) → (same_name a.task y && due) ≡ true → group y due (a ∷ rest) ≡ active_of a ∷ group y due rest
 group_cons y due a rest e = ap (λ b. cond b (active_of a ∷ group y due rest) (group y due rest)) e
 
@@ -51,17 +31,7 @@ group_skip y due a rest e = ap (λ b. cond b (active_of a ∷ group y due rest) 
 
 pub group_not_due : (y : Name) (active : List Active) → group y false active ≡ []
 group_not_due y [] = refl
-group_not_due y (a ∷ rest) = group_skip y false a rest (never (same_name a.task y)) ∙ group_not_due y rest
-  where
-    never : (b : Bool) → (b && false) ≡ false
-    never true = refl
-    never false = refl
-
-filter_in : (names : List Name) (x : Name) (xs : List Name) → is_among names x ≡ true → filter (is_among names) (x ∷ xs) ≡ x ∷ filter (is_among names) xs
-filter_in names x xs e = ap (λ b. cond b (x ∷ filter (is_among names) xs) (filter (is_among names) xs)) e
-
-filter_out : (names : List Name) (x : Name) (xs : List Name) → is_among names x ≡ false → filter (is_among names) (x ∷ xs) ≡ filter (is_among names) xs
-filter_out names x xs e = ap (λ b. cond b (x ∷ filter (is_among names) xs) (filter (is_among names) xs)) e
+group_not_due y (a ∷ rest) = group_skip y false a rest (and_false (same_name a.task y)) ∙ group_not_due y rest
 
 -- the first of these names, where a task of this name is active
 pub first_name : (names : List Name) (y : Name) (active : List Active) → is_among names y ≡ true → unfinished_of y active ≡ true
@@ -71,7 +41,7 @@ first_name names y (a ∷ rest) there h =
     let further = first_name names y rest there in
     ⊎_elim
     (λ (e : same_name a.task y ≡ true).
-    let is : a.task ≡ y = same_text a.task y (sym e) in
+    let is : a.task ≡ y = same_name_is a.task y e in
     let cons = group_cons y true a rest (and_from _ _ e refl) in
     let here = filter_in names a.task (names_of_tasks (group y true rest)) (subst (λ x. is_among names x ≡ true) (sym is) there) in
     (filter (is_among names) (names_of_tasks (group y true rest)), ap (λ g. filter (is_among names) (names_of_tasks g)) cons ∙ here ∙ ap (λ x. x ∷ filter (is_among names) (names_of_tasks (group y true rest))) is))
@@ -88,7 +58,7 @@ no_names names y due (a ∷ rest) none =
     let further = no_names names y due rest none in
     ⊎_elim
     (λ (e : (same_name a.task y && due) ≡ true).
-    let is : a.task ≡ y = same_text a.task y (sym (and_parts _ _ e).0) in
+    let is : a.task ≡ y = same_name_is a.task y (and_parts _ _ e).0 in
     ap (λ g. filter (is_among names) (names_of_tasks g)) (group_cons y due a rest e)
     ∙ filter_out names a.task (names_of_tasks (group y due rest)) (subst (λ x. is_among names x ≡ false) (sym is) none) ∙ further)
     (λ (e : (same_name a.task y && due) ≡ false). ap (λ g. filter (is_among names) (names_of_tasks g)) (group_skip y due a rest e) ∙ further)
@@ -101,9 +71,9 @@ group_has_only x y due (a ∷ rest) h =
     ⊎_elim
     (λ (e : (same_name a.task y && due) ≡ true).
     let both = and_parts _ _ e in
-    let is : a.task ≡ y = same_text a.task y (sym both.0) in
+    let is : a.task ≡ y = same_name_is a.task y both.0 in
     let h' = subst (λ g. is_among (names_of_tasks g) x ≡ true) (group_cons y due a rest e) h in
-    ⊎_elim (λ (s : same_name a.task x ≡ true). and_from _ _ (subst (λ z. same_name z x ≡ true) is s) both.1) further (one_of _ _ h'))
+    ⊎_elim (λ (s : same_name a.task x ≡ true). and_from _ _ (subst (λ z. same_name z x ≡ true) is s) both.1) further (or_cases _ _ h'))
     (λ (e : (same_name a.task y && due) ≡ false). further (subst (λ g. is_among (names_of_tasks g) x ≡ true) (group_skip y due a rest e) h))
     (cases_Bool (same_name a.task y && due))
 
@@ -113,14 +83,14 @@ group_has_all x y due [] h k = h
 group_has_all x y due (a ∷ rest) h k =
     let further : is_among (names_of_tasks (map active_of rest)) x ≡ true → is_among (names_of_tasks (group y due rest)) x ≡ true = λ h. group_has_all x y due rest h k in
     let both = and_parts _ _ k in
-    let is : y ≡ x = same_text y x (sym both.0) in
+    let is : y ≡ x = same_name_is y x both.0 in
     ⊎_elim
     (λ (e : (same_name a.task y && due) ≡ true).
     subst (λ g. is_among (names_of_tasks g) x ≡ true) (sym (group_cons y due a rest e))
-    (⊎_elim (λ (s : same_name a.task x ≡ true). or_left _ _ s) (λ r. or_right (same_name a.task x) _ (further r)) (one_of _ _ h)))
+    (⊎_elim (λ (s : same_name a.task x ≡ true). or_left _ _ s) (λ r. or_right (same_name a.task x) _ (further r)) (or_cases _ _ h)))
     (λ (e : (same_name a.task y && due) ≡ false).
     subst (λ g. is_among (names_of_tasks g) x ≡ true) (sym (group_skip y due a rest e))
-    (⊎_elim (λ (s : same_name a.task x ≡ true). absurd (true≢false (sym (and_from _ _ (subst (λ z. same_name a.task z ≡ true) (sym is) s) both.1) ∙ e))) further (one_of _ _ h)))
+    (⊎_elim (λ (s : same_name a.task x ≡ true). absurd (true≢false (sym (and_from _ _ (subst (λ z. same_name a.task z ≡ true) (sym is) s) both.1) ∙ e))) further (or_cases _ _ h)))
     (cases_Bool (same_name a.task y && due))
 
 module _ (completed : ActiveTask → Bool) where
@@ -159,7 +129,7 @@ module _ (completed : ActiveTask → Bool) where
       (λ (k : completed (active_of a) ≡ true). further (subst (λ ns. is_among ns x ≡ true) (closed_cons (active_of a) (group y due rest) k) h'))
       (λ (k : completed (active_of a) ≡ false).
       ⊎_elim (λ (s : same_name a.task x ≡ true). or_left _ _ (and_from _ _ s (ap not (all.0 ∙ k)))) further
-      (one_of _ _ (subst (λ ns. is_among ns x ≡ true) (open_cons (active_of a) (group y due rest) k) h')))
+      (or_cases _ _ (subst (λ ns. is_among ns x ≡ true) (open_cons (active_of a) (group y due rest) k) h')))
       (cases_Bool (completed (active_of a))))
       (λ (e : (same_name a.task y && due) ≡ false). further (subst (λ g. is_among (open_names g) x ≡ true) (group_skip y due a rest e) h))
       (cases_Bool (same_name a.task y && due))
@@ -172,7 +142,7 @@ module _ (completed : ActiveTask → Bool) where
       ⊎_elim
       (λ (e : (same_name a.task y && due) ≡ true).
       let s = (and_parts _ _ e).0 in
-      let done : is_completed a ≡ true = from_not _ (sym (ap (λ b. b && not (is_completed a)) s) ∙ parts.0) in
+      let done : is_completed a ≡ true = not-false _ (sym (ap (λ b. b && not (is_completed a)) s) ∙ parts.0) in
       ap open_names (group_cons y due a rest e) ∙ closed_cons (active_of a) (group y due rest) (sym all.0 ∙ done) ∙ further)
       (λ (e : (same_name a.task y && due) ≡ false). ap open_names (group_skip y due a rest e) ∙ further)
       (cases_Bool (same_name a.task y && due))

@@ -3,7 +3,7 @@ use Rattle.std.proofs.Common.{◌≡◌, ℕ, ◌≤◌, ◌+◌, suc, Bool, tru
 use Rattle.std.specs.List.{list_any, list_all, find, flat_map, AllByRecursion}
 use Rattle.std.specs.Option.{option_map, option_map_or}
 use Rattle.std.specs.Cmp.Lexicographic.{nat_list_eq_equiv}
-use Rattle.std.proofs.lemmas.Bool.{and_parts, and_from, or_left, or_right, cases_Bool, true≢false, false≢true}
+use Rattle.std.proofs.lemmas.Bool.{and_parts, and_from, or_left, or_right, cases_Bool, true≢false, false≢true, or_cases}
 use Rattle.std.proofs.lemmas.List.{map-append, drop_more}
 use Rattle.std.proofs.lemmas.List.Elements.{filter-append}
 use Rattle.giotto_tasks.specs.declared.names.Name.{Name}
@@ -23,8 +23,10 @@ use Rattle.tenant_state.specs.declared.tenants.Reason.TheVariants.{Overrun}
 use Rattle.tenant_state.specs.Row.{running, stopped, overrun, ActiveTask, Row, is_running_state, where_some, in_mode, recorded}
 use Rattle.tenant_state.specs.Standing.{StandsFor}
 use Rattle.tenant_state.specs.Tenants.{active_of, is_completed, is_another, all_different_releases, standing_of}
-use Rattle.tenant_state.proofs.ActiveTasks.{all_filter}
-use Rattle.tenant_state.proofs.DueTasks.{names_of_tasks, group, unfinished_of, among_both, one_of, same_answers, group_not_due, first_name, no_names, group_has_only, group_has_all, open_names, open_both, Marked, marked, marks, group_open, none_open, found_open}
+use Rattle.tenant_state.proofs.DueTasks.{names_of_tasks, group, unfinished_of, group_not_due, first_name, no_names, group_has_only, group_has_all, open_names, open_both, Marked, marked, marks, group_open, none_open, found_open}
+use Rattle.giotto_tasks.proofs.NameLemmas.{same_name_self, is_among-append}
+use Rattle.giotto_tasks.proofs.TestLemmas.{same_answers}
+use Rattle.giotto_tasks.proofs.ListLemmas.{all_filter, all_map, filter-map, list_all-filter}
 
 -- the due tasks of these invocations
 abbrev pub groups : (Invocation → Bool) → List Active → List Invocation → List ActiveTask
@@ -39,9 +41,6 @@ ends due invocations x = list_any (λ (i : Invocation). same_name i.task x && du
 
 group_same : (y : Name) (b c : Bool) (active : List Active) → b ≡ c → group y b active ≡ group y c active
 group_same y b c active e = ap (λ d. group y d active) e
-
-names_both : (xs ys : List ActiveTask) → names_of_tasks (xs ++ ys) ≡ names_of_tasks xs ++ names_of_tasks ys
-names_both xs ys = map-append (λ (a : ActiveTask). a.task) xs ys
 
 find_none : (test : Invocation → Bool) (i : Invocation) (rest : List Invocation) → cond (test i) (Some i) (find test rest) ≡ None → (test i ≡ false) × (find test rest ≡ None)
 find_none test i rest e = by (test i) e
@@ -65,8 +64,8 @@ module _ (due : Invocation → Bool) (active : List Active) where
       let first : is_among (names_of_tasks (group i.task (due i) active)) x ≡ (same_name i.task x && due i) =
       same_answers _ _ (group_has_only x i.task (due i) active) (group_has_all x i.task (due i) active there) in
       let others = groups_have x is there in
-      ap (λ ns. is_among ns x) (names_both (group i.task (due i) active) (groups due active is))
-      ∙ among_both (names_of_tasks (group i.task (due i) active)) (names_of_tasks (groups due active is)) x
+      ap (λ ns. is_among ns x) (map-append (λ (a : ActiveTask). a.task) (group i.task (due i) active) (groups due active is))
+      ∙ is_among-append (names_of_tasks (group i.task (due i) active)) (names_of_tasks (groups due active is)) x
       ∙ ap (λ b. b || is_among (names_of_tasks (groups due active is)) x) first ∙ ap (λ b. (same_name i.task x && due i) || b) others
 
   module _ (completed : ActiveTask → Bool) (all : Marked completed active) where
@@ -85,7 +84,7 @@ module _ (due : Invocation → Bool) (active : List Active) where
     open_is_unfinished x [] h = absurd (false≢true h)
     open_is_unfinished x (i ∷ is) h =
         ⊎_elim (group_open completed x i.task (due i) active all) (open_is_unfinished x is)
-        (one_of _ _ (sym (among_both (open_names completed (group i.task (due i) active)) (open_names completed (groups due active is)) x)
+        (or_cases _ _ (sym (is_among-append (open_names completed (group i.task (due i) active)) (open_names completed (groups due active is)) x)
         ∙ sym (ap (λ ns. is_among ns x) (open_both completed (group i.task (due i) active) (groups due active is))) ∙ h))
 
     found_is_open : (i : Invocation) (is : List Invocation) → find (is_open due active) is ≡ Some i → is_among (open_names completed (groups due active is)) i.task ≡ true
@@ -93,7 +92,7 @@ module _ (due : Invocation → Bool) (active : List Active) where
     found_is_open i (j ∷ is) e =
         let further = found_is_open i is in
         ap (λ ns. is_among ns i.task) (open_both completed (group j.task (due j) active) (groups due active is))
-        ∙ among_both (open_names completed (group j.task (due j) active)) (open_names completed (groups due active is)) i.task
+        ∙ is_among-append (open_names completed (group j.task (due j) active)) (open_names completed (groups due active is)) i.task
         ∙ ⊎_elim
         (λ (k : (is_open due active j ≡ true) × (j ≡ i)).
         let both = and_parts (due j) (unfinished_of j.task active) k.0 in
@@ -108,7 +107,7 @@ module _ (due : Invocation → Bool) (active : List Active) where
     head_is names i [] told there e = absurd (cc)
     head_is names i (j ∷ is) told there e =
         let further = head_is names i is told there in
-        let apart = ap (filter (is_among names)) (names_both (group j.task (due j) active) (groups due active is))
+        let apart = ap (filter (is_among names)) (map-append (λ (a : ActiveTask). a.task) (group j.task (due j) active) (groups due active is))
         ∙ filter-append (is_among names) (names_of_tasks (group j.task (due j) active)) (names_of_tasks (groups due active is)) in
         let later = filter (is_among names) (names_of_tasks (groups due active is)) in
         ⊎_elim
@@ -128,33 +127,18 @@ module _ (due : Invocation → Bool) (active : List Active) where
         (r.0, apart ∙ ap (λ ns. ns ++ later) none ∙ r.1))
         (find_some (is_open due active) j i is e)
 
-filter_mapped : (p : ActiveTask → Bool) (q : Active → Bool) (xs : List Active) → AllByRecursion (λ a. p (active_of a) ≡ q a) xs → filter p (map active_of xs) ≡ map active_of (filter q xs)
-filter_mapped p q [] all = refl
-filter_mapped p q (a ∷ rest) all =
-    let others = filter_mapped p q rest all.1 in
-    ap (λ b. cond b (active_of a ∷ filter p (map active_of rest)) (filter p (map active_of rest))) all.0 ∙ kept (q a) others
-  where
-    kept : (b : Bool) → filter p (map active_of rest) ≡ map active_of (filter q rest)
-        → cond b (active_of a ∷ filter p (map active_of rest)) (filter p (map active_of rest)) ≡ map active_of (cond b (a ∷ filter q rest) (filter q rest))
-    kept true e = ap (λ as'. active_of a ∷ as') e
-    kept false e = e
-
 each_there : (names : List Name) (xs : List Active) → ((x : Name) → is_among (names_of_tasks (map active_of xs)) x ≡ true → is_among names x ≡ true)
     → AllByRecursion (λ (a : Active). is_among names a.task ≡ true) xs
 each_there names [] within = tt
-each_there names (a ∷ rest) within = (within a.task (or_left _ _ (nat_list_eq_equiv.refl a.task)), each_there names rest (λ x h. within x (or_right (same_name a.task x) _ h)))
-
-pub each_of : {X : Type 0} (P Q : X → Type 0) → ((x : X) → P x → Q x) → (xs : List X) → AllByRecursion P xs → AllByRecursion Q xs
-each_of P Q f [] all = tt
-each_of P Q f (x ∷ xs) all = (f x all.0, each_of P Q f xs all.1)
+each_there names (a ∷ rest) within = (within a.task (or_left _ _ (same_name_self a.task)), each_there names rest (λ x h. within x (or_right (same_name a.task x) _ h)))
 
 -- the tasks that stay active
 stay : (due : Invocation → Bool) (active : List Active) (is : List Invocation)
     → still_active (names_of_tasks (groups due active is)) (map active_of active) ≡ map active_of (filter (λ (a : Active). not (ends due is a.task)) active)
 stay due active is =
-    filter_mapped (λ (a : ActiveTask). not (is_among (names_of_tasks (groups due active is)) a.task)) (λ (a : Active). not (ends due is a.task)) active
-    (each_of (λ (a : Active). is_among (names_of_tasks (map active_of active)) a.task ≡ true) (λ (a : Active). not (is_among (names_of_tasks (groups due active is)) a.task) ≡ not (ends due is a.task))
-    (λ a there. ap not (groups_have due active a.task is there)) active (each_there (names_of_tasks (map active_of active)) active (λ x h. h)))
+    filter-map active_of (λ (a : ActiveTask). not (is_among (names_of_tasks (groups due active is)) a.task)) (λ (a : Active). not (ends due is a.task)) active
+    (all_map (λ (a : Active). is_among (names_of_tasks (map active_of active)) a.task ≡ true) (λ (a : Active). not (is_among (names_of_tasks (groups due active is)) a.task) ≡ not (ends due is a.task)) active
+    (λ a there. ap not (groups_have due active a.task is there)) (each_there (names_of_tasks (map active_of active)) active (λ x h. h)))
 
 groups_of_mode : (m : ModeDeclaration) (time : ℕ) (active : List Active) (is : List Invocation)
     → flat_map (λ (i : TaskInvocation). filter (λ (a : ActiveTask). same_name a.task i.task && is_due_at time m i.frequency) (map active_of active)) (map invocation_of is)
@@ -209,20 +193,11 @@ module _ (row : Row) (p : GiottoProgram) (m : ModeDeclaration) (active : List Ac
   pub still : still_active (names_due row) row.active ≡ map active_of (filter (λ (a : Active). not (ends due_here is a.task)) active)
   still = ap (λ tasks. still_active (names_of_tasks tasks) row.active) due_are ∙ ap (still_active (names_of_tasks (groups due_here active is))) h.tasks ∙ stay due_here active is
 
--- what a part of the active tasks keeps
-list_all_filter : (p test : Active → Bool) (xs : List Active) → list_all p xs ≡ true → list_all p (filter test xs) ≡ true
-list_all_filter p test [] h = refl
-list_all_filter p test (x ∷ xs) h = let both = and_parts (p x) (list_all p xs) h in at_head (test x) both.0 (list_all_filter p test xs both.1)
-  where
-    at_head : (b : Bool) → p x ≡ true → list_all p (filter test xs) ≡ true → list_all p (cond b (x ∷ filter test xs) (filter test xs)) ≡ true
-    at_head true e others = and_from _ _ e others
-    at_head false e others = others
-
 pub different_filter : (test : Active → Bool) (xs : List Active) → all_different_releases xs ≡ true → all_different_releases (filter test xs) ≡ true
 different_filter test [] h = refl
 different_filter test (x ∷ xs) h =
     let both = and_parts (list_all (is_another x) xs) (all_different_releases xs) h in
-    at_head (test x) (list_all_filter (is_another x) test xs both.0) (different_filter test xs both.1)
+    at_head (test x) (list_all-filter (is_another x) test xs both.0) (different_filter test xs both.1)
   where
     at_head : (b : Bool) → list_all (is_another x) (filter test xs) ≡ true → all_different_releases (filter test xs) ≡ true → all_different_releases (cond b (x ∷ filter test xs) (filter test xs)) ≡ true
     at_head true e others = and_from _ _ e others

@@ -5,7 +5,7 @@ use Rattle.std.specs.List.{zip, AllByRecursion}
 use Rattle.std.specs.Option.{option_map_or}
 use Rattle.std.proofs.lemmas.List.{length-map}
 use Rattle.giotto_tasks.specs.declared.names.Name.{Name}
-use Rattle.giotto_tasks.specs.Names.{Valuation}
+use Rattle.giotto_tasks.specs.Names.{Valuation, same_name}
 use Rattle.giotto_tasks.specs.Syntax.{TaskBody}
 use Rattle.giotto_read.specs.declared.programs.Task.{Task}
 use Rattle.giotto_read.specs.declared.programs.Invocation.{Invocation}
@@ -23,32 +23,21 @@ use Rattle.giotto_tasks.specs.declared.bodies.Expr.{Expr}
 use Rattle.giotto_tasks.specs.Trees.{expression_of}
 use Rattle.giotto_tasks.specs.Meaning.{value_of}
 use Rattle.tenant_ports.specs.Ports.{own_ports}
-use Rattle.tenant_state.proofs.ProgramFacts.{task_named}
 use Rattle.std.specs.Prelude.{IfSome}
 use Rattle.tenant_state.specs.SecondHalf.{is_invoked, released, with_inputs, invoked, all_invoked, all_released}
-
--- what holds of each of a list's images holds of one
-pub all_mapped_at : {X Y : Type 0} (P : Y → Type 0) (f : X → Y) (xs : List X) (i : ℕ) (d : X) → AllByRecursion P (map f xs) → i < length xs → P (f (get_or xs i d))
-all_mapped_at P f [] i d all lt = absurd (omega arith)
-all_mapped_at P f (x ∷ xs) zero d all lt = all.0
-all_mapped_at P f (x ∷ xs) (suc i) d all lt = all_mapped_at P f xs i d all.1 (omega arith)
-
-names_of_zip : (xs : List Name) (zs : List ℤ) → length zs ≡ length xs → names_of (zip xs zs) ≡ xs
-names_of_zip [] [] e = refl
-names_of_zip [] (z ∷ zs) e = refl
-names_of_zip (x ∷ xs) [] e = absurd (omega (arith, e))
-names_of_zip (x ∷ xs) (z ∷ zs) e = ap (λ ns. x ∷ ns) (names_of_zip xs zs (omega (arith, e)))
+use Rattle.giotto_tasks.proofs.ListLemmas.{find_passes}
+use Rattle.giotto_tasks.proofs.NameLemmas.{same_name_is}
+use Rattle.std.proofs.lemmas.Slice.Zip.{firsts-zip}
 
 -- a task's body is that of its declaration
-pub body_again : (t : Task) → length t.states ≡ length (arc_value t.body).states → body_of (trees.task_of t) ≡ arc_value t.body
-body_again t e = again (arc_value t.body) e
-  where
-    again : (b : TaskBody) → length t.states ≡ length b.states → body_of (trees.with_body t.name t.states b) ≡ b
-    again b e = ap (λ (ns : List Name). record b { states = ns }) (names_of_zip b.states t.states e)
+pub body_of_task : (t : Task) → body_of (trees.task_of t) ≡ arc_value t.body
+body_of_task t =
+    let b = arc_value t.body in
+    λ k. record { inputs = b.inputs; outputs = b.outputs; states = firsts-zip b.states t.states t.each_state k; block = b.block }
 
 -- a task that is found has the name that was looked for
 pub found_name : (p : GiottoProgram) (x : Name) (t : TaskDeclaration) → task_of p x ≡ Some t → t.name ≡ x
-found_name p x t e = task_named p t x e
+found_name p x t e = same_name_is t.name x (find_passes (λ (t : TaskDeclaration). same_name t.name x) p.tasks t e)
 
 pub body_found : (p : GiottoProgram) (x : Name) (t : TaskDeclaration) → task_of p x ≡ Some t → body_in p x ≡ body_of t
 body_found p x t e = ap (λ o. option_map_or body_of o (body_in (record p { tasks = [] }) x)) e
@@ -82,20 +71,12 @@ module _ (p : GiottoProgram) (m : ModeDeclaration) (time n : ℕ) where
       → all_invoked p m time (i ∷ []) ports ≡ with_inputs i ports t
   one_invoked i ports t e found = rw (e, found) refl
 
--- the same list, one step on
-pub stepped : {X : Type 0} (new old one rest all : List X) → new ≡ old ++ one → all ≡ one ++ rest → new ++ rest ≡ old ++ all
-stepped new old one rest all e f = ap (λ xs. xs ++ rest) e ∙ append_assoc old one rest ∙ ap (λ xs. old ++ xs) (sym f)
-
-pub all_and_one : {X : Type 0} (P : X → Type 0) (xs : List X) (x : X) → AllByRecursion P xs → P x → AllByRecursion P (xs ++ x ∷ [])
-all_and_one P [] x all h = (h, tt)
-all_and_one P (y ∷ ys) x all h = (all.0, all_and_one P ys x all.1 h)
-
 pub arguments_given : (es : List Expr) (ports : Valuation) → map (λ e. value_of (expression_of e) ports) es ≡ map (λ e. value_of e ports) (map expression_of es)
 arguments_given [] ports = refl
 arguments_given (e ∷ es) ports = ap (λ zs. value_of (expression_of e) ports ∷ zs) (arguments_given es ports)
 
 pub state_names : (t : Task) → names_of (trees.task_of t).states ≡ (arc_value t.body).states
-state_names t = ap (λ (b : TaskBody). b.states) (body_again t t.each_state)
+state_names t = ap (λ (b : TaskBody). b.states) (body_of_task t)
 
 pub same_active : (x y : Name) (n : ℕ) (i j s t : List ℤ) → x ≡ y → i ≡ j → s ≡ t
     → ◌≡◌ {A = ActiveTask} (record { task = x; release = n; inputs = i; states = s }) (record { task = y; release = n; inputs = j; states = t })

@@ -7,52 +7,23 @@ use Rattle.giotto_tasks.specs.Names.{same_name}
 use Rattle.tenant_state.specs.declared.jobs.JobId.{JobId}
 use Rattle.tenant_state.specs.Jobs.{job_of, same_job, is_active}
 use Rattle.tenant_state.specs.Row.{ActiveTask, Row}
-
--- both parts of a test
-pub both : (a b : Bool) → (a && b) ≡ true → (a ≡ true) × (b ≡ true)
-both true true e = (refl, refl)
-both true false e = absurd (cc)
-both false b e = absurd (cc)
-
-pub either : (a b : Bool) (C : Type 0) → (a || b) ≡ true → (a ≡ true → C) → (b ≡ true → C) → C
-either true b C e f g = f refl
-either false b C e f g = g e
-
-pub or_true : (b : Bool) → (b || true) ≡ true
-or_true true = refl
-or_true false = refl
-
-pub and_true : (a b : Bool) → a ≡ true → b ≡ true → (a && b) ≡ true
-and_true true true e f = refl
-and_true true false e f = absurd (cc)
-and_true false b e f = absurd (cc)
-
-pub not_true : (b : Bool) → (b ≡ true → ⊥) → b ≡ false
-not_true true h = absurd (h refl)
-not_true false h = refl
-
-pub same_number : (m n : ℕ) → eqb m n ≡ true → m ≡ n
-same_number m n e = grind (arith, nat_tests)
-
-pub same_number_self : (n : ℕ) → eqb n n ≡ true
-same_number_self n = grind (arith, nat_tests)
+use Rattle.giotto_tasks.proofs.NameLemmas.{same_name_is, same_name_self}
+use Rattle.std.proofs.lemmas.Bool.{and_parts, and_from, eqb-true, eq-eqb}
+use Rattle.giotto_tasks.proofs.TestLemmas.{or_true}
+use Rattle.giotto_tasks.proofs.ListLemmas.{all_map}
 
 pub same_job_is : (i j : JobId) → same_job i j ≡ true → i ≡ j
 same_job_is i j e =
-    let outer = both (eqb i.tenant j.tenant && eqb i.tick j.tick) (same_name i.task j.task) e in
-    let inner = both (eqb i.tenant j.tenant) (eqb i.tick j.tick) outer.0 in
-    let tenant = same_number i.tenant j.tenant inner.0 in
-    let tick = same_number i.tick j.tick inner.1 in
-    let task = same_text i.task j.task (sym outer.1) in
+    let outer = and_parts (eqb i.tenant j.tenant && eqb i.tick j.tick) (same_name i.task j.task) e in
+    let inner = and_parts (eqb i.tenant j.tenant) (eqb i.tick j.tick) outer.0 in
+    let tenant = eqb-true i.tenant j.tenant inner.0 in
+    let tick = eqb-true i.tick j.tick inner.1 in
+    let task = same_name_is i.task j.task outer.1 in
     λ k. record { tenant = tenant k; tick = tick k; task = task k }
 
 pub same_job_self : (j : JobId) → same_job j j ≡ true
 same_job_self j =
-    and_true _ _ (and_true _ _ (same_number_self j.tenant) (same_number_self j.tick)) ((bytes_decides j.task j.task).1 refl)
-
-pub all_map : {X : Type 0} (P Q : X → Type 0) (xs : List X) → ((x : X) → P x → Q x) → AllByRecursion P xs → AllByRecursion Q xs
-all_map P Q [] f all = all
-all_map P Q (x ∷ xs) f all = (f x all.0, all_map P Q xs f all.1)
+    and_from _ _ (and_from _ _ (eq-eqb j.tenant j.tenant refl) (eq-eqb j.tick j.tick refl)) (same_name_self j.task)
 
 -- each active task's own job is active
 all_found : (t : ℕ) (xs : List ActiveTask) → AllByRecursion (λ a. list_any (λ (b : ActiveTask). same_job (job_of t b) (job_of t a)) xs ≡ true) xs

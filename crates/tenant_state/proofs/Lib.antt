@@ -12,7 +12,6 @@ pub mod ProgramFacts
 pub mod ProgramLines
 pub mod Readings
 pub mod SecondHalfSteps
-pub mod SoundBodies
 pub mod TenantBehind
 pub mod TenantCommands
 pub mod TenantFacts

@@ -12,74 +12,15 @@ use Rattle.giotto_tasks.specs.Names.{Valuation, names_in, same_name, is_among}
 use Rattle.giotto_tasks.specs.Sound.{all_different, is_once_among, reads_only, AreSourcesOf}
 use Rattle.giotto_tasks.specs.Syntax.{Expression, number, port, unary, binary}
 use Rattle.giotto_read.specs.Program.{SensorDeclaration, ActuatorDeclaration, OutputDeclaration, TaskDeclaration, ActuatorUpdate, ModeSwitch, TaskInvocation, ModeDeclaration, GiottoProgram, names_of}
-use Rattle.giotto_check.specs.Declarations.{sensor_names, actuator_names, output_names, task_names, mode_names, task_of, mode_of, names_read}
-use Rattle.giotto_check.specs.Rules.{are_among, names_in_guard}
+use Rattle.giotto_check.specs.Declarations.{sensor_names, actuator_names, output_names, task_names, mode_names, task_of, mode_of, names_read, driver_ports}
 use Rattle.tenant_ports.specs.GuardSources.{AreGuardSources}
 use Rattle.tenant_ports.specs.PortTables.{PortTables, all_ports, ArePortsOf}
 use Rattle.tenant_ports.specs.Ports.{own_port, own_ports, initial_shared, initial_of_task}
-use Rattle.giotto_check.proofs.RulesKept.{RulesKept}
-
--- what a test that all elements pass says of each
-pub all_pass : {X : Type 0} (P : X → Type 0) (test : X → Bool) → ((x : X) → test x ≡ true → P x) → (xs : List X) → list_all test xs ≡ true → AllByRecursion P xs
-all_pass P test means [] h = tt
-all_pass P test means (x ∷ xs) h = let both = and_parts (test x) (list_all test xs) h in (means x both.0, all_pass P test means xs both.1)
-
--- what two tests that all elements pass say of each
-pub both_pass : {X : Type 0} (P : X → Type 0) (one other : X → Bool) → ((x : X) → one x ≡ true → other x ≡ true → P x) → (xs : List X)
-    → list_all one xs ≡ true → list_all other xs ≡ true → AllByRecursion P xs
-both_pass P one other means [] h k = tt
-both_pass P one other means (x ∷ xs) h k =
-    let first = and_parts (one x) (list_all one xs) h in
-    let second = and_parts (other x) (list_all other xs) k in
-    (means x first.0 second.0, both_pass P one other means xs first.1 second.1)
-
--- two properties of each element
-pub all_with : {X : Type 0} (P Q R : X → Type 0) → ((x : X) → P x → Q x → R x) → (xs : List X) → AllByRecursion P xs → AllByRecursion Q xs → AllByRecursion R xs
-all_with P Q R joined [] ps qs = tt
-all_with P Q R joined (x ∷ xs) ps qs = (joined x ps.0 qs.0, all_with P Q R joined xs ps.1 qs.1)
-
--- an element that is found passes the test that all pass
-pub found_passes : {X : Type 0} (test look : X → Bool) (xs : List X) (x : X) → list_all test xs ≡ true → find look xs ≡ Some x → test x ≡ true
-found_passes test look [] x h e = absurd (cc)
-found_passes test look (y ∷ ys) x h e = let both = and_parts (test y) (list_all test ys) h in at_head (look y) both.0 (found_passes test look ys x both.1) e
-  where
-    at_head : (b : Bool) → test y ≡ true → (find look ys ≡ Some x → test x ≡ true) → cond b (Some y) (find look ys) ≡ Some x → test x ≡ true
-    at_head true passes further e = let same : y ≡ x = cc in subst (λ z. test z ≡ true) same passes
-    at_head false passes further e = further e
-
-among_append_left : (ns ms : List Name) (x : Name) → is_among ns x ≡ true → is_among (ns ++ ms) x ≡ true
-among_append_left [] ms x h = absurd (false≢true h)
-among_append_left (n ∷ ns) ms x h = at_head (same_name n x) (among_append_left ns ms x) h
-  where
-    at_head : (b : Bool) → (is_among ns x ≡ true → is_among (ns ++ ms) x ≡ true) → (b || is_among ns x) ≡ true → (b || is_among (ns ++ ms) x) ≡ true
-    at_head true further h = refl
-    at_head false further h = further h
-
-among_append_right : (ns ms : List Name) (x : Name) → is_among ms x ≡ true → is_among (ns ++ ms) x ≡ true
-among_append_right [] ms x h = h
-among_append_right (n ∷ ns) ms x h = or_right _ _ (among_append_right ns ms x h)
-
--- among different names each stands once
-among_once : (ns : List Name) (x : Name) → all_different ns ≡ true → is_among ns x ≡ true → is_once_among ns x ≡ true
-among_once [] x different h = absurd (false≢true h)
-among_once (n ∷ ns) x different h =
-    let both = and_parts (not (is_among ns n)) (all_different ns) different in
-    at_head (same_name n x) refl both.0 (among_once ns x both.1) h
-  where
-    at_head : (b : Bool) → same_name n x ≡ b → not (is_among ns n) ≡ true → (is_among ns x ≡ true → is_once_among ns x ≡ true)
-        → (b || is_among ns x) ≡ true → cond b (not (is_among ns x)) (is_once_among ns x) ≡ true
-    at_head true e once further h = let same : n ≡ x = same_text n x (sym e) in subst (λ y. not (is_among ns y) ≡ true) same once
-    at_head false e once further h = further h
-
-different_first : (ns ms : List Name) → all_different (ns ++ ms) ≡ true → all_different ns ≡ true
-different_first [] ms h = refl
-different_first (n ∷ ns) ms h =
-    let both = and_parts (not (is_among (ns ++ ms) n)) (all_different (ns ++ ms)) h in
-    and_from _ _ (not_there (is_among ns n) refl both.0) (different_first ns ms both.1)
-  where
-    not_there : (b : Bool) → is_among ns n ≡ b → not (is_among (ns ++ ms) n) ≡ true → not b ≡ true
-    not_there false e h = refl
-    not_there true e h = let there = among_append_left ns ms n e in absurd (false≢true (rw there at h))
+use Rattle.giotto_tasks.proofs.NameLemmas.{same_name_self, among_first, among_second, among_once, different_first, each_among}
+use Rattle.giotto_check.specs.KeepsRules.{KeepsRules}
+use Rattle.giotto_check.specs.Names.{are_among}
+use Rattle.giotto_check.specs.Reads.{names_in_guard}
+use Rattle.giotto_tasks.proofs.ListLemmas.{all_wider, both_pass, found_passes}
 
 reads_each : (may : Name → Bool) (e : Expression) → list_all may (names_read e) ≡ true → reads_only may e ≡ true
 reads_each may (number z) h = refl
@@ -89,15 +30,7 @@ reads_each may (binary o a b) h =
     let both = and_parts (list_all may (names_read a)) (list_all may (names_read b)) (sym (list_all-append may (names_read a) (names_read b)) ∙ h) in
     and_from _ _ (reads_each may a both.0) (reads_each may b both.1)
 
-weaker : (p q : Name → Bool) → ((x : Name) → p x ≡ true → q x ≡ true) → (xs : List Name) → list_all p xs ≡ true → list_all q xs ≡ true
-weaker p q implies [] h = refl
-weaker p q implies (x ∷ xs) h = let both = and_parts (p x) (list_all p xs) h in and_from _ _ (implies x both.0) (weaker p q implies xs both.1)
-
--- the names of sensors, actuators and outputs
-abbrev pub driver_names : GiottoProgram → List Name
-driver_names p = sensor_names p ++ (actuator_names p ++ output_names p)
-
-names_in_shared : (p : GiottoProgram) → names_in (initial_shared p) ≡ driver_names p
+names_in_shared : (p : GiottoProgram) → names_in (initial_shared p) ≡ driver_ports p
 names_in_shared p =
     let after : Valuation = map (λ (a : ActuatorDeclaration). (a.name, a.initial)) p.actuators ++ map (λ (o : OutputDeclaration). (o.name, o.initial)) p.outputs in
     let first = map-append (λ (v : Name × ℤ). v.0) (map (λ (s : SensorDeclaration). (s.name, s.initial)) p.sensors) after in
@@ -119,21 +52,21 @@ names_in_shared p =
     outputs [] = refl
     outputs (s ∷ ss) = ap (λ ns. s.name ∷ ns) (outputs ss)
 
-module _ (p : GiottoProgram) (kept : RulesKept p) where
-  drivers_different : all_different (driver_names p) ≡ true
+module _ (p : GiottoProgram) (kept : KeepsRules p) where
+  drivers_different : all_different (driver_ports p) ≡ true
   drivers_different =
       let all : all_different (sensor_names p ++ (actuator_names p ++ (output_names p ++ (task_names p ++ mode_names p)))) ≡ true = (and_parts _ _ (and_parts _ _ kept.declares_once).0).0 in
-      different_first (driver_names p) (task_names p ++ mode_names p)
+      different_first (driver_ports p) (task_names p ++ mode_names p)
       (subst (λ ns. all_different ns ≡ true) (sym (append_assoc (sensor_names p) (actuator_names p ++ output_names p) (task_names p ++ mode_names p) ∙ ap (λ ns. sensor_names p ++ ns) (append_assoc (actuator_names p) (output_names p) (task_names p ++ mode_names p)))) all)
 
   -- an expression whose names are those of drivers' ports
-  sources_of : (e : Expression) → are_among (driver_names p) (names_read e) ≡ true → (ports : PortTables) → ArePortsOf p ports → AreSourcesOf ports.shared e
+  sources_of : (e : Expression) → are_among (driver_ports p) (names_read e) ≡ true → (ports : PortTables) → ArePortsOf p ports → AreSourcesOf ports.shared e
   sources_of e h ports are =
       let names = are.shared_names ∙ names_in_shared p in
       subst (λ ns. reads_only (is_once_among ns) e ≡ true) (sym names)
-      (reads_each (is_once_among (driver_names p)) e (weaker (is_among (driver_names p)) (is_once_among (driver_names p)) (λ x. among_once (driver_names p) x drivers_different) (names_read e) h))
+      (reads_each (is_once_among (driver_ports p)) e (all_wider (is_among (driver_ports p)) (is_once_among (driver_ports p)) (λ x. among_once (driver_ports p) x drivers_different) (names_read e) h))
 
-  guard_sources_of : (g : Option Expression) → are_among (driver_names p) (names_in_guard g) ≡ true → (ports : PortTables) → ArePortsOf p ports → AreGuardSources ports.shared g
+  guard_sources_of : (g : Option Expression) → are_among (driver_ports p) (names_in_guard g) ≡ true → (ports : PortTables) → ArePortsOf p ports → AreGuardSources ports.shared g
   guard_sources_of None h ports are = tt
   guard_sources_of (Some e) h ports are = sources_of e h ports are
 
@@ -191,27 +124,27 @@ divides_from period w positive h =
     let divides : period % w ≡ 0 = eqb-true _ _ both.1 in
     record { positive = leb-true _ _ both.0; divides = divides; spaced = spaced_by period w positive divides }
 
-pub shared_port : (p : GiottoProgram) (x : Name) → is_among (driver_names p) x ≡ true → (ports : PortTables) → ArePortsOf p ports → is_among (names_in (all_ports ports)) x ≡ true
+pub shared_port : (p : GiottoProgram) (x : Name) → is_among (driver_ports p) x ≡ true → (ports : PortTables) → ArePortsOf p ports → is_among (names_in (all_ports ports)) x ≡ true
 shared_port p x h ports are =
     let names = are.shared_names ∙ names_in_shared p in
     let there : is_among (names_in ports.shared) x ≡ true = subst (λ ns. is_among ns x ≡ true) (sym names) h in
-    subst (λ ns. is_among ns x ≡ true) (sym (map-append (λ (v : Name × ℤ). v.0) ports.shared ports.own)) (among_append_left (names_in ports.shared) (names_in ports.own) x there)
+    subst (λ ns. is_among ns x ≡ true) (sym (map-append (λ (v : Name × ℤ). v.0) ports.shared ports.own)) (among_first (names_in ports.shared) (names_in ports.own) x there)
 
 -- each actuator is a port
 pub actuators_are_ports : (p : GiottoProgram) (ports : PortTables) → ArePortsOf p ports → AllByRecursion (λ (a : ActuatorDeclaration). is_among (names_in (all_ports ports)) a.name ≡ true) p.actuators
 actuators_are_ports p ports are =
-    each p.actuators (λ x h. shared_port p x (among_append_right (sensor_names p) _ x (among_append_left (actuator_names p) (output_names p) x h)) ports are)
+    each p.actuators (λ x h. shared_port p x (among_second (sensor_names p) _ x (among_first (actuator_names p) (output_names p) x h)) ports are)
   where
     each : (actuators : List ActuatorDeclaration) → ((x : Name) → is_among (map (λ (a : ActuatorDeclaration). a.name) actuators) x ≡ true → is_among (names_in (all_ports ports)) x ≡ true)
         → AllByRecursion (λ (a : ActuatorDeclaration). is_among (names_in (all_ports ports)) a.name ≡ true) actuators
     each [] within = tt
-    each (a ∷ rest) within = (within a.name (or_left _ _ (nat_list_eq_equiv.refl a.name)), each rest (λ x h. within x (or_right (same_name a.name x) _ h)))
+    each (a ∷ rest) within = (within a.name (or_left _ _ (same_name_self a.name)), each rest (λ x h. within x (or_right (same_name a.name x) _ h)))
 
-module _ (p : GiottoProgram) (kept : RulesKept p) where
-  are_sources_of : (es : List Expression) → are_among (driver_names p) (flat_map names_read es) ≡ true → (ports : PortTables) → ArePortsOf p ports → AllByRecursion (AreSourcesOf ports.shared) es
+module _ (p : GiottoProgram) (kept : KeepsRules p) where
+  are_sources_of : (es : List Expression) → are_among (driver_ports p) (flat_map names_read es) ≡ true → (ports : PortTables) → ArePortsOf p ports → AllByRecursion (AreSourcesOf ports.shared) es
   are_sources_of [] h ports are = tt
   are_sources_of (e ∷ es) h ports are =
-      let both = and_parts _ _ (sym (list_all-append (is_among (driver_names p)) (names_read e) (flat_map names_read es)) ∙ h) in
+      let both = and_parts _ _ (sym (list_all-append (is_among (driver_ports p)) (names_read e) (flat_map names_read es)) ∙ h) in
       (sources_of p kept e both.0 ports are, are_sources_of es both.1 ports are)
 
   pub mode_fits : (m : ModeDeclaration) (x : Name) → mode_of p x ≡ Some m → ModeFits p m
@@ -231,19 +164,19 @@ module _ (p : GiottoProgram) (kept : RulesKept p) where
         updates = both_pass _ _ _ (λ u h k.
             let d = divides_from m.period u.frequency positive h in
             let parts = and_parts _ _ k in
-            let names = and_parts _ _ (sym (list_all-append (is_among (driver_names p)) (names_in_guard u.guard) (names_read u.value)) ∙ parts.1) in
+            let names = and_parts _ _ (sym (list_all-append (is_among (driver_ports p)) (names_in_guard u.guard) (names_read u.value)) ∙ parts.1) in
             record {
               positive = d.positive;
               divides = d.divides;
               spaced = d.spaced;
               value = sources_of p kept u.value names.1;
               guard = guard_sources_of p kept u.guard names.0;
-              actuator = shared_port p u.actuator (among_append_right (sensor_names p) _ u.actuator (among_append_left (actuator_names p) (output_names p) u.actuator parts.0));
+              actuator = shared_port p u.actuator (among_second (sensor_names p) _ u.actuator (among_first (actuator_names p) (output_names p) u.actuator parts.0));
             }) m.updates first.1 of_kind.0;
         switches = both_pass _ _ _ (λ s h k.
             let d = divides_from m.period s.frequency positive h in
             let parts = and_parts _ _ k in
-            let names = and_parts _ _ (sym (list_all-append (is_among (driver_names p)) (names_in_guard s.guard) _) ∙ parts.1) in
+            let names = and_parts _ _ (sym (list_all-append (is_among (driver_ports p)) (names_in_guard s.guard) _) ∙ parts.1) in
             record {
               positive = d.positive;
               divides = d.divides;
@@ -253,7 +186,7 @@ module _ (p : GiottoProgram) (kept : RulesKept p) where
         invocations = both_pass _ _ _ (λ i h k.
             let d = divides_from m.period i.frequency positive h in
             let parts = and_parts _ _ k in
-            let names = and_parts _ _ (sym (list_all-append (is_among (driver_names p)) (names_in_guard i.guard) (flat_map names_read i.arguments)) ∙ parts.1) in
+            let names = and_parts _ _ (sym (list_all-append (is_among (driver_ports p)) (names_in_guard i.guard) (flat_map names_read i.arguments)) ∙ parts.1) in
             record {
               positive = d.positive;
               divides = d.divides;
@@ -262,26 +195,6 @@ module _ (p : GiottoProgram) (kept : RulesKept p) where
               arguments = are_sources_of i.arguments names.1;
             }) m.invocations third.1 others.1;
       }
-
-name_found : (p : GiottoProgram) (t : TaskDeclaration) (x : Name) (tasks : List TaskDeclaration) → find (λ (t : TaskDeclaration). same_name t.name x) tasks ≡ Some t → t.name ≡ x
-name_found p t x [] e = absurd (cc)
-name_found p t x (u ∷ us) e = at_head (same_name u.name x) refl (name_found p t x us) e
-  where
-    at_head : (b : Bool) → same_name u.name x ≡ b → (find (λ (t : TaskDeclaration). same_name t.name x) us ≡ Some t → t.name ≡ x)
-        → cond b (Some u) (find (λ (t : TaskDeclaration). same_name t.name x) us) ≡ Some t → t.name ≡ x
-    at_head true is further e = let same : u ≡ t = cc in let named : u.name ≡ x = same_text u.name x (sym is) in cc
-    at_head false is further e = further e
-
-pub task_named : (p : GiottoProgram) (t : TaskDeclaration) (x : Name) → task_of p x ≡ Some t → t.name ≡ x
-task_named p t x found = name_found p t x p.tasks found
-
--- each name of a list is among its names, and among those of a longer list
-each_among : (ns : List Name) → list_all (is_among ns) ns ≡ true
-each_among [] = refl
-each_among (n ∷ ns) = and_from _ _ (or_left _ _ (same n)) (weaker (is_among ns) (is_among (n ∷ ns)) (λ x h. or_right (same_name n x) _ h) ns (each_among ns))
-  where
-    same : (x : Name) → same_name x x ≡ true
-    same x = nat_list_eq_equiv.refl x
 
 names_in_task : (t : TaskDeclaration) → names_in (initial_of_task t) ≡ own_ports t.name t.inputs ++ own_ports t.name (names_of t.states)
 names_in_task t =
@@ -310,8 +223,8 @@ among_found look (u ∷ us) t x e h =
         → is_among (names_in (initial_of_task u) ++ names_in (flat_map initial_of_task us)) x ≡ true
     at_head true e further =
         let same : t ≡ u = cc in
-        among_append_left (names_in (initial_of_task u)) _ x (subst (λ (v : TaskDeclaration). is_among (names_in (initial_of_task v)) x ≡ true) same h)
-    at_head false e further = among_append_right (names_in (initial_of_task u)) _ x (further e h)
+        among_first (names_in (initial_of_task u)) _ x (subst (λ (v : TaskDeclaration). is_among (names_in (initial_of_task v)) x ≡ true) same h)
+    at_head false e further = among_second (names_in (initial_of_task u)) _ x (further e h)
 
 -- the ports of a task
 pub record TaskFits (p : GiottoProgram) (t : TaskDeclaration) : Type 0 where
@@ -319,12 +232,12 @@ pub record TaskFits (p : GiottoProgram) (t : TaskDeclaration) : Type 0 where
   pub inputs : (ports : PortTables) → ArePortsOf p ports → list_all (is_among (names_in (all_ports ports))) (own_ports t.name t.inputs) ≡ true
   pub states : (ports : PortTables) → ArePortsOf p ports → list_all (is_among (names_in (all_ports ports))) (own_ports t.name (names_of t.states)) ≡ true
 
-module _ (p : GiottoProgram) (kept : RulesKept p) where
+module _ (p : GiottoProgram) (kept : KeepsRules p) where
   own_port_of : (ports : PortTables) → ArePortsOf p ports → (look : TaskDeclaration → Bool) (t : TaskDeclaration) → find look p.tasks ≡ Some t
       → (x : Name) → is_among (names_in (initial_of_task t)) x ≡ true → is_among (names_in (all_ports ports)) x ≡ true
   own_port_of ports are look t found x h =
       let there = subst (λ ns. is_among ns x ≡ true) (sym are.own_names) (among_found look p.tasks t x found h) in
-      subst (λ ns. is_among ns x ≡ true) (sym (map-append (λ (v : Name × ℤ). v.0) ports.shared ports.own)) (among_append_right (names_in ports.shared) (names_in ports.own) x there)
+      subst (λ ns. is_among ns x ≡ true) (sym (map-append (λ (v : Name × ℤ). v.0) ports.shared ports.own)) (among_second (names_in ports.shared) (names_in ports.own) x there)
 
   pub task_fits : (t : TaskDeclaration) (x : Name) → task_of p x ≡ Some t → TaskFits p t
   task_fits t x found =
@@ -335,8 +248,8 @@ module _ (p : GiottoProgram) (kept : RulesKept p) where
       subst (λ ns. list_all (is_among ns) (own_ports t.name t.inputs ++ own_ports t.name (names_of t.states)) ≡ true) (sym own) (each_among (own_ports t.name t.inputs ++ own_ports t.name (names_of t.states))) in
       let both = and_parts _ _ (sym (list_all-append (is_among (names_in (initial_of_task t))) (own_ports t.name t.inputs) (own_ports t.name (names_of t.states))) ∙ mine) in
       record {
-        outputs = λ ports are. weaker (is_among (output_names p)) (is_among (names_in (all_ports ports)))
-            (λ y h. shared_port p y (among_append_right (sensor_names p) _ y (among_append_right (actuator_names p) _ y h)) ports are) t.outputs kinds;
-        inputs = λ ports are. weaker (is_among (names_in (initial_of_task t))) (is_among (names_in (all_ports ports))) (own_port_of ports are look t found) (own_ports t.name t.inputs) both.0;
-        states = λ ports are. weaker (is_among (names_in (initial_of_task t))) (is_among (names_in (all_ports ports))) (own_port_of ports are look t found) (own_ports t.name (names_of t.states)) both.1;
+        outputs = λ ports are. all_wider (is_among (output_names p)) (is_among (names_in (all_ports ports)))
+            (λ y h. shared_port p y (among_second (sensor_names p) _ y (among_second (actuator_names p) _ y h)) ports are) t.outputs kinds;
+        inputs = λ ports are. all_wider (is_among (names_in (initial_of_task t))) (is_among (names_in (all_ports ports))) (own_port_of ports are look t found) (own_ports t.name t.inputs) both.0;
+        states = λ ports are. all_wider (is_among (names_in (initial_of_task t))) (is_among (names_in (all_ports ports))) (own_port_of ports are look t found) (own_ports t.name (names_of t.states)) both.1;
       }

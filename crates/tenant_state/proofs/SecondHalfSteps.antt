@@ -9,17 +9,14 @@ use Rattle.tenant_state.specs.FirstHalf.{is_due_at}
 use Rattle.tenant_ports.specs.Ports.{holds}
 use Rattle.tenant_state.specs.Row.{running, ActiveTask, Row, is_running_state, where_some, in_mode}
 use Rattle.tenant_state.specs.SecondHalf.{Readings, installed, replaced_if_due, sensed, entered, switched, invoked_in_mode, moved_on, counted, second_half_running, second_half_of}
+use Rattle.giotto_tasks.proofs.TestLemmas.{cond-same}
 
 in_its_mode : (step : GiottoProgram → ModeDeclaration → Row → Row) (row : Row) (p : GiottoProgram) (m : ModeDeclaration) → row.program ≡ Some p → mode_of p row.mode ≡ Some m
     → in_mode step row ≡ step p m row
 in_its_mode step row p m e f = ap (λ o. where_some (λ p. where_some (step p) (mode_of p row.mode)) o row) e ∙ ap (λ o. where_some (step p) o row) f
 
-same_either : {X : Type 0} (b : Bool) (x : X) → cond b x x ≡ x
-same_either true x = refl
-same_either false x = refl
-
 none_waits : (row : Row) → row.waiting ≡ None → replaced_if_due row ≡ row
-none_waits row e = ap (λ o. cond (row.mode_time == 0) (where_some installed o row) row) e ∙ same_either (row.mode_time == 0) row
+none_waits row e = ap (λ o. cond (row.mode_time == 0) (where_some installed o row) row) e ∙ cond-same (row.mode_time == 0) row
 
 not_switched : (p : GiottoProgram) (m : ModeDeclaration) (row : Row) → m.switches ≡ [] → switched p m row ≡ row
 not_switched p m row e =

@@ -17,51 +17,35 @@ use Rattle.tenant_ports.specs.PortTables.{PortTables, HaveSameNames}
 use Rattle.tenant_state.specs.Row.{ActiveTask}
 use Rattle.tenant_state.specs.SecondHalf.{is_invoked, released, invoked, all_released}
 use Rattle.tenant_state.specs.Tenants.{active_of, is_another, all_different_releases, IsActiveIn, IsTenantOf, IsTenant}
-use Rattle.tenant_state.proofs.ActiveTasks.{all_append}
 use Rattle.tenant_state.proofs.HalfStands.{new_releases, older_releases}
 use Rattle.tenant_state.proofs.InvocableModes.{active_later}
 use Rattle.tenant_state.proofs.Invoked.{found_name}
 use Rattle.tenant_ports.proofs.PortNames.{ports_of_on}
-use Rattle.tenant_state.proofs.ProgramFacts.{found_passes, mode_fits}
-use Rattle.giotto_check.proofs.RulesKept.{RulesKept}
+use Rattle.tenant_state.proofs.ProgramFacts.{mode_fits}
+use Rattle.giotto_tasks.proofs.NameLemmas.{same_name_is, same_name_self}
+use Rattle.giotto_check.specs.KeepsRules.{KeepsRules}
+use Rattle.giotto_tasks.proofs.ListLemmas.{all_append, all_that, found_passes}
+use Rattle.tenant_state.proofs.AwaitedTasks.{is_another_release, are_different, releases_different}
 
--- the tests of active tasks, on their entries in the row
-abbrev is_other : ActiveTask → ActiveTask → Bool
-is_other a b = not (same_name a.task b.task && nat_eq a.release b.release)
-
-abbrev all_other : List ActiveTask → Bool
-all_other [] = true
-all_other (a ∷ rest) = list_all (is_other a) rest && all_other rest
-
-different_in_row : (xs : List Active) → all_other (map active_of xs) ≡ all_different_releases xs
-different_in_row [] = refl
-different_in_row (a ∷ rest) =
-    ap (λ b. b && all_other (map active_of rest)) (list_all-map (is_other (active_of a)) active_of rest)
-    ∙ ap (λ b. list_all (is_another a) rest && b) (different_in_row rest)
-
-other_by_release : (a b : ActiveTask) → (a.release ≡ b.release → ⊥) → is_other a b ≡ true
+other_by_release : (a b : ActiveTask) → (a.release ≡ b.release → ⊥) → is_another_release a b ≡ true
 other_by_release a b apart = by (same_name a.task b.task) (ne_eqb a.release b.release apart)
   where
     by : (same : Bool) → nat_eq a.release b.release ≡ false → not (same && nat_eq a.release b.release) ≡ true
     by false e = refl
     by true e = ap not e
 
-other_by_task : (a b : ActiveTask) → same_name a.task b.task ≡ false → is_other a b ≡ true
+other_by_task : (a b : ActiveTask) → same_name a.task b.task ≡ false → is_another_release a b ≡ true
 other_by_task a b e = ap (λ same. not (same && nat_eq a.release b.release)) e
-
-all_that : {X : Type 0} (test : X → Bool) (P : X → Type 0) → ((x : X) → P x → test x ≡ true) → (xs : List X) → AllByRecursion P xs → list_all test xs ≡ true
-all_that test P means [] all = refl
-all_that test P means (x ∷ xs) all = and_from (test x) (list_all test xs) (means x all.0) (all_that test P means xs all.1)
 
 -- older releases and those of this instant
 other_joined : (n : ℕ) (older new : List ActiveTask) → AllByRecursion (λ (a : ActiveTask). a.release < n) older → AllByRecursion (λ (a : ActiveTask). a.release ≡ n) new
-    → all_other older ≡ true → all_other new ≡ true → all_other (older ++ new) ≡ true
+    → are_different older ≡ true → are_different new ≡ true → are_different (older ++ new) ≡ true
 other_joined n [] new before now h k = k
 other_joined n (a ∷ rest) new before now h k =
-    let both = and_parts (list_all (is_other a) rest) (all_other rest) h in
+    let both = and_parts (list_all (is_another_release a) rest) (are_different rest) h in
     let early = before.0 in
-    let apart : list_all (is_other a) new ≡ true = all_that (is_other a) (λ (b : ActiveTask). b.release ≡ n) (λ b at. other_by_release a b (λ e. absurd (omega (arith, early, e, at)))) new now in
-    and_from (list_all (is_other a) (rest ++ new)) (all_other (rest ++ new)) (list_all-append (is_other a) rest new ∙ and_from _ _ both.0 apart) (other_joined n rest new before.1 now both.1 k)
+    let apart : list_all (is_another_release a) new ≡ true = all_that (is_another_release a) (λ (b : ActiveTask). b.release ≡ n) (λ b at. other_by_release a b (λ e. absurd (omega (arith, early, e, at)))) new now in
+    and_from (list_all (is_another_release a) (rest ++ new)) (are_different (rest ++ new)) (list_all-append (is_another_release a) rest new ∙ and_from _ _ both.0 apart) (other_joined n rest new before.1 now both.1 k)
 
 -- a name is not that of any of these, if it isn't among them
 none_named : (x : Name) (is : List TaskInvocation) → not (is_among (map (λ (i : TaskInvocation). i.task) is) x) ≡ true → AllByRecursion (λ (i : TaskInvocation). same_name x i.task ≡ false) is
@@ -72,8 +56,8 @@ none_named x (i ∷ is) h =
   where
     turned : same_name i.task x ≡ false → same_name x i.task ≡ false
     turned e = false_from_ne_true _ (λ same.
-        let one : x ≡ i.task = same_text x i.task (sym same) in
-        false≢true (sym e ∙ ap (same_name i.task) one ∙ nat_list_eq_equiv.refl i.task))
+        let one : x ≡ i.task = same_name_is x i.task same in
+        false≢true (sym e ∙ ap (same_name i.task) one ∙ same_name_self i.task))
 
 module _ (p : GiottoProgram) (m : ModeDeclaration) (time n : ℕ) where
   -- what holds of a release of each invocation holds of all that are released
@@ -91,7 +75,7 @@ module _ (p : GiottoProgram) (m : ModeDeclaration) (time n : ℕ) where
       first true (Some t) e = (means i ports t all.0 e, tt)
 
   -- all are of different tasks
-  released_other : (is : List TaskInvocation) (ports : Valuation) → all_different (map (λ (i : TaskInvocation). i.task) is) ≡ true → all_other (all_released p m time n is ports) ≡ true
+  released_other : (is : List TaskInvocation) (ports : Valuation) → all_different (map (λ (i : TaskInvocation). i.task) is) ≡ true → are_different (all_released p m time n is ports) ≡ true
   released_other [] ports h = refl
   released_other (i ∷ is) ports h =
       let both = and_parts (not (is_among (map (λ (i : TaskInvocation). i.task) is) i.task)) (all_different (map (λ (i : TaskInvocation). i.task) is)) h in
@@ -100,28 +84,28 @@ module _ (p : GiottoProgram) (m : ModeDeclaration) (time n : ℕ) where
       later : List ActiveTask
       later = all_released p m time n is (invoked p m time i ports)
 
-      apart : (t : TaskDeclaration) → task_of p i.task ≡ Some t → AllByRecursion (λ (j : TaskInvocation). same_name i.task j.task ≡ false) is → list_all (is_other (released n i ports t)) later ≡ true
+      apart : (t : TaskDeclaration) → task_of p i.task ≡ Some t → AllByRecursion (λ (j : TaskInvocation). same_name i.task j.task ≡ false) is → list_all (is_another_release (released n i ports t)) later ≡ true
       apart t e others =
-          all_that (is_other (released n i ports t)) (λ (b : ActiveTask). same_name t.name b.task ≡ false) (λ b. other_by_task (released n i ports t) b) later
+          all_that (is_another_release (released n i ports t)) (λ (b : ActiveTask). same_name t.name b.task ≡ false) (λ b. other_by_task (released n i ports t) b) later
           (each_released (λ (j : TaskInvocation). same_name i.task j.task ≡ false) (λ (b : ActiveTask). same_name t.name b.task ≡ false)
           (λ j vs u q found. ap (λ x. same_name x u.name) (found_name p i.task t e) ∙ ap (same_name i.task) (found_name p j.task u found) ∙ q)
           is (invoked p m time i ports) others)
 
-      first : (happens : Bool) (o : Option TaskDeclaration) → task_of p i.task ≡ o → AllByRecursion (λ (j : TaskInvocation). same_name i.task j.task ≡ false) is → all_other later ≡ true
-          → all_other (cond happens (option_to_list (option_map (released n i ports) o)) [] ++ later) ≡ true
+      first : (happens : Bool) (o : Option TaskDeclaration) → task_of p i.task ≡ o → AllByRecursion (λ (j : TaskInvocation). same_name i.task j.task ≡ false) is → are_different later ≡ true
+          → are_different (cond happens (option_to_list (option_map (released n i ports) o)) [] ++ later) ≡ true
       first false o e others rest = rest
       first true None e others rest = rest
       first true (Some t) e others rest = and_from _ _ (apart t e others) rest
 
 -- the releases stay different when a mode's tasks are released
 pub different_behind : (p : GiottoProgram) (m : ModeDeclaration) (x : Name) (time n : ℕ) (ports : Valuation) (old new : List Active)
-    → RulesKept p → mode_of p x ≡ Some m → AllByRecursion (IsActiveIn p n) old → all_different_releases old ≡ true
+    → KeepsRules p → mode_of p x ≡ Some m → AllByRecursion (IsActiveIn p n) old → all_different_releases old ≡ true
     → map active_of new ≡ map active_of old ++ all_released p m time n m.invocations ports → all_different_releases new ≡ true
 different_behind p m x time n ports old new kept found each different active =
     let once = found_passes _ (λ (m : ModeDeclaration). same_name m.name x) p.modes m kept.invokes_once found in
-    sym (different_in_row new) ∙ ap all_other active
+    releases_different new ∙ ap are_different active
     ∙ other_joined n (map active_of old) (all_released p m time n m.invocations ports) (older_releases p n old each) (new_releases p m time n ports)
-    (different_in_row old ∙ different) (released_other p m time n m.invocations ports once)
+    (sym (releases_different old) ∙ different) (released_other p m time n m.invocations ports once)
 
 -- an instant at which nothing happens
 pub tenant_later : (program : Option GiottoProgram) (time : ℕ) (active : List Active) (ports : PortTables) (n : ℕ)
@@ -134,7 +118,7 @@ tenant_later program time active ports n is = record { short_time = is.short_tim
 
 -- one at which the mode's tasks are released
 pub tenant_behind : (p : GiottoProgram) (m : ModeDeclaration) (x : Name) (time n : ℕ) (values : Valuation) (old new : List Active) (before after : PortTables)
-    → RulesKept p → mode_of p x ≡ Some m → IsTenant (Some p) time old before n → HaveSameNames before after
+    → KeepsRules p → mode_of p x ≡ Some m → IsTenant (Some p) time old before n → HaveSameNames before after
     → map active_of new ≡ map active_of old ++ all_released p m time n m.invocations values → AllByRecursion (IsActiveIn p (n + 1)) new
     → IsTenant (Some p) ((time + 1) % m.period) new after (n + 1)
 tenant_behind p m x time n values old new before after kept found is names active each =

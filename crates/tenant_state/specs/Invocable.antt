@@ -4,7 +4,6 @@ use Rattle.std.specs.List.{list_all, AllByRecursion}
 use Rattle.giotto_tasks.specs.Names.{names_in, is_among}
 use Rattle.giotto_tasks.specs.Sound.{IsSound, AreSourcesOf}
 use Rattle.giotto_read.specs.Program.{TaskDeclaration, TaskInvocation, ModeDeclaration, GiottoProgram, body_of}
-use Rattle.giotto_read.specs.Reading.{IsOfFewPorts}
 use Rattle.giotto_check.specs.Declarations.{task_of}
 use Rattle.tenant_ports.specs.GuardSources.{AreGuardSources}
 use Rattle.tenant_ports.specs.Ports.{own_ports, initial_shared, initial_ports}
@@ -12,7 +11,6 @@ use Rattle.tenant_ports.specs.Ports.{own_ports, initial_shared, initial_ports}
 -- an invocation of this task
 pub record IsInvocationOf (p : GiottoProgram) (i : TaskInvocation) (t : TaskDeclaration) : Type 0 where
   pub arguments : length i.arguments ≡ length t.inputs
-  pub few : IsOfFewPorts t
   pub inputs : IsTrue (list_all (is_among (names_in (initial_ports p))) (own_ports t.name t.inputs))
   pub sound : IsSound (body_of t)
 

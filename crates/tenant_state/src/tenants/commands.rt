@@ -138,6 +138,7 @@ fn read_program(alloc: Global, text: &str) -> Result<Checked, Refusal>
         Ok(program) => program,
         Err(fault) => return Err(refusal_of(fault)),
     };
+    giotto_check::laws::read_without_switches();
     match giotto_check::check(alloc, program) {
         Ok(program) => Ok(program),
         Err(CheckFault::Rule(_)) => Err(Refusal::Rule(0)),

@@ -13,11 +13,11 @@ use Rattle.tenant_ports.specs.PortTables.{all_ports}
 use Rattle.tenant_state.specs.Row.{ActiveTask}
 use Rattle.tenant_state.specs.Standing.{Standing, StandsFor}
 use Rattle.tenant_state.specs.Tenants.{active_of, standing_of, all_different_releases, IsActiveIn, IsActiveAsSome, IsTenantOf}
-use Rattle.tenant_state.proofs.ActiveTasks.{all_filter}
-use Rattle.tenant_state.proofs.FirstHalfOf.{is_open, ends, finished, halted, map_none, map_some, each_of, different_filter, fewer_filter}
-use Rattle.tenant_state.proofs.InstantSteps.{CanUpdate, ports_again, same_again}
+use Rattle.tenant_state.proofs.FirstHalfOf.{is_open, ends, finished, halted, map_none, map_some, different_filter, fewer_filter}
+use Rattle.tenant_state.proofs.InstantSteps.{CanUpdate}
 use Rattle.tenant_state.proofs.ProgramFacts.{UpdateFits, mode_fits}
-use Rattle.giotto_check.proofs.RulesKept.{rules_kept}
+use Rattle.tenant_ports.proofs.PortNames.{ports_of_on, same_names_on}
+use Rattle.giotto_tasks.proofs.ListLemmas.{all_filter, all_map}
 use Rattle.tenant_state.proofs.tenants.Tenant.first_half.Goals as goal
 
 pub returns-in-Some-first_unfinished-clause-step : goal.returns-in-Some-first_unfinished-clause-step
@@ -46,7 +46,7 @@ end_due-requires-clause-active c =
     let p = c.in-Some.checked in
     let fits = subst (λ o. IsTenantOf o s.active.items s.ports s.count) c.in-Some.is c.self.invariant.fits in
     subst (λ acts. AllByRecursion (λ (a : Active). IsActiveAsSome a (task_of p a.task)) acts) (sym c.deref-2.ensures.value)
-    (each_of (IsActiveIn p s.count) (λ (a : Active). IsActiveAsSome a (task_of p a.task)) (λ a k. k.1) s.active.items fits.1)
+    (all_map (IsActiveIn p s.count) (λ (a : Active). IsActiveAsSome a (task_of p a.task)) s.active.items (λ a k. k.1) fits.1)
 
 pub end_due-requires-clause-completed : goal.end_due-requires-clause-completed
 end_due-requires-clause-completed c =
@@ -63,21 +63,21 @@ update_due-requires c =
     let found : mode_of p s.mode ≡ Some (tree.mode_of md) = ap (λ (q : GiottoProgram). mode_of q s.mode) (sym c.program.ensures.tree) ∙ c.in-Some-find_mode.ensures.found in
     let fits = subst (λ o. IsTenantOf o s.active.items s.ports s.count) c.in-Some.is c.self.invariant.fits in
     let q = c.end_due.new.ports in
-    let are = ports_again p s.ports q fits.0 c.end_due.ensures.names in
-    let mode = mode_fits p (rules_kept p c.program.ensures.checked.keeps_rules) (tree.mode_of md) s.mode found in
-    each_of (UpdateFits p (tree.mode_of md)) (CanUpdate q) (λ u f. (f.guard q are, f.value q are, f.actuator q are)) (map tree.update_of md.updates) mode.updates
+    let are = ports_of_on p s.ports q fits.0 c.end_due.ensures.names in
+    let mode = mode_fits p c.program.ensures.rules (tree.mode_of md) s.mode found in
+    all_map (UpdateFits p (tree.mode_of md)) (CanUpdate q) (map tree.update_of md.updates) (λ u f. (f.guard q are, f.value q are, f.actuator q are)) mode.updates
 
 pub invariant_of-self-2 : goal.invariant_of-self-2
 invariant_of-self-2 c =
     let s = c.self.inside in
     let p = c.in-Some.checked in
     let fits = subst (λ o. IsTenantOf o s.active.items s.ports s.count) c.in-Some.is c.self.invariant.fits in
-    let same = same_again s.ports c.end_due.new.ports c.update_due.new.ports c.end_due.ensures.names c.update_due.ensures.names in
+    let same = same_names_on s.ports c.end_due.new.ports c.update_due.new.ports c.end_due.ensures.names c.update_due.ensures.names in
     record {
       short_time = c.self.invariant.short_time;
       different = subst (λ acts. all_different_releases acts ≡ true) (sym c.drop_due.ensures) (different_filter _ s.active.items c.self.invariant.different);
       fits = subst (λ o. IsTenantOf o c.drop_due.new.active.items c.update_due.new.ports s.count) (sym c.in-Some.is)
-          (ports_again p s.ports c.update_due.new.ports fits.0 same, subst (AllByRecursion (IsActiveIn p s.count)) (sym c.drop_due.ensures) (all_filter (IsActiveIn p s.count) _ s.active.items fits.1));
+          (ports_of_on p s.ports c.update_due.new.ports fits.0 same, subst (AllByRecursion (IsActiveIn p s.count)) (sym c.drop_due.ensures) (all_filter (IsActiveIn p s.count) _ s.active.items fits.1));
     }
 
 pub returns-clause-step : goal.returns-clause-step

@@ -6,7 +6,7 @@ use Rattle.tenant_state.specs.Standing.{awaited_job}
 use Rattle.tenant_state.specs.Tenants.{standing_of, IsTenant}
 use Rattle.tenant_state.proofs.AwaitedTasks.{is_awaited, awaited_nowhere}
 use Rattle.tenant_state.proofs.Completing.{job_fits, job_is}
-use Rattle.tenant_state.proofs.SoundBodies.{sound_body}
+use Rattle.tenant_state.proofs.InvocableModes.{sound_task}
 use Rattle.tenant_state.proofs.tenants.Tenant.job.Goals as goal
 
 pub returns-in_default-place_of : goal.returns-in_default-place_of
@@ -27,7 +27,7 @@ new-requires c =
     let a = c.index-active.result.now in
     let t = c.in-Some-find_task.task.now in
     let task : task_of p a.task ≡ Some (trees.task_of t) = rw c.program.ensures.tree at c.in-Some-find_task.ensures.found in
-    let sound = sound_body p c.program.ensures.checked a.task (trees.task_of t) task in
+    let sound = sound_task p c.program.ensures.rules (trees.task_of t) a.task c.program.ensures.checked.small task in
     rw (c.copy.ensures, c.in_ok-body.ensures, c.copy-inputs.ensures, c.copy-states.ensures)
     (job_fits p inside.mode_time items inside.ports inside.count c.args.id.now c.in-Some-place_of.place a found c.index-active.ensures known t task sound)
 

@@ -13,11 +13,12 @@ use Rattle.tenant_state.specs.Standing.{Standing, RoomValue}
 use Rattle.tenant_state.specs.Tenants.{state_of, active_of, is_completed, standing_of, IsActiveIn, IsTenantOf, IsTenant}
 use Rattle.tenant_state.proofs.HalfStands.{new_releases, older_releases, Ran, running_stands, idle_stands, not_running, jobs_behind, no_jobs, jobs_as_before}
 use Rattle.tenant_state.proofs.Invoked.{bodies_in_mode}
-use Rattle.tenant_state.proofs.InvocableModes.{found_has, all_invocable, sensors_are_ports, active_later}
+use Rattle.tenant_state.proofs.InvocableModes.{all_invocable, sensors_are_ports, active_later}
 use Rattle.tenant_ports.proofs.PortNames.{same_names_on}
 use Rattle.tenant_state.proofs.ProgramFacts.{mode_fits}
-use Rattle.giotto_check.proofs.RulesKept.{rules_kept}
 use Rattle.tenant_state.proofs.TenantBehind.{tenant_later, tenant_behind}
+use Rattle.giotto_tasks.proofs.ListLemmas.{found_has}
+use Rattle.giotto_check.specs.KeepsRules.{KeepsRules}
 use Rattle.tenant_state.proofs.tenants.Tenant.second_half.Goals as goal
 
 pub sense-requires : goal.sense-requires
@@ -30,7 +31,7 @@ sense-requires c =
 pub invoke_all-requires-clause-invocable : goal.invoke_all-requires-clause-invocable
 invoke_all-requires-clause-invocable c =
     let p = c.program-program.result.now in
-    all_invocable p (mode_of c.in-Some-find_mode.mode.now) c.self.inside.mode (subst IsChecked (sym c.program-program.ensures.tree) c.program-program.ensures.checked) c.in-Some-find_mode.ensures.found
+    all_invocable p (mode_of c.in-Some-find_mode.mode.now) c.self.inside.mode (subst KeepsRules (sym c.program-program.ensures.tree) c.program-program.ensures.rules) (subst IsChecked (sym c.program-program.ensures.tree) c.program-program.ensures.checked).small c.in-Some-find_mode.ensures.found
 
 pub invoke_all-requires-clause-bodies : goal.invoke_all-requires-clause-bodies
 invoke_all-requires-clause-bodies c =
@@ -52,8 +53,7 @@ invoke_all-requires-clause-each c =
 pub nonzero_rem-self : goal.nonzero_rem-self
 nonzero_rem-self c =
     let p = c.program-program.result.now in
-    let checked = subst IsChecked (sym c.program-program.ensures.tree) c.program-program.ensures.checked in
-    (mode_fits p (rules_kept p checked.keeps_rules) (mode_of c.in-Some-find_mode.mode.now) c.self.inside.mode c.in-Some-find_mode.ensures.found).positive
+    (mode_fits p (subst KeepsRules (sym c.program-program.ensures.tree) c.program-program.ensures.rules) (mode_of c.in-Some-find_mode.mode.now) c.self.inside.mode c.in-Some-find_mode.ensures.found).positive
 
 pub returns-in_default : goal.returns-in_default
 returns-in_default c =
@@ -140,11 +140,11 @@ invariant_of-self-2 c =
     let old = c.self.inside.active.items in
     let new = c.invoke_all.new.active.items in
     let sensed = all_ports c.sense.new.ports in
-    let checked = subst IsChecked (sym c.program-program.ensures.tree) c.program-program.ensures.checked in
+    let kept = subst KeepsRules (sym c.program-program.ensures.tree) c.program-program.ensures.rules in
     let program = c.in-Some.is ∙ ap Some (sym c.program-program.ensures.tree) in
     let before = subst (λ o. IsTenant o time old c.self.inside.ports n) program c.self.invariant in
     let items = c.moved.ensures.items ∙ ap (λ v. v.items) c.replace-old.ensures.value in
     let active = c.invoke_all.ensures.active ∙ ap (λ xs. map active_of xs ++ all_released p m time n m.invocations sensed) items in
     let names = same_names_on c.self.inside.ports c.sense.new.ports c.invoke_all.new.ports c.sense.ensures.names c.invoke_all.ensures.names in
-    let behind = tenant_behind p m c.self.inside.mode time n sensed old new c.self.inside.ports c.invoke_all.new.ports (rules_kept p checked.keeps_rules) c.in-Some-find_mode.ensures.found before names active c.invoke_all.ensures.each in
+    let behind = tenant_behind p m c.self.inside.mode time n sensed old new c.self.inside.ports c.invoke_all.new.ports kept c.in-Some-find_mode.ensures.found before names active c.invoke_all.ensures.each in
     subst (λ o. IsTenant o ((time + 1) % m.period) new c.invoke_all.new.ports (n + 1)) (sym program) behind

@@ -3,12 +3,8 @@ use Rattle.std.specs.Prelude.{Ok}
 use Rattle.giotto_read.specs.declared.faults.ReadFault.TheVariants.{Memory}
 use Rattle.giotto_read.proofs.OneReading.{one_reading}
 use Rattle.tenant_state.specs.Commands.{refusal_of, refused}
-use Rattle.giotto_check.proofs.NoSwitches.{read_without_switches}
 use Rattle.tenant_state.proofs.TenantCommands.{refused_by_reader, refused_by_rule}
 use Rattle.tenant_state.proofs.tenants.commands.read_program.Goals as goal
-
-pub check-requires-clause-no_switches : goal.check-requires-clause-no_switches
-check-requires-clause-no_switches c = read_without_switches c.args.text.now _ c.in-Ok.ensures.found
 
 pub returns-in-Err-clause-refused : goal.returns-in-Err-clause-refused
 returns-in-Err-clause-refused c = λ other reader budgets row true_reader.

@@ -14,9 +14,8 @@ use Rattle.tenant_state.specs.FirstHalf.{ended_with}
 use Rattle.tenant_ports.specs.PortTables.{all_ports}
 use Rattle.tenant_ports.specs.Ports.{own_ports}
 use Rattle.tenant_state.specs.Tenants.{active_of, IsActiveAs, IsActiveAsSome, IsResultOf}
-use Rattle.tenant_state.proofs.InstantSteps.{ports_again}
 use Rattle.tenant_state.proofs.ProgramFacts.{task_fits}
-use Rattle.giotto_check.proofs.RulesKept.{rules_kept}
+use Rattle.tenant_ports.proofs.PortNames.{ports_of_on}
 use Rattle.tenant_state.proofs.tenants.first_half.end.Goals as goal
 
 pub write_all-requires : goal.write_all-requires
@@ -24,7 +23,7 @@ write_all-requires c =
     let p = c.args.checked.now in
     let t = tree.task_of c.in-Some.task.now in
     let found : task_of p c.args.active.now.task ≡ Some t = ap (λ (q : GiottoProgram). task_of q c.args.active.now.task) (sym c.program.ensures.tree) ∙ c.in-Some.ensures.found in
-    let fits = task_fits p (rules_kept p c.program.ensures.checked.keeps_rules) t c.args.active.now.task found in
+    let fits = task_fits p c.program.ensures.rules t c.args.active.now.task found in
     let outputs : c.as_slice.result.now ≡ t.outputs = c.as_slice.ensures ∙ ap (λ (b : TaskBody). b.outputs) (c.behind-task.view_is ∙ c.deref.ensures) in
     subst (λ ns. list_all (is_among (names_in (all_ports c.args.ports.now))) ns ≡ true) (sym outputs) (fits.outputs c.args.ports.now c.requires.ports)
 
@@ -33,12 +32,12 @@ write_own-requires c =
     let p = c.args.checked.now in
     let t = tree.task_of c.in-Some.task.now in
     let found : task_of p c.args.active.now.task ≡ Some t = ap (λ (q : GiottoProgram). task_of q c.args.active.now.task) (sym c.program.ensures.tree) ∙ c.in-Some.ensures.found in
-    let fits = task_fits p (rules_kept p c.program.ensures.checked.keeps_rules) t c.args.active.now.task found in
+    let fits = task_fits p c.program.ensures.rules t c.args.active.now.task found in
     let b = arc_value c.in-Some.task.now.body in
     let names : names_of t.states ≡ b.states = firsts-zip b.states c.in-Some.task.now.states c.in-Some.task.now.each_state in
     let states : c.as_slice-2.result.now ≡ names_of t.states = c.as_slice-2.ensures ∙ ap (λ (b : TaskBody). b.states) (c.behind-task-2.view_is ∙ c.deref-2.ensures) ∙ sym names in
     subst (λ ns. list_all (is_among (names_in (all_ports c.write_all.new.self))) (own_ports c.in-Some.task.now.name ns) ≡ true) (sym states)
-    (fits.states c.write_all.new.self (ports_again p c.args.ports.now c.write_all.new.self c.requires.ports c.write_all.ensures.names))
+    (fits.states c.write_all.new.self (ports_of_on p c.args.ports.now c.write_all.new.self c.requires.ports c.write_all.ensures.names))
 
 pub returns-clause-value : goal.returns-clause-value
 returns-clause-value c =

@@ -9,7 +9,7 @@ use Rattle.tenant_ports.specs.PortTables.{all_ports, HaveSameNames}
 use Rattle.tenant_state.specs.Row.{ActiveTask}
 use Rattle.tenant_state.specs.Tenants.{active_of, is_completed}
 use Rattle.tenant_state.proofs.FirstHalfOf.{end_step, find_step, group_named, group_gone}
-use Rattle.tenant_state.proofs.InstantSteps.{same_again}
+use Rattle.tenant_ports.proofs.PortNames.{same_names_on}
 use Rattle.tenant_state.proofs.tenants.first_half.end_due.Goals as goal
 use Rattle.tenant_state.proofs.tenants.first_half.end_due.Goals.{then-is_due, else-is_due}
 
@@ -31,7 +31,7 @@ loop-invocation-preserved c =
             (ap all_ports w.ports-is ∙ w.end_each.ensures.value ∙ ap (λ ts. all_ended p ts start) (group_named x.task _ acts (sym c.is_due.ensures ∙ w.if-is_due.true)))
             c.loop-invocation.invariant.value;
         completed = left;
-        names = subst (λ q. HaveSameNames c.args.ports.now q) (sym w.ports-is) (same_again c.args.ports.now c.loop-invocation.ports _ c.loop-invocation.invariant.names w.end_each.ensures.names);
+        names = subst (λ q. HaveSameNames c.args.ports.now q) (sym w.ports-is) (same_names_on c.args.ports.now c.loop-invocation.ports _ c.loop-invocation.invariant.names w.end_each.ensures.names);
       }
       | else-is_due w ↦ record {
         value = end_step p ending is k x start (all_ports c.if-is_due.ports) _ c.loop-invocation-test.true c.invocation-item.is

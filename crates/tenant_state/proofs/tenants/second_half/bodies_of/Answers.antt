@@ -8,7 +8,8 @@ use Rattle.giotto_read.specs.ProgramTrees.{invocation_of, mode_of, task_of}
 use Rattle.giotto_check.specs.Declarations as declared
 use Rattle.tenant_state.specs.Invocable.{IsInvocable}
 use Rattle.tenant_state.specs.Jobs.{body_in}
-use Rattle.tenant_state.proofs.Invoked.{all_mapped_at, body_again, body_found, not_missing}
+use Rattle.tenant_state.proofs.Invoked.{body_found, not_missing, body_of_task}
+use Rattle.giotto_tasks.proofs.ListLemmas.{all_mapped_at}
 use Rattle.tenant_state.proofs.tenants.second_half.bodies_of.Goals as goal
 
 pub unreachable-requires : goal.unreachable-requires
@@ -32,7 +33,7 @@ loop-invocation-preserved c =
     let task = c.in-Some.task.now in
     let share = c.in_ok-try_clone.field-0 in
     let same : arc_value share ≡ body (get_or items i item) =
-    c.in_ok-try_clone.ensures ∙ sym (body_again task task.each_state) ∙ sym (body_found p item.task (task_of task) c.in-Some.ensures.found) ∙ ap body c.invocation-item.is in
+    c.in_ok-try_clone.ensures ∙ sym (body_of_task task) ∙ sym (body_found p item.task (task_of task) c.in-Some.ensures.found) ∙ ap body c.invocation-item.is in
     ap (map arc_value) c.in_ok-push.ensures.items ∙ map-append arc_value c.loop-invocation.bodies.items (share ∷ [])
     ∙ ap (λ bs. bs ++ arc_value share ∷ []) c.loop-invocation.invariant ∙ ap (λ b. map body (take i items) ++ b ∷ []) same
     ∙ sym (ap (map body) (take_more items i item c.loop-invocation-test.true) ∙ map-append body (take i items) (get_or items i item ∷ []))

@@ -1,4 +1,4 @@
-use Rattle.std.proofs.Common.{◌≡◌, ◌+◌, ◌∷◌, ◌++◌, [], map, ap, sym, subst, ◌∙◌}
+use Rattle.std.proofs.Common.{◌≡◌, ◌+◌, ◌∷◌, ◌++◌, [], map, ap, sym, subst, ◌∙◌, arith, ℤ}
 use Rattle.std.specs.Arc.{arc_value}
 use Rattle.std.specs.List.{AllByRecursion}
 use Rattle.giotto_read.specs.ProgramTrees.{mode_of, task_of, invocation_of}
@@ -8,13 +8,33 @@ use Rattle.tenant_ports.specs.Ports.{own_ports}
 use Rattle.tenant_state.specs.Row.{ActiveTask}
 use Rattle.tenant_state.specs.SecondHalf.{released}
 use Rattle.tenant_state.specs.Tenants.{IsActiveIn}
-use Rattle.tenant_state.proofs.Invoked.{its_task, found_name, one_released, all_and_one, active_fits}
+use Rattle.tenant_state.proofs.Invoked.{its_task, found_name, one_released, active_fits}
 use Rattle.tenant_ports.proofs.PortNames.{sources_in, ports_in}
+use Rattle.giotto_tasks.proofs.ListLemmas.{all_and_one}
+use Rattle.std.proofs.lemmas.List.{length-map}
+use Rattle.giotto_tasks.specs.declared.names.Name.{Name}
+use Rattle.giotto_tasks.specs.Trees.{expression_of}
+use Rattle.giotto_read.specs.Program.{body_of}
+use Rattle.giotto_tasks.proofs.SoundLemmas.{sound_small}
 use Rattle.tenant_state.proofs.tenants.second_half.invoke.Goals as goal
 
 pub activate-started-requires-clause-arguments : goal.activate-started-requires-clause-arguments
 activate-started-requires-clause-arguments c =
     sources_in c.args.program.now c.args.ports.now c.requires.ports c.args.invocation.now.arguments c.requires.invocable.arguments
+
+pub activate-started-requires-clause-few : goal.activate-started-requires-clause-few
+activate-started-requires-clause-few c =
+    let t = task_of c.in-Some.task.now in
+    let fits = its_task c.args.program.now (invocation_of c.args.invocation.now) t c.requires.invocable.task c.in-Some.ensures.found in
+    let small = sound_small (body_of t) fits.sound in
+    omega (arith, fits.arguments, small.inputs, length-map c.args.invocation.now.arguments expression_of)
+
+pub activate-started-requires-clause-states : goal.activate-started-requires-clause-states
+activate-started-requires-clause-states c =
+    let t = task_of c.in-Some.task.now in
+    let fits = its_task c.args.program.now (invocation_of c.args.invocation.now) t c.requires.invocable.task c.in-Some.ensures.found in
+    let small = sound_small (body_of t) fits.sound in
+    omega (arith, small.states, length-map t.states (λ (v : Name × ℤ). v.0))
 
 pub activate-started-requires-clause-inputs : goal.activate-started-requires-clause-inputs
 activate-started-requires-clause-inputs c =

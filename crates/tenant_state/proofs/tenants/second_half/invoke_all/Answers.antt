@@ -11,8 +11,9 @@ use Rattle.tenant_ports.specs.PortTables.{all_ports}
 use Rattle.tenant_state.specs.Row.{ActiveTask}
 use Rattle.tenant_state.specs.SecondHalf.{all_invoked, all_released}
 use Rattle.tenant_state.specs.Tenants.{active_of, is_completed}
-use Rattle.tenant_state.proofs.Invoked.{released_first, stepped}
+use Rattle.tenant_state.proofs.Invoked.{released_first}
 use Rattle.tenant_ports.proofs.PortNames.{same_names_again, same_names_on, ports_of_on}
+use Rattle.giotto_tasks.proofs.ListLemmas.{stepped}
 use Rattle.tenant_state.proofs.tenants.second_half.invoke_all.Goals as goal
 
 pub loop-invocation-init : goal.loop-invocation-init
