@@ -357,3 +357,16 @@ module _ (setting : Setting) where
   pub done_awaited : (state : HostState) (j : JobId) (host : HostStanding) → awaits state j ≡ true → Stands setting host (record state { counted = j ∷ state.counted })
       → Stands setting host (after_event setting state (Done j))
   done_awaited state j host e stands = subst (λ b. Stands setting host (cond b (record state { counted = j ∷ state.counted }) state)) (sym e) stands
+
+-- a tenant's answer to a job's name is the host's
+pub job_awaits : {E : Type 0} (host : HostStanding) (j : JobId) (before : Standing) (result : Result (Option JobValue) E)
+    → j.tenant < length host.tenants → before ≡ get_or host.tenants j.tenant before → HasTasksWithProgram before
+    → IfOk result (λ job. job ≡ awaited_job before j)
+    → IfOk result (λ job. (setting : Setting) (state : HostState) → Stands setting host state → is_some job ≡ awaits state j)
+job_awaits host j before (Err e) within here has is = tt
+job_awaits host j before (Ok job) within here has is = λ setting state stands.
+    let same : before ≡ tenant_at host.tenants j.tenant = here ∙ get_or_default host.tenants j.tenant before (empty_standing 0) within in
+    ap is_some is
+    ∙ (ap (λ s. is_some (awaited_job s j)) same
+    ∙ (sym (ap (λ o. is_some (option_and_then (λ s. awaited_job s j) o)) (slice_get-get_or host.tenants j.tenant (empty_standing 0) within))
+    ∙ sym (awaits_here setting host state j (omega (arith, stands.as_many)) stands (subst HasTasksWithProgram same has))))

@@ -334,4 +334,3 @@ nothing_played setting config host texts is new as_many blank = record {
   each = λ t lt. blank t [] (omega (arith, as_many, ap (λ (k : Config). length k.tenants) is.same_config));
   names = λ j. sym (ap (λ (host : HostState). is_active (row_at host j.tenant) j) is.new ∙ ap (λ row. is_active row j) (new_row config 0 j.tenant));
 }
-
