@@ -49,7 +49,7 @@ module _ (setting : Setting) where
 
   -- the names that the host gives are those of the definitions
   pub names_are : (past : List Event) (host : HostStanding) → IsHostAfter setting host past → outstanding_jobs host ≡ outstanding_after setting past
-  names_are past host h = code_awaits host (host_after setting past) h.stands ∙ same_outstanding setting h.base past h.legal
+  names_are past host h = code_awaits setting host (host_after setting past) h.stands ∙ same_outstanding setting h.base past h.legal
 
   -- one job more is completed
   pub more_completed : (past : List Event) (first host later : HostStanding) (jobs : List JobId) (n : ℕ) (j : JobId) → IsHostAfter setting first past → jobs ≡ outstanding_jobs first

@@ -17,6 +17,7 @@ use Rattle.host_core.specs.Views.{row_of}
 use Rattle.tenant_state.specs.Jobs.{job_of, is_active}
 use Rattle.tenant_state.specs.Row.{ActiveTask, Row}
 use Rattle.tenant_state.specs.Standing.{Standing, StandsFor, outstanding_tasks, empty_standing}
+use Rattle.giotto_tasks.proofs.ListLemmas.{all_map, all_mapped, same_filter}
 use Rattle.host_core.proofs.NewHost.{no_tenant}
 use Rattle.host_core.proofs.AloneAlong.{same_rows, same_awaits}
 use Rattle.tenant_state.proofs.JobNames.{own_jobs_active}
@@ -52,16 +53,6 @@ unmarked t c (x ∷ xs) = by (c (job_of t x)) (unmarked t c xs)
         ≡ cond (not b) (job_of t x ∷ filter (λ j. not (c j)) (map (job_of t) xs)) (filter (λ j. not (c j)) (map (job_of t) xs))
     by true e = e
     by false e = ap (λ l. job_of t x ∷ l) e
-
--- tests that agree on each element
-filter_same : {A B : Type 0} (f : A → B) (p q : B → Bool) (xs : List A) → AllByRecursion (λ x. p (f x) ≡ q (f x)) xs → filter p (map f xs) ≡ filter q (map f xs)
-filter_same f p q [] all = refl
-filter_same f p q (x ∷ xs) all =
-    ap (λ b. cond b (f x ∷ filter p (map f xs)) (filter p (map f xs))) all.0 ∙ ap (λ l. cond (q (f x)) (f x ∷ l) l) (filter_same f p q xs all.1)
-
-all_along : {X : Type 0} (P Q : X → Type 0) (xs : List X) → ((x : X) → P x → Q x) → AllByRecursion P xs → AllByRecursion Q xs
-all_along P Q [] f all = tt
-all_along P Q (x ∷ xs) f all = (f x all.0, all_along P Q xs f all.1)
 
 module _ (setting : Setting) where
   -- the jobs of a state's active tasks that aren't counted
@@ -105,8 +96,9 @@ module _ (setting : Setting) where
           let rows = same_rows setting base past t legal is in
           let row = row_of setting past t in
           ap (λ (r : Row). filter (λ j. not (is_counted state j)) (map (job_of t) r.active)) rows
-          ∙ filter_same (job_of t) (λ j. not (is_counted state j)) (λ j. not (has_completion setting past j)) row.active
-          (all_along (λ a. is_active row (job_of t a) ≡ true) (λ a. not (is_counted state (job_of t a)) ≡ not (has_completion setting past (job_of t a))) row.active
+          ∙ same_filter (λ j. not (is_counted state j)) (λ j. not (has_completion setting past j)) (map (job_of t) row.active)
+          (all_mapped (λ j. not (is_counted state j) ≡ not (has_completion setting past j)) (job_of t) row.active
+          (all_map (λ a. is_active row (job_of t a) ≡ true) (λ a. not (is_counted state (job_of t a)) ≡ not (has_completion setting past (job_of t a))) row.active
           (λ a active. where_active (is_active (row_at state t) (job_of t a)) (is_active row (job_of t a)) (not (is_counted state (job_of t a))) (not (has_completion setting past (job_of t a)))
-          (ap (λ r. is_active r (job_of t a)) rows ∙ active) active (same_awaits past (job_of t a) legal is))
-          (own_jobs_active t row))
+          (ap (λ r. is_active r (job_of t a)) rows ∙ active) active (same_awaits setting base past (job_of t a) legal is))
+          (own_jobs_active t row)))

@@ -6,4 +6,4 @@ use Rattle.rig_script.proofs.Completing.{completed}
 use Rattle.rig_script.proofs.script.complete_all.Given as goal
 
 abbrev pub invariant-loop-name : goal.invariant-loop-name
-invariant-loop-name l = (setting : Setting) (past : List Event) → IsHostAfter setting l.initial.host past → IsHostAfter setting l.host (completed setting l.names.items l.name-index past)
+invariant-loop-name l = (setting : Setting) (past : List Event) → IsHostAfter setting l.initial.host past → IsHostAfter setting l.host (completed setting l.name-items l.name-index past)
