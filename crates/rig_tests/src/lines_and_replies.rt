@@ -1,12 +1,13 @@
 //! The calls that take memory succeed, with the values that the documents name.
 
+use giotto_read::name_bytes::is_name;
 use giotto_tasks::names::Name;
 use std::test::Fail;
 use tenant_lines::command_lines::{LineFault, command_of};
 use tenant_lines::commands::Command;
 use tenant_lines::replies::{Budget, Refusal, Reply, print_reply};
 use tenant_lines::texts::Text;
-use tenant_lines::words::{is_name, value_of_word, values_of_words};
+use tenant_lines::words::{value_of_word, values_of_words};
 
 #[test]
 fn texts_of_replies(rt: HostRuntime) -> Result<(), Fail> {
@@ -108,7 +109,7 @@ fn names_and_values(rt: HostRuntime) {
         ("a-b", false),
         ("", false),
     ] {
-        assert_eq!(rt; is_name(word), is, "at {word}");
+        assert_eq!(rt; is_name(word.as_bytes()), is, "at {word}");
     }
     for (word, value) in [
         ("-0", Some(0)),
