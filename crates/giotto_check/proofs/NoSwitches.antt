@@ -7,7 +7,6 @@ use Rattle.giotto_read.specs.Program.{ModeDeclaration, GiottoProgram}
 use Rattle.giotto_read.specs.Reading.{Reads, a_program}
 use Rattle.giotto_read.specs.Spelling.{Spells}
 use Rattle.giotto_read.specs.Writable.{IsWritable, IsWritableMode}
-use Rattle.giotto_read.proofs.SpelledWritable.{spelled_writable}
 use Rattle.giotto_check.specs.Checked.{HasNoSwitches}
 
 none_has_switches : (ms : List ModeDeclaration) → AllByRecursion IsWritableMode ms → AllByRecursion HasNoSwitches ms
@@ -18,7 +17,3 @@ none_has_switches (m ∷ ms) all = (all.0.switches, none_has_switches ms all.1)
 pub writable_without_switches : ((ts : List Token) (p : GiottoProgram) → Spells ts p → IsWritable p)
     → (text : List ℕ) (p : GiottoProgram) → Reads text (Ok p) → AllByRecursion HasNoSwitches p.modes
 writable_without_switches writable text p (a_program ts tokens spelled small) = none_has_switches p.modes (writable _ p spelled).modes
-
--- for the crates above, until they call the law
-pub read_without_switches : (text : List ℕ) (p : GiottoProgram) → Reads text (Ok p) → AllByRecursion HasNoSwitches p.modes
-read_without_switches = writable_without_switches spelled_writable

@@ -4,10 +4,6 @@ use Rattle.giotto_read.specs.Program.{GiottoProgram}
 use Rattle.giotto_check.specs.KeepsRules.{KeepsRules}
 use Rattle.giotto_check.specs.Rules.{declares_once, uses_right_kinds, bodies_use_own_ports, frequencies_divide, invokes_once, tasks_share_no_output, updates_once, arguments_fit, drivers_read_mode_ports, switches_keep_periods, starts_in_a_mode, first_broken_rule}
 
--- the name that crates above use, until they name the definition itself
-abbrev pub RulesKept : GiottoProgram → Type 0
-RulesKept p = KeepsRules p
-
 -- a rule holds where neither it nor a later one is the first that is broken
 kept : (holds : Bool) (n : ℕ) (later : Option ℕ) → cond holds later (Some n) ≡ None → (holds ≡ true) × (later ≡ None)
 kept true n later e = (refl, e)

@@ -12,9 +12,6 @@ use Rattle.giotto_check.specs.Frequencies.{frequencies_divide_in}
 use Rattle.giotto_check.specs.Invocations.{argument_for_each_input}
 use Rattle.giotto_check.specs.Drivers.{drivers_fit}
 use Rattle.giotto_check.specs.Switches.{mode_keeps_periods}
--- for the crates above, until they name the modules themselves
-pub use Rattle.giotto_check.specs.Names.{are_among, share_none}
-pub use Rattle.giotto_check.specs.Reads.{names_in_guard}
 
 -- whether each mode of the program passes a test
 abbrev pub each_mode : (ModeDeclaration → Bool) → GiottoProgram → Bool

@@ -8,6 +8,7 @@ use Rattle.tenant_lines.specs.declared.replies.Refusal.TheVariants.{BadCommand, 
 use Rattle.tenant_lines.specs.declared.replies.Reply.{Reply}
 use Rattle.tenant_lines.specs.declared.replies.Reply.TheVariants.{Loaded, Started, Port, Refused}
 
+-- the word of a budget in a reply
 abbrev pub word_of_budget : Budget → List ℕ
 word_of_budget Bytes = codes "bytes"
 word_of_budget Ports = codes "ports"
@@ -18,6 +19,7 @@ word_of_budget Lines = codes "lines"
 word_of_budget Offers = codes "offers"
 word_of_budget Binds = codes "binds"
 
+-- what stands behind "err "; a refusal with a number tells it in decimal
 abbrev pub text_of_refusal : Refusal → List ℕ
 text_of_refusal BadCommand = codes "bad-command"
 text_of_refusal (Syntax n) = codes "syntax " ++ decimal n
@@ -30,6 +32,7 @@ text_of_refusal NoPort = codes "no-port"
 text_of_refusal (OverBudget b) = codes "budget " ++ word_of_budget b
 text_of_refusal Memory = codes "memory"
 
+-- the text of a reply: "ok ..", or "err " and why
 abbrev pub text_of_reply : Reply → List ℕ
 text_of_reply Loaded = codes "ok load"
 text_of_reply Started = codes "ok start"

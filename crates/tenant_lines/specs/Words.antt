@@ -22,6 +22,7 @@ words_of (c ∷ cs) = if is_blank_of_line c then words_of cs else by cs (words_o
     by [] ws = (c ∷ []) ∷ []
     by (d ∷ ds) ws = if is_blank_of_line d then (c ∷ []) ∷ ws else joined_to_first c ws
 
+-- a byte of a word: no blank
 abbrev pub is_word_byte : ℕ → Bool
 is_word_byte c = not (is_blank_of_line c)
 
@@ -29,10 +30,11 @@ is_word_byte c = not (is_blank_of_line c)
 abbrev pub from_first_word : List ℕ → List ℕ
 from_first_word line = drop (prefix_len is_blank_of_line line) line
 
--- the first word, or nothing where a line has none; and what stands behind it
+-- the first word, or nothing where a line has none
 abbrev pub first_word_of : List ℕ → List ℕ
 first_word_of line = take_while is_word_byte (from_first_word line)
 
+-- what stands behind the first word, its blanks included
 abbrev pub behind_first_word : List ℕ → List ℕ
 behind_first_word line = drop (prefix_len is_word_byte (from_first_word line)) (from_first_word line)
 

@@ -12,6 +12,7 @@ use Rattle.giotto_read.specs.Program.{SensorDeclaration, ActuatorDeclaration, Ou
 abbrev pub own_port : Name → Name → Name
 own_port task x = task ++ (codes "." ++ x)
 
+-- a task's own ports of these names
 abbrev pub own_ports : Name → List Name → List Name
 own_ports task xs = map (own_port task) xs
 
@@ -26,6 +27,7 @@ initial_shared p =
 abbrev pub initial_of_task : TaskDeclaration → Valuation
 initial_of_task t = map (λ x. (own_port t.name x, pos 0)) t.inputs ++ map (λ (s : Name × ℤ). (own_port t.name s.0, s.1)) t.states
 
+-- the tasks' own ports with their initial values: each task's, in text order
 abbrev pub initial_own : GiottoProgram → Valuation
 initial_own p = flat_map initial_of_task p.tasks
 

@@ -1,13 +1,11 @@
 -- One task, one actuator or one update of an instant's first half, and the ports behind it.
-use Rattle.std.proofs.Common.{◌≡◌, true, List, map, Option, Some, None, sym, subst, ◌∙◌}
-use Rattle.std.proofs.lemmas.List.{map-append}
+use Rattle.std.proofs.Common.{◌≡◌, true, List, map}
 use Rattle.giotto_tasks.specs.declared.names.Name.{Name}
 use Rattle.giotto_tasks.specs.Names.{Valuation, names_in, is_among}
-use Rattle.giotto_tasks.specs.Sound.{is_once_among, reads_only, AreSourcesOf}
-use Rattle.giotto_tasks.specs.Syntax.{Expression}
-use Rattle.giotto_read.specs.Program.{ActuatorDeclaration, ActuatorUpdate, GiottoProgram}
+use Rattle.giotto_tasks.specs.Sound.{AreSourcesOf}
+use Rattle.giotto_read.specs.Program.{ActuatorDeclaration, ActuatorUpdate}
 use Rattle.tenant_ports.specs.GuardSources.{AreGuardSources}
-use Rattle.tenant_ports.specs.PortTables.{PortTables, all_ports, HaveSameNames, ArePortsOf}
+use Rattle.tenant_ports.specs.PortTables.{PortTables, all_ports}
 use Rattle.tenant_ports.specs.Ports.{with_values}
 
 abbrev pub IsPort : PortTables → Name → Type 0

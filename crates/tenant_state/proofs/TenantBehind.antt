@@ -3,10 +3,9 @@ use Rattle.std.proofs.Common.{◌≡◌, ℕ, ◌+◌, ◌%◌, ◌<◌, ◌≤�
 use Rattle.std.specs.Prelude.{option_to_list}
 use Rattle.std.specs.Option.{option_map}
 use Rattle.std.specs.List.{list_all, AllByRecursion}
-use Rattle.std.specs.Cmp.Lexicographic.{same_text, nat_list_eq_equiv}
 use Rattle.std.proofs.lemmas.Bool.{and_parts, and_from, or_parts, false≢true, ne_eqb, false_from_ne_true, not_from_false}
 use Rattle.std.proofs.lemmas.Nat.{mod_below}
-use Rattle.std.proofs.lemmas.List.Folds.{list_all-append, list_all-map}
+use Rattle.std.proofs.lemmas.List.Folds.{list_all-append}
 use Rattle.giotto_tasks.specs.declared.names.Name.{Name}
 use Rattle.giotto_tasks.specs.Names.{Valuation, same_name, is_among}
 use Rattle.giotto_tasks.specs.Sound.{all_different}
@@ -16,7 +15,7 @@ use Rattle.tenant_state.specs.declared.tenants.Active.{Active}
 use Rattle.tenant_ports.specs.PortTables.{PortTables, HaveSameNames}
 use Rattle.tenant_state.specs.Row.{ActiveTask}
 use Rattle.tenant_state.specs.SecondHalf.{is_invoked, released, invoked, all_released}
-use Rattle.tenant_state.specs.Tenants.{active_of, is_another, all_different_releases, IsActiveIn, IsTenantOf, IsTenant}
+use Rattle.tenant_state.specs.Tenants.{active_of, all_different_releases, IsActiveIn, IsTenantOf, IsTenant}
 use Rattle.tenant_state.proofs.HalfStands.{new_releases, older_releases}
 use Rattle.tenant_state.proofs.InvocableModes.{active_later}
 use Rattle.tenant_state.proofs.Invoked.{found_name}

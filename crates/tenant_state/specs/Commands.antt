@@ -31,13 +31,16 @@ Reader = List ℕ → Result GiottoProgram ReadFault
 abbrev pub IsTrueReader : Reader → Type 0
 IsTrueReader reader = (text : List ℕ) → Reads text (reader text)
 
+-- what a command leads to: the row behind it, and the reply
 pub record Outcome : Type 0 where
   pub row : Row
   pub reply : Reply
 
+-- a refusal: the row as it was, and why
 abbrev pub refused : Row → Refusal → Outcome
 refused row r = record { row = row; reply = Refused r }
 
+-- the refusal of a text that spells no program, by its fault
 abbrev pub refusal_of : ReadFault → Refusal
 refusal_of (faults.Syntax n) = Syntax n
 refusal_of faults.TooDeep = TooDeep
@@ -52,30 +55,32 @@ broken_budget budgets p = if list_all (may_use budgets.reads) (lines_read p) && 
 abbrev pub at_beginning : State → GiottoProgram → Row → Row
 at_beginning state p row = record row { state = state; program = Some p; mode = p.start; mode_time = 0; active = []; ports = initial_ports p; waiting = None }
 
--- `load`: the text must be a program that keeps the rules; the tenant must not be running; and the program must be within the budgets
+-- `load` of a well-formed program into a tenant that isn't running, by the first budget that the program is over
 abbrev pub load_within : GiottoProgram → Row → Option Budget → Outcome
 load_within p row (Some b) = refused row (OverBudget b)
 load_within p row None = record { row = at_beginning loaded p row; reply = Loaded }
 
+-- `load` of a program that was read: it must keep the rules (which one it breaks isn't told yet), and the tenant must not be running
 abbrev pub load_checked : Budgets → GiottoProgram → Row → Option ℕ → Outcome
--- which rule it is isn't told yet
 load_checked budgets p row (Some n) = refused row (Rule 0)
 load_checked budgets p row None = if is_running row then refused row Running else load_within p row (broken_budget budgets p)
 
+-- `load`, by what its text reads as
 abbrev pub load_read : Budgets → Row → Result GiottoProgram ReadFault → Outcome
 load_read budgets row (Err fault) = refused row (refusal_of fault)
 load_read budgets row (Ok p) = load_checked budgets p row (first_broken_rule p)
 
--- `start`
+-- `start`: the tenant must have a program, which begins anew
 abbrev pub start_program : Row → Option GiottoProgram → Outcome
 start_program row None = refused row NotLoaded
 start_program row (Some p) = record { row = recorded (happening.Start p.start) (at_beginning running p row); reply = Started }
 
--- `show port NAME`
+-- the answer of `show port NAME`, by the port's value
 abbrev pub show_value : Name → Row → Option ℤ → Outcome
 show_value x row None = refused row NoPort
 show_value x row (Some z) = record { row = row; reply = Port x z }
 
+-- `show port NAME`: the tenant must have a program, then the program the port
 abbrev pub show_port : Name → Row → Option GiottoProgram → Outcome
 show_port x row None = refused row NotLoaded
 show_port x row (Some p) = show_value x row (value_at row.ports x)

@@ -20,6 +20,7 @@ is_due_at time m w = time % (m.period / w) == 0
 abbrev pub due_in_mode : Row → ModeDeclaration → List ActiveTask
 due_in_mode row m = flat_map (λ (i : TaskInvocation). filter (λ (a : ActiveTask). same_name a.task i.task && is_due_at row.mode_time m i.frequency) row.active) m.invocations
 
+-- the active tasks that are due in the row's mode of this program
 abbrev pub due_in_program : Row → GiottoProgram → List ActiveTask
 due_in_program row p = option_map_or (due_in_mode row) (mode_of p row.mode) []
 
@@ -27,6 +28,7 @@ due_in_program row p = option_map_or (due_in_mode row) (mode_of p row.mode) []
 abbrev pub due_tasks : Row → List ActiveTask
 due_tasks row = if is_running row then option_map_or (due_in_program row) row.program [] else []
 
+-- the names of the tasks that end at this instant
 abbrev pub names_due : Row → List Name
 names_due row = map (λ (a : ActiveTask). a.task) (due_tasks row)
 
@@ -34,6 +36,7 @@ names_due row = map (λ (a : ActiveTask). a.task) (due_tasks row)
 abbrev pub unfinished_tasks : (ActiveTask → Bool) → Row → List Name
 unfinished_tasks completed row = map (λ (a : ActiveTask). a.task) (filter (λ a. not (completed a)) (due_tasks row))
 
+-- what a trace records of a stop
 abbrev pub happening_of : StopReason → Happening
 happening_of asked = happening.Asked
 happening_of (overrun x) = happening.Overrun x
@@ -70,6 +73,7 @@ still_active ended active = filter (λ (a : ActiveTask). not (is_among ended a.t
 abbrev pub is_updated : ModeDeclaration → ℕ → ActuatorUpdate → Valuation → Bool
 is_updated m time u ports = is_due_at time m u.frequency && holds u.guard ports
 
+-- the ports behind one actuator update
 abbrev pub updated : ModeDeclaration → ℕ → ActuatorUpdate → Valuation → Valuation
 updated m time u ports = if is_updated m time u ports then with_value ports u.actuator (value_of u.value ports) else ports
 

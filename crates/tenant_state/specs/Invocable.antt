@@ -14,6 +14,7 @@ pub record IsInvocationOf (p : GiottoProgram) (i : TaskInvocation) (t : TaskDecl
   pub inputs : IsTrue (list_all (is_among (names_in (initial_ports p))) (own_ports t.name t.inputs))
   pub sound : IsSound (body_of t)
 
+-- the invocation's task is declared, and it is an invocation of that task
 abbrev pub IsInvocationOfSome : GiottoProgram → TaskInvocation → Option TaskDeclaration → Type 0
 IsInvocationOfSome p i None = ⊥
 IsInvocationOfSome p i (Some t) = IsInvocationOf p i t
@@ -26,5 +27,6 @@ pub record IsInvocable (p : GiottoProgram) (m : ModeDeclaration) (i : TaskInvoca
   pub arguments : AllByRecursion (AreSourcesOf (initial_shared p)) i.arguments
   pub task : IsInvocationOfSome p i (task_of p i.task)
 
+-- each invocation of the mode can happen
 abbrev pub AreInvocable : GiottoProgram → ModeDeclaration → Type 0
 AreInvocable p m = AllByRecursion (IsInvocable p m) m.invocations

@@ -2,6 +2,7 @@
 use Rattle.std.specs.Prelude.{ℕ, List}
 use Rattle.tenant_state.specs.Jobs.{JobValue}
 
+-- the jobs that wait to be computed, the oldest first
 pub record JobList : Type 0 where
   pub jobs : List JobValue
   -- how many more there is room for

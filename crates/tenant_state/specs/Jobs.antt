@@ -15,6 +15,7 @@ use Rattle.tenant_state.specs.Row.{ActiveTask, Row}
 abbrev pub job_of : ℕ → ActiveTask → JobId
 job_of t a = record { tenant = t; tick = a.release; task = a.task }
 
+-- whether two names of jobs are one: tenant, release and task are the same
 abbrev pub same_job : JobId → JobId → Bool
 same_job i j = i.tenant == j.tenant && i.tick == j.tick && same_name i.task j.task
 

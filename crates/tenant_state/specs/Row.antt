@@ -9,11 +9,13 @@ use Rattle.tenant_state.specs.declared.trace.Record.{Record}
 use Rattle.tenant_state.specs.declared.trace.Happening.{Happening}
 use Rattle.giotto_check.specs.Declarations.{mode_of}
 
+-- why a tenant was stopped
 pub data StopReason : Type 0 where
   asked : StopReason
   -- this task was due, and its computation not completed
   overrun : Name → StopReason
 
+-- what a tenant is doing
 pub data State : Type 0 where
   empty : State
   loaded : State
@@ -28,6 +30,7 @@ pub record ActiveTask : Type 0 where
   pub inputs : List ℤ
   pub states : List ℤ
 
+-- one tenant: its program, and what the program is at
 pub record Row : Type 0 where
   pub state : State
   pub program : Option GiottoProgram
@@ -46,6 +49,7 @@ pub record Row : Type 0 where
   -- the number of the next instant
   pub count : ℕ
 
+-- a tenant without a program, whose first instant has this number
 abbrev pub empty_row : ℕ → Row
 empty_row first_tick = record {
   state = empty;
@@ -61,12 +65,14 @@ empty_row first_tick = record {
   count = first_tick;
 }
 
+-- whether the state is that of a running program
 abbrev pub is_running_state : State → Bool
 is_running_state running = true
 is_running_state empty = false
 is_running_state loaded = false
 is_running_state (stopped reason) = false
 
+-- whether the tenant runs its program
 abbrev pub is_running : Row → Bool
 is_running row = is_running_state row.state
 
@@ -75,6 +81,7 @@ abbrev pub where_some : {A : Type 0} → (A → Row → Row) → Option A → Ro
 where_some step None row = row
 where_some step (Some x) row = step x row
 
+-- a step in the row's program; the row as it is where it has none
 abbrev pub in_program : (GiottoProgram → Row → Row) → Row → Row
 in_program step row = where_some step row.program row
 

@@ -18,6 +18,7 @@ use Rattle.tenant_state.specs.FirstHalf.{is_due_at}
 abbrev pub Readings : Type 0
 Readings = List (ℕ × ℤ)
 
+-- the value of a line, if the tenant has a reading of it
 abbrev pub reading_of : Readings → ℕ → Option ℤ
 reading_of [] k = None
 reading_of (r ∷ rs) k = if r.0 == k then Some r.1 else reading_of rs k
@@ -52,14 +53,16 @@ installed new row = in_program (λ old row.
 abbrev pub replaced_if_due : Row → Row
 replaced_if_due row = if row.mode_time == 0 then where_some installed row.waiting row else row
 
--- A sensor takes its reading: its line's value, or what is granted to it, or else its initial value.
+-- a sensor's reading: its line's value, or what is granted to it
 abbrev pub reading_from : Readings → Valuation → SensorDeclaration → Source → Option ℤ
 reading_from readings granted s (from_line k) = reading_of readings k
 reading_from readings granted s from_grant = value_at granted s.name
 
+-- what a sensor takes: its reading, or else its initial value
 abbrev pub reading_taken : Readings → Valuation → SensorDeclaration → ℤ
 reading_taken readings granted s = unwrap_or (reading_from readings granted s s.source) s.initial
 
+-- each sensor of the program takes its reading
 abbrev pub sensed : Readings → Valuation → GiottoProgram → Row → Row
 sensed readings granted p row = record row { ports = with_values row.ports (sensor_names p) (map (reading_taken readings granted) p.sensors) }
 
@@ -95,6 +98,7 @@ entered m s target row =
       ports = with_values row.ports (map (λ (d : Name × Expression). d.0) s.destinations) (map (λ (d : Name × Expression). value_of d.1 row.ports) s.destinations);
     })
 
+-- the first switch that is due and whose guard holds is taken, if there is one
 abbrev pub switched : GiottoProgram → ModeDeclaration → Row → Row
 switched p m row = where_some (λ s. where_some (entered m s) (mode_of p s.target)) (switch_taken m row) row
 
@@ -102,6 +106,7 @@ switched p m row = where_some (λ s. where_some (entered m s) (mode_of p s.targe
 abbrev pub is_invoked : ModeDeclaration → ℕ → TaskInvocation → Valuation → Bool
 is_invoked m time i ports = is_due_at time m i.frequency && holds i.guard ports
 
+-- the values of an invocation's arguments
 abbrev pub values_given : TaskInvocation → Valuation → List ℤ
 values_given i ports = map (λ e. value_of e ports) i.arguments
 
@@ -113,6 +118,7 @@ released n i ports t = record { task = t.name; release = n; inputs = values_give
 abbrev pub with_inputs : TaskInvocation → Valuation → TaskDeclaration → Valuation
 with_inputs i ports t = with_values ports (own_ports t.name t.inputs) (values_given i ports)
 
+-- the ports behind one invocation
 abbrev pub invoked : GiottoProgram → ModeDeclaration → ℕ → TaskInvocation → Valuation → Valuation
 invoked p m time i ports = if is_invoked m time i ports then option_map_or (with_inputs i ports) (task_of p i.task) ports else ports
 
@@ -127,6 +133,7 @@ all_released p m time n [] ports = []
 all_released p m time n (i ∷ is) ports =
     (if is_invoked m time i ports then option_to_list (option_map (released n i ports) (task_of p i.task)) else []) ++ all_released p m time n is (invoked p m time i ports)
 
+-- the mode's invocations: their ports are written, and their tasks become active
 abbrev pub invoked_in_mode : GiottoProgram → ModeDeclaration → Row → Row
 invoked_in_mode p m row = record row {
   ports = all_invoked p m row.mode_time m.invocations row.ports;
@@ -137,6 +144,7 @@ invoked_in_mode p m row = record row {
 abbrev pub moved_on : ModeDeclaration → Row → Row
 moved_on m row = record row { mode_time = (row.mode_time + 1) % m.period }
 
+-- the instant is counted
 abbrev pub counted : Row → Row
 counted row = record row { count = row.count + 1 }
 

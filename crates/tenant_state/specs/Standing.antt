@@ -11,14 +11,17 @@ use Rattle.tenant_state.specs.Commands.{Outcome}
 use Rattle.tenant_state.specs.Jobs.{JobValue, body_in, job_in, job_of, same_job}
 use Rattle.tenant_state.specs.Row.{ActiveTask, Row, empty_row}
 
+-- what a tenant's code keeps: a row without records, and marks
 pub record Standing : Type 0 where
   pub row : Row
   -- for each active task, whether its computation is completed
   pub completed : List Bool
 
+-- that of a tenant without a program, whose first instant has this number
 abbrev pub empty_standing : ℕ → Standing
 empty_standing first_tick = record { row = empty_row first_tick; completed = [] }
 
+-- the row but for its records, which the code doesn't keep
 abbrev pub without_records : Row → Row
 without_records row = record row { records = [] }
 
@@ -50,6 +53,7 @@ pub record RoomValue : Type 0 where
   pub places : ℕ
   pub bodies : List TaskBody
 
+-- room for the row's next instant: places for its active tasks and those released, and the bodies of these
 pub record IsRoomFor (row : Row) (room : RoomValue) : Type 0 where
   pub enough : length row.active + length room.bodies ≤ room.places
   pub same_bodies : room.bodies ≡ bodies_invoked row

@@ -15,21 +15,26 @@ use Rattle.tenant_ports.specs.PortTables.{PortTables, all_ports, ArePortsOf}
 use Rattle.tenant_state.specs.Row.{StopReason, overrun, State, empty, loaded, running, stopped, ActiveTask}
 use Rattle.tenant_state.specs.Standing.{Standing}
 
+-- why the code's tenant was stopped
 abbrev pub reason_of : Reason → StopReason
 reason_of (Overrun x) = overrun x
 
+-- the state that the code's state stands for
 abbrev pub state_of : code.State → State
 state_of states.Empty = empty
 state_of states.Loaded = loaded
 state_of states.Running = running
 state_of (states.Stopped r) = stopped (reason_of r)
 
+-- the active task that the code's stands for
 abbrev pub active_of : Active → ActiveTask
 active_of a = record { task = a.task; release = a.release; inputs = a.inputs; states = a.states }
 
+-- whether its result came
 abbrev pub is_completed : Active → Bool
 is_completed a = is_some a.result
 
+-- what a tenant's fields stand for
 abbrev pub standing_of : code.State → Option GiottoProgram → Name → ℕ → List Active → PortTables → ℕ → Standing
 standing_of state program mode time active ports count = record {
   row = record {
@@ -52,6 +57,7 @@ standing_of state program mode time active ports count = record {
 abbrev pub is_another : Active → Active → Bool
 is_another a b = not (same_name a.task b.task && nat_eq a.release b.release)
 
+-- no two of the active tasks are one release of one task
 abbrev pub all_different_releases : List Active → Bool
 all_different_releases [] = true
 all_different_releases (a ∷ rest) = list_all (is_another a) rest && all_different_releases rest
@@ -68,6 +74,7 @@ pub record IsActiveAs (a : Active) (t : TaskDeclaration) : Type 0 where
   pub states_fit : length a.states ≡ length t.states
   pub result_fits : IfSome a.result (IsResultOf a t)
 
+-- an active task that is declared, and as it is declared
 abbrev pub IsActiveAsSome : Active → Option TaskDeclaration → Type 0
 IsActiveAsSome a None = ⊥
 IsActiveAsSome a (Some t) = IsActiveAs a t
@@ -81,6 +88,7 @@ abbrev pub IsTenantOf : Option GiottoProgram → List Active → PortTables → 
 IsTenantOf None active ports count = active ≡ []
 IsTenantOf (Some p) active ports count = ArePortsOf p ports × AllByRecursion (IsActiveIn p count) active
 
+-- what is known of a tenant at any time: its mode time is small, its releases differ, and its ports and active tasks are its program's
 pub record IsTenant (program : Option GiottoProgram) (time : ℕ) (active : List Active) (ports : PortTables) (count : ℕ) : Type 0 where
   pub short_time : time < 2 ^ 32
   pub different : all_different_releases active ≡ true

@@ -74,7 +74,11 @@ impl Tenant {
     ///
     /// # Errors
     /// Want of memory.
-    pub fn add_outstanding(&self, tenant: TenantId, names: &mut Vec<JobId>) -> Result<(), AllocError>
+    pub fn add_outstanding(
+        &self,
+        tenant: TenantId,
+        names: &mut Vec<JobId>,
+    ) -> Result<(), AllocError>
         ensures { OnOk result (names.new.items ≡ names.old.items ++ map (job_of tenant) (outstanding_tasks self.now)) }
     {
         add_names(tenant, &self.active, names)
