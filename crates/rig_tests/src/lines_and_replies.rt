@@ -1,13 +1,12 @@
 //! The calls that take memory succeed, with the values that the documents name.
 
-use giotto_read::name_bytes::is_name;
 use giotto_tasks::names::Name;
 use std::test::Fail;
 use tenant_lines::command_lines::{LineFault, command_of};
 use tenant_lines::commands::Command;
 use tenant_lines::replies::{Budget, Refusal, Reply, print_reply};
 use tenant_lines::texts::Text;
-use tenant_lines::words::{value_of_word, values_of_words};
+use tenant_lines::words::values_of_words;
 
 #[test]
 fn texts_of_replies(rt: HostRuntime) -> Result<(), Fail> {
@@ -97,36 +96,6 @@ fn lines_without_command(rt: HostRuntime) {
     ] {
         let command = command_of(rt.alloc(), line);
         assert!(rt; matches!(command, Err(LineFault::BadCommand)), "at {line}");
-    }
-}
-
-#[test]
-fn names_and_values(rt: HostRuntime) {
-    for (word, is) in [
-        ("_a9", true),
-        ("Z", true),
-        ("9a", false),
-        ("a-b", false),
-        ("", false),
-    ] {
-        assert_eq!(rt; is_name(word.as_bytes()), is, "at {word}");
-    }
-    for (word, value) in [
-        ("-0", Some(0)),
-        ("-007", Some(-7)),
-        ("0000000000000000000000000000005", Some(5)),
-        ("9223372036854775807", Some(i64::MAX)),
-        ("-9223372036854775808", Some(i64::MIN)),
-        ("9223372036854775808", None),
-        ("-9223372036854775809", None),
-        ("+5", None),
-        ("-", None),
-        ("--5", None),
-        ("-+5", None),
-        ("5x", None),
-        ("", None),
-    ] {
-        assert_eq!(rt; value_of_word(word), value, "at {word}");
     }
 }
 

@@ -1,3 +1,4 @@
 pub mod CommandLines
 pub mod ValueLemmas
 pub mod WordLemmas
+pub mod WordRows
