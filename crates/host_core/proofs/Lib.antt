@@ -2,6 +2,7 @@ pub mod Alone
 pub mod AloneAlong
 pub mod EqualTenants
 pub mod FirstRun
+pub mod FromABase
 pub mod Histories
 pub mod HostLoops
 pub mod HostSteps

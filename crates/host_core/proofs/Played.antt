@@ -56,20 +56,20 @@ module _ (j : JobId) where
       jobs : List JobValue
       jobs = map (job_in p t) (filter (λ (a : ActiveTask). eqb a.release n) xs)
 
-      Found : Type 0
-      Found = (t ≡ j.tenant) × (list_any (λ (a : ActiveTask). same_job (job_of j.tenant a) j) (x ∷ xs) ≡ true)
+      IsThere : Type 0
+      IsThere = (t ≡ j.tenant) × (list_any (λ (a : ActiveTask). same_job (job_of j.tenant a) j) (x ∷ xs) ≡ true)
 
-      behind : (t ≡ j.tenant) × (list_any (λ (a : ActiveTask). same_job (job_of j.tenant a) j) xs ≡ true) → Found
+      behind : (t ≡ j.tenant) × (list_any (λ (a : ActiveTask). same_job (job_of j.tenant a) j) xs ≡ true) → IsThere
       behind rest = (rest.0, ap (λ b. same_job (job_of j.tenant x) j || b) rest.1 ∙ or_true (same_job (job_of j.tenant x) j))
 
-      here : same_job (job_of t x) j ≡ true → Found
+      here : same_job (job_of t x) j ≡ true → IsThere
       here h =
           let same : t ≡ j.tenant = ap (λ (k : JobId). k.tenant) (same_job_is (job_of t x) j h) in
           (same, ap (λ b. b || list_any (λ (a : ActiveTask). same_job (job_of j.tenant a) j) xs) (ap (λ k. same_job (job_of k x) j) (sym same) ∙ h))
 
       by : (b : Bool) → list_any is_it (map (job_in p t) (cond b (x ∷ filter (λ (a : ActiveTask). eqb a.release n) xs) (filter (λ (a : ActiveTask). eqb a.release n) xs))) ≡ true
-          → (list_any is_it jobs ≡ true → (t ≡ j.tenant) × (list_any (λ (a : ActiveTask). same_job (job_of j.tenant a) j) xs ≡ true)) → Found
-      by true f rest = either (same_job (job_of t x) j) (list_any is_it jobs) Found f here (λ h. behind (rest h))
+          → (list_any is_it jobs ≡ true → (t ≡ j.tenant) × (list_any (λ (a : ActiveTask). same_job (job_of j.tenant a) j) xs ≡ true)) → IsThere
+      by true f rest = either (same_job (job_of t x) j) (list_any is_it jobs) IsThere f here (λ h. behind (rest h))
       by false f rest = behind (rest f)
 
   sound_at : (t n : ℕ) (row : Row) → list_any is_it (released_at t n row) ≡ true → (t ≡ j.tenant) × (is_active row j ≡ true)

@@ -10,6 +10,7 @@ use Rattle.host_core.specs.Setting.{Setting}
 use Rattle.tenant_state.specs.Jobs.{JobValue, job_of, released_at}
 use Rattle.tenant_state.specs.Standing.{Standing, empty_standing, StandsFor, outstanding_tasks, awaited_job}
 
+-- the host as its code has it
 pub record HostStanding : Type 0 where
   pub config : Config
   -- by their places in the roster
@@ -48,5 +49,6 @@ released_from n from tenants = flat_map (λ (place : ℕ × Standing). released_
 abbrev pub outstanding_from : ℕ → List Standing → List JobId
 outstanding_from from tenants = flat_map (λ (place : ℕ × Standing). map (job_of place.0) (outstanding_tasks place.1)) (enumerate_from from tenants)
 
+-- those of the whole host
 abbrev pub outstanding_jobs : HostStanding → List JobId
 outstanding_jobs host = outstanding_from 0 host.tenants
