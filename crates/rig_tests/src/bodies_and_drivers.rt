@@ -2,7 +2,7 @@
 
 ghost use Rattle.std.specs.Prelude.{◌≡◌, ◌≤◌, [], ◌∷◌, codes, length, IfOk};
 ghost use Rattle.giotto_tasks.specs.Sound.{IsSound};
-ghost use Rattle.giotto_tasks.specs.Syntax.{unary, binary};
+ghost use Rattle.giotto_tasks.specs.Syntax.{binary};
 ghost use Rattle.giotto_tasks.specs.Trees.{expression_of, block_of};
 
 use giotto_tasks::bodies::{Body, Expr, Stmt};
@@ -28,13 +28,6 @@ fn named(text: &str) -> Name
     }
 }
 
-fn negated(alloc: Global, n: i64) -> Result<Expr, AllocError>
-    ensures { IfOk result (λ e. expression_of e ≡ unary UnaryOperator.Negate (expression_of (Expr.Number n))) }
-{
-    let number = Box::new(alloc, Expr::Number(n))?;
-    Ok(Expr::Unary(UnaryOperator::Negate, number))
-}
-
 fn operation(alloc: Global, o: BinaryOperator, a: Expr, b: Expr) -> Result<Expr, AllocError>
     ensures { IfOk result (λ e. expression_of e ≡ binary o (expression_of a) (expression_of b)) }
 {
@@ -56,16 +49,6 @@ fn with_block(alloc: Global, block: Vec<Stmt>) -> Result<Body, AllocError>
 }
 
 // o := i + 1;
-fn add_one(alloc: Global) -> Result<Stmt, AllocError> {
-    let sum = operation(
-        alloc,
-        BinaryOperator::Add,
-        Expr::Port(named("i")),
-        Expr::Number(1),
-    )?;
-    Ok(Stmt::Assign(named("o"), sum))
-}
-
 fn plus_one(alloc: Global) -> Result<Body, AllocError>
     ensures { IfOk result (λ b. IsSound b × (length b.inputs ≡ 1) × (length b.states ≡ 0)) }
 {
@@ -76,41 +59,6 @@ fn plus_one(alloc: Global) -> Result<Body, AllocError>
         Expr::Number(1),
     )?;
     with_block(alloc, vec![in alloc; Stmt::Assign(named("o"), sum)]?)
-}
-
-// p := MAX + 1; q := ((-MAX) - 1) / (-1); r := 1 / 0;
-fn extremes(alloc: Global) -> Result<Body, AllocError>
-    ensures { IfOk result (λ b. IsSound b × (length b.inputs ≡ 0) × (length b.states ≡ 0)) }
-{
-    let p = operation(
-        alloc,
-        BinaryOperator::Add,
-        Expr::Number(i64::MAX),
-        Expr::Number(1),
-    )?;
-    let least = operation(
-        alloc,
-        BinaryOperator::Subtract,
-        negated(alloc, i64::MAX)?,
-        Expr::Number(1),
-    )?;
-    let q = operation(alloc, BinaryOperator::Divide, least, negated(alloc, 1)?)?;
-    let r = operation(
-        alloc,
-        BinaryOperator::Divide,
-        Expr::Number(1),
-        Expr::Number(0),
-    )?;
-    Ok(Body {
-        inputs: List::from_vec(Vec::new(alloc)),
-        outputs: List::from_vec(vec![in alloc; named("p"), named("q"), named("r")]?),
-        states: List::from_vec(Vec::new(alloc)),
-        block: vec![in alloc;
-            Stmt::Assign(named("p"), p),
-            Stmt::Assign(named("q"), q),
-            Stmt::Assign(named("r"), r),
-        ]?,
-    })
 }
 
 fn counted<L: Ledger>(body: &Body, inputs: &Values, blank: Blank) -> Values
@@ -143,17 +91,7 @@ fn adds_one(rt: HostRuntime) -> Result<(), Fail> {
     let mut greatest = Values::new();
     greatest.push(i64::MAX);
     assert_eq!(rt; outputs(&body, &greatest).as_slice(), [i64::MAX].as_slice());
-    Ok(())
-}
-
-#[test]
-fn stays_in_range(rt: HostRuntime) -> Result<(), Fail> {
-    let body = extremes(rt.alloc())?;
-    assert_eq!(rt;
-        outputs(&body, &Values::new()).as_slice(),
-        [i64::MAX, i64::MAX, 0].as_slice()
-    );
-    assert_eq!(rt; cost(&body), 9);
+    assert_eq!(rt; cost(&body), 2);
     Ok(())
 }
 
@@ -164,49 +102,6 @@ fn divides_towards_zero(rt: HostRuntime) {
     assert_eq!(rt; BinaryOperator::Divide.apply(i64::MIN, -1), i64::MAX);
     assert_eq!(rt; BinaryOperator::Remainder.apply(i64::MIN, -1), 0);
     assert_eq!(rt; UnaryOperator::Negate.apply(i64::MIN), i64::MAX);
-}
-
-// The cost of a body of these statements.
-fn cost_of(alloc: Global, block: Vec<Stmt>) -> Result<u64, AllocError> {
-    let body = with_block(alloc, block)?;
-    Ok(cost(&body))
-}
-
-fn repeated(alloc: Global, turns: u64, s: Stmt) -> Result<Stmt, AllocError> {
-    let block = vec![in alloc; s]?;
-    Ok(Stmt::Repeat(turns, block))
-}
-
-// repeat 3333 { o := i + 1; }
-fn many_turns(alloc: Global) -> Result<Stmt, AllocError> {
-    let s = add_one(alloc)?;
-    repeated(alloc, 3333, s)
-}
-
-#[test]
-fn counts_each_turn(rt: HostRuntime) -> Result<(), Fail> {
-    let s = many_turns(rt.alloc())?;
-    let block = vec![in rt.alloc(); s]?;
-    assert_eq!(rt; cost_of(rt.alloc(), block)?, 10_000);
-    Ok(())
-}
-
-#[test]
-fn counts_each_statement(rt: HostRuntime) -> Result<(), Fail> {
-    let s = many_turns(rt.alloc())?;
-    let last = Stmt::Assign(named("o"), Expr::Port(named("i")));
-    let block = vec![in rt.alloc(); s, last]?;
-    assert_eq!(rt; cost_of(rt.alloc(), block)?, 10_001);
-    Ok(())
-}
-
-#[test]
-fn cost_saturates(rt: HostRuntime) -> Result<(), Fail> {
-    let inner = Stmt::Repeat(9223372036854775807, Vec::new(rt.alloc()));
-    let outer = repeated(rt.alloc(), 9223372036854775807, inner)?;
-    let block = vec![in rt.alloc(); outer]?;
-    assert_eq!(rt; cost_of(rt.alloc(), block)?, u64::MAX);
-    Ok(())
 }
 
 #[test]
@@ -227,7 +122,7 @@ fn drives_from_sources(rt: HostRuntime) -> Result<(), Fail> {
 fn compares_bodies(rt: HostRuntime) -> Result<(), Fail> {
     let body = plus_one(rt.alloc())?;
     assert!(rt; body.is_same(&plus_one(rt.alloc())?));
-    assert!(rt; !body.is_same(&extremes(rt.alloc())?));
+    assert!(rt; !body.is_same(&with_block(rt.alloc(), Vec::new(rt.alloc()))?));
     Ok(())
 }
 

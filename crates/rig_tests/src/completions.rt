@@ -8,7 +8,7 @@ use std::test::Fail;
 use tenant_lines::commands::Command;
 use tenant_lines::replies::Reply;
 use tenant_lines::texts::Text;
-use tenant_state::jobs::run_job;
+use tenant_state::jobs::{Done, Jobs, run_job};
 
 // This tenant of the host runs the adder.
 fn run_adder(alloc: Global, host: &mut Host, tenant: TenantId) -> Result<(), Fail> {
@@ -33,14 +33,19 @@ fn adding(alloc: Global) -> Result<Host, Fail> {
     Ok(host)
 }
 
+// The jobs of the first instant of a new host in which both tenants run the adder.
+fn first_jobs(alloc: Global) -> Result<Jobs, Fail> {
+    let mut host = adding(alloc)?;
+    run_adder(alloc, &mut host, 1)?;
+    let jobs = host.tick(&[5]).ok().ok_or("an instant")?;
+    Ok(jobs)
+}
+
 #[test]
 fn jobs_in_the_order_of_the_roster(rt: HostRuntime) -> Result<(), Fail> {
-    let mut host = adding(rt.alloc())?;
-    run_adder(rt.alloc(), &mut host, 1)?;
-    let mut jobs = host.tick(&[5]).ok().ok_or("an instant")?;
+    let mut jobs = first_jobs(rt.alloc())?;
     assert_eq!(rt; jobs.len(), 2);
     for tenant in [0, 1] {
-        assert!(rt; !jobs.is_empty());
         let done = run_job(jobs.take().ok_or("a job")?);
         assert_eq!(rt; done.id().tenant, tenant);
         assert_eq!(rt; done.outputs().as_slice(), [6].as_slice());
@@ -49,18 +54,28 @@ fn jobs_in_the_order_of_the_roster(rt: HostRuntime) -> Result<(), Fail> {
     Ok(())
 }
 
+// The result of the first job that an instant with this reading releases.
+fn first_result(host: &mut Host, reading: i64) -> Result<Done, Fail> {
+    let mut jobs = host.tick(&[reading]).ok().ok_or("an instant")?;
+    let job = jobs.take().ok_or("a job")?;
+    Ok(run_job(job))
+}
+
+// The same result of a new host.
+fn foreign_result(alloc: Global, reading: i64) -> Result<Done, Fail> {
+    let mut host = adding(alloc)?;
+    first_result(&mut host, reading)
+}
+
 #[test]
 fn completion_of_another_host_is_late(rt: HostRuntime) -> Result<(), Fail> {
-    let mut first = adding(rt.alloc())?;
-    let mut second = adding(rt.alloc())?;
-    let mut own = first.tick(&[5]).ok().ok_or("an instant")?;
-    let mut other = second.tick(&[6]).ok().ok_or("an instant")?;
-    let other = run_job(other.take().ok_or("a job")?);
-    assert_eq!(rt; first.done(other), Counted::Late);
-    assert_eq!(rt; first.outstanding(), 1);
-    let own = run_job(own.take().ok_or("a job")?);
-    assert_eq!(rt; first.done(own), Counted::Counted);
-    assert_eq!(rt; first.outstanding(), 0);
+    let foreign = foreign_result(rt.alloc(), 6)?;
+    let mut host = adding(rt.alloc())?;
+    let own = first_result(&mut host, 5)?;
+    assert_eq!(rt; host.done(foreign), Counted::Late);
+    assert_eq!(rt; host.outstanding(), 1);
+    assert_eq!(rt; host.done(own), Counted::Counted);
+    assert_eq!(rt; host.outstanding(), 0);
     Ok(())
 }
 
