@@ -8,8 +8,6 @@ mod completions;
 #[cfg(test)]
 mod examples;
 #[cfg(test)]
-mod initial_ports;
-#[cfg(test)]
 mod lines_and_replies;
 #[cfg(test)]
 mod lines_of_readers;

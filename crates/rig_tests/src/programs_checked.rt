@@ -1,9 +1,8 @@
-//! Programs that are checked: well-formed ones, the first rule that a wrong one breaks, and tasks and modes by name.
+//! Programs that are checked: well-formed ones, and the first rule that a wrong one breaks.
 
 use crate::examples::ADDER;
-use giotto_check::{CheckFault, check, find_mode, find_task, laws};
+use giotto_check::{CheckFault, check, laws};
 use giotto_read::reading::read;
-use giotto_tasks::names::Name;
 use std::alloc::Global;
 use std::test::Fail;
 
@@ -92,23 +91,5 @@ fn names_the_first_broken_rule(rt: HostRuntime) -> Result<(), Fail> {
         let fault = fault_of(rt.alloc(), text)?;
         assert_eq!(rt; fault, Some(CheckFault::Rule(rule)), "at {text}");
     }
-    Ok(())
-}
-
-#[test]
-fn finds_tasks_and_modes(rt: HostRuntime) -> Result<(), Fail> {
-    let program = read(rt.alloc(), ADDER)?;
-    laws::read_without_switches();
-    let checked = check(rt.alloc(), program)
-        .ok()
-        .ok_or("a well-formed program")?;
-    let task = Name::new("T").ok_or("a name of one byte")?;
-    let mode = Name::new("m").ok_or("a name of one byte")?;
-    let found = find_task(checked.program(), &task).ok_or("the task")?;
-    assert_eq!(rt; found.name.as_str(), "T");
-    let found = find_mode(checked.program(), &mode).ok_or("the mode")?;
-    assert_eq!(rt; found.period, 2);
-    assert!(rt; find_task(checked.program(), &mode).is_none());
-    assert!(rt; find_mode(checked.program(), &task).is_none());
     Ok(())
 }

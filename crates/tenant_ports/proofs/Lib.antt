@@ -1,2 +1,3 @@
 pub mod PortLemmas
 pub mod PortNames
+pub mod PortRows
