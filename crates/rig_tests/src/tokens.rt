@@ -33,20 +33,3 @@ fn says_where_no_token_begins(rt: HostRuntime) {
         assert_eq!(rt; fault, Some(ReadFault::Syntax(offset)), "at {text}");
     }
 }
-
-#[test]
-fn takes_each_token_as_long_as_possible(rt: HostRuntime) -> Result<(), Fail> {
-    let cases = [
-        ("", 0),
-        (" \t\r\n", 0),
-        ("1do", 2),
-        ("a<=b<c==-1", 8),
-        ("a:=b", 3),
-        ("9223372036854775808", 1),
-    ];
-    for (text, count) in cases {
-        let found = tokens(rt.alloc(), text.as_bytes())?;
-        assert_eq!(rt; found.len(), count, "at {text}");
-    }
-    Ok(())
-}
