@@ -1,4 +1,4 @@
--- When a program is well-formed: eleven rules, each a test, read in their order.
+-- When a program is well-formed: eleven rules, each a test, read in their order. Each is read for programs that keep those before it.
 use Rattle.std.specs.Prelude.{ℕ, ◌+◌, Bool, ◌&&◌, if◌then◌else◌, List, [], ◌∷◌, Option, Some, None}
 use Rattle.std.specs.List.{list_all}
 use Rattle.giotto_tasks.specs.Names.{is_among}

@@ -33,6 +33,7 @@ module _ (setting : Setting) where
   is_legal [] = true
   is_legal (e ∷ past) = may_follow past e && is_legal past
 
-  -- a completion counts if its task is active with its release, and no completion of it came before
+  -- A completion counts if its task is active with its release, and no completion of it came before. In a legal list that says that none counted before, since a task that is active now was active ever since its release.
+  -- An event has the job's name alone: its body, inputs and states are compared with those of `awaited_in`.
   abbrev pub counts : List Event → JobId → Bool
   counts past j = is_active (row_of setting past j.tenant) j && not (has_completion setting past j)

@@ -27,6 +27,6 @@ no_budgets = record { reads = []; writes = []; bytes = 0; ports = 0; tasks = 0; 
 abbrev pub budgets_at : Config → ℕ → Budgets
 budgets_at config t = option_map_or (λ (tenant : TenantConfig). tenant.budgets) (slice_get config.tenants t) no_budgets
 
--- a line is one of a tenant's lines
+-- whether line k is among these lines, a tenant's `reads` or `writes`
 abbrev pub may_use : List ℕ → ℕ → Bool
 may_use lines k = list_any (nat_eq k) lines

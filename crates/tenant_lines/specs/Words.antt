@@ -8,7 +8,7 @@ use Rattle.giotto_read.specs.Bytes.{is_digit}
 abbrev pub is_blank_of_line : ℕ → Bool
 is_blank_of_line c = c == 32 || c == 9 || c == 13
 
--- the byte at the front of the first of these texts
+-- the byte at the front of the first of these texts; where there is none, a text of this byte alone
 abbrev pub joined_to_first : ℕ → List (List ℕ) → List (List ℕ)
 joined_to_first c [] = (c ∷ []) ∷ []
 joined_to_first c (w ∷ ws) = (c ∷ w) ∷ ws

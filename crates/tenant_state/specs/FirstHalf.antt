@@ -98,7 +98,7 @@ completed_in_mode p m row =
       records = with_happenings row.count (outputs_happened p (due_tasks row) ++ updates_happened m row.mode_time m.updates written) row.records;
     }
 
--- the first half, by the due tasks that were not completed, in the mode's text order: the first of them is what a stop names
+-- the first half, by the due tasks that were not completed, in the mode's text order: if there is one, the tenant is stopped, and the first is named; else the due tasks end and the due actuators are updated
 abbrev pub first_half_with : List Name → Row → Row
 first_half_with (x ∷ xs) row = stopped_with (overrun x) row
 first_half_with [] row = if is_running row then in_mode completed_in_mode row else row
