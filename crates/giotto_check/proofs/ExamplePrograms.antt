@@ -1,12 +1,16 @@
 -- The programs of the examples, beside the adder.
-use Rattle.std.proofs.Common.{pos, [], ◌∷◌, map, Some, None}
-use Rattle.std.specs.Prelude.{codes, if◌then◌else◌}
+use Rattle.std.proofs.Common.{◌≡◌, ℕ, pos, List, [], ◌∷◌, map, Some, None, refl}
+use Rattle.std.specs.Prelude.{codes, Ok, if◌then◌else◌}
 use Rattle.giotto_tasks.specs.Names.{same_name}
 use Rattle.giotto_tasks.specs.Syntax.{number, port, binary, assign, finished, step}
 use Rattle.giotto_tasks.specs.declared.operators.BinaryOperator.TheVariants.{Add, Greater}
-use Rattle.giotto_read.specs.Program.{from_line, ModeDeclaration, GiottoProgram}
+use Rattle.giotto_text.specs.Parsing.{parsed}
+use Rattle.giotto_text.specs.Program.{from_line, ModeDeclaration, GiottoProgram}
 
--- sensor s := 0 line 0; output o := 0; task T(i) output o { o := i + 1; } mode m period 6 { exitfreq 3 if s > 4 do n; taskfreq 2 do T(s); } mode n period 9 { taskfreq 3 do T(s); } start m;
+abbrev pub switcher_text : List ℕ
+switcher_text =
+    codes "sensor s := 0 line 0; output o := 0; task T(i) output o { o := i + 1; } mode m period 6 { exitfreq 3 if s > 4 do n; taskfreq 2 do T(s); } mode n period 9 { taskfreq 3 do T(s); } start m;"
+
 abbrev pub switcher : GiottoProgram
 switcher = record {
   sensors = record { name = codes "s"; initial = pos 0; source = from_line 0 } ∷ [];
@@ -36,6 +40,9 @@ switcher = record {
       } ∷ [];
   start = codes "m";
 }
+
+pub switcher_parsed : parsed switcher_text ≡ Ok switcher
+switcher_parsed = refl
 
 -- actuator a := 50; actuator b := 7; mode k period 1 { } start k;
 abbrev pub two_constants : GiottoProgram

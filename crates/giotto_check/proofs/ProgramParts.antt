@@ -2,9 +2,9 @@
 use Rattle.std.proofs.Common.{◌≡◌, List}
 use Rattle.std.specs.Arc.{arc_value}
 use Rattle.std.proofs.lemmas.Slice.Zip.{firsts-zip}
-use Rattle.giotto_read.specs.Program.{TaskDeclaration, ModeDeclaration, GiottoProgram, names_of}
-use Rattle.giotto_read.specs.ProgramTrees.{task_of}
-use Rattle.giotto_read.specs.declared.programs.Task.{Task}
+use Rattle.giotto_text.specs.Program.{TaskDeclaration, ModeDeclaration, GiottoProgram, names_of}
+use Rattle.giotto_text.specs.ProgramTrees.{task_of}
+use Rattle.giotto_text.specs.declared.programs.Task.{Task}
 
 abbrev pub with_tasks : GiottoProgram → List TaskDeclaration → GiottoProgram
 with_tasks p ts = record { sensors = p.sensors; actuators = p.actuators; outputs = p.outputs; tasks = ts; modes = p.modes; start = p.start }

@@ -1,7 +1,7 @@
 -- The rules of well-formedness on the example programs.
 use Rattle.std.proofs.Common.{◌≡◌, refl, Some, None}
 use Rattle.giotto_check.specs.Rules.{first_broken_rule}
-use Rattle.giotto_read.proofs.Adder.{adder}
+use Rattle.giotto_text.proofs.Adder.{adder}
 use Rattle.giotto_check.proofs.ExamplePrograms.{switcher, two_constants, broken_switcher}
 
 pub adder_is_well_formed : first_broken_rule adder ≡ None

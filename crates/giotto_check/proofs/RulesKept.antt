@@ -1,6 +1,6 @@
 -- A program breaks no rule where it keeps each, and only there.
 use Rattle.std.proofs.Common.{◌≡◌, ℕ, Bool, true, false, cond, Option, Some, None, refl}
-use Rattle.giotto_read.specs.Program.{GiottoProgram}
+use Rattle.giotto_text.specs.Program.{GiottoProgram}
 use Rattle.giotto_check.specs.KeepsRules.{KeepsRules}
 use Rattle.giotto_check.specs.Rules.{declares_once, uses_right_kinds, bodies_use_own_ports, frequencies_divide, invokes_once, tasks_share_no_output, updates_once, arguments_fit, drivers_read_mode_ports, switches_keep_periods, starts_in_a_mode, first_broken_rule}
 

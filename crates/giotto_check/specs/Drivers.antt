@@ -3,7 +3,7 @@ use Rattle.std.specs.Prelude.{Bool, ◌&&◌, List, [], ◌++◌, Option, Some, 
 use Rattle.std.specs.List.{list_all}
 use Rattle.giotto_tasks.specs.declared.names.Name.{Name}
 use Rattle.giotto_tasks.specs.Sound.{all_different}
-use Rattle.giotto_read.specs.Program.{ModeSwitch, ModeDeclaration, GiottoProgram}
+use Rattle.giotto_text.specs.Program.{ModeSwitch, ModeDeclaration, GiottoProgram}
 use Rattle.giotto_check.specs.Declarations.{sensor_names, mode_of, mode_ports, destinations_of}
 use Rattle.giotto_check.specs.Names.{are_among}
 use Rattle.giotto_check.specs.Reads.{names_in_update, names_in_switch, names_in_invocation}

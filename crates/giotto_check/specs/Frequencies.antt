@@ -1,7 +1,7 @@
 -- Periods and frequencies.
 use Rattle.std.specs.Prelude.{ℕ, ◌%◌, nat_le, ◌==◌, Bool, ◌&&◌}
 use Rattle.std.specs.List.{list_all}
-use Rattle.giotto_read.specs.Program.{ActuatorUpdate, ModeSwitch, TaskInvocation, ModeDeclaration}
+use Rattle.giotto_text.specs.Program.{ActuatorUpdate, ModeSwitch, TaskInvocation, ModeDeclaration}
 
 -- a frequency is at least 1, and divides the period
 abbrev pub divides : ℕ → ℕ → Bool

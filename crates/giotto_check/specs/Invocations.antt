@@ -1,6 +1,6 @@
 -- Whether an invocation gives its task what it takes.
 use Rattle.std.specs.Prelude.{Bool, false, length, ◌==◌, Option, Some, None}
-use Rattle.giotto_read.specs.Program.{TaskDeclaration, TaskInvocation, GiottoProgram}
+use Rattle.giotto_text.specs.Program.{TaskDeclaration, TaskInvocation, GiottoProgram}
 use Rattle.giotto_check.specs.Declarations.{task_of}
 
 -- as many arguments as a task has inputs, where there is such a task

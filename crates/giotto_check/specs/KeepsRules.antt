@@ -1,6 +1,6 @@
 -- A program that keeps each of the eleven rules.
 use Rattle.std.specs.Prelude.{◌≡◌, true}
-use Rattle.giotto_read.specs.Program.{GiottoProgram}
+use Rattle.giotto_text.specs.Program.{GiottoProgram}
 use Rattle.giotto_check.specs.Rules.{declares_once, uses_right_kinds, bodies_use_own_ports, frequencies_divide, invokes_once, tasks_share_no_output, updates_once, arguments_fit, drivers_read_mode_ports, switches_keep_periods, starts_in_a_mode}
 
 -- The program passes the test of each rule.

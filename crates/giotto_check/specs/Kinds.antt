@@ -3,7 +3,7 @@ use Rattle.std.specs.Prelude.{Bool, ◌&&◌, List}
 use Rattle.std.specs.List.{list_all}
 use Rattle.giotto_tasks.specs.declared.names.Name.{Name}
 use Rattle.giotto_tasks.specs.Names.{is_among}
-use Rattle.giotto_read.specs.Program.{TaskDeclaration, ActuatorUpdate, ModeSwitch, TaskInvocation, ModeDeclaration, GiottoProgram}
+use Rattle.giotto_text.specs.Program.{TaskDeclaration, ActuatorUpdate, ModeSwitch, TaskInvocation, ModeDeclaration, GiottoProgram}
 use Rattle.giotto_check.specs.Declarations.{actuator_names, output_names, task_names, mode_names, driver_ports, destinations_of}
 use Rattle.giotto_check.specs.Names.{are_among}
 use Rattle.giotto_check.specs.Reads.{names_in_update, names_in_switch, names_in_invocation}

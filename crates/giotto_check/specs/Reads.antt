@@ -3,7 +3,7 @@ use Rattle.std.specs.Prelude.{Option, Some, None, List, [], ◌++◌}
 use Rattle.std.specs.List.{flat_map}
 use Rattle.giotto_tasks.specs.declared.names.Name.{Name}
 use Rattle.giotto_tasks.specs.Syntax.{Expression}
-use Rattle.giotto_read.specs.Program.{ActuatorUpdate, ModeSwitch, TaskInvocation}
+use Rattle.giotto_text.specs.Program.{ActuatorUpdate, ModeSwitch, TaskInvocation}
 use Rattle.giotto_check.specs.Declarations.{names_read}
 
 -- an absent guard reads nothing

@@ -3,7 +3,7 @@ use Rattle.std.specs.Prelude.{ℕ, ◌+◌, Bool, ◌&&◌, if◌then◌else◌,
 use Rattle.std.specs.List.{list_all}
 use Rattle.giotto_tasks.specs.Names.{is_among}
 use Rattle.giotto_tasks.specs.Sound.{all_different}
-use Rattle.giotto_read.specs.Program.{ModeDeclaration, GiottoProgram, body_of}
+use Rattle.giotto_text.specs.Program.{ModeDeclaration, GiottoProgram, body_of}
 use Rattle.giotto_check.specs.Declarations.{declared_names, mode_names, invoked_tasks, updated_actuators, mode_ports, lines_written}
 use Rattle.giotto_check.specs.Names.{all_different_numbers}
 use Rattle.giotto_check.specs.TaskPorts.{declares_own, uses_own_ports}

@@ -2,7 +2,7 @@
 use Rattle.std.specs.Prelude.{ℕ, ◌/◌, ◌%◌, ◌==◌, Bool, false, ◌||◌, Option, Some, None}
 use Rattle.std.specs.List.{list_all}
 use Rattle.giotto_tasks.specs.declared.names.Name.{Name}
-use Rattle.giotto_read.specs.Program.{ModeSwitch, TaskInvocation, ModeDeclaration, GiottoProgram}
+use Rattle.giotto_text.specs.Program.{ModeSwitch, TaskInvocation, ModeDeclaration, GiottoProgram}
 use Rattle.giotto_check.specs.Declarations.{mode_of, period_of_task}
 
 -- a task has a period in a mode, and it is this one

@@ -1,14 +1,14 @@
 //! What a program declares, as lists of names.
 
 ghost use Rattle.std.specs.Prelude.{◌≡◌, IfOk};
-ghost use Rattle.giotto_read.specs.ProgramTrees.{mode_of, switch_of};
+ghost use Rattle.giotto_text.specs.ProgramTrees.{mode_of, switch_of};
 ghost use Rattle.giotto_check.specs.Declarations as declared;
 
 use crate::find_task;
 use crate::names::push_names;
-use giotto_read::programs::{Mode, Program, Switch};
 use giotto_tasks::bodies::Body;
 use giotto_tasks::names::Name;
+use giotto_text::programs::{Mode, Program, Switch};
 use std::alloc::{AllocError, Global};
 
 pub(crate) fn sensor_names(alloc: Global, program: &Program) -> Result<Vec<Name>, AllocError>

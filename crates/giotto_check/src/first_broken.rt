@@ -6,7 +6,7 @@ ghost use Rattle.giotto_check.specs.Rules.{first_broken_rule};
 use crate::rules::{
     bodies, declared_once, drivers, frequencies, invocations, kinds, start, switches, updates,
 };
-use giotto_read::programs::Program;
+use giotto_text::programs::Program;
 use std::alloc::{AllocError, Global};
 
 /// The first rule that the program breaks, 1 to 11, or `None` where it is well-formed.

@@ -2,11 +2,10 @@
 //!
 //! The functions do nothing: each contract is a law.
 
-ghost use Rattle.std.specs.Prelude.{◌≡◌, ◌↔◌, ℕ, List, None, Ok};
-ghost use Rattle.std.specs.List.{AllByRecursion};
-ghost use Rattle.giotto_read.specs.Program.{GiottoProgram};
-ghost use Rattle.giotto_read.specs.Reading.{Reads};
-ghost use Rattle.giotto_check.specs.Checked.{HasNoSwitches};
+ghost use Rattle.std.specs.Prelude.{◌≡◌, ◌↔◌, ℕ, List, None, Ok, IsTrue};
+ghost use Rattle.giotto_text.specs.Parsing.{parsed};
+ghost use Rattle.giotto_text.specs.Program.{GiottoProgram};
+ghost use Rattle.giotto_text.specs.Reading.{has_small_tasks};
 ghost use Rattle.giotto_check.specs.KeepsRules.{KeepsRules};
 ghost use Rattle.giotto_check.specs.Rules.{first_broken_rule};
 
@@ -15,10 +14,7 @@ pub fn rules_kept()
     ensures { (p : GiottoProgram) → (first_broken_rule p ≡ None) ↔ KeepsRules p }
 {}
 
-/// The modes of a program that was read have no switches: today's grammar writes none.
-pub fn read_without_switches()
-    ensures { (text : List ℕ) (p : GiottoProgram) → Reads text (Ok p)
-        → AllByRecursion HasNoSwitches p.modes }
-{
-    giotto_read::laws::canonical();
-}
+/// The tasks of a program that was read are small: each has at most 16 inputs, outputs and states.
+pub fn read_with_small_tasks()
+    ensures { (text : List ℕ) (p : GiottoProgram) → parsed text ≡ Ok p → IsTrue (has_small_tasks p) }
+{}

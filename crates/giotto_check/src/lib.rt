@@ -10,11 +10,10 @@
 //! them in `src/rules/`; `proofs/RuleExamples.antt` computes them on examples. [`laws`] says what follows from them.
 #![tactic(auto)]
 
-ghost use Rattle.std.specs.Prelude.{◌≡◌, ℕ, Some, None, Err, IfOk, IfSome};
-ghost use Rattle.giotto_read.specs.ProgramTrees.{mode_of, task_of};
-ghost use Rattle.giotto_read.specs.Reading.{HasSmallTasks};
-ghost use Rattle.std.specs.List.{AllByRecursion};
-ghost use Rattle.giotto_check.specs.Checked.{HasNoSwitches, IsChecked};
+ghost use Rattle.std.specs.Prelude.{◌≡◌, ℕ, Some, None, Err, IfOk, IfSome, IsTrue};
+ghost use Rattle.giotto_text.specs.ProgramTrees.{mode_of, task_of};
+ghost use Rattle.giotto_text.specs.Reading.{has_small_tasks};
+ghost use Rattle.giotto_check.specs.Checked.{IsChecked};
 ghost use Rattle.giotto_check.specs.Declarations as declared;
 ghost use Rattle.giotto_check.specs.KeepsRules.{KeepsRules};
 ghost use Rattle.giotto_check.specs.Rules.{first_broken_rule};
@@ -27,10 +26,11 @@ mod names;
 mod reads;
 mod rules;
 
-use giotto_read::programs::{Mode, Program, Task};
 use giotto_tasks::names::Name;
+use giotto_text::programs::{Mode, Program, Task};
 use std::alloc::Global;
 use std::marker::Model;
+use thiserror::Error;
 
 /// A well-formed program.
 #[derive(Drop)]
@@ -39,8 +39,8 @@ pub struct Checked {
 }
 
 impl Model for Checked {
-    ghost use Rattle.giotto_read.specs.Program.{GiottoProgram};
-    ghost use Rattle.giotto_read.specs.ProgramCodes.{program_code};
+    ghost use Rattle.giotto_text.specs.Program.{GiottoProgram};
+    ghost use Rattle.giotto_text.specs.ProgramCodes.{program_code};
     ghost use Rattle.giotto_check.specs.Checked.{IsChecked};
 
     ghost Value = { GiottoProgram };
@@ -53,11 +53,13 @@ impl Model for Checked {
 }
 
 /// Why a program is refused.
-#[derive(Clone, Copy, Debug, PartialEq, Eq)]
+#[derive(Clone, Copy, Debug, PartialEq, Eq, Error)]
 pub enum CheckFault {
     /// The program breaks this rule, the first that it breaks: 1 to 11.
+    #[error("the program breaks rule {0}")]
     Rule(usize),
     /// Want of memory.
+    #[error("no memory for the check of the program")]
     Memory,
 }
 
@@ -72,13 +74,12 @@ impl Checked {
     }
 }
 
-/// Checks a program of tasks with at most 16 inputs, outputs and states each, and of modes without switches.
+/// Checks a program of tasks with at most 16 inputs, outputs and states each.
 ///
 /// # Errors
 /// `Rule` with the first rule that the program breaks, and `Memory` where there is want of memory.
 pub fn check(alloc: Global, program: Program) -> Result<Checked, CheckFault>
-    requires small { HasSmallTasks program }
-    requires no_switches { AllByRecursion HasNoSwitches program.modes }
+    requires small { IsTrue (has_small_tasks program) }
     ensures checked { IfOk result (λ c. c ≡ program) }
     ensures rule { (n : ℕ) → result ≡ Err (CheckFault.Rule n) → first_broken_rule program ≡ Some n }
 {

@@ -7,15 +7,15 @@ ghost use Rattle.giotto_tasks.specs.Sound as sound;
 ghost use Rattle.giotto_tasks.specs.Syntax.{Expression};
 ghost use Rattle.giotto_tasks.specs.Trees.{expression_of};
 ghost use Rattle.giotto_tasks.specs.declared.names.Name.{Name};
-ghost use Rattle.giotto_read.specs.ProgramTrees.{guard_of, update_of, switch_of, invocation_of, destination_of};
+ghost use Rattle.giotto_text.specs.ProgramTrees.{guard_of, update_of, switch_of, invocation_of, destination_of};
 ghost use Rattle.giotto_check.specs.Declarations.{names_read, destinations_of};
 ghost use Rattle.giotto_check.specs.Names.{are_among};
 ghost use Rattle.giotto_check.specs.Reads.{names_in_guard, names_in_update, names_in_switch, names_in_invocation};
 
 use crate::names::is_among;
-use giotto_read::programs::{Destination, Invocation, Switch, Update};
 use giotto_tasks::bodies::Expr;
 use giotto_tasks::names::Name;
+use giotto_text::programs::{Destination, Invocation, Switch, Update};
 
 /// Whether an expression reads these names alone.
 pub(crate) fn reads_only(names: &[Name], e: &Expr) -> bool

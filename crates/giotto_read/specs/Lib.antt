@@ -1,13 +1,2 @@
-pub mod Bytes
-pub mod Canonical
-pub mod Grammar
-pub mod Program
-pub mod ProgramCodes
-pub mod ProgramTrees
-pub mod Progress
-pub mod ReaderForms
-pub mod Reading
-pub mod Sound
-pub mod Spelling
-pub mod Tokens
-pub mod Writable
+pub mod Doing
+pub mod Printing

@@ -1,17 +1,18 @@
 //! Reads a program from its tokens: one function for each line of the grammar, from left to right, with one token of
 //! lookahead.
 
-ghost use Rattle.std.specs.Prelude.{◌≡◌, ℕ, pos, neg_ℤ, List, ◌≤◌, ◌^◌, ◌<◌, ◌↔◌, length, IsTrue, IfSome, IfNone, IfOk, IfErr};
+ghost use Rattle.std.specs.Prelude.{◌≡◌, ℕ, pos, neg_ℤ, List, ◌≤◌, ◌^◌, ◌<◌, ◌↔◌, length, IsTrue, IfSome, IfNone, IfOk};
 ghost use Rattle.std.specs.Bool.{OnTrue, OnFalse};
 
 mod declarations;
 mod expressions;
 mod modes;
+mod statements;
 mod tasks;
 
-use crate::programs::Program;
-use crate::tokens::{Keyword, PlacedToken, Symbol, Token};
 use giotto_tasks::names::Name;
+use giotto_text::programs::Program;
+use giotto_text::tokens::{Keyword, PlacedToken, Symbol, Token};
 use std::alloc::{AllocError, AllocFailed, Global};
 
 /// Why a reader stopped where it stands.
@@ -69,13 +70,14 @@ impl<'a> Reader<'a> {
 }
 
 impl Reader<'_> {
-    ghost use Rattle.giotto_read.specs.Progress.{Accepts, ComesNext, Halts, IsRead, ReadsAs, end_mark, mark, offset_at};
-    ghost use Rattle.giotto_read.specs.ReaderForms.{a_name, an_int, a_size, an_initial, a_program, a_start};
-    ghost use Rattle.giotto_read.specs.declared.tokens.Token.TheVariants as token;
+    ghost use Rattle.giotto_read.specs.Doing.{ComesNext, Does, Takes, offset_at};
+    ghost use Rattle.giotto_text.specs.Parsing.{end_mark, number_in, read_initial, read_int, read_name, read_one, read_program, read_start, read_token};
+    ghost use Rattle.giotto_text.specs.declared.tokens.Symbol.{Symbol};
+    ghost use Rattle.giotto_text.specs.declared.tokens.Token.TheVariants as token;
 
     // program = {sensor} {actuator} {output} {task} {mode} "start" NAME ";"
     pub(crate) fn program(&mut self) -> Result<Program, Stop>
-        ensures { ReadsAs (λ p. p) a_program self.old result self.new }
+        ensures { Does (λ p. p) read_program self.old result self.new }
     {
         let sensors = self.sensors()?;
         let actuators = self.actuators()?;
@@ -112,7 +114,7 @@ impl Reader<'_> {
 
     // "start" NAME ";"
     fn start(&mut self) -> Result<Name, Stop>
-        ensures { ReadsAs (λ x. x) a_start self.old result self.new }
+        ensures { Does (λ x. x) read_start self.old result self.new }
     {
         self.keyword(Keyword::Start)?;
         let name = self.name()?;
@@ -171,9 +173,19 @@ impl Reader<'_> {
         }
     }
 
+    fn next_symbol(&self) -> Option<Symbol>
+        ensures some { IfSome result (λ s. ComesNext self.now (token.Symbol s)) }
+        ensures none { IfNone result ((s : Symbol) → ¬ ComesNext self.now (token.Symbol s)) }
+    {
+        match self.next() {
+            Some(Token::Symbol(symbol)) => Some(*symbol),
+            _ => None,
+        }
+    }
+
     // Takes the symbol if it comes next.
     fn accept(&mut self, symbol: Symbol) -> bool
-        ensures { Accepts (token.Symbol symbol) self.old result self.new }
+        ensures { Takes (token.Symbol symbol) self.old result self.new }
     {
         if !self.next_is(symbol) {
             return false;
@@ -184,7 +196,7 @@ impl Reader<'_> {
 
     // Takes the keyword if it comes next.
     fn accept_keyword(&mut self, keyword: Keyword) -> bool
-        ensures { Accepts (token.Keyword keyword) self.old result self.new }
+        ensures { Takes (token.Keyword keyword) self.old result self.new }
     {
         if !self.next_is_keyword(keyword) {
             return false;
@@ -194,7 +206,7 @@ impl Reader<'_> {
     }
 
     fn symbol(&mut self, symbol: Symbol) -> Result<(), Stop>
-        ensures { ReadsAs (λ _. tt) (mark (token.Symbol symbol)) self.old result self.new }
+        ensures { Does (λ _. tt) (read_token (token.Symbol symbol)) self.old result self.new }
     {
         if !self.accept(symbol) {
             return Err(Stop::Unexpected);
@@ -203,7 +215,7 @@ impl Reader<'_> {
     }
 
     fn keyword(&mut self, keyword: Keyword) -> Result<(), Stop>
-        ensures { ReadsAs (λ _. tt) (mark (token.Keyword keyword)) self.old result self.new }
+        ensures { Does (λ _. tt) (read_token (token.Keyword keyword)) self.old result self.new }
     {
         if !self.accept_keyword(keyword) {
             return Err(Stop::Unexpected);
@@ -212,7 +224,7 @@ impl Reader<'_> {
     }
 
     fn name(&mut self) -> Result<Name, Stop>
-        ensures { ReadsAs (λ x. x) a_name self.old result self.new }
+        ensures { Does (λ x. x) read_name self.old result self.new }
     {
         let Some(name) = self.next_name() else {
             return Err(Stop::Unexpected);
@@ -224,7 +236,7 @@ impl Reader<'_> {
 
     // INT: at most 9223372036854775807
     fn int(&mut self) -> Result<u64, Stop>
-        ensures read { ReadsAs (λ n. n) an_int self.old result self.new }
+        ensures read { Does (λ n. n) read_int self.old result self.new }
         ensures small { IfOk result (λ n. n < 2 ^ 63) }
     {
         let Some(number) = self.next_number() else {
@@ -239,8 +251,8 @@ impl Reader<'_> {
 
     // INT behind "-": at most 9223372036854775808
     fn size(&mut self) -> Result<u64, Stop>
-        ensures read { IfOk result (λ n. (small : n ≤ 2 ^ 63) × IsRead a_size self.old (n, small) self.new) }
-        ensures stopped { IfErr result (λ e. Halts a_size self.old e self.new) }
+        ensures read { Does (λ n. n) (read_one (number_in (2 ^ 63))) self.old result self.new }
+        ensures small { IfOk result (λ n. n ≤ 2 ^ 63) }
     {
         let Some(number) = self.next_number() else {
             return Err(Stop::Unexpected);
@@ -252,9 +264,9 @@ impl Reader<'_> {
         Ok(number)
     }
 
-    // init = ["-"] INT
+    // init = ["-"] INT, behind "-" up to 9223372036854775808
     fn initial(&mut self) -> Result<i64, Stop>
-        ensures { ReadsAs (λ z. z) an_initial self.old result self.new }
+        ensures { Does (λ z. z) read_initial self.old result self.new }
     {
         if self.accept(Symbol::Minus) {
             let size = self.size()?;

@@ -1,43 +1,47 @@
 //! Reads a program from a text.
 
-ghost use Rattle.std.specs.Prelude.{◌≡◌, ◌≢◌, ◌↔◌, length, map, IfOk, IsTrue, Ok, Err};
+ghost use Rattle.std.specs.Prelude.{◌≡◌, ◌≢◌, ◌≤◌, IfOk, Ok, Err};
 ghost use Rattle.std.specs.List.{list_all};
 ghost use Rattle.giotto_tasks.specs.Sound.{is_small};
-ghost use Rattle.giotto_read.specs.Program.{body_of};
-ghost use Rattle.giotto_read.specs.ProgramTrees.{task_of};
-ghost use Rattle.giotto_read.specs.Reading.{HasSmallTasks, Reads, ReadsTokens};
-ghost use Rattle.giotto_read.specs.declared.faults.ReadFault.{ReadFault};
+ghost use Rattle.giotto_text.specs.Nesting.{nests_too_deep, open_behind};
+ghost use Rattle.giotto_text.specs.Parsing.{parsed, read_all};
+ghost use Rattle.giotto_text.specs.Program.{body_of};
+ghost use Rattle.giotto_text.specs.ProgramTrees.{task_of};
+ghost use Rattle.giotto_text.specs.Reading.{has_small_tasks};
+ghost use Rattle.giotto_text.specs.Tokens.{bare};
+ghost use Rattle.giotto_text.specs.declared.faults.ReadFault.{ReadFault};
 
-use crate::faults::ReadFault;
-use crate::lexer;
-use crate::programs::{Program, Task};
 use crate::reader::{Reader, Stop};
-use crate::tokens::PlacedToken;
+use giotto_text::faults::ReadFault;
+use giotto_text::lexer;
+use giotto_text::programs::{Program, Task};
+use giotto_text::tokens::{PlacedToken, Symbol, Token};
 use std::alloc::Global;
 
 /// The program that a text spells.
 ///
-/// A text that spells none is refused with `Syntax` and an offset in bytes: that of the first byte at which no token
-/// begins, or else of the first token with which the tokens are no prefix of a program, or else the length of the text,
-/// blanks at its end included. A program with a task of more than 16 inputs or outputs is refused with `TooMany`, and
-/// want of memory is `Memory`.
+/// A text that spells none is refused, and the first reason in this order is named: `Syntax` with the offset in bytes of
+/// the first byte at which no token begins; `TooDeep` where more than 32 parentheses and braces are open at once;
+/// `Syntax` with the offset of the first token with which the tokens are no prefix of a program, or with the length of the
+/// text, blanks at its end included, where the tokens end too early; `TooMany` where a task has more than 16 inputs,
+/// outputs or states. Want of memory is `Memory`.
 pub fn read(alloc: Global, text: &str) -> Result<Program, ReadFault>
-    ensures found { IfOk result (λ p. Reads text.now (Ok p)) }
-    ensures fault { (f : ReadFault) → result ≡ Err f → f ≢ ReadFault.Memory → Reads text.now (Err f) }
+    ensures found { IfOk result (λ p. parsed text.now ≡ Ok p) }
+    ensures fault { (f : ReadFault) → result ≡ Err f → f ≢ ReadFault.Memory → parsed text.now ≡ Err f }
 {
     let tokens = lexer::tokens(alloc, text.as_bytes())?;
     read_tokens(alloc, &tokens, text.len())
 }
 
-/// The program that the tokens of a text spell, where `end` is the length of the text in bytes.
-///
-/// Tokens that spell none are refused with `Syntax` and the offset of the first token with which they are no prefix of a
-/// program, or else with `end`; a program with a task of more than 16 inputs or outputs with `TooMany`; and want of
-/// memory is `Memory`.
-pub fn read_tokens(alloc: Global, tokens: &[PlacedToken], end: usize) -> Result<Program, ReadFault>
-    ensures found { IfOk result (λ p. ReadsTokens (Ok tokens.now) end (Ok p)) }
-    ensures fault { (f : ReadFault) → result ≡ Err f → f ≢ ReadFault.Memory → ReadsTokens (Ok tokens.now) end (Err f) }
+// The program that the tokens of a text spell, where `end` is the length of the text in bytes. Nesting is counted first,
+// so that the reader, which recurses through what nests, takes little of the stack.
+fn read_tokens(alloc: Global, tokens: &[PlacedToken], end: usize) -> Result<Program, ReadFault>
+    ensures found { IfOk result (λ p. read_all end tokens.now ≡ Ok p) }
+    ensures fault { (f : ReadFault) → result ≡ Err f → f ≢ ReadFault.Memory → read_all end tokens.now ≡ Err f }
 {
+    if nests_too_deep(tokens) {
+        return Err(ReadFault::TooDeep);
+    }
     let mut reader = Reader::new(alloc, tokens);
     let program = match reader.program() {
         Ok(program) => program,
@@ -53,8 +57,34 @@ pub fn read_tokens(alloc: Global, tokens: &[PlacedToken], end: usize) -> Result<
     Ok(program)
 }
 
+// More than 32 parentheses and braces are open at once.
+fn nests_too_deep(tokens: &[PlacedToken]) -> bool
+    ensures { result ≡ nests_too_deep (bare tokens.now) }
+{
+    let mut depth = 0;
+    for placed in tokens {
+        depth = depth_behind(depth, &placed.token);
+        if depth > 32 {
+            return true;
+        }
+    }
+    false
+}
+
+// How many are open behind the token, where so many are open before it.
+fn depth_behind(depth: usize, token: &Token) -> usize
+    requires { depth ≤ 32 }
+    ensures { result ≡ open_behind depth token.now }
+{
+    match token {
+        Token::Symbol(Symbol::OpenParenthesis | Symbol::OpenBrace) => depth + 1,
+        Token::Symbol(Symbol::CloseParenthesis | Symbol::CloseBrace) => depth.saturating_sub(1),
+        _ => depth,
+    }
+}
+
 fn has_small_tasks(program: &Program) -> bool
-    ensures { IsTrue result ↔ HasSmallTasks program.now }
+    ensures { result ≡ has_small_tasks program.now }
 {
     are_small(program.tasks.as_slice())
 }

@@ -1,13 +1,13 @@
 -- The whole host, tenant by tenant: each row is that of the one-tenant machine over the tenant's own view.
-use Rattle.std.proofs.Common.{◌≡◌, ℕ, ◌<◌, ◌≢◌, ⊎_elim, Bool, true, false, cond, ◌&&◌, ◌||◌, eqb, List, [], ◌∷◌, length, filter, get_or, set, Option, Some, None, refl, sym, ap, ◌∙◌, length-set, arith}
-use Rattle.std.specs.List.{cons_option, list_any, filter_map, flat_map, AllByRecursion}
+use Rattle.std.proofs.Common.{◌≡◌, ℕ, ◌<◌, ◌≢◌, ⊎_elim, true, false, cond, ◌&&◌, eqb, List, [], ◌∷◌, length, filter, get_or, set, sym, ap, ◌∙◌, length-set, arith}
+use Rattle.std.specs.List.{AllByRecursion}
 use Rattle.std.specs.Option.{option_map_or}
 use Rattle.std.proofs.lemmas.Bool.{cases_eq}
 use Rattle.std.proofs.lemmas.Bool.Decides.{nat_tests}
 use Rattle.std.proofs.lemmas.List.{get_or-set_same, get_or-set_other}
 use Rattle.std.proofs.lemmas.Map.Views.{any-filter_same}
 use Rattle.giotto_tasks.specs.Names.{same_name}
-use Rattle.giotto_read.specs.Program.{TaskInvocation}
+use Rattle.giotto_text.specs.Program.{TaskInvocation}
 use Rattle.host_core.specs.declared.events.Event.{Event}
 use Rattle.host_core.specs.declared.events.Event.TheVariants.{Own}
 use Rattle.tenant_state.specs.declared.jobs.JobId.{JobId}
@@ -27,8 +27,7 @@ use Rattle.host_core.specs.Views.{after_command, readings_of, run_of, view_of, r
 use Rattle.tenant_state.proofs.ActiveTasks.{Keeps, kept_by_command}
 use Rattle.host_core.proofs.Histories.{own_row, releases}
 use Rattle.tenant_state.proofs.JobNames.{same_job_is, own_jobs_active}
-use Rattle.giotto_tasks.proofs.TestLemmas.{either, or_true}
-use Rattle.giotto_tasks.proofs.ListLemmas.{all_append, all_filter, all_flat, all_if, all_map, all_of, all_option, all_zip, any_of_filter, same_filter, same_filter_map}
+use Rattle.giotto_tasks.proofs.ListLemmas.{all_filter, all_flat, all_if, all_map, all_option, all_zip, any_of_filter}
 
 -- due tasks are active tasks
 pub all_due : (P : ActiveTask → Type 0) (row : Row) → AllByRecursion P row.active → AllByRecursion P (due_tasks row)
@@ -88,7 +87,7 @@ module _ (setting : Setting) where
       rows = set host.rows u new
 
       own_marks : (t : ℕ) → t < length setting.config.tenants → Keeps (IsMarked host past t) (next_tick setting past) (after_command setting t c (row_of setting past t)).row
-      own_marks t lt = kept_by_command (IsMarked host past t) (next_tick setting past) setting.reader (budgets_at setting.config t) c (row_of setting past t)
+      own_marks t lt = kept_by_command (IsMarked host past t) (next_tick setting past) (budgets_at setting.config t) c (row_of setting past t)
           (record { each = agrees.marks t lt; at = (releases setting base past t).at })
 
       same_row : (t : ℕ) → u ≡ t → t < length setting.config.tenants → (after_command setting u c (row_at host u)).row ≡ (after_command setting t c (row_of setting past t)).row

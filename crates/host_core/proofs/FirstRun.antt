@@ -9,7 +9,7 @@ use Rattle.tenant_lines.specs.declared.commands.Command.TheVariants.{Load, Start
 use Rattle.host_core.specs.Answers.{answers_of}
 use Rattle.host_core.specs.Legal.{is_legal}
 use Rattle.host_core.specs.Views.{view_of}
-use Rattle.giotto_read.proofs.Adder.{adder_text}
+use Rattle.giotto_text.proofs.Adder.{adder_text}
 use Rattle.host_core.proofs.Rig.{rig}
 
 -- lines, each with LF behind it

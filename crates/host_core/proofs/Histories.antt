@@ -62,7 +62,7 @@ module _ (setting : Setting) where
     releases (Own u c ∷ past) t =
         let k = releases past t in
         own_row (Keeps (IsEarly past) (next_tick setting past)) past c t (eqb u t)
-        (kept_by_command (IsEarly past) (next_tick setting past) setting.reader (budgets_at setting.config t) c (row_of setting past t) k) k
+        (kept_by_command (IsEarly past) (next_tick setting past) (budgets_at setting.config t) c (row_of setting past t) k) k
     releases (Done j ∷ past) t = releases past t
     releases (Tick frame ∷ past) t =
         let k = releases past t in

@@ -1,16 +1,14 @@
 -- One tenant more has gone through its step, in the loops over all tenants.
-use Rattle.std.proofs.Common.{◌≡◌, ℕ, suc, ◌+◌, ◌<◌, ◌≤◌, ◌≢◌, ⊎_elim, List, [], ◌∷◌, ◌++◌, ℤ, length, map, drop, get_or, set, take, refl, sym, ap, ◌∙◌, subst, length-set, arith}
+use Rattle.std.proofs.Common.{◌≡◌, ℕ, suc, ◌+◌, ◌<◌, ◌≤◌, ◌≢◌, ⊎_elim, List, [], ◌∷◌, ◌++◌, ℤ, length, map, get_or, set, take, refl, sym, ap, ◌∙◌, subst, length-set, arith}
 use Rattle.std.specs.List.{All}
 use Rattle.std.proofs.lemmas.Bool.{cases_eq}
 use Rattle.std.proofs.lemmas.List.{get_or-set_same, get_or-set_other, get_or_default, append-nil, append_assoc, take_more_set, length-take}
 use Rattle.std.proofs.lemmas.List.Sums.{sum_by-cons}
-use Rattle.std.proofs.Math.Seq.{take-append_seam}
 use Rattle.host_core.specs.HostStanding.{released_from, tenant_at}
 use Rattle.host_core.specs.Halves.{AreStepped, AreFirstHalves, AreSecondHalves, AreReady, no_room, places_of}
 use Rattle.rig_config.specs.declared.Config.{Config}
 use Rattle.tenant_state.specs.Jobs.{JobValue, released_at}
 use Rattle.tenant_state.specs.Standing.{Standing, empty_standing, RoomValue, IsRoomFor}
-use Rattle.giotto_tasks.proofs.ListLemmas.{whole_slice}
 
 pub stepped_none : (R : ℕ → Standing → Standing → Type 0) (xs : List Standing) → AreStepped R 0 xs xs
 stepped_none R xs = record { as_many = refl; stepped = λ t lt. absurd (omega arith); others = λ t le. refl }

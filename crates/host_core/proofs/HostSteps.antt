@@ -7,9 +7,8 @@ use Rattle.std.proofs.lemmas.Bool.{cases_eq, and_parts, false_from_ne_true}
 use Rattle.std.proofs.lemmas.List.{length-map, get_or-map, get_or_default, get_or-set_same, get_or-set_other}
 use Rattle.std.proofs.lemmas.List.FromFn.{length-enumerate_from, get_or-enumerate_from}
 use Rattle.std.proofs.lemmas.Map.Views.{any-filter_same}
-use Rattle.std.proofs.lemmas.Option.{slice_get_past, slice_get-get_or, slice_get_cases}
-use Rattle.std.proofs.Math.ListN.{get_or-eq_default}
-use Rattle.giotto_read.specs.Program.{GiottoProgram}
+use Rattle.std.proofs.lemmas.Option.{slice_get-get_or}
+use Rattle.giotto_text.specs.Program.{GiottoProgram}
 use Rattle.host_core.specs.declared.events.Event.TheVariants.{Own, Tick, Done}
 use Rattle.rig_config.specs.declared.Config.{Config}
 use Rattle.rig_config.specs.declared.TenantConfig.{TenantConfig}
@@ -20,8 +19,7 @@ use Rattle.host_core.specs.Host.{instant_of, with_rows, after_event}
 use Rattle.host_core.specs.HostState.{HostState, is_counted, row_at, awaits}
 use Rattle.host_core.specs.HostStanding.{HostStanding, tenant_at, Stands, awaited_in}
 use Rattle.host_core.specs.Setting.{Setting}
-use Rattle.tenant_state.specs.Commands.{IsTrueReader}
-use Rattle.tenant_state.specs.Commands.{Reader, commanded}
+use Rattle.tenant_state.specs.Commands.{commanded}
 use Rattle.tenant_lines.specs.declared.replies.Refusal.TheVariants.{Memory}
 use Rattle.tenant_lines.specs.declared.replies.Reply.{Reply}
 use Rattle.tenant_lines.specs.declared.replies.Reply.TheVariants.{Refused}
@@ -195,18 +193,18 @@ module _ (setting : Setting) where
 
   -- a tenant's own step, for the row that its place stands for
   pub own_outcome : (host : HostStanding) (state : HostState) (t : ℕ) (c : Command) (config d : TenantConfig) (before after : Standing) (reply : Reply)
-      → IsTrueReader setting.reader → Stands setting host state → t < length host.config.tenants
+      → Stands setting host state → t < length host.config.tenants
       → before ≡ get_or host.tenants t before → config ≡ get_or host.config.tenants t d
-      → ((reader : Reader) (row : Row) (completed : ActiveTask → Bool) → IsTrueReader reader → StandsFor before row completed
-      → reply ≢ Refused Memory → IsOutcome (commanded reader config.budgets c row) reply after completed)
+      → ((row : Row) (completed : ActiveTask → Bool) → StandsFor before row completed
+      → reply ≢ Refused Memory → IsOutcome (commanded config.budgets c row) reply after completed)
       → reply ≢ Refused Memory → IsOutcome (after_command setting t c (row_at state t)) reply after (λ a. is_counted state (job_of t a))
-  own_outcome host state t c config d before after reply true_reader stands within here here_config step given =
+  own_outcome host state t c config d before after reply stands within here here_config step given =
       let lt : t < length setting.config.tenants = subst (λ (k : Config). t < length k.tenants) stands.same_config within in
       let same : before ≡ tenant_at host.tenants t = here ∙ get_or_default host.tenants t before (empty_standing 0) (omega (arith, stands.as_many)) in
       let budgets : config.budgets ≡ budgets_at setting.config t =
       sym (budgets_here host.config t d within ∙ ap (λ (k : TenantConfig). k.budgets) (sym here_config)) ∙ ap (λ (k : Config). budgets_at k t) stands.same_config in
-      subst (λ b. IsOutcome (commanded setting.reader b c (row_at state t)) reply after (λ a. is_counted state (job_of t a))) budgets
-      (step setting.reader (row_at state t) (λ a. is_counted state (job_of t a)) true_reader
+      subst (λ b. IsOutcome (commanded b c (row_at state t)) reply after (λ a. is_counted state (job_of t a))) budgets
+      (step (row_at state t) (λ a. is_counted state (job_of t a))
       (subst (λ s. StandsFor s (row_at state t) (λ a. is_counted state (job_of t a))) (sym same) (stands.each t lt)) given)
 
 awaited_along : (f : ActiveTask → Bool) (xs : List ActiveTask)

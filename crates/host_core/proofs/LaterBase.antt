@@ -1,6 +1,6 @@
 -- What stands behind a legal list is a base again, and so is a new host.
-use Rattle.std.proofs.Common.{◌≡◌, ℕ, ◌<◌, ◌≤◌, ⊎_elim, Bool, true, false, cond, ◌&&◌, ◌||◌, List, [], ◌∷◌, length, map, filter, refl, sym, ap, ◌∙◌, subst, arith}
-use Rattle.std.specs.List.{list_any, enumerate_from, AllByRecursion}
+use Rattle.std.proofs.Common.{◌≡◌, ℕ, ◌<◌, ⊎_elim, Bool, true, false, cond, List, [], ◌∷◌, length, map, filter, refl, sym, ap, ◌∙◌, subst, arith}
+use Rattle.std.specs.List.{list_any, AllByRecursion}
 use Rattle.std.proofs.lemmas.Bool.{cases_lt, and_parts}
 use Rattle.std.proofs.lemmas.List.{length-map, get_or-map}
 use Rattle.std.proofs.Math.ListN.{get_or-eq_default}
@@ -14,7 +14,6 @@ use Rattle.host_core.specs.Host.{host_after}
 use Rattle.host_core.specs.HostState.{HostState, row_at, is_counted, awaits}
 use Rattle.host_core.specs.Legal.{next_tick, is_legal}
 use Rattle.host_core.specs.Setting.{Setting}
-use Rattle.host_core.specs.Views.{row_of}
 use Rattle.tenant_state.specs.Jobs.{same_job, is_active}
 use Rattle.tenant_state.specs.Row.{ActiveTask, Row, empty_row}
 use Rattle.host_core.proofs.Alone.{Agrees}

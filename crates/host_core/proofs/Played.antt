@@ -1,13 +1,13 @@
 -- One event more that is played: the texts, and the names of the jobs that were released.
-use Rattle.std.proofs.Common.{◌≡◌, ℕ, zero, suc, ◌+◌, ◌<◌, ◌≤◌, ◌≢◌, ◌⊎◌, inl, inr, ⊎_elim, Bool, true, false, cond, ◌&&◌, ◌||◌, eqb, ℤ, List, [], ◌∷◌, ◌++◌, length, map, filter, get_or, set, take, reverse, Option, Some, None, refl, sym, ap, ◌∙◌, subst, length-set, zero-add, arith}
+use Rattle.std.proofs.Common.{◌≡◌, ℕ, zero, suc, ◌+◌, ◌<◌, ◌≤◌, ◌≢◌, ◌⊎◌, inl, inr, ⊎_elim, Bool, true, false, cond, ◌&&◌, ◌||◌, eqb, ℤ, List, [], ◌∷◌, ◌++◌, length, map, filter, get_or, set, Option, Some, None, refl, sym, ap, ◌∙◌, subst, length-set, zero-add, arith}
 use Rattle.std.specs.Prelude.{nat_lt, ◌-◌, ◌^◌}
 use Rattle.std.specs.List.{list_any, All, AllByRecursion}
 use Rattle.std.specs.Option.{option_map_or}
 use Rattle.std.proofs.lemmas.Bool.{cases_eq, cases_lt, and_from, and_parts, eq-eqb}
 use Rattle.std.proofs.lemmas.Bool.Decides.{nat_tests}
-use Rattle.std.proofs.lemmas.List.{get_or-set_same, get_or-set_other, reverse-append, take_more}
+use Rattle.std.proofs.lemmas.List.{get_or-set_same, get_or-set_other}
 use Rattle.std.proofs.lemmas.List.Folds.{list_any-append}
-use Rattle.giotto_read.specs.Program.{GiottoProgram}
+use Rattle.giotto_text.specs.Program.{GiottoProgram}
 use Rattle.host_core.specs.declared.events.Event.{Event}
 use Rattle.host_core.specs.declared.events.Event.TheVariants.{Own, Tick, Done}
 use Rattle.rig_config.specs.declared.Config.{Config}
@@ -40,7 +40,7 @@ use Rattle.host_core.proofs.LaterBase.{new_is_base, new_row}
 use Rattle.host_core.proofs.NewHost.{new_stands}
 use Rattle.tenant_state.proofs.JobNames.{same_job_is}
 use Rattle.giotto_tasks.proofs.TestLemmas.{absorbed, either, or_true, same_answers}
-use Rattle.giotto_tasks.proofs.ListLemmas.{all_if_any, any_if_all, any_map, reverse_more}
+use Rattle.giotto_tasks.proofs.ListLemmas.{all_if_any, any_if_all, any_map}
 
 -- the jobs of one name among those that an instant released
 module _ (j : JobId) where
@@ -166,7 +166,7 @@ module _ (setting : Setting) (base : IsBase setting.config setting.base) where
   active_before past u c j =
       any_if_all (λ (a : ActiveTask). same_job (job_of j.tenant a) j) (was_released setting past j ≡ true) (row_of setting (Own u c ∷ past) j.tenant).active
       (own_row setting (λ (row : Row). AllByRecursion WasReleased row.active) past c j.tenant (eqb u j.tenant)
-      (kept_by_command WasReleased (next_tick setting past) setting.reader (budgets_at setting.config j.tenant) c (row_of setting past j.tenant)
+      (kept_by_command WasReleased (next_tick setting past) (budgets_at setting.config j.tenant) c (row_of setting past j.tenant)
       (record { each = before; at = (releases setting base past j.tenant).at })).each
       before)
     where

@@ -1,5 +1,5 @@
 -- Where a history begins.
-use Rattle.std.specs.Prelude.{◌≡◌, ◌<◌, ℕ, true, List, [], map, length}
+use Rattle.std.specs.Prelude.{◌≡◌, ◌<◌, ℕ, true, [], map, length}
 use Rattle.std.specs.List.{AllByRecursion}
 use Rattle.rig_config.specs.declared.Config.{Config}
 use Rattle.rig_config.specs.declared.TenantConfig.{TenantConfig}

@@ -4,12 +4,11 @@ use Rattle.std.specs.List.{enumerate_from}
 use Rattle.giotto_tasks.specs.declared.names.Name.{Name}
 use Rattle.host_core.specs.declared.events.Event.{Event}
 use Rattle.host_core.specs.declared.events.Event.TheVariants.{Own, Tick, Done}
-use Rattle.tenant_state.specs.declared.jobs.JobId.{JobId}
 use Rattle.host_core.specs.Grants.{granted_to}
 use Rattle.host_core.specs.HostState.{HostState, row_at, is_counted, awaits}
 use Rattle.tenant_state.specs.FirstHalf.{unfinished_tasks, first_half_of}
 use Rattle.tenant_state.specs.Jobs.{job_of, is_active}
-use Rattle.tenant_state.specs.Row.{ActiveTask, Row}
+use Rattle.tenant_state.specs.Row.{Row}
 use Rattle.host_core.specs.Setting.{Setting}
 use Rattle.host_core.specs.Views.{after_command, readings_of}
 use Rattle.tenant_state.specs.Instants.{LocalInstant, after_instant}

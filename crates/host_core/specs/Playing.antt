@@ -11,7 +11,6 @@ use Rattle.host_core.specs.Host.{host_after}
 use Rattle.host_core.specs.HostStanding.{HostStanding, Stands}
 use Rattle.host_core.specs.Legal.{may_follow, was_released, is_legal}
 use Rattle.host_core.specs.Setting.{Setting}
-use Rattle.tenant_state.specs.Commands.{IsTrueReader}
 use Rattle.tenant_state.specs.Jobs.{same_job}
 
 -- The host, each tenant's text and the names of the released jobs are those behind these events, the newest first.
@@ -26,7 +25,7 @@ pub record IsPlayed (setting : Setting) (past : List Event) (host : HostStanding
 -- one event more is played, where it may come
 abbrev pub IsPlayedOn : Event → HostStanding → List (List ℕ) → List JobId → HostStanding → List (List ℕ) → List JobId → Type 0
 IsPlayedOn e host texts released host_new texts_new released_new =
-    (setting : Setting) (past : List Event) → IsTrueReader setting.reader → may_follow setting past e ≡ true
+    (setting : Setting) (past : List Event) → may_follow setting past e ≡ true
     → IsPlayed setting past host texts released → IsPlayed setting (e ∷ past) host_new texts_new released_new
 
 -- a command's tenant is one of the host, and has a text

@@ -6,13 +6,11 @@ use Rattle.host_core.specs.Answers.{answers_of}
 use Rattle.host_core.specs.Base.{new_base}
 use Rattle.host_core.specs.Legal.{is_legal}
 use Rattle.host_core.specs.Setting.{Setting}
-use Rattle.tenant_state.specs.Commands.{IsTrueReader}
 
 -- the setting of a new host of this configuration, whose first instant is 0
 pub record IsSettingOf (config : Config) (setting : Setting) : Type 0 where
   pub same_config : setting.config ≡ config
   pub new : setting.base ≡ new_base config 0
-  pub true_reader : IsTrueReader setting.reader
 
 -- the events are legal, and each tenant's text, by its place, is what it is answered
 pub record AreAnswers (setting : Setting) (events : List Event) (texts : List (List ℕ)) : Type 0 where

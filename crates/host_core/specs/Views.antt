@@ -23,7 +23,7 @@ pub data LocalEvent : Type 0 where
 module _ (setting : Setting) where
   -- the step of a command of the tenant at place t: its row after it, and its reply
   abbrev pub after_command : ℕ → Command → Row → Outcome
-  after_command t c row = commanded setting.reader (budgets_at setting.config t) c row
+  after_command t c row = commanded (budgets_at setting.config t) c row
 
   -- the one-tenant machine: the row after the tenant's own events, from that of the base on
   abbrev pub run_of : ℕ → List LocalEvent → Row

@@ -7,7 +7,6 @@ ghost use Rattle.host_core.specs.Host.{after_event};
 ghost use Rattle.host_core.specs.HostState.{HostState, row_at, awaits};
 ghost use Rattle.host_core.specs.HostStanding.{Stands, new_host, awaited_in, released_from, outstanding_jobs};
 ghost use Rattle.host_core.specs.Setting.{Setting};
-ghost use Rattle.tenant_state.specs.Commands.{IsTrueReader};
 ghost use Rattle.tenant_state.specs.Row.{ActiveTask};
 ghost use Rattle.tenant_state.specs.Standing.{Standing};
 ghost use Rattle.host_core.specs.Views.{after_command};
@@ -26,15 +25,19 @@ use tenant_lines::replies::Reply;
 use tenant_state::jobs::{Done, Job, JobId, Jobs, run_job};
 use tenant_state::tenants::Tenant;
 use tenant_state::tenants::second_half::Room;
+use thiserror::Error;
 
 /// Why an instant is refused.
-#[derive(Clone, Copy, Debug, PartialEq, Eq)]
+#[derive(Clone, Copy, Debug, PartialEq, Eq, Error)]
 pub enum TickFault {
     /// The frame has not one value for each line.
+    #[error("the frame has not one value for each line")]
     BadFrame,
     /// The number of the next instant would be `u64::MAX`.
+    #[error("the clock has ended: there is no number for another instant")]
     ClockEnded,
     /// Want of memory.
+    #[error("no memory for the jobs of the instant")]
     Memory,
 }
 
@@ -60,7 +63,7 @@ impl Model for Host {
     ghost use Rattle.std.specs.Prelude.{◌≡◌, ℕ, length};
     ghost use Rattle.std.specs.List.{All};
     ghost use Rattle.std.specs.Coded.{codes};
-    ghost use Rattle.giotto_read.specs.ProgramCodes.{program_code};
+    ghost use Rattle.giotto_text.specs.ProgramCodes.{program_code};
     ghost use Rattle.host_core.specs.HostStanding.{HostStanding};
     ghost use Rattle.tenant_state.specs.Standing.{Standing};
 
@@ -99,9 +102,9 @@ impl Host {
         requires { tenant < length self.old.config.tenants }
         ensures memory { result ≡ Reply.Refused Refusal.Memory → self.new ≡ self.old }
         ensures config { self.new.config ≡ self.old.config }
-        ensures reply { (setting : Setting) (state : HostState) → IsTrueReader setting.reader → Stands setting self.old state
+        ensures reply { (setting : Setting) (state : HostState) → Stands setting self.old state
             → result ≢ Reply.Refused Refusal.Memory → result ≡ (after_command setting tenant command (row_at state tenant)).reply }
-        ensures step { (setting : Setting) (state : HostState) → IsTrueReader setting.reader → Stands setting self.old state
+        ensures step { (setting : Setting) (state : HostState) → Stands setting self.old state
             → result ≢ Reply.Refused Refusal.Memory → Stands setting self.new (after_event setting state (Event.Own tenant command)) }
     {
         let budgets = &self.config.tenants.as_slice()[tenant].budgets;

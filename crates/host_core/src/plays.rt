@@ -21,13 +21,16 @@ use tenant_lines::commands::Command;
 use tenant_lines::replies::{Refusal, Reply, print_reply};
 use tenant_lines::texts::Text;
 use tenant_state::jobs::{JobId, Jobs};
+use thiserror::Error;
 
 /// Why a list of events isn't played to its end.
-#[derive(Clone, Copy, Debug, PartialEq, Eq)]
+#[derive(Clone, Copy, Debug, PartialEq, Eq, Error)]
 pub enum PlayFault {
     /// The event at this place, counted from 0, can't come there. It is the first such.
+    #[error("the event at place {0}, counted from 0, can't come there")]
     Illegal(usize),
     /// Want of memory.
+    #[error("no memory for the answers")]
     Memory,
 }
 

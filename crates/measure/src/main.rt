@@ -3,8 +3,9 @@
 
 mod turns;
 
-use giotto_read::lexer::tokens;
+use giotto_read::printing::print;
 use giotto_read::reading::read;
+use giotto_text::lexer::tokens;
 use std::alloc::Global;
 use std::io;
 use std::io::Read;
@@ -14,7 +15,7 @@ fn main(rt: HostRuntime) -> anyhow::Result<ExitCode> {
     let words: Vec<String> = std::env::args(&rt)?.collect(rt.alloc())?;
     let [_, work, times] = words.as_slice() else {
         eprintln!(rt;
-            "usage: measure tokens|read TIMES < TEXT, measure evaluate TURNS or measure loop TURNS"
+            "usage: measure tokens|read|print TIMES < TEXT, measure evaluate TURNS or measure loop TURNS"
         )?;
         return Ok(ExitCode::from(2));
     };
@@ -22,6 +23,7 @@ fn main(rt: HostRuntime) -> anyhow::Result<ExitCode> {
     let done = match work.as_str() {
         "tokens" => tokens_many_times(rt.alloc(), rt.reader(), times)?,
         "read" => read_many_times(rt.alloc(), rt.reader(), times)?,
+        "print" => print_many_times(rt.alloc(), rt.reader(), times)?,
         "evaluate" => turns::evaluated(rt.alloc(), times)?,
         "loop" => turns::plain(times),
         _ => {
@@ -65,6 +67,25 @@ fn read_many_times<R: Read + Drop>(
             Ok(program) => found = found.saturating_add(program.tasks.as_slice().len() as i64),
             Err(_) => return Ok(-1),
         }
+    }
+    Ok(found)
+}
+
+// How many bytes the program of a reader's text is printed as, counted anew each time; -1 where the text spells none.
+fn print_many_times<R: Read + Drop>(
+    alloc: Global,
+    mut reader: R,
+    times: u64,
+) -> anyhow::Result<i64> {
+    let mut text = String::new(alloc);
+    reader.read_to_string(&mut text)?;
+    let Ok(program) = read(alloc, text.as_str()) else {
+        return Ok(-1);
+    };
+    let mut found = 0i64;
+    for _time in 0..times {
+        let printed = print(alloc, &program)?;
+        found = found.saturating_add(printed.len() as i64);
     }
     Ok(found)
 }

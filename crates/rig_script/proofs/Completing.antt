@@ -1,6 +1,6 @@
 -- Completing the outstanding jobs one after the other.
-use Rattle.std.proofs.Common.{◌≡◌, ℕ, ◌+◌, ◌<◌, true, ◌||◌, not, List, [], ◌∷◌, ◌++◌, length, map, get_or, take, reverse, refl, sym, ap, ◌∙◌, subst, arith}
-use Rattle.std.specs.List.{flat_map, filter, enumerate_from, AllByRecursion}
+use Rattle.std.proofs.Common.{◌≡◌, ℕ, ◌+◌, ◌<◌, true, ◌||◌, not, List, [], ◌∷◌, ◌++◌, length, map, get_or, take, reverse, sym, ap, ◌∙◌, subst}
+use Rattle.std.specs.List.{enumerate_from, AllByRecursion}
 use Rattle.std.proofs.lemmas.Bool.{and_from}
 use Rattle.std.proofs.lemmas.List.{reverse-append, map-append, take_more}
 use Rattle.host_core.specs.declared.events.Event.{Event}
@@ -61,5 +61,5 @@ module _ (setting : Setting) where
       (all_at (λ i. is_active (row_of setting past i.tenant) i ≡ true) jobs n j lt
       (subst (AllByRecursion (λ i. is_active (row_of setting past i.tenant) i ≡ true)) (sym (are ∙ names_are past first begin)) (outstanding_active past))) in
       let legal = and_from (was_released setting before j) (is_legal setting before) (released_later (reverse (map Done (take n jobs))) past j (released past j active)) h.legal in
-      let behind : IsHostAfter setting later (Done j ∷ before) = record { true_reader = h.true_reader; base = h.base; legal = legal; stands = step (host_after setting before) h.stands } in
+      let behind : IsHostAfter setting later (Done j ∷ before) = record { base = h.base; legal = legal; stands = step (host_after setting before) h.stands } in
       subst (IsHostAfter setting later) (sym (completed_more jobs n j past lt ∙ ap (λ i. Done i ∷ before) (sym here))) behind

@@ -5,7 +5,7 @@ use Rattle.std.specs.Char.{encode_utf8}
 use Rattle.std.specs.Fmt.{digits}
 use Rattle.std.specs.List.{flat_map}
 use Rattle.std.specs.Str.{chars, is_utf8}
-use Rattle.giotto_read.proofs.Adder.{adder_text}
+use Rattle.giotto_text.proofs.Adder.{adder_text}
 use Rattle.host_core.proofs.Rig.{rig}
 use Rattle.rig_script.specs.Script.{script_text_of}
 

@@ -1,5 +1,5 @@
 -- A script begins with a new host.
-use Rattle.std.proofs.Common.{◌≡◌, ℕ, List, [], ◌∷◌, ◌++◌, All, Option, Some, None, refl, sym, ap, ◌∙◌, subst, inr}
+use Rattle.std.proofs.Common.{◌≡◌, ℕ, List, [], ◌∷◌, ◌++◌, All, Option, Some, None, refl, sym, ap, subst, inr}
 use Rattle.std.specs.Prelude.{Result, Ok, Err, IfSome, IfErr, OnOk}
 use Rattle.host_core.specs.Base.{IsBase, new_base}
 use Rattle.host_core.specs.HostStanding.{HostStanding, Stands, new_host}
@@ -40,7 +40,6 @@ none_left (Ok x) new later (Some bytes) after left h = λ all. nothing_left late
 module _ (host : HostStanding) (config : Config) (is : host ≡ new_host config 0) where
   starts : (setting : Setting) → IsSettingOf config setting → IsHostAfter setting host []
   starts setting of = record {
-    true_reader = of.true_reader;
     base = subst (IsBase setting.config) (sym of.new) (subst (λ (c : Config). IsBase c (new_base config 0)) (sym of.same_config) (new_is_base config 0));
     legal = refl;
     stands =

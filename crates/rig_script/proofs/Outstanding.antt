@@ -1,6 +1,6 @@
 -- The jobs that the host's code awaits are those of the definitions, and completing them all leaves the host of the past with their completions.
 use Rattle.std.proofs.Common.{◌≡◌, ℕ, suc, ◌+◌, ◌<◌, Bool, true, false, not, cond, ◌&&◌, List, [], ◌∷◌, ◌++◌, length, get_or, map, refl, sym, ap, ◌∙◌, subst, arith, zero-add}
-use Rattle.std.specs.List.{flat_map, filter, enumerate_from, zip, AllByRecursion}
+use Rattle.std.specs.List.{flat_map, filter, enumerate_from, zip}
 use Rattle.std.proofs.lemmas.Bool.Decides.{nat_tests}
 use Rattle.host_core.specs.declared.events.Event.{Event}
 use Rattle.rig_config.specs.declared.TenantConfig.{TenantConfig}

@@ -84,7 +84,7 @@ module _ (setting : Setting) (past : List Event) (host later : HostStanding) (h 
       subst (λ (s : Step). IsStep s past r (IsHostAfter setting later)) (sym steps)
       (step_done step past r (IsHostAfter setting later) (reply_line name (text_of_reply reply)) given
       (ap (λ p. reply_line name (text_of_reply p)) (answered ∙ ap (λ w. (after_command setting t command w).reply) row))
-      (record { true_reader = h.true_reader; base = h.base; legal = and_from (is_tenant setting.config t) (is_legal setting past) is h.legal; stands = after }))
+      (record { base = h.base; legal = and_from (is_tenant setting.config t) (is_legal setting past) is h.legal; stands = after }))
 
   -- a line of no form
   pub operator_refused : (words : List (List ℕ)) → operator_line_of words ≡ None → later ≡ host → IfOk r (λ text. string_bytes text ≡ reply_line operator (codes "err bad-command"))
@@ -112,7 +112,7 @@ module _ (setting : Setting) (past : List Event) (host later : HostStanding) (h 
         let steps : operator_step setting past (codes "tick" ∷ words) ≡ step = rw (values, lines_fit, clock_fits) refl in
         subst (λ (s : Step). IsStep s past r (IsHostAfter setting later)) (sym steps)
         (step_done step past r (IsHostAfter setting later) (reply_line operator (codes "ok tick " ++ decimal n)) given (ap (λ k. reply_line operator (codes "ok tick " ++ decimal k)) next)
-        (record { true_reader = h.true_reader; base = h.base; legal = and_from (may_follow setting past (Tick frame)) (is_legal setting past) (and_from _ _ lines_fit clock_fits) h.legal; stands = after }))
+        (record { base = h.base; legal = and_from (may_follow setting past (Tick frame)) (is_legal setting past) (and_from _ _ lines_fit clock_fits) h.legal; stands = after }))
       where
         below : (n : ℕ) → n < 2 ^ 64 → (n ≡ 2 ^ 64 - 1 → ⊥) → n < 2 ^ 64 - 1
         below n lt other = omega (arith, lt, other)

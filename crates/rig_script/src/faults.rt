@@ -3,16 +3,22 @@
 ghost use Rattle.std.specs.Prelude.{◌≡◌};
 ghost use Rattle.rig_script.specs.Faults.{text_of_fault};
 
+use thiserror::Error;
+
 /// Why a script ended before its input did.
-#[derive(Clone, Copy, Debug, PartialEq, Eq)]
+#[derive(Clone, Copy, Debug, PartialEq, Eq, Error)]
 pub enum ScriptFault {
     /// A read failed, or there was want of memory for a line.
+    #[error("reading the input failed")]
     Read,
     /// A write failed.
+    #[error("writing a reply failed")]
     Write,
     /// The input had not ended after 1,048,576 reads.
+    #[error("the input had not ended after 1048576 reads")]
     Turns,
     /// Want of memory for a reply.
+    #[error("no memory for a reply")]
     Memory,
 }
 

@@ -16,6 +16,8 @@ mod plays;
 #[cfg(test)]
 mod programs_checked;
 #[cfg(test)]
+mod programs_printed;
+#[cfg(test)]
 mod programs_read;
 #[cfg(test)]
 mod roster;

@@ -8,7 +8,7 @@ use std::test::Fail;
 
 fn fault_of(alloc: Global, text: &str) -> Result<Option<CheckFault>, Fail> {
     let program = read(alloc, text)?;
-    laws::read_without_switches();
+    laws::read_with_small_tasks();
     Ok(check(alloc, program).err())
 }
 

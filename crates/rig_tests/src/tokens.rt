@@ -1,8 +1,8 @@
 //! The tokens of program texts.
 
 use crate::examples::ADDER;
-use giotto_read::faults::ReadFault;
-use giotto_read::lexer::tokens;
+use giotto_text::faults::ReadFault;
+use giotto_text::lexer::tokens;
 use std::test::Fail;
 
 #[test]

@@ -4,7 +4,7 @@ use Rattle.std.proofs.lemmas.Bool.Decides.{nat_tests}
 use Rattle.std.specs.Bool.{then_some}
 use Rattle.std.specs.Cmp.Lexicographic.{same_text}
 use Rattle.giotto_tasks.specs.Names.{same_name}
-use Rattle.giotto_read.specs.Bytes.{is_name}
+use Rattle.giotto_text.specs.Bytes.{is_name}
 use Rattle.giotto_tasks.proofs.NameLemmas.{same_name_is}
 use Rattle.tenant_lines.specs.declared.commands.Command.TheVariants.{Start, ShowPort}
 use Rattle.tenant_lines.specs.CommandLine.{command_of_words}

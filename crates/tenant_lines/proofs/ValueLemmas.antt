@@ -7,7 +7,7 @@ use Rattle.std.specs.List.{list_all}
 use Rattle.std.specs.Option.{option_map}
 use Rattle.std.specs.Result.{OkIff, result_ok}
 use Rattle.std.specs.Str.Parse.{digits_value, ParsesSigned}
-use Rattle.giotto_read.specs.Bytes.{is_digit}
+use Rattle.giotto_text.specs.Bytes.{is_digit}
 use Rattle.tenant_lines.specs.Words.{digits_as, value_of_word, values_of_words, words_of, first_word_of, behind_first_word}
 use Rattle.tenant_lines.proofs.WordLemmas.{words_first, words_none}
 

@@ -1,7 +1,7 @@
 -- Which words are names and values, computed from the definitions.
-use Rattle.std.proofs.Common.{◌≡◌, ◌^◌, ◌-◌, true, false, pos, neg_ℤ, List, [], ◌∷◌, Some, None, refl}
+use Rattle.std.proofs.Common.{◌≡◌, ◌^◌, ◌-◌, true, false, pos, neg_ℤ, [], ◌∷◌, Some, None, refl}
 use Rattle.std.specs.Prelude.{codes}
-use Rattle.giotto_read.specs.Bytes.{is_name}
+use Rattle.giotto_text.specs.Bytes.{is_name}
 use Rattle.tenant_lines.specs.Words.{value_of_word, words_of}
 
 pub underscore_first : is_name (codes "_a9") ≡ true

@@ -1,7 +1,7 @@
 -- The command that a line spells.
 use Rattle.std.specs.Prelude.{ℕ, if◌then◌else◌, List, [], ◌∷◌, drop, Option, Some, None, codes, ◌&&◌}
 use Rattle.giotto_tasks.specs.Names.{same_name}
-use Rattle.giotto_read.specs.Bytes.{is_name}
+use Rattle.giotto_text.specs.Bytes.{is_name}
 use Rattle.tenant_lines.specs.declared.commands.Command.{Command}
 use Rattle.tenant_lines.specs.declared.commands.Command.TheVariants.{Load, Start, ShowPort}
 use Rattle.tenant_lines.specs.Words.{words_of, first_word_of, behind_first_word}

@@ -2,7 +2,7 @@
 use Rattle.std.specs.Prelude.{ℕ, ◌-◌, ◌^◌, nat_le, Bool, not, ◌||◌, ◌==◌, if◌then◌else◌, ℤ, pos, neg_ℤ, List, [], ◌∷◌, drop, Option, Some, None}
 use Rattle.std.specs.List.{list_all, prefix_len, take_while}
 use Rattle.std.specs.Str.Parse.{digits_value}
-use Rattle.giotto_read.specs.Bytes.{is_digit}
+use Rattle.giotto_text.specs.Bytes.{is_digit}
 
 -- space, tab or CR: a line has no LF
 abbrev pub is_blank_of_line : ℕ → Bool

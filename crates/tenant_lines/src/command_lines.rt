@@ -7,16 +7,19 @@ ghost use Rattle.tenant_lines.specs.Words.{words_of, behind_first_word};
 use crate::commands::Command;
 use crate::texts::Text;
 use crate::words::{behind_first_word, first_word};
-use giotto_read::name_bytes::is_name;
 use giotto_tasks::names::Name;
+use giotto_text::name_bytes::is_name;
 use std::alloc::Global;
+use thiserror::Error;
 
 /// Why a line gives no command.
-#[derive(Clone, Copy, Debug, PartialEq, Eq)]
+#[derive(Clone, Copy, Debug, PartialEq, Eq, Error)]
 pub enum LineFault {
     /// The line is none of the forms of a command.
+    #[error("the line has none of the forms of a command")]
     BadCommand,
     /// Want of memory for the text of a `load`.
+    #[error("no memory for the text of the command")]
     Memory,
 }
 

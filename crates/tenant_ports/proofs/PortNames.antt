@@ -8,7 +8,7 @@ use Rattle.giotto_tasks.specs.Names.{Valuation, names_in, is_among}
 use Rattle.giotto_tasks.specs.Sound.{AreSourcesOf, reads_only, is_once_among}
 use Rattle.giotto_tasks.specs.Syntax.{Expression}
 use Rattle.giotto_tasks.specs.Trees.{expression_of}
-use Rattle.giotto_read.specs.Program.{GiottoProgram}
+use Rattle.giotto_text.specs.Program.{GiottoProgram}
 use Rattle.tenant_ports.specs.GuardSources.{AreGuardSources}
 use Rattle.tenant_ports.specs.PortTables.{PortTables, all_ports, HaveSameNames, ArePortsOf}
 use Rattle.tenant_ports.specs.Ports.{initial_shared, initial_own, initial_ports}

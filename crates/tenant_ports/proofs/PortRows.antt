@@ -2,7 +2,7 @@
 use Rattle.std.proofs.Common.{◌≡◌, pos, [], ◌∷◌, Some, None, refl}
 use Rattle.std.specs.Prelude.{codes}
 use Rattle.giotto_tasks.specs.Names.{value_at}
-use Rattle.giotto_read.proofs.Adder.{adder}
+use Rattle.giotto_text.proofs.Adder.{adder}
 use Rattle.tenant_ports.specs.Ports.{initial_ports}
 
 pub ports_of_adder : initial_ports adder ≡ (codes "s", pos 0) ∷ (codes "a", pos 0) ∷ (codes "o", pos 0) ∷ (codes "T.i", pos 0) ∷ []

@@ -1,7 +1,7 @@
 -- Ports as they are kept: those that drivers may read, and the tasks' own.
 use Rattle.std.specs.Prelude.{◌≡◌, ◌++◌}
 use Rattle.giotto_tasks.specs.Names.{Valuation, names_in}
-use Rattle.giotto_read.specs.Program.{GiottoProgram}
+use Rattle.giotto_text.specs.Program.{GiottoProgram}
 use Rattle.tenant_ports.specs.Ports.{initial_shared, initial_own}
 
 -- the ports and their values, in two tables

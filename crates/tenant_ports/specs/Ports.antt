@@ -6,7 +6,7 @@ use Rattle.giotto_tasks.specs.Arithmetic.{is_true}
 use Rattle.giotto_tasks.specs.Names.{Valuation, with_value}
 use Rattle.giotto_tasks.specs.Syntax.{Expression}
 use Rattle.giotto_tasks.specs.Meaning.{value_of}
-use Rattle.giotto_read.specs.Program.{SensorDeclaration, ActuatorDeclaration, OutputDeclaration, TaskDeclaration, GiottoProgram}
+use Rattle.giotto_text.specs.Program.{SensorDeclaration, ActuatorDeclaration, OutputDeclaration, TaskDeclaration, GiottoProgram}
 
 -- an input or a state of a task, as it is shown: no other port has such a name, since a dot is in no name
 abbrev pub own_port : Name → Name → Name

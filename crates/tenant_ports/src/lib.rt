@@ -10,7 +10,7 @@ ghost use Rattle.giotto_tasks.specs.Names.{names_in, is_among, value_at, with_va
 ghost use Rattle.giotto_tasks.specs.Meaning.{value_of};
 ghost use Rattle.giotto_tasks.specs.Sound.{AreSourcesOf};
 ghost use Rattle.giotto_tasks.specs.Trees.{expression_of};
-ghost use Rattle.giotto_read.specs.ProgramTrees.{guard_of};
+ghost use Rattle.giotto_text.specs.ProgramTrees.{guard_of};
 ghost use Rattle.tenant_ports.specs.PortTables.{all_ports, HaveSameNames};
 ghost use Rattle.tenant_ports.specs.Ports.{own_ports, initial_shared, initial_own, with_values, holds};
 ghost use Rattle.tenant_ports.specs.GuardSources.{AreGuardSources};
@@ -19,14 +19,14 @@ mod initial_tables;
 mod own_names;
 mod tables;
 
-use self::initial_tables::{own_table, shared_table};
-use self::own_names::OwnName;
-use self::tables::{assign_own, assign_shared, own_value, shared_value};
-use giotto_read::programs::Program;
 use giotto_tasks::bodies::Expr;
 use giotto_tasks::evaluation::driver;
 use giotto_tasks::names::Name;
 use giotto_tasks::values::Values;
+use giotto_text::programs::Program;
+use self::initial_tables::{own_table, shared_table};
+use self::own_names::OwnName;
+use self::tables::{assign_own, assign_shared, own_value, shared_value};
 use std::alloc::{AllocError, Global};
 use std::marker::Model;
 

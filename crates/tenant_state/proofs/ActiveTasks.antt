@@ -5,16 +5,18 @@ use Rattle.std.specs.Option.{option_map}
 use Rattle.std.specs.List.{AllByRecursion}
 use Rattle.giotto_tasks.specs.declared.names.Name.{Name}
 use Rattle.giotto_tasks.specs.Names.{Valuation}
-use Rattle.giotto_read.specs.declared.faults.ReadFault.{ReadFault}
-use Rattle.giotto_read.specs.Program.{TaskDeclaration, TaskInvocation, ModeDeclaration, GiottoProgram}
+use Rattle.giotto_text.specs.declared.faults.ReadFault.{ReadFault}
+use Rattle.giotto_text.specs.Program.{TaskDeclaration, TaskInvocation, ModeDeclaration, GiottoProgram}
 use Rattle.rig_config.specs.declared.Budgets.{Budgets}
 use Rattle.tenant_lines.specs.declared.commands.Command.{Command}
 use Rattle.tenant_lines.specs.declared.commands.Command.TheVariants.{Load, Start, ShowPort}
 use Rattle.tenant_lines.specs.declared.replies.Budget.{Budget}
 use Rattle.giotto_check.specs.Declarations.{task_of, mode_of}
 use Rattle.giotto_check.specs.Rules.{first_broken_rule}
+use Rattle.tenant_lines.specs.declared.replies.Refusal.TheVariants.{Rule}
 use Rattle.tenant_state.specs.Row.{ActiveTask, Row, StopReason, overrun, is_running, where_some, in_program, in_mode}
-use Rattle.tenant_state.specs.Commands.{Reader, Outcome, load_within, load_checked, load_read, broken_budget, start_program, show_value, show_port, commanded}
+use Rattle.giotto_text.specs.Parsing.{parsed}
+use Rattle.tenant_state.specs.Commands.{Outcome, has_no_switches, refused, load_within, load_checked, load_read, broken_budget, start_program, show_value, show_port, commanded}
 use Rattle.tenant_state.specs.FirstHalf.{stopped_with, completed_in_mode, first_half_with, first_half_of}
 use Rattle.tenant_state.specs.SecondHalf.{Readings, installed, replaced_if_due, sensed, entered, switch_taken, switched, is_invoked, released, invoked, all_released, invoked_in_mode, second_half_running}
 use Rattle.tenant_state.specs.Instants.{LocalInstant, after_instant}
@@ -106,7 +108,8 @@ module _ (P : ActiveTask → Type 0) (n : ℕ) where
 
   keeps_checked : (budgets : Budgets) (p : GiottoProgram) (row : Row) (o : Option ℕ) → Keeps row → Keeps (load_checked budgets p row o).row
   keeps_checked budgets p row (Some r) k = k
-  keeps_checked budgets p row None k = keeps_outcome_if _ _ (load_within p row (broken_budget budgets p)) k (keeps_within p row _ k)
+  keeps_checked budgets p row None k =
+      keeps_outcome_if (has_no_switches p) _ (refused row (Rule 0)) (keeps_outcome_if _ _ (load_within p row (broken_budget budgets p)) k (keeps_within p row _ k)) k
 
   keeps_read : (budgets : Budgets) (row : Row) (r : Result GiottoProgram ReadFault) → Keeps row → Keeps (load_read budgets row r).row
   keeps_read budgets row (Err fault) k = k
@@ -124,7 +127,7 @@ module _ (P : ActiveTask → Type 0) (n : ℕ) where
   keeps_show x row None k = k
   keeps_show x row (Some p) k = keeps_shown x row _ k
 
-  pub kept_by_command : (reader : Reader) (budgets : Budgets) (c : Command) (row : Row) → Keeps row → Keeps (commanded reader budgets c row).row
-  kept_by_command reader budgets (Load text) row k = keeps_read budgets row (reader text) k
-  kept_by_command reader budgets Start row k = keeps_outcome_if _ _ (start_program row row.program) k (keeps_started row row.program k)
-  kept_by_command reader budgets (ShowPort x) row k = keeps_show x row row.program k
+  pub kept_by_command : (budgets : Budgets) (c : Command) (row : Row) → Keeps row → Keeps (commanded budgets c row).row
+  kept_by_command budgets (Load text) row k = keeps_read budgets row (parsed text) k
+  kept_by_command budgets Start row k = keeps_outcome_if _ _ (start_program row row.program) k (keeps_started row row.program k)
+  kept_by_command budgets (ShowPort x) row k = keeps_show x row row.program k

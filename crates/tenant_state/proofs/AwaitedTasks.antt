@@ -10,7 +10,7 @@ use Rattle.std.proofs.lemmas.Bool.{false≢true, and_parts, false_from_ne_true, 
 use Rattle.giotto_tasks.specs.declared.names.Name.{Name}
 use Rattle.giotto_tasks.specs.Names.{same_name}
 use Rattle.giotto_tasks.specs.Syntax.{finished}
-use Rattle.giotto_read.specs.Program.{TaskDeclaration, GiottoProgram, body_of}
+use Rattle.giotto_text.specs.Program.{TaskDeclaration, GiottoProgram, body_of}
 use Rattle.giotto_check.specs.Declarations.{task_of}
 use Rattle.tenant_state.specs.declared.jobs.JobId.{JobId}
 use Rattle.tenant_state.specs.declared.tenants.Active.{Active}

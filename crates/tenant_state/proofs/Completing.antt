@@ -8,9 +8,9 @@ use Rattle.std.proofs.lemmas.List.Quantifiers.{position-Some}
 use Rattle.giotto_tasks.specs.declared.names.Name.{Name}
 use Rattle.giotto_tasks.specs.Sound.{IsSound}
 use Rattle.giotto_tasks.specs.Syntax.{TaskBody}
-use Rattle.giotto_read.specs.Program.{GiottoProgram, body_of}
-use Rattle.giotto_read.specs.ProgramTrees as trees
-use Rattle.giotto_read.specs.declared.programs.Task.{Task}
+use Rattle.giotto_text.specs.Program.{GiottoProgram, body_of}
+use Rattle.giotto_text.specs.ProgramTrees as trees
+use Rattle.giotto_text.specs.declared.programs.Task.{Task}
 use Rattle.tenant_state.specs.declared.jobs.JobId.{JobId}
 use Rattle.tenant_state.specs.declared.tenants.Active.{Active}
 use Rattle.tenant_state.specs.declared.tenants.State as code
@@ -83,6 +83,7 @@ module _ (state : code.State) (p : GiottoProgram) (mode : Name) (time : ℕ) (ac
       let result = subst (λ o. IfSome o (λ t. IsResultOf a t d)) (sym task) (result_of_job t a d is) in
       record {
         short_time = known.short_time;
+        no_switches = known.no_switches;
         different = still_different (set active i (with_result p a d)) active releases known.different;
         fits = (known.fits.0, all_set (IsActiveIn p count) active i (with_result p a d) (active_in.0, completed_as p a d (task_of p a.task) active_in.1 result) known.fits.1);
       }

@@ -7,11 +7,11 @@ use Rattle.std.proofs.lemmas.List.{map-append, drop_more}
 use Rattle.std.proofs.lemmas.List.Elements.{filter-append}
 use Rattle.giotto_tasks.specs.declared.names.Name.{Name}
 use Rattle.giotto_tasks.specs.Names.{Valuation, same_name, is_among}
-use Rattle.giotto_read.specs.declared.programs.Invocation.{Invocation}
-use Rattle.giotto_read.specs.Program.{TaskInvocation, ModeDeclaration, GiottoProgram}
-use Rattle.giotto_read.specs.declared.programs.Mode.{Mode}
-use Rattle.giotto_read.specs.ProgramTrees as tree
-use Rattle.giotto_read.specs.ProgramTrees.{invocation_of, update_of}
+use Rattle.giotto_text.specs.declared.programs.Invocation.{Invocation}
+use Rattle.giotto_text.specs.Program.{TaskInvocation, ModeDeclaration, GiottoProgram}
+use Rattle.giotto_text.specs.declared.programs.Mode.{Mode}
+use Rattle.giotto_text.specs.ProgramTrees as tree
+use Rattle.giotto_text.specs.ProgramTrees.{invocation_of, update_of}
 use Rattle.tenant_state.specs.declared.tenants.Active.{Active}
 use Rattle.giotto_check.specs.Declarations.{mode_of}
 use Rattle.tenant_state.specs.FirstHalf.{unfinished_tasks, is_due_at, due_in_mode, due_tasks, names_due, all_ended, all_updated, first_half_with, completed_in_mode, first_half_of, stopped_with, happening_of, still_active}

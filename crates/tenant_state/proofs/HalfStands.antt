@@ -5,7 +5,7 @@ use Rattle.std.specs.List.{AllByRecursion}
 use Rattle.std.specs.Option.{option_map_or}
 use Rattle.std.proofs.lemmas.List.{map-append}
 use Rattle.giotto_tasks.specs.Names.{Valuation}
-use Rattle.giotto_read.specs.Program.{ModeDeclaration, GiottoProgram}
+use Rattle.giotto_text.specs.Program.{ModeDeclaration, GiottoProgram}
 use Rattle.giotto_check.specs.Declarations.{mode_of, sensor_names}
 use Rattle.tenant_state.specs.declared.tenants.Active.{Active}
 use Rattle.tenant_state.specs.declared.tenants.State as code

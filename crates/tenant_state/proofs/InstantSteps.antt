@@ -3,7 +3,7 @@ use Rattle.std.proofs.Common.{◌≡◌, true, List, map}
 use Rattle.giotto_tasks.specs.declared.names.Name.{Name}
 use Rattle.giotto_tasks.specs.Names.{Valuation, names_in, is_among}
 use Rattle.giotto_tasks.specs.Sound.{AreSourcesOf}
-use Rattle.giotto_read.specs.Program.{ActuatorDeclaration, ActuatorUpdate}
+use Rattle.giotto_text.specs.Program.{ActuatorDeclaration, ActuatorUpdate}
 use Rattle.tenant_ports.specs.GuardSources.{AreGuardSources}
 use Rattle.tenant_ports.specs.PortTables.{PortTables, all_ports}
 use Rattle.tenant_ports.specs.Ports.{with_values}

@@ -5,7 +5,7 @@ use Rattle.std.proofs.lemmas.Bool.{and_parts, and_from, false≢true, eqb-true}
 use Rattle.giotto_tasks.specs.declared.names.Name.{Name}
 use Rattle.giotto_tasks.specs.Names.{names_in, same_name, is_among}
 use Rattle.giotto_tasks.specs.Sound.{all_different, block_reads_only, block_assigns_only, IsSound, is_small}
-use Rattle.giotto_read.specs.Program.{TaskDeclaration, TaskInvocation, ModeDeclaration, GiottoProgram, body_of, names_of}
+use Rattle.giotto_text.specs.Program.{TaskDeclaration, TaskInvocation, ModeDeclaration, GiottoProgram, body_of, names_of}
 use Rattle.giotto_check.specs.Declarations.{task_of, mode_of, sensor_names, actuator_names, output_names, task_names, mode_names, declared_names}
 use Rattle.tenant_state.specs.declared.tenants.Active.{Active}
 use Rattle.tenant_state.specs.Tenants.{IsActiveIn}
@@ -14,7 +14,7 @@ use Rattle.tenant_ports.specs.PortTables.{PortTables, all_ports, ArePortsOf}
 use Rattle.tenant_ports.specs.Ports.{initial_shared, initial_own}
 use Rattle.tenant_state.proofs.ProgramFacts.{shared_port, InvocationFits, mode_fits, task_fits}
 use Rattle.giotto_check.specs.KeepsRules.{KeepsRules}
-use Rattle.giotto_read.specs.Reading.{HasSmallTasks}
+use Rattle.giotto_text.specs.Reading.{has_small_tasks}
 use Rattle.giotto_tasks.proofs.ListLemmas.{found_passes, all_with, all_pass}
 use Rattle.giotto_tasks.proofs.NameLemmas.{among_first, among_second, among_turned, apart_from, weaker_all, different_joined, all_in}
 
@@ -22,7 +22,7 @@ module _ (p : GiottoProgram) (kept : KeepsRules p) where
   output_declared : (x : Name) → is_among (output_names p) x ≡ true → is_among (declared_names p) x ≡ true
   output_declared x h = among_second (sensor_names p) _ x (among_second (actuator_names p) _ x (among_first (output_names p) (task_names p ++ mode_names p) x h))
 
-  pub sound_task : (t : TaskDeclaration) (x : Name) → HasSmallTasks p → task_of p x ≡ Some t → IsSound (body_of t)
+  pub sound_task : (t : TaskDeclaration) (x : Name) → has_small_tasks p ≡ true → task_of p x ≡ Some t → IsSound (body_of t)
   sound_task t x small found =
       let look : TaskDeclaration → Bool = λ (t : TaskDeclaration). same_name t.name x in
       let few = found_passes (λ (t : TaskDeclaration). is_small (body_of t)) look p.tasks t small found in
@@ -48,7 +48,7 @@ all_invocation_of_some p i none some = by (task_of p i.task) refl
     by (Some t) e = some t e
 
 -- a checked program's modes
-pub all_invocable : (p : GiottoProgram) (m : ModeDeclaration) (x : Name) → KeepsRules p → HasSmallTasks p → mode_of p x ≡ Some m → AreInvocable p m
+pub all_invocable : (p : GiottoProgram) (m : ModeDeclaration) (x : Name) → KeepsRules p → has_small_tasks p ≡ true → mode_of p x ≡ Some m → AreInvocable p m
 all_invocable p m x kept small found =
     let fits = mode_fits p kept m x found in
     let arguments = found_passes _ (λ (m : ModeDeclaration). same_name m.name x) p.modes m kept.arguments_fit found in

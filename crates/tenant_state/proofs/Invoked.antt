@@ -6,11 +6,11 @@ use Rattle.std.proofs.lemmas.List.{length-map}
 use Rattle.giotto_tasks.specs.declared.names.Name.{Name}
 use Rattle.giotto_tasks.specs.Names.{Valuation, same_name}
 use Rattle.giotto_tasks.specs.Syntax.{TaskBody}
-use Rattle.giotto_read.specs.declared.programs.Task.{Task}
-use Rattle.giotto_read.specs.declared.programs.Invocation.{Invocation}
-use Rattle.giotto_read.specs.declared.programs.Mode.{Mode}
-use Rattle.giotto_read.specs.Program.{TaskDeclaration, TaskInvocation, ModeDeclaration, GiottoProgram, names_of, body_of}
-use Rattle.giotto_read.specs.ProgramTrees as trees
+use Rattle.giotto_text.specs.declared.programs.Task.{Task}
+use Rattle.giotto_text.specs.declared.programs.Invocation.{Invocation}
+use Rattle.giotto_text.specs.declared.programs.Mode.{Mode}
+use Rattle.giotto_text.specs.Program.{TaskDeclaration, TaskInvocation, ModeDeclaration, GiottoProgram, names_of, body_of}
+use Rattle.giotto_text.specs.ProgramTrees as trees
 use Rattle.giotto_check.specs.Declarations.{task_of, mode_of}
 use Rattle.tenant_state.specs.Invocable.{IsInvocationOf, IsInvocationOfSome}
 use Rattle.tenant_state.specs.Jobs.{body_in}

@@ -10,7 +10,7 @@ use Rattle.giotto_tasks.specs.declared.names.Name.{Name}
 use Rattle.giotto_tasks.specs.Names.{Valuation, names_in, same_name, is_among}
 use Rattle.giotto_tasks.specs.Sound.{all_different, is_once_among, reads_only, AreSourcesOf}
 use Rattle.giotto_tasks.specs.Syntax.{Expression, number, port, unary, binary}
-use Rattle.giotto_read.specs.Program.{SensorDeclaration, ActuatorDeclaration, OutputDeclaration, TaskDeclaration, ActuatorUpdate, ModeSwitch, TaskInvocation, ModeDeclaration, GiottoProgram, names_of}
+use Rattle.giotto_text.specs.Program.{SensorDeclaration, ActuatorDeclaration, OutputDeclaration, TaskDeclaration, ActuatorUpdate, ModeSwitch, TaskInvocation, ModeDeclaration, GiottoProgram, names_of}
 use Rattle.giotto_check.specs.Declarations.{sensor_names, actuator_names, output_names, task_names, mode_names, task_of, mode_of, names_read, driver_ports}
 use Rattle.tenant_ports.specs.GuardSources.{AreGuardSources}
 use Rattle.tenant_ports.specs.PortTables.{PortTables, all_ports, ArePortsOf}

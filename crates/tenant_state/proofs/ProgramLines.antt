@@ -1,9 +1,9 @@
 -- The lines of a program's sensors and actuators, as loops over them see them.
 use Rattle.std.proofs.Common.{ℕ, List, [], map}
-use Rattle.giotto_read.specs.declared.programs.Actuator.{Actuator}
-use Rattle.giotto_read.specs.declared.programs.Sensor.{Sensor}
-use Rattle.giotto_read.specs.Program.{GiottoProgram}
-use Rattle.giotto_read.specs.ProgramTrees.{sensor_of, actuator_of}
+use Rattle.giotto_text.specs.declared.programs.Actuator.{Actuator}
+use Rattle.giotto_text.specs.declared.programs.Sensor.{Sensor}
+use Rattle.giotto_text.specs.Program.{GiottoProgram}
+use Rattle.giotto_text.specs.ProgramTrees.{sensor_of, actuator_of}
 use Rattle.giotto_check.specs.Declarations.{lines_read, lines_written}
 
 abbrev only_with : List Sensor → List Actuator → GiottoProgram

@@ -3,19 +3,21 @@ use Rattle.std.proofs.Common.{◌≡◌, ℕ, ◌+◌, ◌%◌, ◌<◌, ◌≤�
 use Rattle.std.specs.Prelude.{option_to_list}
 use Rattle.std.specs.Option.{option_map}
 use Rattle.std.specs.List.{list_all, AllByRecursion}
-use Rattle.std.proofs.lemmas.Bool.{and_parts, and_from, or_parts, false≢true, ne_eqb, false_from_ne_true, not_from_false}
+use Rattle.std.proofs.lemmas.Bool.{and_parts, and_from, or_parts, false≢true, ne_eqb, eqb-true, false_from_ne_true, not_from_false}
+use Rattle.std.proofs.lemmas.List.{nil_from_length}
 use Rattle.std.proofs.lemmas.Nat.{mod_below}
 use Rattle.std.proofs.lemmas.List.Folds.{list_all-append}
 use Rattle.giotto_tasks.specs.declared.names.Name.{Name}
 use Rattle.giotto_tasks.specs.Names.{Valuation, same_name, is_among}
 use Rattle.giotto_tasks.specs.Sound.{all_different}
-use Rattle.giotto_read.specs.Program.{TaskDeclaration, TaskInvocation, ModeDeclaration, GiottoProgram}
+use Rattle.giotto_text.specs.Program.{TaskDeclaration, TaskInvocation, ModeDeclaration, GiottoProgram}
 use Rattle.giotto_check.specs.Declarations.{task_of, mode_of}
 use Rattle.tenant_state.specs.declared.tenants.Active.{Active}
 use Rattle.tenant_ports.specs.PortTables.{PortTables, HaveSameNames}
 use Rattle.tenant_state.specs.Row.{ActiveTask}
 use Rattle.tenant_state.specs.SecondHalf.{is_invoked, released, invoked, all_released}
-use Rattle.tenant_state.specs.Tenants.{active_of, all_different_releases, IsActiveIn, IsTenantOf, IsTenant}
+use Rattle.tenant_state.specs.Commands.{has_no_switch}
+use Rattle.tenant_state.specs.Tenants.{active_of, all_different_releases, HasNoSwitches, IsActiveIn, IsTenantOf, IsTenant}
 use Rattle.tenant_state.proofs.HalfStands.{new_releases, older_releases}
 use Rattle.tenant_state.proofs.InvocableModes.{active_later}
 use Rattle.tenant_state.proofs.Invoked.{found_name}
@@ -106,10 +108,15 @@ different_behind p m x time n ports old new kept found each different active =
     ∙ other_joined n (map active_of old) (all_released p m time n m.invocations ports) (older_releases p n old each) (new_releases p m time n ports)
     (sym (releases_different old) ∙ different) (released_other p m time n m.invocations ports once)
 
+-- a mode of a program without switches
+pub without_switches : (p : GiottoProgram) (m : ModeDeclaration) (x : Name) → HasNoSwitches p → mode_of p x ≡ Some m → m.switches ≡ []
+without_switches p m x none found =
+    nil_from_length m.switches (eqb-true _ _ (found_passes has_no_switch (λ (m : ModeDeclaration). same_name m.name x) p.modes m none found))
+
 -- an instant at which nothing happens
 pub tenant_later : (program : Option GiottoProgram) (time : ℕ) (active : List Active) (ports : PortTables) (n : ℕ)
     → IsTenant program time active ports n → IsTenant program time active ports (n + 1)
-tenant_later program time active ports n is = record { short_time = is.short_time; different = is.different; fits = later program is.fits }
+tenant_later program time active ports n is = record { short_time = is.short_time; no_switches = is.no_switches; different = is.different; fits = later program is.fits }
   where
     later : (o : Option GiottoProgram) → IsTenantOf o active ports n → IsTenantOf o active ports (n + 1)
     later None none = none
@@ -124,6 +131,7 @@ tenant_behind p m x time n values old new before after kept found is names activ
     let fits = mode_fits p kept m x found in
     record {
       short_time = below_period (time + 1) m.period fits.positive fits.short;
+      no_switches = is.no_switches;
       different = different_behind p m x time n values old new kept found is.fits.1 is.different active;
       fits = (ports_of_on p before after is.fits.0 names, each);
     }

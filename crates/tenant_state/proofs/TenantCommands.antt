@@ -2,42 +2,49 @@
 use Rattle.std.proofs.Common.{◌≡◌, ℕ, Bool, true, false, cond, List, [], Option, Some, None, refl, ap, ◌∙◌}
 use Rattle.std.specs.Prelude.{Ok, Err}
 use Rattle.giotto_tasks.specs.declared.names.Name.{Name}
-use Rattle.giotto_read.specs.declared.faults.ReadFault.{ReadFault}
-use Rattle.giotto_read.specs.Program.{GiottoProgram}
-use Rattle.giotto_read.specs.Reading.{Reads}
-use Rattle.giotto_read.proofs.OneReading.{one_reading}
+use Rattle.giotto_text.specs.declared.faults.ReadFault.{ReadFault}
+use Rattle.giotto_text.specs.Program.{GiottoProgram}
+use Rattle.giotto_text.specs.Parsing.{parsed}
 use Rattle.rig_config.specs.declared.Budgets.{Budgets}
 use Rattle.tenant_lines.specs.declared.replies.Budget.{Budget}
 use Rattle.tenant_lines.specs.declared.replies.Refusal.TheVariants.{Rule, Running}
 use Rattle.tenant_state.specs.declared.tenants.Active.{Active}
 use Rattle.tenant_state.specs.declared.tenants.State as code
 use Rattle.giotto_check.specs.Rules.{first_broken_rule}
-use Rattle.tenant_state.specs.Commands.{Reader, IsTrueReader, refusal_of, refused, at_beginning, broken_budget, load_within, load_checked, load_read}
+use Rattle.tenant_state.specs.Commands.{refusal_of, refused, has_no_switches, at_beginning, broken_budget, load_within, load_kept, load_checked, load_read}
 use Rattle.tenant_ports.specs.PortTables.{PortTables, all_ports}
 use Rattle.tenant_ports.specs.Ports.{initial_ports}
 use Rattle.tenant_state.specs.Row.{ActiveTask, Row, is_running}
 use Rattle.tenant_state.specs.Standing.{StandsFor}
 use Rattle.tenant_state.specs.Tenants.{state_of, standing_of}
 
-module _ (reader : Reader) (text : List ℕ) (budgets : Budgets) (row : Row) where
-  pub refused_by_reader : (f : ReadFault) → IsTrueReader reader → Reads text (Err f) → load_read budgets row (reader text) ≡ refused row (refusal_of f)
-  refused_by_reader f true_reader reads = ap (load_read budgets row) (one_reading text (reader text) (Err f) (true_reader text) reads)
+module _ (text : List ℕ) (budgets : Budgets) (row : Row) where
+  pub refused_by_reader : (f : ReadFault) → parsed text ≡ Err f → load_read budgets row (parsed text) ≡ refused row (refusal_of f)
+  refused_by_reader f e = ap (load_read budgets row) e
 
-  pub refused_by_rule : (p : GiottoProgram) (n : ℕ) → reader text ≡ Ok p → first_broken_rule p ≡ Some n → load_read budgets row (reader text) ≡ refused row (Rule 0)
+  pub refused_by_rule : (p : GiottoProgram) (n : ℕ) → parsed text ≡ Ok p → first_broken_rule p ≡ Some n → load_read budgets row (parsed text) ≡ refused row (Rule 0)
   refused_by_rule p n e broken = ap (load_read budgets row) e ∙ ap (load_checked budgets p row) broken
 
-  loaded_if : (p : GiottoProgram) → reader text ≡ Ok p → first_broken_rule p ≡ None
-      → load_read budgets row (reader text) ≡ cond (is_running row) (refused row Running) (load_within p row (broken_budget budgets p))
-  loaded_if p e kept = ap (load_read budgets row) e ∙ ap (load_checked budgets p row) kept
+  kept_if : (p : GiottoProgram) → parsed text ≡ Ok p → first_broken_rule p ≡ None → load_read budgets row (parsed text) ≡ load_kept budgets p row
+  kept_if p e kept = ap (load_read budgets row) e ∙ ap (load_checked budgets p row) kept
 
-  pub refused_while_running : (p : GiottoProgram) → reader text ≡ Ok p → first_broken_rule p ≡ None → is_running row ≡ true
-      → load_read budgets row (reader text) ≡ refused row Running
-  refused_while_running p e kept runs = loaded_if p e kept ∙ ap (λ b. cond b (refused row Running) (load_within p row (broken_budget budgets p))) runs
+  pub refused_by_switch : (p : GiottoProgram) → parsed text ≡ Ok p → first_broken_rule p ≡ None → has_no_switches p ≡ false → load_read budgets row (parsed text) ≡ refused row (Rule 0)
+  refused_by_switch p e kept switched =
+      kept_if p e kept ∙ ap (λ b. cond b (cond (is_running row) (refused row Running) (load_within p row (broken_budget budgets p))) (refused row (Rule 0))) switched
 
-  pub loaded_within : (p : GiottoProgram) (b : Option Budget) → reader text ≡ Ok p → first_broken_rule p ≡ None → is_running row ≡ false → broken_budget budgets p ≡ b
-      → load_read budgets row (reader text) ≡ load_within p row b
-  loaded_within p b e kept rests over =
-      loaded_if p e kept ∙ ap (λ b. cond b (refused row Running) (load_within p row (broken_budget budgets p))) rests ∙ ap (load_within p row) over
+  loaded_if : (p : GiottoProgram) → parsed text ≡ Ok p → first_broken_rule p ≡ None → has_no_switches p ≡ true
+      → load_read budgets row (parsed text) ≡ cond (is_running row) (refused row Running) (load_within p row (broken_budget budgets p))
+  loaded_if p e kept plain =
+      kept_if p e kept ∙ ap (λ b. cond b (cond (is_running row) (refused row Running) (load_within p row (broken_budget budgets p))) (refused row (Rule 0))) plain
+
+  pub refused_while_running : (p : GiottoProgram) → parsed text ≡ Ok p → first_broken_rule p ≡ None → has_no_switches p ≡ true → is_running row ≡ true
+      → load_read budgets row (parsed text) ≡ refused row Running
+  refused_while_running p e kept plain runs = loaded_if p e kept plain ∙ ap (λ b. cond b (refused row Running) (load_within p row (broken_budget budgets p))) runs
+
+  pub loaded_within : (p : GiottoProgram) (b : Option Budget) → parsed text ≡ Ok p → first_broken_rule p ≡ None → has_no_switches p ≡ true → is_running row ≡ false
+      → broken_budget budgets p ≡ b → load_read budgets row (parsed text) ≡ load_within p row b
+  loaded_within p b e kept plain rests over =
+      loaded_if p e kept plain ∙ ap (λ b. cond b (refused row Running) (load_within p row (broken_budget budgets p))) rests ∙ ap (load_within p row) over
 
 -- what stands after a program was put at its beginning
 module _ (state : code.State) (program : Option GiottoProgram) (mode : Name) (time : ℕ) (active : List Active) (ports : PortTables) (count : ℕ) where

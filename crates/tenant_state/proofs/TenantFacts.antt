@@ -1,7 +1,7 @@
 -- What every tenant's view tells: its active tasks were released before the next instant.
 use Rattle.std.proofs.Common.{ℕ, ◌<◌, List, [], ◌∷◌, map, Option, Some, None, sym, subst}
 use Rattle.std.specs.List.{AllByRecursion}
-use Rattle.giotto_read.specs.Program.{GiottoProgram}
+use Rattle.giotto_text.specs.Program.{GiottoProgram}
 use Rattle.tenant_state.specs.declared.tenants.Active.{Active}
 use Rattle.tenant_ports.specs.PortTables.{PortTables}
 use Rattle.tenant_state.specs.Row.{ActiveTask}

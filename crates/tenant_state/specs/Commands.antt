@@ -1,12 +1,12 @@
 -- What a command does, and its reply. A refusal changes nothing; the first that applies is given.
-use Rattle.std.specs.Prelude.{ℕ, ◌&&◌, if◌then◌else◌, ℤ, List, [], Option, Some, None, Result, Ok, Err}
+use Rattle.std.specs.Prelude.{ℕ, Bool, nat_eq, length, ◌&&◌, if◌then◌else◌, ℤ, [], Option, Some, None, Result, Ok, Err}
 use Rattle.std.specs.List.{list_all}
 use Rattle.giotto_tasks.specs.declared.names.Name.{Name}
 use Rattle.giotto_tasks.specs.Names.{value_at}
-use Rattle.giotto_read.specs.declared.faults.ReadFault.{ReadFault}
-use Rattle.giotto_read.specs.declared.faults.ReadFault.TheVariants as faults
-use Rattle.giotto_read.specs.Program.{GiottoProgram}
-use Rattle.giotto_read.specs.Reading.{Reads}
+use Rattle.giotto_text.specs.declared.faults.ReadFault.{ReadFault}
+use Rattle.giotto_text.specs.declared.faults.ReadFault.TheVariants as faults
+use Rattle.giotto_text.specs.Program.{ModeDeclaration, GiottoProgram}
+use Rattle.giotto_text.specs.Parsing.{parsed}
 use Rattle.rig_config.specs.declared.Budgets.{Budgets}
 use Rattle.tenant_lines.specs.declared.commands.Command.{Command}
 use Rattle.tenant_lines.specs.declared.commands.Command.TheVariants.{Load, Start, ShowPort}
@@ -22,14 +22,6 @@ use Rattle.giotto_check.specs.Rules.{first_broken_rule}
 use Rattle.rig_config.specs.Roster.{may_use}
 use Rattle.tenant_state.specs.Row.{State, loaded, running, Row, is_running, recorded}
 use Rattle.tenant_ports.specs.Ports.{initial_ports}
-
--- what each program text reads as
-abbrev pub Reader : Type 0
-Reader = List ℕ → Result GiottoProgram ReadFault
-
--- the reader says of every text what the grammar says
-abbrev pub IsTrueReader : Reader → Type 0
-IsTrueReader reader = (text : List ℕ) → Reads text (reader text)
 
 -- what a command leads to: the row behind it, and the reply
 pub record Outcome : Type 0 where
@@ -60,10 +52,23 @@ abbrev pub load_within : GiottoProgram → Row → Option Budget → Outcome
 load_within p row (Some b) = refused row (OverBudget b)
 load_within p row None = record { row = at_beginning loaded p row; reply = Loaded }
 
--- `load` of a program that was read: it must keep the rules (which one it breaks isn't told yet), and the tenant must not be running
+abbrev pub has_no_switch : ModeDeclaration → Bool
+has_no_switch m = nat_eq (length m.switches) 0
+
+-- no mode of the program has a switch
+abbrev pub has_no_switches : GiottoProgram → Bool
+has_no_switches p = list_all has_no_switch p.modes
+
+-- `load` of a program that keeps the rules: it must have no switch, since no instant takes one yet, and the tenant must not be running
+abbrev pub load_kept : Budgets → GiottoProgram → Row → Outcome
+load_kept budgets p row =
+    if has_no_switches p then (if is_running row then refused row Running else load_within p row (broken_budget budgets p))
+    else refused row (Rule 0)
+
+-- `load` of a program that was read: it must keep the rules; which one it breaks isn't told yet
 abbrev pub load_checked : Budgets → GiottoProgram → Row → Option ℕ → Outcome
 load_checked budgets p row (Some n) = refused row (Rule 0)
-load_checked budgets p row None = if is_running row then refused row Running else load_within p row (broken_budget budgets p)
+load_checked budgets p row None = load_kept budgets p row
 
 -- `load`, by what its text reads as
 abbrev pub load_read : Budgets → Row → Result GiottoProgram ReadFault → Outcome
@@ -86,7 +91,7 @@ show_port x row None = refused row NotLoaded
 show_port x row (Some p) = show_value x row (value_at row.ports x)
 
 -- the step of a command: the row after it, and its reply
-abbrev pub commanded : Reader → Budgets → Command → Row → Outcome
-commanded reader budgets (Load text) row = load_read budgets row (reader text)
-commanded reader budgets Start row = if is_running row then refused row Running else start_program row row.program
-commanded reader budgets (ShowPort x) row = show_port x row row.program
+abbrev pub commanded : Budgets → Command → Row → Outcome
+commanded budgets (Load text) row = load_read budgets row (parsed text)
+commanded budgets Start row = if is_running row then refused row Running else start_program row row.program
+commanded budgets (ShowPort x) row = show_port x row row.program

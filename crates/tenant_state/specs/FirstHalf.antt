@@ -5,7 +5,7 @@ use Rattle.std.specs.Option.{option_map_or}
 use Rattle.giotto_tasks.specs.declared.names.Name.{Name}
 use Rattle.giotto_tasks.specs.Names.{Valuation, same_name, is_among, with_value}
 use Rattle.giotto_tasks.specs.Meaning.{value_of, outputs_of, states_of}
-use Rattle.giotto_read.specs.Program.{TaskDeclaration, ActuatorUpdate, TaskInvocation, ModeDeclaration, GiottoProgram, body_of, names_of}
+use Rattle.giotto_text.specs.Program.{TaskDeclaration, ActuatorUpdate, TaskInvocation, ModeDeclaration, GiottoProgram, body_of, names_of}
 use Rattle.tenant_state.specs.declared.trace.Happening.{Happening}
 use Rattle.tenant_state.specs.declared.trace.Happening.TheVariants as happening
 use Rattle.giotto_check.specs.Declarations.{task_of, mode_of}

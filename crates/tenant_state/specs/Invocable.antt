@@ -3,7 +3,7 @@ use Rattle.std.specs.Prelude.{◌≡◌, ◌<◌, ◌/◌, length, Option, Some,
 use Rattle.std.specs.List.{list_all, AllByRecursion}
 use Rattle.giotto_tasks.specs.Names.{names_in, is_among}
 use Rattle.giotto_tasks.specs.Sound.{IsSound, AreSourcesOf}
-use Rattle.giotto_read.specs.Program.{TaskDeclaration, TaskInvocation, ModeDeclaration, GiottoProgram, body_of}
+use Rattle.giotto_text.specs.Program.{TaskDeclaration, TaskInvocation, ModeDeclaration, GiottoProgram, body_of}
 use Rattle.giotto_check.specs.Declarations.{task_of}
 use Rattle.tenant_ports.specs.GuardSources.{AreGuardSources}
 use Rattle.tenant_ports.specs.Ports.{own_ports, initial_shared, initial_ports}

@@ -5,7 +5,7 @@ use Rattle.std.specs.Option.{option_map_or}
 use Rattle.giotto_tasks.specs.declared.names.Name.{Name}
 use Rattle.giotto_tasks.specs.Sound.{IsSound}
 use Rattle.giotto_tasks.specs.Syntax.{TaskBody, finished}
-use Rattle.giotto_read.specs.Program.{GiottoProgram, body_of}
+use Rattle.giotto_text.specs.Program.{GiottoProgram, body_of}
 use Rattle.giotto_check.specs.Declarations.{task_of}
 use Rattle.giotto_tasks.specs.Names.{same_name}
 use Rattle.tenant_state.specs.declared.jobs.JobId.{JobId}

@@ -2,7 +2,7 @@
 use Rattle.std.specs.Prelude.{ℕ, ℤ, Bool, true, false, List, [], ◌∷◌, Option, Some, None}
 use Rattle.giotto_tasks.specs.declared.names.Name.{Name}
 use Rattle.giotto_tasks.specs.Names.{Valuation}
-use Rattle.giotto_read.specs.Program.{GiottoProgram, ModeDeclaration}
+use Rattle.giotto_text.specs.Program.{GiottoProgram, ModeDeclaration}
 use Rattle.tenant_state.specs.declared.grants.Offer.{Offer}
 use Rattle.tenant_state.specs.declared.grants.Bind.{Bind}
 use Rattle.tenant_state.specs.declared.trace.Record.{Record}

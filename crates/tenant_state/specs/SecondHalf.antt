@@ -6,7 +6,7 @@ use Rattle.giotto_tasks.specs.declared.names.Name.{Name}
 use Rattle.giotto_tasks.specs.Names.{Valuation, value_at, values_of, is_among}
 use Rattle.giotto_tasks.specs.Syntax.{Expression}
 use Rattle.giotto_tasks.specs.Meaning.{value_of}
-use Rattle.giotto_read.specs.Program.{Source, from_line, from_grant, SensorDeclaration, TaskDeclaration, ModeSwitch, TaskInvocation, ModeDeclaration, GiottoProgram, names_of}
+use Rattle.giotto_text.specs.Program.{Source, from_line, from_grant, SensorDeclaration, TaskDeclaration, ModeSwitch, TaskInvocation, ModeDeclaration, GiottoProgram, names_of}
 use Rattle.tenant_state.specs.declared.trace.Happening.TheVariants as happening
 use Rattle.giotto_check.specs.Declarations.{sensor_names, actuator_names, task_of, mode_of, period_of_task}
 use Rattle.rig_config.specs.Roster.{may_use}

@@ -1,9 +1,9 @@
 -- How a tenant's code stands for its row, and what is known of it at any time.
-use Rattle.std.specs.Prelude.{◌≡◌, ◌<◌, ◌^◌, ℕ, nat_eq, Bool, not, ◌&&◌, true, List, [], ◌∷◌, map, Option, Some, None, is_some, length, IfSome}
+use Rattle.std.specs.Prelude.{◌≡◌, ◌<◌, ◌^◌, ℕ, nat_eq, IsTrue, Bool, not, ◌&&◌, true, List, [], ◌∷◌, map, Option, Some, None, is_some, length, IfSome}
 use Rattle.std.specs.List.{list_all, AllByRecursion}
 use Rattle.giotto_tasks.specs.declared.names.Name.{Name}
 use Rattle.giotto_tasks.specs.Names.{same_name}
-use Rattle.giotto_read.specs.Program.{TaskDeclaration, GiottoProgram, body_of}
+use Rattle.giotto_text.specs.Program.{TaskDeclaration, ModeDeclaration, GiottoProgram, body_of}
 use Rattle.giotto_check.specs.Declarations.{task_of}
 use Rattle.tenant_state.specs.declared.tenants.Active.{Active}
 use Rattle.tenant_state.specs.declared.tenants.Reason.{Reason}
@@ -14,6 +14,7 @@ use Rattle.tenant_state.specs.Jobs.{JobValue}
 use Rattle.tenant_ports.specs.PortTables.{PortTables, all_ports, ArePortsOf}
 use Rattle.tenant_state.specs.Row.{StopReason, overrun, State, empty, loaded, running, stopped, ActiveTask}
 use Rattle.tenant_state.specs.Standing.{Standing}
+use Rattle.tenant_state.specs.Commands.{has_no_switches}
 
 -- why the code's tenant was stopped
 abbrev pub reason_of : Reason → StopReason
@@ -88,8 +89,13 @@ abbrev pub IsTenantOf : Option GiottoProgram → List Active → PortTables → 
 IsTenantOf None active ports count = active ≡ []
 IsTenantOf (Some p) active ports count = ArePortsOf p ports × AllByRecursion (IsActiveIn p count) active
 
+-- the program's modes have no switches: no instant takes one yet
+abbrev pub HasNoSwitches : GiottoProgram → Type 0
+HasNoSwitches p = IsTrue (has_no_switches p)
+
 -- what is known of a tenant at any time: its mode time is small, its releases differ, and its ports and active tasks are its program's
 pub record IsTenant (program : Option GiottoProgram) (time : ℕ) (active : List Active) (ports : PortTables) (count : ℕ) : Type 0 where
   pub short_time : time < 2 ^ 32
+  pub no_switches : IfSome program HasNoSwitches
   pub different : all_different_releases active ≡ true
   pub fits : IsTenantOf program active ports count

@@ -65,7 +65,7 @@ impl Model for Tenant {
     ghost use Rattle.tenant_state.specs.Standing.{Standing};
     ghost use Rattle.tenant_state.specs.Tenants.{standing_of, IsTenant};
     ghost use Rattle.std.specs.Coded.{codes};
-    ghost use Rattle.giotto_read.specs.ProgramCodes.{program_code};
+    ghost use Rattle.giotto_text.specs.ProgramCodes.{program_code};
 
     ghost Value = { Standing };
 

@@ -1,7 +1,7 @@
 use Rattle.std.proofs.Common.{◌≡◌, drop, map}
 use Rattle.std.specs.List.{find}
-use Rattle.giotto_read.specs.ProgramTrees.{mode_of}
-use Rattle.giotto_read.specs.Program.{ModeDeclaration}
+use Rattle.giotto_text.specs.ProgramTrees.{mode_of}
+use Rattle.giotto_text.specs.Program.{ModeDeclaration}
 use Rattle.giotto_tasks.specs.Names.{same_name}
 use Rattle.giotto_check.proofs.find_mode.Given as goal
 

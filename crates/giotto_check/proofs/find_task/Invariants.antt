@@ -1,7 +1,7 @@
 use Rattle.std.proofs.Common.{◌≡◌, drop, map}
 use Rattle.std.specs.List.{find}
-use Rattle.giotto_read.specs.ProgramTrees.{task_of}
-use Rattle.giotto_read.specs.Program.{TaskDeclaration}
+use Rattle.giotto_text.specs.ProgramTrees.{task_of}
+use Rattle.giotto_text.specs.Program.{TaskDeclaration}
 use Rattle.giotto_tasks.specs.Names.{same_name}
 use Rattle.giotto_check.proofs.find_task.Given as goal
 

@@ -4,16 +4,16 @@ ghost use Rattle.std.specs.Prelude.{◌≡◌, IfOk};
 ghost use Rattle.giotto_tasks.specs.Names.{is_among};
 ghost use Rattle.giotto_tasks.specs.Sound as sound;
 ghost use Rattle.giotto_tasks.specs.Trees.{statement_of, block_of};
-ghost use Rattle.giotto_read.specs.Program.{body_of};
-ghost use Rattle.giotto_read.specs.ProgramTrees.{task_of};
+ghost use Rattle.giotto_text.specs.Program.{body_of};
+ghost use Rattle.giotto_text.specs.ProgramTrees.{task_of};
 ghost use Rattle.giotto_check.specs.Rules as rules;
 ghost use Rattle.giotto_check.specs.TaskPorts.{uses_own_ports};
 
 use crate::names;
 use crate::reads::reads_only;
-use giotto_read::programs::{Program, Task};
 use giotto_tasks::bodies::{Body, Stmt};
 use giotto_tasks::names::Name;
+use giotto_text::programs::{Program, Task};
 use std::alloc::{AllocError, Global};
 
 /// Whether each body reads its task's own ports alone, and assigns outputs and states alone.

@@ -2,16 +2,16 @@
 
 ghost use Rattle.std.specs.Prelude.{◌≡◌, map, IfOk};
 ghost use Rattle.std.specs.List.{list_all};
-ghost use Rattle.giotto_read.specs.Program as tree;
-ghost use Rattle.giotto_read.specs.Program.{body_of};
-ghost use Rattle.giotto_read.specs.ProgramTrees.{task_of};
+ghost use Rattle.giotto_text.specs.Program as tree;
+ghost use Rattle.giotto_text.specs.Program.{body_of};
+ghost use Rattle.giotto_text.specs.ProgramTrees.{task_of};
 ghost use Rattle.giotto_check.specs.Rules as rules;
 ghost use Rattle.giotto_check.specs.TaskPorts.{declares_own};
 
 use crate::{declarations, names};
-use giotto_read::programs::{Program, Task};
 use giotto_tasks::bodies::Body;
 use giotto_tasks::names::Name;
+use giotto_text::programs::{Program, Task};
 use std::alloc::{AllocError, Global};
 
 /// Whether names and lines are declared once.

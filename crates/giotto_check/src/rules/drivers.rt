@@ -3,8 +3,8 @@
 
 ghost use Rattle.std.specs.Prelude.{◌≡◌, map, IfOk};
 ghost use Rattle.std.specs.List.{list_all};
-ghost use Rattle.giotto_read.specs.Program as tree;
-ghost use Rattle.giotto_read.specs.ProgramTrees.{mode_of, update_of, switch_of, invocation_of};
+ghost use Rattle.giotto_text.specs.Program as tree;
+ghost use Rattle.giotto_text.specs.ProgramTrees.{mode_of, update_of, switch_of, invocation_of};
 ghost use Rattle.giotto_check.specs.Declarations as declared;
 ghost use Rattle.giotto_check.specs.Drivers as tests;
 ghost use Rattle.giotto_check.specs.Names.{are_among};
@@ -12,8 +12,8 @@ ghost use Rattle.giotto_check.specs.Reads.{names_in_update, names_in_invocation}
 ghost use Rattle.giotto_check.specs.Rules as rules;
 
 use crate::{declarations, find_mode, names, reads};
-use giotto_read::programs::{Invocation, Mode, Program, Switch, Update};
 use giotto_tasks::names::Name;
+use giotto_text::programs::{Invocation, Mode, Program, Switch, Update};
 use std::alloc::{AllocError, Global};
 
 /// Whether updates read ports of their mode, switches and invocations these and sensors, and whether a switch gives

@@ -2,12 +2,12 @@
 
 ghost use Rattle.std.specs.Prelude.{◌≡◌, map};
 ghost use Rattle.std.specs.List.{list_all};
-ghost use Rattle.giotto_read.specs.Program as tree;
-ghost use Rattle.giotto_read.specs.ProgramTrees.{update_of, switch_of, invocation_of};
+ghost use Rattle.giotto_text.specs.Program as tree;
+ghost use Rattle.giotto_text.specs.ProgramTrees.{update_of, switch_of, invocation_of};
 ghost use Rattle.giotto_check.specs.Frequencies as tests;
 ghost use Rattle.giotto_check.specs.Rules as rules;
 
-use giotto_read::programs::{Invocation, Program, Switch, Update};
+use giotto_text::programs::{Invocation, Program, Switch, Update};
 
 /// Whether each period is 1 to 1,000,000 ticks, and each frequency is at least 1 and divides it.
 pub(crate) fn frequencies_divide(program: &Program) -> bool

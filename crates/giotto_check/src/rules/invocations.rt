@@ -4,14 +4,14 @@
 ghost use Rattle.std.specs.Prelude.{◌≡◌, map, IfOk};
 ghost use Rattle.std.specs.List.{list_all};
 ghost use Rattle.giotto_tasks.specs.Sound as sound;
-ghost use Rattle.giotto_read.specs.ProgramTrees.{mode_of, invocation_of};
+ghost use Rattle.giotto_text.specs.ProgramTrees.{mode_of, invocation_of};
 ghost use Rattle.giotto_check.specs.Declarations as declared;
 ghost use Rattle.giotto_check.specs.Invocations.{argument_for_each_input};
 ghost use Rattle.giotto_check.specs.Rules as rules;
 
 use crate::{declarations, find_task, names};
-use giotto_read::programs::{Invocation, Mode, Program};
 use giotto_tasks::bodies::Body;
+use giotto_text::programs::{Invocation, Mode, Program};
 use std::alloc::{AllocError, Global};
 
 /// Whether each mode invokes a task once.

@@ -2,14 +2,14 @@
 
 ghost use Rattle.std.specs.Prelude.{◌≡◌, map, IfOk};
 ghost use Rattle.std.specs.List.{list_all};
-ghost use Rattle.giotto_read.specs.ProgramTrees.{task_of, mode_of, update_of, switch_of, invocation_of};
+ghost use Rattle.giotto_text.specs.ProgramTrees.{task_of, mode_of, update_of, switch_of, invocation_of};
 ghost use Rattle.giotto_check.specs.Kinds as tests;
 ghost use Rattle.giotto_check.specs.Rules as rules;
 
 use crate::{declarations, names, reads};
-use giotto_read::programs::{Invocation, Mode, Program, Switch, Task, Update};
 use giotto_tasks::bodies::Body;
 use giotto_tasks::names::Name;
+use giotto_text::programs::{Invocation, Mode, Program, Switch, Task, Update};
 use std::alloc::{AllocError, Global};
 use std::marker::Model;
 

@@ -4,7 +4,7 @@ ghost use Rattle.std.specs.Prelude.{◌≡◌, IfOk};
 ghost use Rattle.giotto_check.specs.Rules as rules;
 
 use crate::{declarations, names};
-use giotto_read::programs::Program;
+use giotto_text::programs::Program;
 use std::alloc::{AllocError, Global};
 
 /// Whether the start mode is declared.

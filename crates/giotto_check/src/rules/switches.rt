@@ -2,14 +2,14 @@
 
 ghost use Rattle.std.specs.Prelude.{◌≡◌, ◌/◌, ◌%◌, ◌==◌, map};
 ghost use Rattle.std.specs.List.{list_all};
-ghost use Rattle.giotto_read.specs.ProgramTrees.{mode_of, switch_of, invocation_of};
+ghost use Rattle.giotto_text.specs.ProgramTrees.{mode_of, switch_of, invocation_of};
 ghost use Rattle.giotto_check.specs.Declarations as declared;
 ghost use Rattle.giotto_check.specs.Rules as rules;
 ghost use Rattle.giotto_check.specs.Switches as tests;
 
 use crate::find_mode;
-use giotto_read::programs::{Invocation, Mode, Program, Switch};
 use giotto_tasks::names::Name;
+use giotto_text::programs::{Invocation, Mode, Program, Switch};
 
 /// Whether each switch comes where an invocation of a task ends, or goes on to a mode that invokes the task with its
 /// period.

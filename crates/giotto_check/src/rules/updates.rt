@@ -2,12 +2,12 @@
 
 ghost use Rattle.std.specs.Prelude.{◌≡◌, IfOk};
 ghost use Rattle.giotto_tasks.specs.Sound as sound;
-ghost use Rattle.giotto_read.specs.ProgramTrees.{mode_of};
+ghost use Rattle.giotto_text.specs.ProgramTrees.{mode_of};
 ghost use Rattle.giotto_check.specs.Declarations as declared;
 ghost use Rattle.giotto_check.specs.Rules as rules;
 
 use crate::{declarations, names};
-use giotto_read::programs::{Mode, Program};
+use giotto_text::programs::{Mode, Program};
 use std::alloc::{AllocError, Global};
 
 /// Whether each mode updates an actuator once.

@@ -1,22 +1,21 @@
 //! Sensors, actuators and outputs.
 
 ghost use Rattle.std.specs.Prelude.{map};
-ghost use Rattle.giotto_read.specs.Grammar.{sensor, actuator, output};
-ghost use Rattle.giotto_read.specs.Progress.{ReadsAs};
-ghost use Rattle.giotto_read.specs.declared.tokens.Keyword.TheVariants as keyword;
-ghost use Rattle.giotto_read.specs.ProgramTrees.{sensor_of, actuator_of, output_of};
-ghost use Rattle.giotto_read.specs.ReaderForms.{any, a_declaration, a_line, a_sensor, an_actuator, an_output};
+ghost use Rattle.giotto_read.specs.Doing.{Does};
+ghost use Rattle.giotto_text.specs.Parsing.{is_keyword, many, read_actuator, read_declaration, read_line, read_output, read_sensor, read_source};
+ghost use Rattle.giotto_text.specs.ProgramTrees.{actuator_of, output_of, sensor_of, source_of};
+ghost use Rattle.giotto_text.specs.declared.tokens.Keyword.TheVariants as keyword;
 
 use super::{Reader, Stop};
-use crate::programs::{Actuator, Output, Sensor, Source};
-use crate::tokens::{Keyword, Symbol};
 use giotto_tasks::lists::List;
 use giotto_tasks::names::Name;
+use giotto_text::programs::{Actuator, Output, Sensor, Source};
+use giotto_text::tokens::{Keyword, Symbol};
 
 impl Reader<'_> {
     // {sensor}
     pub(super) fn sensors(&mut self) -> Result<List<Sensor>, Stop>
-        ensures { ReadsAs (map sensor_of) (any sensor keyword.Sensor) self.old result self.new }
+        ensures { Does (map sensor_of) (many (is_keyword keyword.Sensor) read_sensor) self.old result self.new }
     {
         let mut sensors = Vec::new(self.alloc);
         while self.next_is_keyword(Keyword::Sensor) {
@@ -26,15 +25,13 @@ impl Reader<'_> {
         Ok(List::from_vec(sensors))
     }
 
-    // sensor = "sensor" NAME ":=" init "line" INT ";"
+    // sensor = "sensor" NAME ":=" init ("line" INT | "grant") ";"
     fn sensor(&mut self) -> Result<Sensor, Stop>
-        ensures { ReadsAs sensor_of a_sensor self.old result self.new }
+        ensures { Does sensor_of read_sensor self.old result self.new }
     {
         let (name, initial) = self.declaration(Keyword::Sensor)?;
-        self.keyword(Keyword::Line)?;
-        let line = self.int()?;
+        let source = self.source()?;
         self.symbol(Symbol::Semicolon)?;
-        let source = Source::Line(line);
         Ok(Sensor {
             name,
             initial,
@@ -42,9 +39,21 @@ impl Reader<'_> {
         })
     }
 
+    // "line" INT | "grant"
+    fn source(&mut self) -> Result<Source, Stop>
+        ensures { Does source_of read_source self.old result self.new }
+    {
+        if self.accept_keyword(Keyword::Line) {
+            let line = self.int()?;
+            return Ok(Source::Line(line));
+        }
+        self.keyword(Keyword::Grant)?;
+        Ok(Source::Grant)
+    }
+
     // {actuator}
     pub(super) fn actuators(&mut self) -> Result<List<Actuator>, Stop>
-        ensures { ReadsAs (map actuator_of) (any actuator keyword.Actuator) self.old result self.new }
+        ensures { Does (map actuator_of) (many (is_keyword keyword.Actuator) read_actuator) self.old result self.new }
     {
         let mut actuators = Vec::new(self.alloc);
         while self.next_is_keyword(Keyword::Actuator) {
@@ -56,7 +65,7 @@ impl Reader<'_> {
 
     // actuator = "actuator" NAME ":=" init ["line" INT] ";"
     fn actuator(&mut self) -> Result<Actuator, Stop>
-        ensures { ReadsAs actuator_of an_actuator self.old result self.new }
+        ensures { Does actuator_of read_actuator self.old result self.new }
     {
         let (name, initial) = self.declaration(Keyword::Actuator)?;
         let line = self.line()?;
@@ -70,7 +79,7 @@ impl Reader<'_> {
 
     // {output}
     pub(super) fn outputs(&mut self) -> Result<List<Output>, Stop>
-        ensures { ReadsAs (map output_of) (any output keyword.Output) self.old result self.new }
+        ensures { Does (map output_of) (many (is_keyword keyword.Output) read_output) self.old result self.new }
     {
         let mut outputs = Vec::new(self.alloc);
         while self.next_is_keyword(Keyword::Output) {
@@ -82,16 +91,16 @@ impl Reader<'_> {
 
     // output = "output" NAME ":=" init ";"
     fn output(&mut self) -> Result<Output, Stop>
-        ensures { ReadsAs output_of an_output self.old result self.new }
+        ensures { Does output_of read_output self.old result self.new }
     {
         let (name, initial) = self.declaration(Keyword::Output)?;
         self.symbol(Symbol::Semicolon)?;
         Ok(Output { name, initial })
     }
 
-    // the keyword, NAME ":=" init
+    // a keyword, NAME ":=" init
     fn declaration(&mut self, keyword: Keyword) -> Result<(Name, i64), Stop>
-        ensures { ReadsAs (λ d. d) (a_declaration keyword) self.old result self.new }
+        ensures { Does (λ d. d) (read_declaration keyword) self.old result self.new }
     {
         self.keyword(keyword)?;
         let name = self.name()?;
@@ -102,7 +111,7 @@ impl Reader<'_> {
 
     // ["line" INT]
     fn line(&mut self) -> Result<Option<u64>, Stop>
-        ensures { ReadsAs (λ k. k) a_line self.old result self.new }
+        ensures { Does (λ k. k) read_line self.old result self.new }
     {
         if !self.accept_keyword(Keyword::Line) {
             return Ok(None);

@@ -1,38 +1,143 @@
-//! Expressions.
+//! Expressions and guards.
 
-ghost use Rattle.giotto_read.specs.Progress.{ReadsAs};
-ghost use Rattle.giotto_read.specs.ReaderForms.{an_operand, an_expression};
+ghost use Rattle.std.specs.Prelude.{◌≡◌, map};
+ghost use Rattle.giotto_read.specs.Doing.{Does, TakesOne};
 ghost use Rattle.giotto_tasks.specs.Trees.{expression_of};
+ghost use Rattle.giotto_text.specs.Parsing.{binary_in, read_expression, read_guard, read_list, read_operand_of, read_parentheses, unary_in};
+ghost use Rattle.giotto_text.specs.ProgramTrees.{guard_of};
+ghost use Rattle.giotto_text.specs.declared.tokens.Token.TheVariants as token;
 
 use super::{Reader, Stop};
-use crate::tokens::Symbol;
 use giotto_tasks::bodies::Expr;
-use giotto_tasks::operators::BinaryOperator;
+use giotto_tasks::lists::List;
+use giotto_tasks::operators::{BinaryOperator, UnaryOperator};
+use giotto_text::tokens::{Keyword, Symbol};
 
 impl Reader<'_> {
-    // expr = prim [binop prim], with "+" alone as binop
-    pub(super) fn expression(&mut self) -> Result<Expr, Stop>
-        ensures { ReadsAs expression_of an_expression self.old result self.new }
+    // "(" [expr {"," expr}] ")"
+    pub(super) fn arguments(&mut self) -> Result<List<Expr>, Stop>
+        ensures { Does (map expression_of) (read_parentheses read_expression) self.old result self.new }
     {
-        let left = self.operand()?;
-        if !self.accept(Symbol::Plus) {
-            return Ok(left);
+        self.symbol(Symbol::OpenParenthesis)?;
+        if self.accept(Symbol::CloseParenthesis) {
+            return Ok(List::from_vec(Vec::new(self.alloc)));
         }
+        let arguments = self.expressions()?;
+        self.symbol(Symbol::CloseParenthesis)?;
+        Ok(arguments)
+    }
+
+    // expr {"," expr}
+    fn expressions(&mut self) -> Result<List<Expr>, Stop>
+        ensures { Does (map expression_of) (read_list read_expression) self.old result self.new }
+    {
+        let mut expressions = Vec::new(self.alloc);
+        let expression = self.expression()?;
+        expressions.push(expression)?;
+        while self.accept(Symbol::Comma) {
+            let expression = self.expression()?;
+            expressions.push(expression)?;
+        }
+        Ok(List::from_vec(expressions))
+    }
+
+    // ["if" expr]
+    pub(super) fn guard(&mut self) -> Result<Option<Expr>, Stop>
+        ensures { Does guard_of read_guard self.old result self.new }
+    {
+        if !self.accept_keyword(Keyword::If) {
+            return Ok(None);
+        }
+        let guard = self.expression()?;
+        Ok(Some(guard))
+    }
+
+    // expr = unop prim | prim [binop prim]
+    #[cycle(nest)]
+    pub(super) fn expression(&mut self) -> Result<Expr, Stop>
+        ensures { Does expression_of read_expression self.old result self.new }
+    {
+        if let Some(operator) = self.accept_unary() {
+            let operand = self.operand()?;
+            let operand = Box::new(self.alloc, operand)?;
+            return Ok(Expr::Unary(operator, operand));
+        }
+        let left = self.operand()?;
+        let Some(operator) = self.accept_binary() else {
+            return Ok(left);
+        };
         let right = self.operand()?;
         let left = Box::new(self.alloc, left)?;
         let right = Box::new(self.alloc, right)?;
-        Ok(Expr::Binary(BinaryOperator::Add, left, right))
+        Ok(Expr::Binary(operator, left, right))
     }
 
-    // prim = INT | NAME
+    // prim = INT | NAME | "(" expr ")"
+    #[cycle(nest)]
     fn operand(&mut self) -> Result<Expr, Stop>
-        ensures { ReadsAs expression_of an_operand self.old result self.new }
+        ensures { Does expression_of (read_operand_of read_expression) self.old result self.new }
     {
         if self.next_name().is_some() {
             let name = self.name()?;
             return Ok(Expr::Port(name));
         }
+        if self.accept(Symbol::OpenParenthesis) {
+            let inner = self.expression()?;
+            self.symbol(Symbol::CloseParenthesis)?;
+            return Ok(inner);
+        }
         let number = self.int()?;
         Ok(Expr::Number(number as i64))
+    }
+
+    // Takes an operator of one operand if it comes next.
+    fn accept_unary(&mut self) -> Option<UnaryOperator>
+        ensures { TakesOne unary_in self.old result self.new }
+    {
+        let symbol = self.next_symbol()?;
+        let operator = unary_operator(symbol)?;
+        self.at += 1;
+        Some(operator)
+    }
+
+    // Takes an operator of two operands if it comes next.
+    fn accept_binary(&mut self) -> Option<BinaryOperator>
+        ensures { TakesOne binary_in self.old result self.new }
+    {
+        let symbol = self.next_symbol()?;
+        let operator = binary_operator(symbol)?;
+        self.at += 1;
+        Some(operator)
+    }
+}
+
+fn unary_operator(symbol: Symbol) -> Option<UnaryOperator>
+    ensures { result ≡ unary_in (token.Symbol symbol) }
+{
+    match symbol {
+        Symbol::Minus => Some(UnaryOperator::Negate),
+        Symbol::Not => Some(UnaryOperator::Not),
+        _ => None,
+    }
+}
+
+fn binary_operator(symbol: Symbol) -> Option<BinaryOperator>
+    ensures { result ≡ binary_in (token.Symbol symbol) }
+{
+    match symbol {
+        Symbol::Plus => Some(BinaryOperator::Add),
+        Symbol::Minus => Some(BinaryOperator::Subtract),
+        Symbol::Star => Some(BinaryOperator::Multiply),
+        Symbol::Slash => Some(BinaryOperator::Divide),
+        Symbol::Percent => Some(BinaryOperator::Remainder),
+        Symbol::EqualEqual => Some(BinaryOperator::Equal),
+        Symbol::NotEqual => Some(BinaryOperator::NotEqual),
+        Symbol::Less => Some(BinaryOperator::Less),
+        Symbol::AtMost => Some(BinaryOperator::AtMost),
+        Symbol::Greater => Some(BinaryOperator::Greater),
+        Symbol::AtLeast => Some(BinaryOperator::AtLeast),
+        Symbol::AndAnd => Some(BinaryOperator::And),
+        Symbol::OrOr => Some(BinaryOperator::Or),
+        _ => None,
     }
 }

@@ -1,25 +1,24 @@
 //! Tasks.
 
-ghost use Rattle.std.specs.Prelude.{◌≢◌, [], map, IfOk};
-ghost use Rattle.giotto_tasks.specs.Trees.{block_of, statement_of};
-ghost use Rattle.giotto_read.specs.Grammar.{task};
-ghost use Rattle.giotto_read.specs.Progress.{ReadsAs};
-ghost use Rattle.giotto_read.specs.ProgramTrees.{assignment_of, task_of};
-ghost use Rattle.giotto_read.specs.ReaderForms.{any, a_block, a_statement, a_task, an_assignment, first_and_rest, inputs, names, outputs};
-ghost use Rattle.giotto_read.specs.declared.tokens.Keyword.TheVariants as keyword;
+ghost use Rattle.std.specs.Prelude.{◌≡◌, map, length, IfOk};
+ghost use Rattle.std.specs.List.{zip};
+ghost use Rattle.giotto_read.specs.Doing.{Does};
+ghost use Rattle.giotto_text.specs.Parsing.{is_keyword, many, read_list, read_list_behind, read_name, read_parentheses, read_state, read_task};
+ghost use Rattle.giotto_text.specs.ProgramTrees.{task_of};
+ghost use Rattle.giotto_text.specs.declared.tokens.Keyword.TheVariants as keyword;
 
 use super::{Reader, Stop};
-use crate::programs::Task;
-use crate::tokens::{Keyword, Symbol};
-use giotto_tasks::bodies::{Body, Expr, Stmt};
+use giotto_tasks::bodies::Body;
 use giotto_tasks::lists::List;
 use giotto_tasks::names::Name;
+use giotto_text::programs::Task;
+use giotto_text::tokens::{Keyword, Symbol};
 use std::sync::Arc;
 
 impl Reader<'_> {
     // {task}
     pub(super) fn tasks(&mut self) -> Result<List<Task>, Stop>
-        ensures { ReadsAs (map task_of) (any task keyword.Task) self.old result self.new }
+        ensures { Does (map task_of) (many (is_keyword keyword.Task) read_task) self.old result self.new }
     {
         let mut tasks = Vec::new(self.alloc);
         while self.next_is_keyword(Keyword::Task) {
@@ -29,29 +28,33 @@ impl Reader<'_> {
         Ok(List::from_vec(tasks))
     }
 
-    // task = "task" NAME "(" [NAME {"," NAME}] ")" ["output" NAME {"," NAME}] block
+    // task = "task" NAME "(" [NAME {"," NAME}] ")" ["output" NAME {"," NAME}] ["state" state {"," state}] block
     fn task(&mut self) -> Result<Task, Stop>
-        ensures { ReadsAs task_of a_task self.old result self.new }
+        ensures { Does task_of read_task self.old result self.new }
     {
         self.keyword(Keyword::Task)?;
         let name = self.name()?;
         let inputs = self.inputs()?;
         let outputs = self.task_outputs()?;
+        let (states, initials) = self.task_states()?;
         let block = self.block()?;
         let body = Body {
             inputs,
             outputs,
-            states: List::from_vec(Vec::new(self.alloc)),
+            states,
             block,
         };
         let body = Arc::new(self.alloc, body)?;
-        let states = List::from_vec(Vec::new(self.alloc));
-        Ok(Task { name, states, body })
+        Ok(Task {
+            name,
+            states: initials,
+            body,
+        })
     }
 
     // "(" [NAME {"," NAME}] ")"
     fn inputs(&mut self) -> Result<List<Name>, Stop>
-        ensures { ReadsAs (λ xs. xs) inputs self.old result self.new }
+        ensures { Does (λ xs. xs) (read_parentheses read_name) self.old result self.new }
     {
         self.symbol(Symbol::OpenParenthesis)?;
         if self.accept(Symbol::CloseParenthesis) {
@@ -64,7 +67,7 @@ impl Reader<'_> {
 
     // ["output" NAME {"," NAME}]
     fn task_outputs(&mut self) -> Result<List<Name>, Stop>
-        ensures { ReadsAs (λ xs. xs) outputs self.old result self.new }
+        ensures { Does (λ xs. xs) (read_list_behind keyword.Output read_name) self.old result self.new }
     {
         if !self.accept_keyword(Keyword::Output) {
             return Ok(List::from_vec(Vec::new(self.alloc)));
@@ -75,8 +78,7 @@ impl Reader<'_> {
 
     // NAME {"," NAME}
     fn names(&mut self) -> Result<List<Name>, Stop>
-        ensures read { ReadsAs (first_and_rest []) names self.old result self.new }
-        ensures some { IfOk result (λ xs. xs ≢ []) }
+        ensures { Does (λ xs. xs) (read_list read_name) self.old result self.new }
     {
         let mut names = Vec::new(self.alloc);
         let name = self.name()?;
@@ -88,35 +90,45 @@ impl Reader<'_> {
         Ok(List::from_vec(names))
     }
 
-    // block = "{" {stmt} "}"
-    fn block(&mut self) -> Result<Vec<Stmt>, Stop>
-        ensures { ReadsAs (λ b. block_of b.items) a_block self.old result self.new }
+    // ["state" state {"," state}]
+    fn task_states(&mut self) -> Result<(List<Name>, List<i64>), Stop>
+        ensures read { Does (λ s. zip s.0 s.1) (read_list_behind keyword.State read_state) self.old result self.new }
+        ensures each { IfOk result (λ s. length s.0 ≡ length s.1) }
     {
-        self.symbol(Symbol::OpenBrace)?;
-        let mut block = Vec::new(self.alloc);
-        while !self.accept(Symbol::CloseBrace) {
-            let statement = self.statement()?;
-            block.push(statement)?;
+        if !self.accept_keyword(Keyword::State) {
+            let names = List::from_vec(Vec::new(self.alloc));
+            let initials = List::from_vec(Vec::new(self.alloc));
+            return Ok((names, initials));
         }
-        Ok(block)
+        let states = self.states()?;
+        Ok(states)
     }
 
-    // stmt = NAME ":=" expr ";"
-    fn statement(&mut self) -> Result<Stmt, Stop>
-        ensures { ReadsAs statement_of a_statement self.old result self.new }
+    // state {"," state}, as the names and the initial values
+    fn states(&mut self) -> Result<(List<Name>, List<i64>), Stop>
+        ensures read { Does (λ s. zip s.0 s.1) (read_list read_state) self.old result self.new }
+        ensures each { IfOk result (λ s. length s.0 ≡ length s.1) }
     {
-        let (name, value) = self.assignment()?;
-        Ok(Stmt::Assign(name, value))
+        let mut names = Vec::new(self.alloc);
+        let mut initials = Vec::new(self.alloc);
+        let (name, initial) = self.state()?;
+        names.push(name)?;
+        initials.push(initial)?;
+        while self.accept(Symbol::Comma) {
+            let (name, initial) = self.state()?;
+            names.push(name)?;
+            initials.push(initial)?;
+        }
+        Ok((List::from_vec(names), List::from_vec(initials)))
     }
 
-    // NAME ":=" expr ";"
-    pub(super) fn assignment(&mut self) -> Result<(Name, Expr), Stop>
-        ensures { ReadsAs assignment_of an_assignment self.old result self.new }
+    // state = NAME ":=" init
+    fn state(&mut self) -> Result<(Name, i64), Stop>
+        ensures { Does (λ s. s) read_state self.old result self.new }
     {
         let name = self.name()?;
         self.symbol(Symbol::Becomes)?;
-        let value = self.expression()?;
-        self.symbol(Symbol::Semicolon)?;
-        Ok((name, value))
+        let initial = self.initial()?;
+        Ok((name, initial))
     }
 }

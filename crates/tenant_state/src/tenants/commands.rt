@@ -1,26 +1,27 @@
 //! What a tenant's commands do.
 
-ghost use Rattle.std.specs.Prelude.{◌≡◌, ◌≢◌, ◌&&◌, Bool, Ok, Err, None, IfOk, IfErr, OnOk, OnErr, if◌then◌else◌, Some};
+ghost use Rattle.std.specs.Prelude.{◌≡◌, ◌≢◌, ◌&&◌, Bool, true, Ok, Err, None, IfOk, IfErr, OnOk, OnErr, if◌then◌else◌, Some, map};
 ghost use Rattle.rig_config.specs.declared.Budgets.{Budgets};
 ghost use Rattle.tenant_lines.specs.declared.replies.Budget.{Budget};
 ghost use Rattle.std.specs.List.{list_all};
-ghost use Rattle.tenant_state.specs.Commands.{IsTrueReader};
+ghost use Rattle.giotto_text.specs.Parsing.{parsed};
 ghost use Rattle.tenant_lines.specs.declared.commands.Command.{Command};
 ghost use Rattle.tenant_lines.specs.declared.replies.Refusal.{Refusal};
 ghost use Rattle.tenant_lines.specs.declared.replies.Reply.{Reply};
+ghost use Rattle.giotto_text.specs.ProgramTrees.{mode_of};
 ghost use Rattle.giotto_check.specs.Declarations.{lines_read, lines_written};
 ghost use Rattle.giotto_check.specs.Rules.{first_broken_rule};
 ghost use Rattle.rig_config.specs.Roster.{may_use};
-ghost use Rattle.tenant_state.specs.Commands.{Reader, commanded, refusal_of, load_read, show_port, refused, broken_budget};
+ghost use Rattle.tenant_state.specs.Commands.{commanded, has_no_switch, has_no_switches, refusal_of, load_read, show_port, refused, broken_budget};
 ghost use Rattle.tenant_state.specs.Row.{ActiveTask, Row, is_running};
 ghost use Rattle.tenant_state.specs.Standing.{StandsFor, IsOutcome, without_records};
 
 use crate::tenants::{State, Tenant};
 use giotto_check::{self, CheckFault, Checked};
-use giotto_read::faults::ReadFault;
-use giotto_read::programs::{Actuator, Program, Sensor, Source};
 use giotto_read::reading;
 use giotto_tasks::names::Name;
+use giotto_text::faults::ReadFault;
+use giotto_text::programs::{Actuator, Mode, Program, Sensor, Source};
 use rig_config::Budgets;
 use std::alloc::Global;
 use tenant_lines::commands::Command;
@@ -32,8 +33,8 @@ impl Tenant {
     pub fn command(&mut self, budgets: &Budgets, command: Command) -> Reply
         ensures memory { result ≡ Reply.Refused Refusal.Memory → self.new ≡ self.old }
         ensures count { self.new.row.count ≡ self.old.row.count }
-        ensures step { (reader : Reader) (row : Row) (completed : ActiveTask → Bool) → IsTrueReader reader → StandsFor self.old row completed
-            → result ≢ Reply.Refused Refusal.Memory → IsOutcome (commanded reader budgets.now command row) result self.new completed }
+        ensures step { (row : Row) (completed : ActiveTask → Bool) → StandsFor self.old row completed
+            → result ≢ Reply.Refused Refusal.Memory → IsOutcome (commanded budgets.now command row) result self.new completed }
     {
         match command {
             Command::Load(text) => match self.load(budgets, text.as_str()) {
@@ -61,10 +62,10 @@ impl Tenant {
     fn load(&mut self, budgets: &Budgets, text: &str) -> Result<(), Refusal>
         ensures unchanged { OnErr result (self.new ≡ self.old) }
         ensures count { self.new.row.count ≡ self.old.row.count }
-        ensures refused { IfErr result (λ r. r ≢ Refusal.Memory → (reader : Reader) (row : Row) → IsTrueReader reader → self.old.row ≡ without_records row
-            → commanded reader budgets.now (Command.Load text.now) row ≡ refused row r) }
-        ensures loaded { OnOk result ((reader : Reader) (row : Row) (completed : ActiveTask → Bool) → IsTrueReader reader → StandsFor self.old row completed
-            → IsOutcome (commanded reader budgets.now (Command.Load text.now) row) Reply.Loaded self.new completed) }
+        ensures refused { IfErr result (λ r. r ≢ Refusal.Memory → (row : Row) → self.old.row ≡ without_records row
+            → commanded budgets.now (Command.Load text.now) row ≡ refused row r) }
+        ensures loaded { OnOk result ((row : Row) (completed : ActiveTask → Bool) → StandsFor self.old row completed
+            → IsOutcome (commanded budgets.now (Command.Load text.now) row) Reply.Loaded self.new completed) }
     {
         let program = read_program(self.alloc, text)?;
         if self.is_running() {
@@ -89,10 +90,10 @@ impl Tenant {
     fn start(&mut self) -> Result<(), Refusal>
         ensures unchanged { OnErr result (self.new ≡ self.old) }
         ensures count { self.new.row.count ≡ self.old.row.count }
-        ensures refused { IfErr result (λ r. r ≢ Refusal.Memory → (reader : Reader) (budgets : Budgets) (row : Row)
-            → self.old.row ≡ without_records row → commanded reader budgets Command.Start row ≡ refused row r) }
-        ensures started { OnOk result ((reader : Reader) (budgets : Budgets) (row : Row) (completed : ActiveTask → Bool) → StandsFor self.old row completed
-            → IsOutcome (commanded reader budgets Command.Start row) Reply.Started self.new completed) }
+        ensures refused { IfErr result (λ r. r ≢ Refusal.Memory → (budgets : Budgets) (row : Row)
+            → self.old.row ≡ without_records row → commanded budgets Command.Start row ≡ refused row r) }
+        ensures started { OnOk result ((budgets : Budgets) (row : Row) (completed : ActiveTask → Bool) → StandsFor self.old row completed
+            → IsOutcome (commanded budgets Command.Start row) Reply.Started self.new completed) }
     {
         if self.is_running() {
             return Err(Refusal::Running);
@@ -127,23 +128,39 @@ impl Tenant {
     }
 }
 
-// The well-formed program that a text spells.
+// The well-formed program that a text spells. One with a switch is refused like one that breaks a rule: no instant takes
+// switches yet.
 fn read_program(alloc: Global, text: &str) -> Result<Checked, Refusal>
-    ensures read { IfOk result (λ p. (reader : Reader) → IsTrueReader reader → reader text.now ≡ Ok p) }
+    ensures read { IfOk result (λ p. parsed text.now ≡ Ok p) }
     ensures checked { IfOk result (λ p. first_broken_rule p ≡ None) }
-    ensures refused { IfErr result (λ r. r ≢ Refusal.Memory → (reader : Reader) (budgets : Budgets) (row : Row) → IsTrueReader reader
-        → load_read budgets row (reader text.now) ≡ refused row r) }
+    ensures switches { IfOk result (λ p. has_no_switches p ≡ true) }
+    ensures refused { IfErr result (λ r. r ≢ Refusal.Memory → (budgets : Budgets) (row : Row) → load_read budgets row (parsed text.now) ≡ refused row r) }
 {
     let program = match reading::read(alloc, text) {
         Ok(program) => program,
         Err(fault) => return Err(refusal_of(fault)),
     };
-    giotto_check::laws::read_without_switches();
-    match giotto_check::check(alloc, program) {
-        Ok(program) => Ok(program),
-        Err(CheckFault::Rule(_)) => Err(Refusal::Rule(0)),
-        Err(CheckFault::Memory) => Err(Refusal::Memory),
+    giotto_check::laws::read_with_small_tasks();
+    let checked = match giotto_check::check(alloc, program) {
+        Ok(checked) => checked,
+        Err(CheckFault::Rule(_)) => return Err(Refusal::Rule(0)),
+        Err(CheckFault::Memory) => return Err(Refusal::Memory),
+    };
+    if !have_no_switches(checked.program().modes.as_slice()) {
+        return Err(Refusal::Rule(0));
     }
+    Ok(checked)
+}
+
+fn have_no_switches(modes: &[Mode]) -> bool
+    ensures { result ≡ list_all has_no_switch (map mode_of modes.now) }
+{
+    for mode in modes {
+        if !mode.switches.as_slice().is_empty() {
+            return false;
+        }
+    }
+    true
 }
 
 fn refusal_of(fault: ReadFault) -> Refusal

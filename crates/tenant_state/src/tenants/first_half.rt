@@ -5,9 +5,9 @@ ghost use Rattle.std.specs.List.{find, flat_map, list_any, AllByRecursion};
 ghost use Rattle.std.specs.Option.{option_map};
 ghost use Rattle.giotto_tasks.specs.Names.{names_in, same_name, is_among};
 ghost use Rattle.giotto_tasks.specs.Sound.{AreSourcesOf};
-ghost use Rattle.giotto_read.specs.Program.{ActuatorUpdate, TaskInvocation};
-ghost use Rattle.giotto_read.specs.declared.programs.Invocation.{Invocation};
-ghost use Rattle.giotto_read.specs.ProgramTrees.{mode_of, update_of, invocation_of};
+ghost use Rattle.giotto_text.specs.Program.{ActuatorUpdate, TaskInvocation};
+ghost use Rattle.giotto_text.specs.declared.programs.Invocation.{Invocation};
+ghost use Rattle.giotto_text.specs.ProgramTrees.{mode_of, update_of, invocation_of};
 ghost use Rattle.giotto_check.specs.Declarations as declared;
 ghost use Rattle.tenant_state.specs.FirstHalf.{unfinished_tasks, is_due_at, all_ended, all_updated, first_half_of};
 ghost use Rattle.tenant_ports.specs.GuardSources.{AreGuardSources};
@@ -19,8 +19,8 @@ ghost use Rattle.tenant_state.specs.Tenants.{active_of, is_completed, IsActiveAs
 
 use crate::tenants::{Active, Reason, State, Tenant};
 use giotto_check::{Checked, find_mode, find_task};
-use giotto_read::programs::Mode;
 use giotto_tasks::names::Name;
+use giotto_text::programs::Mode;
 use tenant_ports::Ports;
 
 impl Tenant {

@@ -1,6 +1,6 @@
 use Rattle.std.proofs.Common.{◌≡◌, map, take}
-use Rattle.giotto_read.specs.Program.{ActuatorDeclaration}
-use Rattle.giotto_read.specs.ProgramTrees.{actuator_of}
+use Rattle.giotto_text.specs.Program.{ActuatorDeclaration}
+use Rattle.giotto_text.specs.ProgramTrees.{actuator_of}
 use Rattle.giotto_check.proofs.declarations.actuator_names.Given as goal
 
 abbrev pub invariant-loop-actuator : goal.invariant-loop-actuator

@@ -1,6 +1,6 @@
 use Rattle.std.proofs.Common.{◌≡◌, map, take}
-use Rattle.giotto_read.specs.Program.{TaskInvocation}
-use Rattle.giotto_read.specs.ProgramTrees.{invocation_of}
+use Rattle.giotto_text.specs.Program.{TaskInvocation}
+use Rattle.giotto_text.specs.ProgramTrees.{invocation_of}
 use Rattle.giotto_check.proofs.declarations.invoked_tasks.Given as goal
 
 abbrev pub invariant-loop-invocation : goal.invariant-loop-invocation

@@ -1,7 +1,7 @@
 use Rattle.std.proofs.Common.{◌≡◌, ◌++◌, map, drop}
 use Rattle.std.specs.List.{filter_map}
-use Rattle.giotto_read.specs.Program.{ActuatorDeclaration}
-use Rattle.giotto_read.specs.ProgramTrees.{actuator_of}
+use Rattle.giotto_text.specs.Program.{ActuatorDeclaration}
+use Rattle.giotto_text.specs.ProgramTrees.{actuator_of}
 use Rattle.giotto_check.specs.Declarations.{lines_written}
 use Rattle.giotto_check.proofs.declarations.lines_written.Given as goal
 

@@ -1,6 +1,6 @@
 use Rattle.std.proofs.Common.{◌≡◌, map, take}
-use Rattle.giotto_read.specs.Program.{ModeDeclaration}
-use Rattle.giotto_read.specs.ProgramTrees.{mode_of}
+use Rattle.giotto_text.specs.Program.{ModeDeclaration}
+use Rattle.giotto_text.specs.ProgramTrees.{mode_of}
 use Rattle.giotto_check.proofs.declarations.mode_names.Given as goal
 
 abbrev pub invariant-loop-mode : goal.invariant-loop-mode

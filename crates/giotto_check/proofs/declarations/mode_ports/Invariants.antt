@@ -1,7 +1,7 @@
 use Rattle.std.proofs.Common.{◌≡◌, map, take}
 use Rattle.std.specs.List.{flat_map}
-use Rattle.giotto_read.specs.Program.{TaskInvocation}
-use Rattle.giotto_read.specs.ProgramTrees.{invocation_of}
+use Rattle.giotto_text.specs.Program.{TaskInvocation}
+use Rattle.giotto_text.specs.ProgramTrees.{invocation_of}
 use Rattle.giotto_check.specs.Declarations.{outputs_of_task}
 use Rattle.giotto_check.proofs.declarations.mode_ports.Given as goal
 

@@ -1,6 +1,6 @@
 use Rattle.std.proofs.Common.{◌≡◌, map, take}
-use Rattle.giotto_read.specs.Program.{OutputDeclaration}
-use Rattle.giotto_read.specs.ProgramTrees.{output_of}
+use Rattle.giotto_text.specs.Program.{OutputDeclaration}
+use Rattle.giotto_text.specs.ProgramTrees.{output_of}
 use Rattle.giotto_check.proofs.declarations.output_names.Given as goal
 
 abbrev pub invariant-loop-output : goal.invariant-loop-output

@@ -1,6 +1,6 @@
 use Rattle.std.proofs.Common.{◌≡◌, map, take}
-use Rattle.giotto_read.specs.Program.{SensorDeclaration}
-use Rattle.giotto_read.specs.ProgramTrees.{sensor_of}
+use Rattle.giotto_text.specs.Program.{SensorDeclaration}
+use Rattle.giotto_text.specs.ProgramTrees.{sensor_of}
 use Rattle.giotto_check.proofs.declarations.sensor_names.Given as goal
 
 abbrev pub invariant-loop-sensor : goal.invariant-loop-sensor

@@ -1,6 +1,6 @@
 use Rattle.std.proofs.Common.{◌≡◌, map, take}
-use Rattle.giotto_read.specs.Program.{TaskDeclaration}
-use Rattle.giotto_read.specs.ProgramTrees.{task_of}
+use Rattle.giotto_text.specs.Program.{TaskDeclaration}
+use Rattle.giotto_text.specs.ProgramTrees.{task_of}
 use Rattle.giotto_check.proofs.declarations.task_names.Given as goal
 
 abbrev pub invariant-loop-task : goal.invariant-loop-task

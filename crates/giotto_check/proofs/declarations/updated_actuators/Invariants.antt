@@ -1,6 +1,6 @@
 use Rattle.std.proofs.Common.{◌≡◌, map, take}
-use Rattle.giotto_read.specs.Program.{ActuatorUpdate}
-use Rattle.giotto_read.specs.ProgramTrees.{update_of}
+use Rattle.giotto_text.specs.Program.{ActuatorUpdate}
+use Rattle.giotto_text.specs.ProgramTrees.{update_of}
 use Rattle.giotto_check.proofs.declarations.updated_actuators.Given as goal
 
 abbrev pub invariant-loop-update : goal.invariant-loop-update

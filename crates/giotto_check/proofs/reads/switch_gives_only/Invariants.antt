@@ -1,7 +1,7 @@
 use Rattle.std.proofs.Common.{◌≡◌, drop, map}
 use Rattle.giotto_tasks.specs.Syntax.{Expression}
 use Rattle.giotto_tasks.specs.declared.names.Name.{Name}
-use Rattle.giotto_read.specs.ProgramTrees.{destination_of}
+use Rattle.giotto_text.specs.ProgramTrees.{destination_of}
 use Rattle.giotto_check.specs.Names.{are_among}
 use Rattle.giotto_check.proofs.reads.switch_gives_only.Given as goal
 

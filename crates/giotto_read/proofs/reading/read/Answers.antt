@@ -1,8 +1,9 @@
-use Rattle.std.proofs.Common.{◌≡◌, length, Ok, Err, sym, ◌∙◌, subst}
+use Rattle.std.proofs.Common.{◌≡◌, length, Ok, Err, sym, ap, ◌∙◌, subst}
 use Rattle.std.proofs.lemmas.Result.{err_from_is_err_and, IfOk-weaker}
-use Rattle.giotto_read.specs.Reading.{IsLexicalFault, Reads, ReadsTokens}
-use Rattle.giotto_read.specs.Tokens.{tokens_of}
-use Rattle.giotto_read.proofs.TextReading.{reads_as_lexical_fault}
+use Rattle.giotto_text.specs.Parsing.{parsed, parsed_tokens, read_all}
+use Rattle.giotto_text.specs.Reading.{IsLexicalFault}
+use Rattle.giotto_text.specs.Tokens.{tokens_of}
+use Rattle.giotto_read.proofs.TextReading.{parsed_at_fault}
 use Rattle.giotto_read.proofs.reading.read.Goals as goal
 
 pub returns-in_err-tokens-clause-fault : goal.returns-in_err-tokens-clause-fault
@@ -10,15 +11,15 @@ returns-in_err-tokens-clause-fault c = λ f e other.
     let p = err_from_is_err_and c.from_residual.result c.from_residual.ensures.1 in
     let both : Err p.0 ≡ Err f = sym p.1 ∙ e in
     let same : p.0 ≡ f = cc in
-    reads_as_lexical_fault c.args.text.now f (subst (IsLexicalFault c.args.text.now) (sym p.2 ∙ same) (rw c.as_bytes.ensures.value at c.in_err-tokens.ensures.fault)) other
+    parsed_at_fault c.args.text.now f (subst (IsLexicalFault c.args.text.now) (sym p.2 ∙ same) (rw c.as_bytes.ensures.value at c.in_err-tokens.ensures.fault)) other
 
 pub returns-clause-found : goal.returns-clause-found
 returns-clause-found c =
     let found : tokens_of c.args.text.now ≡ Ok c.deref.result.now = rw c.deref.ensures.value (rw c.as_bytes.ensures.value at c.in_ok-tokens.ensures.ok) in
-    IfOk-weaker c.read_tokens.result (λ p. ReadsTokens (Ok c.deref.result.now) (length c.args.text.now) (Ok p)) (λ p. Reads c.args.text.now (Ok p))
-    (λ p. subst (λ cut. ReadsTokens cut (length c.args.text.now) (Ok p)) (sym found)) c.read_tokens.ensures.found
+    IfOk-weaker c.read_tokens.result (λ p. read_all (length c.args.text.now) c.deref.result.now ≡ Ok p) (λ p. parsed c.args.text.now ≡ Ok p)
+    (λ p e. ap (parsed_tokens (length c.args.text.now)) found ∙ e) c.read_tokens.ensures.found
 
 pub returns-clause-fault : goal.returns-clause-fault
 returns-clause-fault c = λ f e other.
     let found : tokens_of c.args.text.now ≡ Ok c.deref.result.now = rw c.deref.ensures.value (rw c.as_bytes.ensures.value at c.in_ok-tokens.ensures.ok) in
-    subst (λ cut. ReadsTokens cut (length c.args.text.now) (Err f)) (sym found) (c.read_tokens.ensures.fault f e other)
+    ap (parsed_tokens (length c.args.text.now)) found ∙ c.read_tokens.ensures.fault f e other

@@ -1,37 +1,46 @@
-use Rattle.std.proofs.Common.{◌≡◌, true, false, Ok, Err, refl, subst}
-use Rattle.giotto_read.specs.declared.faults.ReadFault.TheVariants.{Syntax, TooMany}
-use Rattle.giotto_read.specs.Reading.{ReadsTokens, a_program, a_fault, too_many_ports}
-use Rattle.giotto_read.proofs.ReaderFaults.{reader_stops, reader_behind, reader_ends}
+use Rattle.std.proofs.Common.{◌≡◌, true, false, Err, refl, ap, sym, ◌∙◌}
+use Rattle.giotto_text.specs.declared.faults.ReadFault.TheVariants.{Syntax, TooDeep, TooMany}
+use Rattle.giotto_read.specs.Doing.{left}
+use Rattle.giotto_text.specs.Parsing.{got, stopped}
+use Rattle.giotto_read.proofs.DoingSteps.{read_of, reads_stopped, reads_behind, nothing_left}
 use Rattle.giotto_read.proofs.reading.read_tokens.Goals as goal
+
+pub returns-then-nests_too_deep-clause-fault : goal.returns-then-nests_too_deep-clause-fault
+returns-then-nests_too_deep-clause-fault c = λ f e other.
+    let same : TooDeep ≡ f = cc in
+    rw (sym c.if-nests_too_deep.ensures) (ap Err same)
 
 pub returns-in-Err-Unexpected-clause-fault : goal.returns-in-Err-Unexpected-clause-fault
 returns-in-Err-Unexpected-clause-fault c = λ f e other.
     let start = c.new-reader.ensures in
+    let s = c.program.new.self in
     let same : Syntax c.offset.result ≡ f = cc in
-    subst (λ x. ReadsTokens (Ok c.args.tokens.now) c.args.end (Err x)) same
-    (a_fault (rw c.offset.ensures (reader_stops c.new-reader.result c.program.new.self c.args.tokens.now c.args.end start.tokens start.start (rw c.in-Err-Unexpected.field-0-is at c.in-Err-Unexpected.ensures))))
+    read_of c.new-reader.result c.args.tokens.now (stopped (left s)) start.tokens start.start (sym c.if-nests_too_deep.ensures) (rw c.in-Err-Unexpected.field-0-is at c.in-Err-Unexpected.ensures) c.args.end
+    ∙ reads_stopped s.tokens.now s.at c.args.end ∙ ap (λ n. Err (Syntax n)) (sym c.offset.ensures) ∙ ap Err same
 
 pub returns-then-not-is_at_end-clause-fault : goal.returns-then-not-is_at_end-clause-fault
 returns-then-not-is_at_end-clause-fault c = λ f e other.
     let start = c.new-reader.ensures in
     let inside = c.if-not-is_at_end.ensures in
+    let s = c.program.new.self in
     let same : Syntax c.offset-then-not-is_at_end.result ≡ f = cc in
-    subst (λ x. ReadsTokens (Ok c.args.tokens.now) c.args.end (Err x)) same
-    (a_fault (rw c.offset-then-not-is_at_end.ensures
-    (reader_behind c.new-reader.result c.program.new.self c.args.tokens.now c.args.end c.in-Ok.program start.tokens start.start c.in-Ok.ensures (λ end. let no : false ≡ true = inside.1 end in cc))))
+    read_of c.new-reader.result c.args.tokens.now (got c.in-Ok.program (left s)) start.tokens start.start (sym c.if-nests_too_deep.ensures) c.in-Ok.ensures c.args.end
+    ∙ reads_behind s.tokens.now s.at c.args.end c.in-Ok.program s.within (λ end. let no : false ≡ true = inside.1 end in cc)
+    ∙ ap (λ n. Err (Syntax n)) (sym c.offset-then-not-is_at_end.ensures) ∙ ap Err same
 
 pub returns-then-not-has_small_tasks-clause-fault : goal.returns-then-not-has_small_tasks-clause-fault
 returns-then-not-has_small_tasks-clause-fault c = λ f e other.
     let start = c.new-reader.ensures in
     let end = c.if-not-is_at_end.ensures in
-    let large = c.if-not-has_small_tasks.ensures in
+    let s = c.program.new.self in
     let same : TooMany ≡ f = cc in
-    subst (λ x. ReadsTokens (Ok c.args.tokens.now) c.args.end (Err x)) same
-    (too_many_ports c.args.tokens.now refl (reader_ends c.new-reader.result c.program.new.self c.args.tokens.now c.in-Ok.program start.tokens start.start c.in-Ok.ensures (end.0 refl)) (λ small. let no : false ≡ true = large.1 small in cc))
+    read_of c.new-reader.result c.args.tokens.now (got c.in-Ok.program (left s)) start.tokens start.start (sym c.if-nests_too_deep.ensures) c.in-Ok.ensures c.args.end
+    ∙ rw (nothing_left s.tokens.now s.at (end.0 refl), sym c.if-not-has_small_tasks.ensures) (ap Err same)
 
 pub returns-clause-found : goal.returns-clause-found
 returns-clause-found c =
     let start = c.new-reader.ensures in
     let end = c.if-not-is_at_end.ensures in
-    let small = c.if-not-has_small_tasks.ensures in
-    a_program c.args.tokens.now refl (reader_ends c.new-reader.result c.program.new.self c.args.tokens.now c.in-Ok.program start.tokens start.start c.in-Ok.ensures (end.0 refl)) (small.0 refl)
+    let s = c.program.new.self in
+    read_of c.new-reader.result c.args.tokens.now (got c.in-Ok.program (left s)) start.tokens start.start (sym c.if-nests_too_deep.ensures) c.in-Ok.ensures c.args.end
+    ∙ rw (nothing_left s.tokens.now s.at (end.0 refl), sym c.if-not-has_small_tasks.ensures) refl

@@ -1,5 +1,4 @@
-use Rattle.std.proofs.Common.{◌≡◌, ◌++◌, List, length, map, take, reverse, refl, sym, ap, ◌∙◌, subst, arith}
-use Rattle.std.specs.Fmt.{decimal}
+use Rattle.std.proofs.Common.{◌≡◌, ◌++◌, List, length, map, take, reverse, refl, sym, ap, ◌∙◌, subst}
 use Rattle.std.proofs.lemmas.List.{take_all}
 use Rattle.host_core.specs.HostStanding.{outstanding_jobs}
 use Rattle.host_core.specs.declared.events.Event.TheVariants.{Done}

@@ -1,6 +1,6 @@
 use Rattle.std.proofs.Common.{◌≡◌, map, take}
 use Rattle.std.specs.List.{flat_map}
-use Rattle.giotto_read.specs.ProgramTrees.{task_of}
+use Rattle.giotto_text.specs.ProgramTrees.{task_of}
 use Rattle.tenant_ports.specs.Ports.{initial_of_task}
 use Rattle.tenant_ports.proofs.initial_tables.own_table.Given as goal
 

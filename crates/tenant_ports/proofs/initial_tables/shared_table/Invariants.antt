@@ -1,6 +1,6 @@
 use Rattle.std.proofs.Common.{◌≡◌, ◌++◌, map, take}
-use Rattle.giotto_read.specs.Program.{SensorDeclaration, ActuatorDeclaration, OutputDeclaration}
-use Rattle.giotto_read.specs.ProgramTrees.{sensor_of, actuator_of, output_of}
+use Rattle.giotto_text.specs.Program.{SensorDeclaration, ActuatorDeclaration, OutputDeclaration}
+use Rattle.giotto_text.specs.ProgramTrees.{sensor_of, actuator_of, output_of}
 use Rattle.tenant_ports.proofs.initial_tables.shared_table.Given as goal
 
 abbrev pub invariant-loop-sensor : goal.invariant-loop-sensor

@@ -1,5 +1,5 @@
 use Rattle.std.proofs.Common.{◌≡◌, drop, map}
-use Rattle.giotto_read.specs.ProgramTrees.{task_of}
+use Rattle.giotto_text.specs.ProgramTrees.{task_of}
 use Rattle.giotto_check.specs.Rules.{bodies_use_own_ports}
 use Rattle.giotto_check.proofs.ProgramParts.{with_tasks}
 use Rattle.giotto_check.proofs.rules.bodies.bodies_use_own_ports.Given as goal

@@ -1,7 +1,7 @@
 use Rattle.std.proofs.Common.{◌≡◌, drop, map}
 use Rattle.std.specs.List.{list_all}
-use Rattle.giotto_read.specs.Program.{TaskDeclaration, body_of}
-use Rattle.giotto_read.specs.ProgramTrees.{task_of}
+use Rattle.giotto_text.specs.Program.{TaskDeclaration, body_of}
+use Rattle.giotto_text.specs.ProgramTrees.{task_of}
 use Rattle.giotto_check.specs.TaskPorts.{declares_own}
 use Rattle.giotto_check.proofs.rules.declared_once.tasks_declare_own.Given as goal
 

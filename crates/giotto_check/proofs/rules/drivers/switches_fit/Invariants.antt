@@ -1,6 +1,6 @@
 use Rattle.std.proofs.Common.{◌≡◌, drop, map}
 use Rattle.std.specs.List.{list_all}
-use Rattle.giotto_read.specs.ProgramTrees.{switch_of}
+use Rattle.giotto_text.specs.ProgramTrees.{switch_of}
 use Rattle.giotto_check.specs.Drivers.{switch_fits}
 use Rattle.giotto_check.proofs.rules.drivers.switches_fit.Given as goal
 

@@ -1,7 +1,7 @@
 use Rattle.std.proofs.Common.{◌≡◌, drop, map}
 use Rattle.std.specs.List.{list_all}
-use Rattle.giotto_read.specs.Program.{ActuatorUpdate}
-use Rattle.giotto_read.specs.ProgramTrees.{update_of}
+use Rattle.giotto_text.specs.Program.{ActuatorUpdate}
+use Rattle.giotto_text.specs.ProgramTrees.{update_of}
 use Rattle.giotto_check.specs.Frequencies.{divides}
 use Rattle.giotto_check.proofs.rules.frequencies.updates_divide.Given as goal
 

@@ -1,7 +1,7 @@
 use Rattle.std.proofs.Common.{◌≡◌, drop, map}
 use Rattle.std.specs.List.{list_all}
-use Rattle.giotto_read.specs.Program.{ModeDeclaration}
-use Rattle.giotto_read.specs.ProgramTrees.{mode_of}
+use Rattle.giotto_text.specs.Program.{ModeDeclaration}
+use Rattle.giotto_text.specs.ProgramTrees.{mode_of}
 use Rattle.giotto_check.specs.Invocations.{argument_for_each_input}
 use Rattle.giotto_check.specs.Rules.{arguments_fit}
 use Rattle.giotto_check.proofs.rules.invocations.arguments_fit.Given as goal

@@ -1,6 +1,6 @@
 use Rattle.std.proofs.Common.{◌≡◌, drop, map}
 use Rattle.std.specs.List.{list_all}
-use Rattle.giotto_read.specs.ProgramTrees.{invocation_of}
+use Rattle.giotto_text.specs.ProgramTrees.{invocation_of}
 use Rattle.giotto_check.specs.Invocations.{argument_for_each_input}
 use Rattle.giotto_check.proofs.rules.invocations.invocations_fit.Given as goal
 

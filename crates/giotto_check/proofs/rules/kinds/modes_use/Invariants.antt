@@ -1,6 +1,6 @@
 use Rattle.std.proofs.Common.{◌≡◌, drop, map}
 use Rattle.std.specs.List.{list_all}
-use Rattle.giotto_read.specs.ProgramTrees.{mode_of}
+use Rattle.giotto_text.specs.ProgramTrees.{mode_of}
 use Rattle.giotto_check.specs.Kinds.{mode_uses}
 use Rattle.giotto_check.proofs.rules.kinds.modes_use.Given as goal
 

@@ -1,6 +1,6 @@
 use Rattle.std.proofs.Common.{◌≡◌, drop, map}
 use Rattle.std.specs.List.{list_all}
-use Rattle.giotto_read.specs.ProgramTrees.{switch_of}
+use Rattle.giotto_text.specs.ProgramTrees.{switch_of}
 use Rattle.giotto_check.specs.Kinds.{switch_uses}
 use Rattle.giotto_check.proofs.rules.kinds.switches_use.Given as goal
 

@@ -1,6 +1,6 @@
 use Rattle.std.proofs.Common.{◌≡◌, drop, map}
 use Rattle.std.specs.List.{list_all}
-use Rattle.giotto_read.specs.ProgramTrees.{task_of}
+use Rattle.giotto_text.specs.ProgramTrees.{task_of}
 use Rattle.giotto_check.specs.Kinds.{task_uses}
 use Rattle.giotto_check.proofs.rules.kinds.tasks_use.Given as goal
 

@@ -1,6 +1,6 @@
 use Rattle.std.proofs.Common.{◌≡◌, drop, map}
 use Rattle.std.specs.List.{list_all}
-use Rattle.giotto_read.specs.ProgramTrees.{mode_of, switch_of}
+use Rattle.giotto_text.specs.ProgramTrees.{mode_of, switch_of}
 use Rattle.giotto_check.specs.Switches.{switch_keeps_periods}
 use Rattle.giotto_check.proofs.rules.switches.mode_keeps_periods.Given as goal
 

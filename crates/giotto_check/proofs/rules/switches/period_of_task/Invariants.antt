@@ -1,8 +1,8 @@
 use Rattle.std.proofs.Common.{◌≡◌, drop, map}
 use Rattle.std.specs.List.{find}
 use Rattle.giotto_tasks.specs.Names.{same_name}
-use Rattle.giotto_read.specs.Program.{TaskInvocation}
-use Rattle.giotto_read.specs.ProgramTrees.{invocation_of}
+use Rattle.giotto_text.specs.Program.{TaskInvocation}
+use Rattle.giotto_text.specs.ProgramTrees.{invocation_of}
 use Rattle.giotto_check.proofs.rules.switches.period_of_task.Given as goal
 
 abbrev pub invariant-loop-invocation : goal.invariant-loop-invocation

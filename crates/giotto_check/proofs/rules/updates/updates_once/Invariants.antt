@@ -1,5 +1,5 @@
 use Rattle.std.proofs.Common.{◌≡◌, drop, map}
-use Rattle.giotto_read.specs.ProgramTrees.{mode_of}
+use Rattle.giotto_text.specs.ProgramTrees.{mode_of}
 use Rattle.giotto_check.specs.Rules.{updates_once}
 use Rattle.giotto_check.proofs.ProgramParts.{with_modes}
 use Rattle.giotto_check.proofs.rules.updates.updates_once.Given as goal

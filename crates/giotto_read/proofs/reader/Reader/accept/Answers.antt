@@ -1,9 +1,15 @@
 use Rattle.std.proofs.Common.{refl}
-use Rattle.giotto_read.specs.declared.tokens.Token.TheVariants as token
-use Rattle.giotto_read.proofs.ReaderTokens.{took}
+use Rattle.giotto_text.specs.declared.tokens.Token.TheVariants as token
+use Rattle.giotto_text.specs.Parsing.{this}
+use Rattle.giotto_read.proofs.DoingSteps.{one_got, not_this, this_self}
+use Rattle.giotto_read.proofs.NextToken.{room}
 use Rattle.giotto_read.proofs.reader.Reader.accept.Goals as goal
 
+pub returns-then-not-next_is : goal.returns-then-not-next_is
+returns-then-not-next_is c = (refl, not_this c.args.self.now (token.Symbol c.args.symbol) c.if-not-next_is.ensures.no)
+
+pub invariant_of-self : goal.invariant_of-self
+invariant_of-self c = record { within = room c.args.self.now (token.Symbol c.args.symbol) c.if-not-next_is.ensures.yes (λ same. cc) }
+
 pub returns : goal.returns
-returns c =
-    let next = c.if-not-next_is.ensures.yes in
-    (next, took (λ _. token.Symbol c.args.symbol) tt tt c.args.self.now _ refl refl next)
+returns c = one_got (this (token.Symbol c.args.symbol)) c.args.self.now (token.Symbol c.args.symbol) tt c.if-not-next_is.ensures.yes (λ same. cc) (this_self (token.Symbol c.args.symbol))

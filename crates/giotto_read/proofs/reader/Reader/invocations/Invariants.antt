@@ -1,13 +1,13 @@
-use Rattle.std.proofs.Common.{◌≡◌, ◌-◌, length, map}
-use Rattle.giotto_read.specs.declared.tokens.Keyword.TheVariants as keyword
-use Rattle.giotto_read.specs.declared.tokens.Token.TheVariants as token
-use Rattle.giotto_read.specs.ProgramTrees.{invocation_of}
-use Rattle.giotto_read.specs.ReaderForms.{an_invocation}
-use Rattle.giotto_read.proofs.ReaderSteps.{SomeRead}
+use Rattle.std.proofs.Common.{length, map}
+use Rattle.giotto_text.specs.declared.tokens.Keyword.TheVariants as keyword
+use Rattle.giotto_read.specs.Doing.{left}
+use Rattle.giotto_text.specs.Parsing.{is_keyword, read_invocation}
+use Rattle.giotto_text.specs.ProgramTrees.{invocation_of}
+use Rattle.giotto_read.proofs.DoingLists.{HasRead}
 use Rattle.giotto_read.proofs.reader.Reader.invocations.Given as goal
 
 abbrev pub invariant-loop-self : goal.invariant-loop-self
-invariant-loop-self l = SomeRead an_invocation (λ t. t ≡ token.Keyword keyword.TaskFreq) l.initial.self (map invocation_of l.invocations.items) l.self
+invariant-loop-self l = HasRead (is_keyword keyword.TaskFreq) read_invocation l.initial.self (map invocation_of l.invocations.items) l.self
 
 abbrev pub decreases-loop-self : goal.decreases-loop-self
-decreases-loop-self l = length l.self.tokens.now - l.self.at
+decreases-loop-self l = length (left l.self)

@@ -1,13 +1,13 @@
-use Rattle.std.proofs.Common.{◌≡◌, ◌-◌, length, map}
-use Rattle.giotto_read.specs.declared.tokens.Keyword.TheVariants as keyword
-use Rattle.giotto_read.specs.declared.tokens.Token.TheVariants as token
-use Rattle.giotto_read.specs.ProgramTrees.{mode_of}
-use Rattle.giotto_read.specs.ReaderForms.{a_mode}
-use Rattle.giotto_read.proofs.ReaderSteps.{SomeRead}
+use Rattle.std.proofs.Common.{length, map}
+use Rattle.giotto_text.specs.declared.tokens.Keyword.TheVariants as keyword
+use Rattle.giotto_read.specs.Doing.{left}
+use Rattle.giotto_text.specs.Parsing.{is_keyword, read_mode}
+use Rattle.giotto_text.specs.ProgramTrees.{mode_of}
+use Rattle.giotto_read.proofs.DoingLists.{HasRead}
 use Rattle.giotto_read.proofs.reader.Reader.modes.Given as goal
 
 abbrev pub invariant-loop-self : goal.invariant-loop-self
-invariant-loop-self l = SomeRead a_mode (λ t. t ≡ token.Keyword keyword.Mode) l.initial.self (map mode_of l.modes.items) l.self
+invariant-loop-self l = HasRead (is_keyword keyword.Mode) read_mode l.initial.self (map mode_of l.modes.items) l.self
 
 abbrev pub decreases-loop-self : goal.decreases-loop-self
-decreases-loop-self l = length l.self.tokens.now - l.self.at
+decreases-loop-self l = length (left l.self)

@@ -1,30 +1,29 @@
-use Rattle.std.proofs.Common.{map, length, refl, ap, arith}
+use Rattle.std.proofs.Common.{map}
 use Rattle.std.proofs.lemmas.List.{map-append}
-use Rattle.giotto_read.specs.declared.tokens.Keyword.TheVariants as keyword
-use Rattle.giotto_read.specs.Progress.{no_memory}
-use Rattle.giotto_read.specs.ProgramTrees.{output_of}
-use Rattle.giotto_read.proofs.ReaderLines.{output_repeats}
-use Rattle.giotto_read.proofs.ReaderLists.{any_read, any_halt}
-use Rattle.giotto_read.proofs.ReaderSteps.{more_read, moves_on}
-use Rattle.giotto_read.proofs.ReaderTokens.{failed}
+use Rattle.giotto_text.specs.declared.tokens.Keyword.TheVariants as keyword
+use Rattle.giotto_text.specs.declared.tokens.Token.TheVariants as token
+use Rattle.giotto_read.specs.Doing.{left}
+use Rattle.giotto_text.specs.Parsing.{is_keyword, many, read_output}
+use Rattle.giotto_text.specs.ProgramTrees.{output_of}
+use Rattle.giotto_read.proofs.DoingLists.{none_yet, one_more, some_stopped, all_read, failed_as, next_yes, next_no}
+use Rattle.giotto_read.proofs.Shrinking as shrinking
 use Rattle.giotto_read.proofs.reader.Reader.outputs.Goals as goal
+
+pub loop-self-init : goal.loop-self-init
+loop-self-init c = rw c.new-outputs.ensures.items (none_yet (is_keyword keyword.Output) read_output c.args.self.now)
 
 pub returns-in_err-output : goal.returns-in_err-output
 returns-in_err-output c =
-    failed (map output_of) c.from_residual.result c.from_residual.ensures
-    (any_halt keyword.Output output_repeats c.loop-self.invariant c.loop-self-test.ensures.yes c.in_err-output.ensures)
+    failed_as (map output_of) output_of (many (is_keyword keyword.Output) read_output) read_output c.args.self.now c.loop-self.self c.output.new.self c.in_err-output.field-0.0 c.from_residual.result c.from_residual.ensures
+    (some_stopped c.output.new.self c.loop-self.invariant (next_yes c.loop-self.self (token.Keyword keyword.Output) c.loop-self-test.ensures.yes)) c.in_err-output.ensures
 
 pub loop-self-smaller : goal.loop-self-smaller
-loop-self-smaller c =
-    let lt = moves_on output_repeats c.in_ok-output.ensures in
-    omega (arith, lt, ap length c.in_ok-output.ensures.same, c.output.new.self.within)
+loop-self-smaller c = shrinking.output.shorter (left c.loop-self.self) (output_of c.in_ok-output.output) (left c.output.new.self) c.in_ok-output.ensures
 
 pub loop-self-preserved : goal.loop-self-preserved
 loop-self-preserved c =
-    rw (c.in_ok-push.ensures.items, map-append) (more_read _ output_repeats c.loop-self.invariant c.loop-self-test.ensures.yes refl c.in_ok-output.ensures)
-
-pub returns-in_err-push : goal.returns-in_err-push
-returns-in_err-push c = failed (map output_of) c.from_residual-in_err-push.result c.from_residual-in_err-push.ensures no_memory
+    rw (c.in_ok-push.ensures.items, map-append)
+    (one_more c.output.new.self shrinking.output c.loop-self.invariant (next_yes c.loop-self.self (token.Keyword keyword.Output) c.loop-self-test.ensures.yes) c.in_ok-output.ensures)
 
 pub returns : goal.returns
-returns c = rw c.from_vec.ensures (any_read keyword.Output output_repeats c.loop-self.invariant c.loop-self-test.ensures.no)
+returns c = rw c.from_vec.ensures (all_read c.loop-self.invariant (next_no c.loop-self.self (token.Keyword keyword.Output) c.loop-self-test.ensures.no))

@@ -1,13 +1,13 @@
-use Rattle.std.proofs.Common.{◌≡◌, ◌-◌, length, map}
-use Rattle.giotto_read.specs.declared.tokens.Keyword.TheVariants as keyword
-use Rattle.giotto_read.specs.declared.tokens.Token.TheVariants as token
-use Rattle.giotto_read.specs.ProgramTrees.{sensor_of}
-use Rattle.giotto_read.specs.ReaderForms.{a_sensor}
-use Rattle.giotto_read.proofs.ReaderSteps.{SomeRead}
+use Rattle.std.proofs.Common.{length, map}
+use Rattle.giotto_text.specs.declared.tokens.Keyword.TheVariants as keyword
+use Rattle.giotto_read.specs.Doing.{left}
+use Rattle.giotto_text.specs.Parsing.{is_keyword, read_sensor}
+use Rattle.giotto_text.specs.ProgramTrees.{sensor_of}
+use Rattle.giotto_read.proofs.DoingLists.{HasRead}
 use Rattle.giotto_read.proofs.reader.Reader.sensors.Given as goal
 
 abbrev pub invariant-loop-self : goal.invariant-loop-self
-invariant-loop-self l = SomeRead a_sensor (λ t. t ≡ token.Keyword keyword.Sensor) l.initial.self (map sensor_of l.sensors.items) l.self
+invariant-loop-self l = HasRead (is_keyword keyword.Sensor) read_sensor l.initial.self (map sensor_of l.sensors.items) l.self
 
 abbrev pub decreases-loop-self : goal.decreases-loop-self
-decreases-loop-self l = length l.self.tokens.now - l.self.at
+decreases-loop-self l = length (left l.self)

@@ -1,15 +1,15 @@
-use Rattle.std.proofs.Common.{◌≤◌, ◌^◌, refl, arith}
-use Rattle.giotto_read.specs.declared.tokens.Token.TheVariants as token
-use Rattle.giotto_read.specs.ReaderForms.{a_size}
-use Rattle.giotto_read.proofs.ReaderTokens.{room_behind, same_number, took, no_such_token}
+use Rattle.std.proofs.Common.{◌≡◌, ◌≢◌, ◌≤◌, ◌^◌, ◌+◌, arith}
+use Rattle.giotto_text.specs.declared.tokens.Token.TheVariants as token
+use Rattle.giotto_text.specs.Parsing.{end_mark, number_in}
+use Rattle.giotto_read.proofs.DoingSteps.{one_got, not_number, number_fits}
+use Rattle.giotto_read.proofs.NextToken.{room_behind, same_number}
 use Rattle.giotto_read.proofs.reader.Reader.size.Goals as goal
 
-pub returns-in_default-clause-stopped : goal.returns-in_default-clause-stopped
-returns-in_default-clause-stopped c = no_such_token (λ p. token.Number p.0) a_size.some c.args.self.now (λ p. c.in_default.ensures.none p.0 p.1)
+pub returns-in_default-clause-read : goal.returns-in_default-clause-read
+returns-in_default-clause-read c = not_number (2 ^ 63) c.args.self.now (λ n le. c.in_default.ensures.none n le)
 
-pub returns-then-number-clause-stopped : goal.returns-then-number-clause-stopped
-returns-then-number-clause-stopped c =
-    no_such_token (λ p. token.Number p.0) a_size.some c.args.self.now (λ p e. omega (arith, p.1, c.if-number.true, same_number c.args.self.now p.0 c.in-Some.number e c.in-Some.ensures.some))
+pub returns-then-number-clause-read : goal.returns-then-number-clause-read
+returns-then-number-clause-read c = not_number (2 ^ 63) c.args.self.now (λ n le e. omega (arith, le, c.if-number.true, same_number c.args.self.now n c.in-Some.number e c.in-Some.ensures.some))
 
 pub invariant_of-self : goal.invariant_of-self
 invariant_of-self c =
@@ -19,4 +19,5 @@ invariant_of-self c =
 pub returns-clause-read : goal.returns-clause-read
 returns-clause-read c =
     let small : c.in-Some.number ≤ 2 ^ 63 = omega arith in
-    (small, took (λ p. token.Number p.0) a_size.some (c.in-Some.number, small) c.args.self.now _ refl refl c.in-Some.ensures.some)
+    let other : token.Number c.in-Some.number ≢ end_mark = λ same. let big : c.in-Some.number ≡ 2 ^ 63 + 1 = cc in omega (arith, small, big) in
+    one_got (number_in (2 ^ 63)) c.args.self.now (token.Number c.in-Some.number) c.in-Some.number c.in-Some.ensures.some other (number_fits (2 ^ 63) c.in-Some.number small)

@@ -1,13 +1,13 @@
-use Rattle.std.proofs.Common.{◌≡◌, ◌-◌, length, map}
-use Rattle.giotto_read.specs.declared.tokens.Keyword.TheVariants as keyword
-use Rattle.giotto_read.specs.declared.tokens.Token.TheVariants as token
-use Rattle.giotto_read.specs.ProgramTrees.{update_of}
-use Rattle.giotto_read.specs.ReaderForms.{an_update}
-use Rattle.giotto_read.proofs.ReaderSteps.{SomeRead}
+use Rattle.std.proofs.Common.{length, map}
+use Rattle.giotto_text.specs.declared.tokens.Keyword.TheVariants as keyword
+use Rattle.giotto_read.specs.Doing.{left}
+use Rattle.giotto_text.specs.Parsing.{is_keyword, read_update}
+use Rattle.giotto_text.specs.ProgramTrees.{update_of}
+use Rattle.giotto_read.proofs.DoingLists.{HasRead}
 use Rattle.giotto_read.proofs.reader.Reader.updates.Given as goal
 
 abbrev pub invariant-loop-self : goal.invariant-loop-self
-invariant-loop-self l = SomeRead an_update (λ t. t ≡ token.Keyword keyword.ActFreq) l.initial.self (map update_of l.updates.items) l.self
+invariant-loop-self l = HasRead (is_keyword keyword.ActFreq) read_update l.initial.self (map update_of l.updates.items) l.self
 
 abbrev pub decreases-loop-self : goal.decreases-loop-self
-decreases-loop-self l = length l.self.tokens.now - l.self.at
+decreases-loop-self l = length (left l.self)

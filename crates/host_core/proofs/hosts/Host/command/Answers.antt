@@ -7,19 +7,19 @@ use Rattle.host_core.proofs.HostSteps.{stands_after_command, own_outcome}
 use Rattle.host_core.proofs.hosts.Host.command.Goals as goal
 
 pub returns-clause-reply : goal.returns-clause-reply
-returns-clause-reply c = λ setting state true_reader stands given.
+returns-clause-reply c = λ setting state stands given.
     let host : HostStanding = record { config = c.self.inside.config; tenants = c.self.inside.tenants.items; clock = c.self.inside.clock } in
     let inside : Stands setting host state = subst (λ h. Stands setting h state) (sym c.self.view_is) stands in
     let within : c.args.tenant < length host.config.tenants = subst (λ (h : HostStanding). c.args.tenant < length h.config.tenants) (sym c.self.view_is) c.requires in
-    (own_outcome setting host state c.args.tenant c.args.command (get_or c.as_slice.result.now c.args.tenant c.index-as_slice-tenant.result) c.index-as_slice-tenant.result c.index_mut.result.now c.command.new.self c.command.result true_reader inside within
+    (own_outcome setting host state c.args.tenant c.args.command (get_or c.as_slice.result.now c.args.tenant c.index-as_slice-tenant.result) c.index-as_slice-tenant.result c.index_mut.result.now c.command.new.self c.command.result inside within
     c.index_mut.ensures.value (ap (λ (xs : List TenantConfig). get_or xs c.args.tenant c.index-as_slice-tenant.result) c.as_slice.ensures) c.command.ensures.step given).same_reply
 
 pub returns-clause-step : goal.returns-clause-step
-returns-clause-step c = λ setting state true_reader stands given.
+returns-clause-step c = λ setting state stands given.
     let host : HostStanding = record { config = c.self.inside.config; tenants = c.self.inside.tenants.items; clock = c.self.inside.clock } in
     let inside : Stands setting host state = subst (λ h. Stands setting h state) (sym c.self.view_is) stands in
     let within : c.args.tenant < length host.config.tenants = subst (λ (h : HostStanding). c.args.tenant < length h.config.tenants) (sym c.self.view_is) c.requires in
-    let outcome = own_outcome setting host state c.args.tenant c.args.command (get_or c.as_slice.result.now c.args.tenant c.index-as_slice-tenant.result) c.index-as_slice-tenant.result c.index_mut.result.now c.command.new.self c.command.result true_reader inside within
+    let outcome = own_outcome setting host state c.args.tenant c.args.command (get_or c.as_slice.result.now c.args.tenant c.index-as_slice-tenant.result) c.index-as_slice-tenant.result c.index_mut.result.now c.command.new.self c.command.result inside within
     c.index_mut.ensures.value (ap (λ (xs : List TenantConfig). get_or xs c.args.tenant c.index-as_slice-tenant.result) c.as_slice.ensures) c.command.ensures.step given in
     stands_after_command setting host state c.args.tenant c.args.command c.command.new.self inside
     (subst (λ (k : Config). c.args.tenant < length k.tenants) inside.same_config within) outcome.stands

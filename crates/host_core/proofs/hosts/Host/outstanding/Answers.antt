@@ -1,4 +1,4 @@
-use Rattle.std.proofs.Common.{◌≡◌, List, length, take, sym, ap, ◌∙◌, arith}
+use Rattle.std.proofs.Common.{◌≡◌, List, length, take, ap, ◌∙◌}
 use Rattle.std.proofs.lemmas.List.{take_all}
 use Rattle.host_core.specs.HostStanding.{HostStanding, outstanding_from, outstanding_jobs}
 use Rattle.tenant_state.specs.Standing.{Standing}

@@ -12,12 +12,12 @@ use Rattle.host_core.proofs.Played.{step_own}
 use Rattle.host_core.proofs.plays.Stage.own.Goals as goal
 
 pub returns : goal.returns
-returns c = λ setting past true_reader may played.
+returns c = λ setting past may played.
     let given : c.command-reply.result ≢ Refused Memory = λ e. let is = c.is_memory.ensures.1 e in absurd (cc) in
     step_own setting played.base past c.args.tenant c.args.command.now c.args.self.now.host c.command-reply.new.self c.args.self.now.texts.items c.args.self.now.released.items c.command-reply.result c.add_line.new.text may
     (subst (λ d. Stands setting c.command-reply.new.self (after_event setting (host_after setting past) (Own c.args.tenant d))) c.in_ok-copy.ensures
-    (c.command-reply.ensures.step setting (host_after setting past) true_reader played.stands given))
-    (c.command-reply.ensures.reply setting (host_after setting past) true_reader played.stands given
+    (c.command-reply.ensures.step setting (host_after setting past) played.stands given))
+    (c.command-reply.ensures.reply setting (host_after setting past) played.stands given
     ∙ ap (λ d. (after_command setting c.args.tenant d (row_at (host_after setting past) c.args.tenant)).reply) c.in_ok-copy.ensures)
     (c.in_ok-add_line.ensures
     ∙ ap (λ before. before ++ (text_of_reply c.command-reply.result ++ 10 ∷ []))

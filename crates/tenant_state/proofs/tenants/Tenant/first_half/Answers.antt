@@ -1,9 +1,9 @@
 use Rattle.std.proofs.Common.{◌≡◌, ◌≤◌, true, Bool, not, ◌&&◌, map, filter, length, Some, None, sym, ap, subst, ◌∙◌}
 use Rattle.std.specs.List.{find, flat_map, AllByRecursion}
 use Rattle.giotto_tasks.specs.Names.{same_name}
-use Rattle.giotto_read.specs.Program.{TaskInvocation, GiottoProgram}
-use Rattle.giotto_read.specs.ProgramTrees as tree
-use Rattle.giotto_read.specs.declared.programs.Invocation.{Invocation}
+use Rattle.giotto_text.specs.Program.{TaskInvocation, GiottoProgram}
+use Rattle.giotto_text.specs.ProgramTrees as tree
+use Rattle.giotto_text.specs.declared.programs.Invocation.{Invocation}
 use Rattle.tenant_state.specs.declared.tenants.Active.{Active}
 use Rattle.tenant_state.specs.declared.tenants.Reason.TheVariants.{Overrun}
 use Rattle.tenant_state.specs.declared.tenants.State.TheVariants as states
@@ -75,6 +75,7 @@ invariant_of-self-2 c =
     let same = same_names_on s.ports c.end_due.new.ports c.update_due.new.ports c.end_due.ensures.names c.update_due.ensures.names in
     record {
       short_time = c.self.invariant.short_time;
+      no_switches = c.self.invariant.no_switches;
       different = subst (λ acts. all_different_releases acts ≡ true) (sym c.drop_due.ensures) (different_filter _ s.active.items c.self.invariant.different);
       fits = subst (λ o. IsTenantOf o c.drop_due.new.active.items c.update_due.new.ports s.count) (sym c.in-Some.is)
           (ports_of_on p s.ports c.update_due.new.ports fits.0 same, subst (AllByRecursion (IsActiveIn p s.count)) (sym c.drop_due.ensures) (all_filter (IsActiveIn p s.count) _ s.active.items fits.1));

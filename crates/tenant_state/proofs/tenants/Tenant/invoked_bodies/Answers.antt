@@ -2,7 +2,7 @@ use Rattle.std.proofs.Common.{◌≡◌, List, Some, map, ap, sym, subst, ◌∙
 use Rattle.std.specs.Prelude.{IfOk}
 use Rattle.std.specs.Arc.{arc_value}
 use Rattle.giotto_tasks.specs.Syntax.{TaskBody}
-use Rattle.giotto_read.specs.ProgramTrees.{mode_of}
+use Rattle.giotto_text.specs.ProgramTrees.{mode_of}
 use Rattle.giotto_check.specs.Checked.{IsChecked}
 use Rattle.tenant_state.specs.Standing.{Standing}
 use Rattle.giotto_check.specs.Declarations as declared

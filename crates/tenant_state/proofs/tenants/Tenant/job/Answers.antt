@@ -1,6 +1,6 @@
 use Rattle.std.proofs.Common.{◌≡◌, Some, None, sym, ap, ◌∙◌, subst}
 use Rattle.std.specs.List.{position}
-use Rattle.giotto_read.specs.ProgramTrees as trees
+use Rattle.giotto_text.specs.ProgramTrees as trees
 use Rattle.giotto_check.specs.Declarations.{task_of}
 use Rattle.tenant_state.specs.Standing.{awaited_job}
 use Rattle.tenant_state.specs.Tenants.{standing_of, IsTenant}

@@ -2,7 +2,7 @@ use Rattle.std.proofs.Common.{◌≡◌, true, false, Some, None, sym, ap, ◌�
 use Rattle.tenant_lines.specs.declared.replies.Budget.TheVariants.{Lines}
 use Rattle.tenant_state.specs.declared.tenants.State.TheVariants as states
 use Rattle.tenant_state.specs.Commands.{broken_budget}
-use Rattle.giotto_read.specs.Program.{GiottoProgram}
+use Rattle.giotto_text.specs.Program.{GiottoProgram}
 use Rattle.tenant_ports.specs.PortTables.{all_ports}
 use Rattle.tenant_ports.specs.Ports.{initial_ports}
 use Rattle.tenant_state.specs.Row.{is_running}
@@ -11,21 +11,21 @@ use Rattle.tenant_state.proofs.TenantCommands.{refused_while_running, loaded_wit
 use Rattle.tenant_state.proofs.tenants.Tenant.load.Goals as goal
 
 pub returns-then-is_running-clause-refused : goal.returns-then-is_running-clause-refused
-returns-then-is_running-clause-refused c = λ other reader row true_reader same.
+returns-then-is_running-clause-refused c = λ other row same.
     let runs : is_running row ≡ true = sym (ap is_running same) ∙ sym c.is_running.ensures ∙ c.if-is_running.true in
-    refused_while_running reader c.args.text.now c.args.budgets.now row c.in_ok-program.program (c.in_ok-program.ensures.read reader true_reader) c.in_ok-program.ensures.checked runs
+    refused_while_running c.args.text.now c.args.budgets.now row c.in_ok-program.program c.in_ok-program.ensures.read c.in_ok-program.ensures.checked c.in_ok-program.ensures.switches runs
 
 pub returns-then-not-is_within_lines-clause-refused : goal.returns-then-not-is_within_lines-clause-refused
-returns-then-not-is_within_lines-clause-refused c = λ other reader row true_reader same.
+returns-then-not-is_within_lines-clause-refused c = λ other row same.
     let rests : is_running row ≡ false = sym (ap is_running same) ∙ sym c.is_running.ensures ∙ c.if-is_running.false in
     let over : broken_budget c.args.budgets.now c.in_ok-program.program ≡ Some Lines = rw (c.if-not-is_within_lines.true, c.program-2.ensures.tree) at c.is_within_lines.ensures in
-    loaded_within reader c.args.text.now c.args.budgets.now row c.in_ok-program.program (Some Lines) (c.in_ok-program.ensures.read reader true_reader) c.in_ok-program.ensures.checked rests over
+    loaded_within c.args.text.now c.args.budgets.now row c.in_ok-program.program (Some Lines) c.in_ok-program.ensures.read c.in_ok-program.ensures.checked c.in_ok-program.ensures.switches rests over
 
 pub returns-clause-loaded : goal.returns-clause-loaded
-returns-clause-loaded c = λ reader row completed true_reader stands.
+returns-clause-loaded c = λ row completed stands.
     let rests : is_running row ≡ false = sym (ap is_running stands.same_row) ∙ sym c.is_running.ensures ∙ c.if-is_running.false in
     let within : broken_budget c.args.budgets.now c.in_ok-program.program ≡ None = rw (c.if-not-is_within_lines.false, c.program-2.ensures.tree) at c.is_within_lines.ensures in
-    let outcome = loaded_within reader c.args.text.now c.args.budgets.now row c.in_ok-program.program None (c.in_ok-program.ensures.read reader true_reader) c.in_ok-program.ensures.checked rests within in
+    let outcome = loaded_within c.args.text.now c.args.budgets.now row c.in_ok-program.program None c.in_ok-program.ensures.read c.in_ok-program.ensures.checked c.in_ok-program.ensures.switches rests within in
     let inside = c.self.inside in
     let before = subst (λ s. StandsFor s row completed) (sym c.self.view_is) stands in
     let p = c.in_ok-program.program in

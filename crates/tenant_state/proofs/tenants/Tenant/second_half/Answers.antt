@@ -1,23 +1,21 @@
+use Rattle.std.specs.Prelude.{IfSome}
 use Rattle.std.proofs.Common.{◌≡◌, ◌+◌, ◌%◌, false, ◌++◌, Some, map, refl, ap, sym, subst, ◌∙◌, arith}
 use Rattle.std.specs.List.{AllByRecursion}
-use Rattle.giotto_tasks.specs.Names.{same_name}
-use Rattle.giotto_read.specs.Program.{ModeDeclaration}
-use Rattle.giotto_read.specs.ProgramTrees.{mode_of}
-use Rattle.giotto_check.specs.Checked.{HasNoSwitches, IsChecked}
+use Rattle.giotto_text.specs.ProgramTrees.{mode_of}
+use Rattle.giotto_check.specs.Checked.{IsChecked}
 use Rattle.giotto_check.specs.Declarations as declared
 use Rattle.tenant_state.specs.Jobs.{released_at}
 use Rattle.tenant_ports.specs.PortTables.{all_ports}
 use Rattle.tenant_state.specs.Row.{ActiveTask, Row}
 use Rattle.tenant_state.specs.SecondHalf.{readings_within, all_invoked, all_released}
 use Rattle.tenant_state.specs.Standing.{Standing, RoomValue}
-use Rattle.tenant_state.specs.Tenants.{state_of, active_of, is_completed, standing_of, IsActiveIn, IsTenantOf, IsTenant}
+use Rattle.tenant_state.specs.Tenants.{state_of, active_of, is_completed, standing_of, HasNoSwitches, IsActiveIn, IsTenantOf, IsTenant}
 use Rattle.tenant_state.proofs.HalfStands.{new_releases, older_releases, Ran, running_stands, idle_stands, not_running, jobs_behind, no_jobs, jobs_as_before}
 use Rattle.tenant_state.proofs.Invoked.{bodies_in_mode}
 use Rattle.tenant_state.proofs.InvocableModes.{all_invocable, sensors_are_ports, active_later}
 use Rattle.tenant_ports.proofs.PortNames.{same_names_on}
 use Rattle.tenant_state.proofs.ProgramFacts.{mode_fits}
-use Rattle.tenant_state.proofs.TenantBehind.{tenant_later, tenant_behind}
-use Rattle.giotto_tasks.proofs.ListLemmas.{found_has}
+use Rattle.tenant_state.proofs.TenantBehind.{without_switches, tenant_later, tenant_behind}
 use Rattle.giotto_check.specs.KeepsRules.{KeepsRules}
 use Rattle.tenant_state.proofs.tenants.Tenant.second_half.Goals as goal
 
@@ -89,13 +87,12 @@ returns-clause-step c row completed stands not_yet =
     let readings = readings_within c.args.budgets.now.reads c.args.frame.now in
     let old : Standing = standing_of i.state i.program i.mode i.mode_time i.active.items i.ports i.count in
     let program = c.in-Some.is ∙ ap Some (sym c.program-program.ensures.tree) in
-    let checked = subst IsChecked (sym c.program-program.ensures.tree) c.program-program.ensures.checked in
     let items : c.moved.result.items ≡ i.active.items = c.moved.ensures.items ∙ ap (λ v. v.items) c.replace-old.ensures.value in
     let ran : Ran readings p m old.row old.completed (map active_of c.invoke_all.new.active.items) (all_ports c.invoke_all.new.ports) (map is_completed c.invoke_all.new.active.items) = record {
       runs = ap state_of c.in-Running.is;
       program = program;
       mode = c.in-Some-find_mode.ensures.found;
-      no_switches = found_has HasNoSwitches (λ (m : ModeDeclaration). same_name m.name i.mode) p.modes m checked.no_switches c.in-Some-find_mode.ensures.found;
+      no_switches = without_switches p m i.mode (subst (λ o. IfSome o HasNoSwitches) program c.self.invariant.no_switches) c.in-Some-find_mode.ensures.found;
       none_waits = refl;
       tasks = c.invoke_all.ensures.active ∙ (λ k. map active_of (items k) ++ all_released p m i.mode_time i.count m.invocations (c.sense.ensures.ports k));
       values = c.invoke_all.ensures.ports ∙ ap (all_invoked p m i.mode_time m.invocations) c.sense.ensures.ports;

@@ -7,8 +7,8 @@ use Rattle.std.proofs.lemmas.Slice.Zip.{firsts-zip}
 use Rattle.giotto_tasks.specs.Meaning.{outputs_of, states_of}
 use Rattle.giotto_tasks.specs.Names.{names_in, is_among}
 use Rattle.giotto_tasks.specs.Syntax.{TaskBody}
-use Rattle.giotto_read.specs.Program.{GiottoProgram, body_of, names_of}
-use Rattle.giotto_read.specs.ProgramTrees as tree
+use Rattle.giotto_text.specs.Program.{GiottoProgram, body_of, names_of}
+use Rattle.giotto_text.specs.ProgramTrees as tree
 use Rattle.giotto_check.specs.Declarations.{task_of}
 use Rattle.tenant_state.specs.FirstHalf.{ended_with}
 use Rattle.tenant_ports.specs.PortTables.{all_ports}

@@ -1,9 +1,9 @@
 use Rattle.std.proofs.Common.{not, ◌&&◌, List, map, filter, sym, ap, subst, ◌∙◌}
 use Rattle.std.specs.List.{list_any}
 use Rattle.giotto_tasks.specs.Names.{same_name}
-use Rattle.giotto_read.specs.Program.{TaskInvocation}
-use Rattle.giotto_read.specs.declared.programs.Invocation.{Invocation}
-use Rattle.giotto_read.specs.ProgramTrees.{mode_of}
+use Rattle.giotto_text.specs.Program.{TaskInvocation}
+use Rattle.giotto_text.specs.declared.programs.Invocation.{Invocation}
+use Rattle.giotto_text.specs.ProgramTrees.{mode_of}
 use Rattle.tenant_state.specs.FirstHalf.{is_due_at, all_ended}
 use Rattle.tenant_ports.specs.PortTables.{all_ports, HaveSameNames}
 use Rattle.tenant_state.specs.Row.{ActiveTask}

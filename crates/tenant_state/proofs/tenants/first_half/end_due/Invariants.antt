@@ -1,9 +1,9 @@
 use Rattle.std.proofs.Common.{◌≡◌, List, not, None, ◌&&◌, map, filter, drop}
 use Rattle.std.specs.List.{list_any, find, flat_map}
 use Rattle.giotto_tasks.specs.Names.{same_name}
-use Rattle.giotto_read.specs.Program.{TaskInvocation}
-use Rattle.giotto_read.specs.declared.programs.Invocation.{Invocation}
-use Rattle.giotto_read.specs.ProgramTrees.{mode_of, invocation_of}
+use Rattle.giotto_text.specs.Program.{TaskInvocation}
+use Rattle.giotto_text.specs.declared.programs.Invocation.{Invocation}
+use Rattle.giotto_text.specs.ProgramTrees.{mode_of, invocation_of}
 use Rattle.tenant_state.specs.FirstHalf.{is_due_at, all_ended}
 use Rattle.tenant_ports.specs.PortTables.{all_ports, HaveSameNames}
 use Rattle.tenant_state.specs.Row.{ActiveTask}

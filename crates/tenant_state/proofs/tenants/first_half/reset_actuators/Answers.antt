@@ -1,7 +1,7 @@
 use Rattle.std.proofs.Common.{◌≡◌, map, refl, ap, sym, subst, ◌∙◌}
 use Rattle.std.specs.List.{AllByRecursion}
-use Rattle.giotto_read.specs.Program.{ActuatorDeclaration, GiottoProgram}
-use Rattle.giotto_read.specs.ProgramTrees.{actuator_of}
+use Rattle.giotto_text.specs.Program.{ActuatorDeclaration, GiottoProgram}
+use Rattle.giotto_text.specs.ProgramTrees.{actuator_of}
 use Rattle.tenant_state.proofs.InstantSteps.{IsPort}
 use Rattle.tenant_state.proofs.ProgramFacts.{actuators_are_ports}
 use Rattle.tenant_state.proofs.tenants.first_half.reset_actuators.Goals as goal

@@ -1,6 +1,6 @@
 use Rattle.std.proofs.Common.{◌≡◌, map, drop}
 use Rattle.std.specs.List.{AllByRecursion}
-use Rattle.giotto_read.specs.ProgramTrees.{actuator_of}
+use Rattle.giotto_text.specs.ProgramTrees.{actuator_of}
 use Rattle.tenant_ports.specs.PortTables.{all_ports, HaveSameNames}
 use Rattle.tenant_state.proofs.InstantSteps.{IsPort, all_reset}
 use Rattle.tenant_state.proofs.tenants.first_half.reset_actuators.Given as goal

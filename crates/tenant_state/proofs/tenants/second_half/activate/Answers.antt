@@ -5,8 +5,8 @@ use Rattle.giotto_tasks.specs.Names.{values_of}
 use Rattle.giotto_tasks.specs.Syntax.{TaskBody}
 use Rattle.giotto_tasks.specs.Meaning.{value_of}
 use Rattle.giotto_tasks.specs.Trees.{expression_of}
-use Rattle.giotto_read.specs.Program.{names_of}
-use Rattle.giotto_read.specs.ProgramTrees.{task_of, invocation_of}
+use Rattle.giotto_text.specs.Program.{names_of}
+use Rattle.giotto_text.specs.ProgramTrees.{task_of, invocation_of}
 use Rattle.tenant_ports.specs.PortTables.{all_ports}
 use Rattle.tenant_ports.specs.Ports.{own_ports, with_values}
 use Rattle.tenant_state.specs.SecondHalf.{values_given}

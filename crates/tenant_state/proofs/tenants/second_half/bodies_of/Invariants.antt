@@ -1,6 +1,6 @@
 use Rattle.std.proofs.Common.{◌≡◌, map, take}
 use Rattle.std.specs.Arc.{arc_value}
-use Rattle.giotto_read.specs.declared.programs.Invocation.{Invocation}
+use Rattle.giotto_text.specs.declared.programs.Invocation.{Invocation}
 use Rattle.tenant_state.specs.Jobs.{body_in}
 use Rattle.tenant_state.proofs.tenants.second_half.bodies_of.Given as goal
 

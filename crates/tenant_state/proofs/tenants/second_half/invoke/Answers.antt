@@ -1,7 +1,7 @@
 use Rattle.std.proofs.Common.{◌≡◌, ◌+◌, ◌∷◌, ◌++◌, [], map, ap, sym, subst, ◌∙◌, arith, ℤ}
 use Rattle.std.specs.Arc.{arc_value}
 use Rattle.std.specs.List.{AllByRecursion}
-use Rattle.giotto_read.specs.ProgramTrees.{mode_of, task_of, invocation_of}
+use Rattle.giotto_text.specs.ProgramTrees.{mode_of, task_of, invocation_of}
 use Rattle.tenant_state.specs.Jobs.{JobValue, body_in, job_of, job_in}
 use Rattle.tenant_ports.specs.PortTables.{all_ports}
 use Rattle.tenant_ports.specs.Ports.{own_ports}
@@ -14,7 +14,7 @@ use Rattle.giotto_tasks.proofs.ListLemmas.{all_and_one}
 use Rattle.std.proofs.lemmas.List.{length-map}
 use Rattle.giotto_tasks.specs.declared.names.Name.{Name}
 use Rattle.giotto_tasks.specs.Trees.{expression_of}
-use Rattle.giotto_read.specs.Program.{body_of}
+use Rattle.giotto_text.specs.Program.{body_of}
 use Rattle.giotto_tasks.proofs.SoundLemmas.{sound_small}
 use Rattle.tenant_state.proofs.tenants.second_half.invoke.Goals as goal
 

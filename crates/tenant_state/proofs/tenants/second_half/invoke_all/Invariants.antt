@@ -2,8 +2,8 @@ use Rattle.std.proofs.Common.{◌≡◌, ◌+◌, ◌≤◌, ◌++◌, false, Li
 use Rattle.std.specs.Arc.{arc_value}
 use Rattle.std.specs.List.{AllByRecursion}
 use Rattle.std.specs.Vec.{vec_len, vec_capacity}
-use Rattle.giotto_read.specs.declared.programs.Invocation.{Invocation}
-use Rattle.giotto_read.specs.ProgramTrees.{mode_of, invocation_of}
+use Rattle.giotto_text.specs.declared.programs.Invocation.{Invocation}
+use Rattle.giotto_text.specs.ProgramTrees.{mode_of, invocation_of}
 use Rattle.tenant_state.specs.Invocable.{IsInvocable}
 use Rattle.tenant_state.specs.Jobs.{body_in, job_in}
 use Rattle.tenant_ports.specs.PortTables.{PortTables, all_ports, ArePortsOf, HaveSameNames}

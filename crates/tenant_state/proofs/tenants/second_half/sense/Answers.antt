@@ -4,9 +4,9 @@ use Rattle.std.specs.List.{list_all}
 use Rattle.std.proofs.lemmas.Bool.{and_parts}
 use Rattle.std.proofs.lemmas.List.{at_drop_more, at_drop_all}
 use Rattle.giotto_tasks.specs.Names.{Valuation, names_in, is_among, with_value}
-use Rattle.giotto_read.specs.declared.programs.Sensor.{Sensor}
-use Rattle.giotto_read.specs.Program.{SensorDeclaration, GiottoProgram}
-use Rattle.giotto_read.specs.ProgramTrees.{sensor_of}
+use Rattle.giotto_text.specs.declared.programs.Sensor.{Sensor}
+use Rattle.giotto_text.specs.Program.{SensorDeclaration, GiottoProgram}
+use Rattle.giotto_text.specs.ProgramTrees.{sensor_of}
 use Rattle.tenant_ports.specs.PortTables.{all_ports}
 use Rattle.tenant_ports.specs.Ports.{with_values}
 use Rattle.tenant_state.specs.SecondHalf.{readings_within, reading_taken}

@@ -1,8 +1,8 @@
 use Rattle.std.proofs.Common.{◌≡◌, true, [], map, drop}
 use Rattle.std.specs.List.{list_all}
 use Rattle.giotto_tasks.specs.Names.{names_in, is_among}
-use Rattle.giotto_read.specs.Program.{SensorDeclaration}
-use Rattle.giotto_read.specs.ProgramTrees.{sensor_of}
+use Rattle.giotto_text.specs.Program.{SensorDeclaration}
+use Rattle.giotto_text.specs.ProgramTrees.{sensor_of}
 use Rattle.giotto_check.specs.Declarations.{sensor_names}
 use Rattle.tenant_ports.specs.PortTables.{all_ports, HaveSameNames}
 use Rattle.tenant_ports.specs.Ports.{with_values}

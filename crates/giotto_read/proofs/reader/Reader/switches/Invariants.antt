@@ -1,0 +1,13 @@
+use Rattle.std.proofs.Common.{length, map}
+use Rattle.giotto_text.specs.declared.tokens.Keyword.TheVariants as keyword
+use Rattle.giotto_read.specs.Doing.{left}
+use Rattle.giotto_text.specs.Parsing.{is_keyword, read_switch}
+use Rattle.giotto_text.specs.ProgramTrees.{switch_of}
+use Rattle.giotto_read.proofs.DoingLists.{HasRead}
+use Rattle.giotto_read.proofs.reader.Reader.switches.Given as goal
+
+abbrev pub invariant-loop-self : goal.invariant-loop-self
+invariant-loop-self l = HasRead (is_keyword keyword.ExitFreq) read_switch l.initial.self (map switch_of l.switches.items) l.self
+
+abbrev pub decreases-loop-self : goal.decreases-loop-self
+decreases-loop-self l = length (left l.self)

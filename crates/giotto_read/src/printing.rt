@@ -1,0 +1,142 @@
+//! Prints a program as its canonical text.
+//!
+//! A method of the printer writes what one definition of `Canonical` names, and stands under its grammar line.
+
+ghost use Rattle.std.specs.Prelude.{◌≡◌, ℕ, List, [], ◌∷◌, ◌++◌, Ok, IfOk, OnOk};
+ghost use Rattle.std.specs.String.{string_bytes};
+ghost use Rattle.giotto_text.specs.Canonical.{keyword, symbol, initial_tokens, canonical_of, canonical_tokens};
+ghost use Rattle.giotto_text.specs.Parsing.{parsed};
+ghost use Rattle.giotto_text.specs.Sound.{IsPrintable};
+ghost use Rattle.giotto_text.specs.declared.tokens.Token.TheVariants as tokens;
+ghost use Rattle.giotto_read.specs.Printing.{written, comma_before};
+
+mod declarations;
+mod expressions;
+mod modes;
+mod tasks;
+
+use giotto_tasks::names::Name;
+use giotto_text::laws;
+use giotto_text::programs::Program;
+use giotto_text::tokens::{Keyword, Symbol};
+use std::alloc::{AllocError, Global};
+use std::fmt::Write;
+use std::marker::Model;
+
+/// The canonical text of a program: its tokens with one space between each two. Parentheses stand only round an operand
+/// that is itself an operation, there is no empty `else`, an exit without destinations has no braces, and no number has
+/// leading zeros. What the text reads as is the program again, where the program can be printed at all, as each that was
+/// read can.
+///
+/// # Errors
+/// Want of memory.
+pub fn print(alloc: Global, program: &Program) -> Result<String, AllocError>
+    ensures text { IfOk result (λ text. string_bytes text ≡ canonical_of program.now) }
+    ensures reads_back { IfOk result (λ text. IsPrintable program.now → parsed (string_bytes text) ≡ Ok program.now) }
+{
+    laws::canonical();
+    let mut printer = Printer {
+        text: String::new(alloc),
+    };
+    printer.program(program)?;
+    Ok(printer.into_text())
+}
+
+// The text so far: each token with a space behind it.
+#[derive(Drop)]
+struct Printer {
+    text: String,
+}
+
+impl Model for Printer {
+    ghost use Rattle.std.specs.Prelude.{List, ℕ};
+
+    ghost Value = { List ℕ };
+
+    ghost use Rattle.std.specs.String.{string_bytes};
+
+    ghost view = { λ p. string_bytes p.text };
+}
+
+impl Printer {
+    // program = {sensor} {actuator} {output} {task} {mode} "start" NAME ";"
+    #[tactic(auto, using(crate::proofs::Writing::writing))]
+    fn program(&mut self, program: &Program) -> Result<(), AllocError>
+        ensures { OnOk result (self.new ≡ written self.old (canonical_tokens program.now)) }
+    {
+        self.sensors(program.sensors.as_slice())?;
+        self.actuators(program.actuators.as_slice())?;
+        self.outputs(program.outputs.as_slice())?;
+        self.tasks(program.tasks.as_slice())?;
+        self.modes(program.modes.as_slice())?;
+        self.keyword(Keyword::Start)?;
+        self.name(&program.start)?;
+        self.symbol(Symbol::Semicolon)
+    }
+
+    fn token(&mut self, token: &str) -> Result<(), AllocError>
+        ensures { OnOk result (self.new ≡ self.old ++ (token.now ++ 32 ∷ [])) }
+    {
+        self.text.push_str(token)?;
+        self.text.push(' ')
+    }
+
+    #[tactic(auto, unfolding(crate::specs::Printing::written))]
+    fn keyword(&mut self, word: Keyword) -> Result<(), AllocError>
+        ensures { OnOk result (self.new ≡ written self.old (keyword word ∷ [])) }
+    {
+        self.token(word.as_str())
+    }
+
+    #[tactic(auto, unfolding(crate::specs::Printing::written))]
+    fn symbol(&mut self, mark: Symbol) -> Result<(), AllocError>
+        ensures { OnOk result (self.new ≡ written self.old (symbol mark ∷ [])) }
+    {
+        self.token(mark.as_str())
+    }
+
+    #[tactic(auto, unfolding(crate::specs::Printing::written))]
+    fn name(&mut self, name: &Name) -> Result<(), AllocError>
+        ensures { OnOk result (self.new ≡ written self.old (tokens.Name name.now ∷ [])) }
+    {
+        self.token(name.as_str())
+    }
+
+    #[tactic(auto, unfolding(crate::specs::Printing::written))]
+    fn number(&mut self, number: u64) -> Result<(), AllocError>
+        ensures { OnOk result (self.new ≡ written self.old (tokens.Number number ∷ [])) }
+    {
+        write!(self.text, "{number} ")
+    }
+
+    // init = ["-"] INT
+    #[tactic(auto, using(crate::proofs::Writing::writing))]
+    fn initial(&mut self, value: i64) -> Result<(), AllocError>
+        ensures { OnOk result (self.new ≡ written self.old (initial_tokens value)) }
+    {
+        if value < 0 {
+            self.symbol(Symbol::Minus)?;
+        }
+        self.number(value.unsigned_abs())
+    }
+
+    // A comma, unless the element is the first of its list.
+    #[tactic(auto, using(crate::proofs::Writing::writing, crate::proofs::Writing::comma_behind))]
+    fn comma_before(&mut self, index: usize) -> Result<(), AllocError>
+        ensures { OnOk result (self.new ≡ written self.old (comma_before index)) }
+    {
+        if index == 0 {
+            return Ok(());
+        }
+        self.symbol(Symbol::Comma)
+    }
+
+    // The text without its last space.
+    fn into_text(self) -> String
+        ensures { (text : List ℕ) → self ≡ text ++ 32 ∷ [] → string_bytes result ≡ text }
+    {
+        let Printer { mut text } = self;
+        text.pop();
+        text
+    }
+}

@@ -1,0 +1,12 @@
+pub mod Bytes
+pub mod Canonical
+pub mod Grammar
+pub mod Nesting
+pub mod Parsing
+pub mod Program
+pub mod ProgramCodes
+pub mod ProgramTrees
+pub mod Reading
+pub mod Sound
+pub mod Spelling
+pub mod Tokens

@@ -1,0 +1,45 @@
+//! Laws of the definitions: what holds of program texts and programs, whatever reads them.
+//!
+//! The functions do nothing: each contract is a law.
+
+ghost use Rattle.std.specs.Prelude.{◌≡◌, ℕ, List, ◌++◌, Result, Ok};
+ghost use Rattle.giotto_text.specs.declared.faults.ReadFault.{ReadFault};
+ghost use Rattle.giotto_text.specs.declared.tokens.Token.{Token};
+ghost use Rattle.giotto_text.specs.Canonical.{canonical_of, canonical_tokens};
+ghost use Rattle.giotto_text.specs.Grammar.{Part};
+ghost use Rattle.giotto_text.specs.Parsing.{parsed};
+ghost use Rattle.giotto_text.specs.Program.{GiottoProgram};
+ghost use Rattle.giotto_text.specs.Reading.{Reads};
+ghost use Rattle.giotto_text.specs.Sound.{IsPrintable};
+ghost use Rattle.giotto_text.specs.Spelling.{SpellsParts, BeginsParts, Spells, IsPrefix};
+
+/// The first tokens of what is spelled are a prefix, and so are the first tokens of a prefix. Each prefix goes on to a
+/// whole program: so the prefixes are just what the programs' tokens begin with.
+pub fn prefixes()
+    ensures of_spelled { (ts us : List Token) (ps : List Part) → SpellsParts (ts ++ us) ps → BeginsParts ts ps }
+    ensures of_prefix { (ts us : List Token) (ps : List Part) → BeginsParts (ts ++ us) ps → BeginsParts ts ps }
+    ensures completed { (ts : List Token) → IsPrefix ts → (us : List Token) × (p : GiottoProgram) × Spells (ts ++ us) p }
+{}
+
+/// Tokens spell at most one program.
+pub fn one_program()
+    ensures { (ts : List Token) (p q : GiottoProgram) → Spells ts p → Spells ts q → p ≡ q }
+{}
+
+/// What a text reads as, computed: the parser reads each text as the definition says, and a text reads as nothing else.
+pub fn parser()
+    ensures reads { (text : List ℕ) → Reads text (parsed text) }
+    ensures only { (text : List ℕ) (r : Result GiottoProgram ReadFault) → Reads text r → r ≡ parsed text }
+{}
+
+/// A program that a text reads as can be printed.
+pub fn printable()
+    ensures { (text : List ℕ) (p : GiottoProgram) → parsed text ≡ Ok p → IsPrintable p }
+{}
+
+/// The canonical tokens of a program that is spelled at all spell it. The canonical text of one that can be printed reads as
+/// it.
+pub fn canonical()
+    ensures spells { (ts : List Token) (p : GiottoProgram) → Spells ts p → Spells (canonical_tokens p) p }
+    ensures reads { (p : GiottoProgram) → IsPrintable p → parsed (canonical_of p) ≡ Ok p }
+{}

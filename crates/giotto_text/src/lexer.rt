@@ -1,0 +1,207 @@
+//! Cuts a program text into tokens.
+
+ghost use Rattle.std.specs.Prelude.{◌≡◌, [], ◌∷◌, ◌<◌, ◌≤◌, IfOk, IfErr, IfSome, Ok, length};
+ghost use Rattle.std.specs.List.{find, prefix_len, AllPass};
+ghost use Rattle.giotto_tasks.specs.Names.{same_name};
+ghost use Rattle.giotto_text.specs.Bytes.{is_digit, is_name_byte, is_blank_of_text};
+ghost use Rattle.giotto_text.specs.Tokens.{first_token, text_of_keyword, word, number, mark, tokens_of, keyword_of, symbol_at};
+ghost use Rattle.giotto_text.specs.Reading.{IsLexicalFault};
+
+use crate::faults::ReadFault;
+use crate::name_bytes::{is_digit, is_letter, is_name_byte};
+use crate::tokens::{Keyword, PlacedToken, Symbol, Token};
+use giotto_tasks::names::Name;
+use std::alloc::Global;
+
+/// The tokens of a program text, each as long as possible, with their offsets in bytes, in one pass.
+///
+/// Blanks (space, tab, CR, LF) separate tokens and mean nothing else. Refuses with `Syntax` and the first offset at which
+/// a token should begin and none does, or with `Memory`. A name of more than 32 bytes is no token, nor is a number of
+/// more than 19 digits or above 9223372036854775808.
+pub fn tokens(alloc: Global, text: &[u8]) -> Result<Vec<PlacedToken>, ReadFault>
+    ensures ok { IfOk result (λ ts. tokens_of text.now ≡ Ok ts.items) }
+    ensures fault { IfErr result (IsLexicalFault text.now) }
+{
+    let mut found = Vec::new(alloc);
+    let mut start = 0;
+    while start < text.len() {
+        if is_blank(text[start]) {
+            start += 1;
+        } else {
+            let Some((token, len)) = first_token(&text[start..]) else {
+                return Err(ReadFault::Syntax(start));
+            };
+            let placed = PlacedToken {
+                token,
+                offset: start,
+            };
+            let Ok(()) = found.push(placed) else {
+                return Err(ReadFault::Memory);
+            };
+            start += len;
+        }
+    }
+    Ok(found)
+}
+
+// The token that begins the text, and its length.
+fn first_token(text: &[u8]) -> Option<(Token, usize)>
+    ensures token { result ≡ first_token text.now }
+    ensures within { IfSome result (λ r. (0 < r.1) × (r.1 ≤ length text.now)) }
+{
+    let [first, ..] = text else {
+        return None;
+    };
+    if is_letter(*first) {
+        word(&text[..name_len(text)])
+    } else if is_digit(*first) {
+        number(&text[..digits_len(text)])
+    } else {
+        mark(text)
+    }
+}
+
+// A run of name bytes: a keyword, or a name of at most 32 bytes.
+fn word(run: &[u8]) -> Option<(Token, usize)>
+    requires { AllPass is_name_byte run.now }
+    ensures token { result ≡ word run.now }
+    ensures whole { IfSome result (λ r. r.1 ≡ length run.now) }
+{
+    if let Some(keyword) = keyword_of(run) {
+        return Some((Token::Keyword(keyword), run.len()));
+    }
+    let name = Name::new(as_text(run))?;
+    Some((Token::Name(name), run.len()))
+}
+
+// The keyword that is written so: only those with its first letter are compared.
+fn keyword_of(run: &[u8]) -> Option<Keyword>
+    ensures { result ≡ keyword_of run.now }
+{
+    let [first, ..] = run else {
+        return None;
+    };
+    match first {
+        b'a' => one_of(run, &[Keyword::Actuator, Keyword::ActFreq]),
+        b'd' => one_of(run, &[Keyword::Do]),
+        b'e' => one_of(run, &[Keyword::ExitFreq, Keyword::Else]),
+        b'g' => one_of(run, &[Keyword::Grant]),
+        b'i' => one_of(run, &[Keyword::If]),
+        b'l' => one_of(run, &[Keyword::Line]),
+        b'm' => one_of(run, &[Keyword::Mode]),
+        b'o' => one_of(run, &[Keyword::Output]),
+        b'p' => one_of(run, &[Keyword::Period]),
+        b'r' => one_of(run, &[Keyword::Repeat]),
+        b's' => one_of(run, &[Keyword::Sensor, Keyword::State, Keyword::Start]),
+        b't' => one_of(run, &[Keyword::Task, Keyword::TaskFreq]),
+        _ => None,
+    }
+}
+
+// The first of these keywords that is written so.
+fn one_of(run: &[u8], keywords: &[Keyword]) -> Option<Keyword>
+    ensures { result ≡ find (λ k. same_name (text_of_keyword k) run.now) keywords.now }
+{
+    keywords
+        .iter()
+        .copied()
+        .find(|keyword| keyword.as_str().as_bytes() == run)
+}
+
+// A run of digits: at most 19 of them, and at most 9223372036854775808.
+fn number(run: &[u8]) -> Option<(Token, usize)>
+    requires begun { 0 < length run.now }
+    requires digits { AllPass is_digit run.now }
+    ensures token { result ≡ number run.now }
+    ensures whole { IfSome result (λ r. r.1 ≡ length run.now) }
+{
+    if run.len() > 19 {
+        return None;
+    }
+    let Ok(value) = as_text(run).parse::<u64>() else {
+        return None;
+    };
+    if value > 1 << 63 {
+        return None;
+    }
+    Some((Token::Number(value), run.len()))
+}
+
+// The longest mark that begins the text.
+fn mark(text: &[u8]) -> Option<(Token, usize)>
+    ensures token { result ≡ mark text.now }
+    ensures within { IfSome result (λ r. (0 < r.1) × (r.1 ≤ length text.now)) }
+{
+    let symbol = symbol_at(text)?;
+    Some((Token::Symbol(symbol), symbol.as_str().len()))
+}
+
+fn symbol_at(text: &[u8]) -> Option<Symbol>
+    ensures { result ≡ symbol_at text.now }
+{
+    match text {
+        [b':', b'=', ..] => Some(Symbol::Becomes),
+        [b'=', b'=', ..] => Some(Symbol::EqualEqual),
+        [b'!', b'=', ..] => Some(Symbol::NotEqual),
+        [b'<', b'=', ..] => Some(Symbol::AtMost),
+        [b'>', b'=', ..] => Some(Symbol::AtLeast),
+        [b'&', b'&', ..] => Some(Symbol::AndAnd),
+        [b'|', b'|', ..] => Some(Symbol::OrOr),
+        [first, ..] => single(*first),
+        [] => None,
+    }
+}
+
+// The mark of this one byte.
+fn single(byte: u8) -> Option<Symbol>
+    ensures { result ≡ symbol_at (byte ∷ []) }
+{
+    match byte {
+        b';' => Some(Symbol::Semicolon),
+        b',' => Some(Symbol::Comma),
+        b'(' => Some(Symbol::OpenParenthesis),
+        b')' => Some(Symbol::CloseParenthesis),
+        b'{' => Some(Symbol::OpenBrace),
+        b'}' => Some(Symbol::CloseBrace),
+        b'+' => Some(Symbol::Plus),
+        b'-' => Some(Symbol::Minus),
+        b'*' => Some(Symbol::Star),
+        b'/' => Some(Symbol::Slash),
+        b'%' => Some(Symbol::Percent),
+        b'<' => Some(Symbol::Less),
+        b'>' => Some(Symbol::Greater),
+        b'!' => Some(Symbol::Not),
+        _ => None,
+    }
+}
+
+// The bytes as text: a run of name bytes or digits is ASCII.
+fn as_text(run: &[u8]) -> &str
+    requires { AllPass is_name_byte run.now }
+    ensures { result.now ≡ run.now }
+{
+    let Ok(text) = std::str::from_utf8(run) else {
+        unreachable!()
+    };
+    text
+}
+
+// How many name bytes the text begins with.
+fn name_len(text: &[u8]) -> usize
+    ensures { result ≡ prefix_len is_name_byte text.now }
+{
+    text.iter().take_while(|c| is_name_byte(**c)).count()
+}
+
+// How many digits the text begins with.
+fn digits_len(text: &[u8]) -> usize
+    ensures { result ≡ prefix_len is_digit text.now }
+{
+    text.iter().take_while(|c| is_digit(**c)).count()
+}
+
+fn is_blank(c: u8) -> bool
+    ensures { result ≡ is_blank_of_text c }
+{
+    matches!(c, b' ' | b'\t' | b'\r' | b'\n')
+}

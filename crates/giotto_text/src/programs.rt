@@ -1,0 +1,136 @@
+//! The programs that texts spell.
+
+ghost use Rattle.std.specs.Arc.{arc_value};
+ghost use Rattle.std.specs.Prelude.{◌≡◌, length};
+
+use giotto_tasks::bodies::{Body, Expr};
+use giotto_tasks::lists::List;
+use giotto_tasks::names::Name;
+use std::alloc::Global;
+use std::marker::Model;
+use std::sync::Arc;
+
+/// A program: its declarations and modes, each list in text order.
+#[derive(Drop)]
+pub struct Program {
+    pub sensors: List<Sensor>,
+    pub actuators: List<Actuator>,
+    pub outputs: List<Output>,
+    pub tasks: List<Task>,
+    pub modes: List<Mode>,
+    /// The mode in which the program starts.
+    pub start: Name,
+}
+
+impl Model for Program {
+    ghost use Rattle.std.specs.Prelude.{map};
+    ghost use Rattle.giotto_text.specs.Program.{GiottoProgram};
+    ghost use Rattle.giotto_text.specs.ProgramCodes.{program_code};
+
+    ghost Value = { GiottoProgram };
+
+    ghost coded = { program_code };
+
+    ghost use Rattle.giotto_text.specs.ProgramTrees.{sensor_of, actuator_of, output_of, task_of, mode_of};
+
+    ghost view = { λ p. record { sensors = map sensor_of p.sensors; actuators = map actuator_of p.actuators; outputs = map output_of p.outputs; tasks = map task_of p.tasks; modes = map mode_of p.modes; start = p.start } };
+}
+
+/// Where a sensor's readings come from.
+#[derive(Drop)]
+pub enum Source {
+    /// A line of the rig: 0 to `i64::MAX`.
+    Line(u64),
+    /// What another tenant grants.
+    Grant,
+}
+
+/// A sensor.
+#[derive(Drop)]
+pub struct Sensor {
+    pub name: Name,
+    /// The value before the first reading.
+    pub initial: i64,
+    pub source: Source,
+}
+
+/// An actuator.
+#[derive(Drop)]
+pub struct Actuator {
+    pub name: Name,
+    /// The value before the first update.
+    pub initial: i64,
+    /// The line of the rig that it drives, if any: 0 to `i64::MAX`.
+    pub line: Option<u64>,
+}
+
+/// A port to which tasks write.
+#[derive(Drop)]
+pub struct Output {
+    pub name: Name,
+    /// The value before a task first writes it.
+    pub initial: i64,
+}
+
+/// A task.
+#[derive(Drop)]
+pub struct Task {
+    pub name: Name,
+    /// The initial values of the body's states, in their order.
+    pub states: List<i64>,
+    pub body: Arc<Body, Global>,
+    ghost each_state: { length states ≡ length (arc_value body).states },
+}
+
+/// A mode.
+#[derive(Drop)]
+pub struct Mode {
+    pub name: Name,
+    /// In ticks: 0 to `i64::MAX`.
+    pub period: u64,
+    pub updates: List<Update>,
+    pub switches: List<Switch>,
+    pub invocations: List<Invocation>,
+}
+
+/// Gives an actuator a value, a number of times in a period of the mode.
+#[derive(Drop)]
+pub struct Update {
+    /// How many times in a period: 0 to `i64::MAX`.
+    pub frequency: u64,
+    /// The update is left out where this is 0. No guard is always true.
+    pub guard: Option<Expr>,
+    pub actuator: Name,
+    pub value: Expr,
+}
+
+/// Leaves the mode for another.
+#[derive(Drop)]
+pub struct Switch {
+    /// How many times in a period it is looked at: 0 to `i64::MAX`.
+    pub frequency: u64,
+    /// The switch is taken where this is not 0. No guard is always true.
+    pub guard: Option<Expr>,
+    /// The mode that comes next.
+    pub target: Name,
+    pub destinations: List<Destination>,
+}
+
+/// Gives an output a value at a switch.
+#[derive(Drop)]
+pub struct Destination {
+    pub output: Name,
+    pub value: Expr,
+}
+
+/// Runs a task, a number of times in a period of the mode.
+#[derive(Drop)]
+pub struct Invocation {
+    /// How many times in a period: 0 to `i64::MAX`.
+    pub frequency: u64,
+    /// The task isn't run where this is 0. No guard is always true.
+    pub guard: Option<Expr>,
+    pub task: Name,
+    /// One for each input of the task, in their order.
+    pub arguments: List<Expr>,
+}
