@@ -17,4 +17,6 @@ pub fn rules_kept()
 /// The tasks of a program that was read are small: each has at most 16 inputs, outputs and states.
 pub fn read_with_small_tasks()
     ensures { (text : List ℕ) (p : GiottoProgram) → parsed text ≡ Ok p → IsTrue (has_small_tasks p) }
-{}
+{
+    giotto_text::laws::printable();
+}

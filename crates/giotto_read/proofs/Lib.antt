@@ -5,8 +5,6 @@ pub mod Nested
 pub mod NextToken
 pub mod Pairs
 pub mod PrintingLemmas
-pub mod SameToken
 pub mod Shrinking
-pub mod SmallTasks
 pub mod TextReading
 pub mod Writing

@@ -23,6 +23,7 @@ pub mod PartTokens
 pub mod Prefixes
 pub mod Printable
 pub mod ProgramLines
+pub mod SameToken
 pub mod SmallTasks
 pub mod SoundTokens
 pub mod TaskLines

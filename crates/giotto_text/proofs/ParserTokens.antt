@@ -25,34 +25,7 @@ use Rattle.giotto_text.specs.Spelling.{SpellsParts, all_spelled, line_spelled, B
 use Rattle.giotto_text.specs.Tokens.{text_of_keyword, text_of_symbol, keyword_of, symbol_at, bare}
 use Rattle.giotto_text.proofs.Forms.{Form, one_token, mark, one, both, led, ended, Fails, Begins, Repeats, Writes, first_token_is, apart_closed, apart_mark, line_writes, same_writes}
 use Rattle.giotto_text.proofs.ParserSteps.{Right, Parses, Spans, one_right, behind_right, bind_apart, mapped, parsed_as}
-
-keyword_again : (k : Keyword) → keyword_of (text_of_keyword k) ≡ Some k
-keyword_again keywords.Sensor = refl
-keyword_again _ = refl
-
-symbol_again : (s : Symbol) → symbol_at (text_of_symbol s) ≡ Some s
-symbol_again symbols.Becomes = refl
-symbol_again _ = refl
-
-same_token_is : (t u : Token) → same_token t u ≡ true → t ≡ u
-same_token_is (Word k) (Word l) e =
-    let text : text_of_keyword k ≡ text_of_keyword l = same_text (text_of_keyword k) (text_of_keyword l) (sym e) in
-    ap Word (same_Some k l (sym (keyword_again k) ∙ ap keyword_of text ∙ keyword_again l))
-same_token_is (Mark s) (Mark t) e =
-    let text : text_of_symbol s ≡ text_of_symbol t = same_text (text_of_symbol s) (text_of_symbol t) (sym e) in
-    ap Mark (same_Some s t (sym (symbol_again s) ∙ ap symbol_at text ∙ symbol_again t))
-same_token_is (Named x) (Named y) e = ap Named (same_text x y (sym e))
-same_token_is (Number m) (Number n) e = let same : m ≡ n = grind (arith, nat_tests) in ap Number same
-same_token_is t u e = absurd (cc)
-
-pub same_token_self : (t : Token) → same_token t t ≡ true
-same_token_self (Word k) = nat_list_eq_equiv.refl (text_of_keyword k)
-same_token_self (Mark s) = nat_list_eq_equiv.refl (text_of_symbol s)
-same_token_self (Named x) = nat_list_eq_equiv.refl x
-same_token_self (Number n) = grind (arith, nat_tests)
-
-pub is_this : (t u : Token) → same_token t u ≡ true → u ≡ t
-is_this t u e = sym (same_token_is t u e)
+use Rattle.giotto_text.proofs.SameToken.{same_token_is, same_token_self, is_this}
 
 pub isnt_this : (t u : Token) → same_token t u ≡ false → u ≢ t
 isnt_this t u e same = let yes : true ≡ false = sym (same_token_self t) ∙ ap (same_token t) (sym same) ∙ e in cc

@@ -20,8 +20,7 @@ pub const EXTREMES: &str =
 pub const TWO_ACTUATORS: &str = "actuator a := 50; actuator b := 7; mode k period 1 { } start k;";
 
 /// Drives an actuator with 3 at each tick.
-pub const CONSTANT: &str =
-    "actuator a := 0; mode m period 1 { actfreq 1 do a := 3; } start m;";
+pub const CONSTANT: &str = "actuator a := 0; mode m period 1 { actfreq 1 do a := 3; } start m;";
 
 /// Adds 1 to what another tenant grants.
 pub const ADDER_OF_A_GRANT: &str =

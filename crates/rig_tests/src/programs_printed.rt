@@ -17,7 +17,10 @@ fn printed(alloc: Global, text: &str) -> Result<String, Fail> {
 #[test]
 fn prints_the_canonical_text(rt: HostRuntime) -> Result<(), Fail> {
     assert_eq!(rt; printed(rt.alloc(), ADDER)?.as_str(), ADDER_PRINTED);
-    assert_eq!(rt; printed(rt.alloc(), EVERY_CONSTRUCT)?.as_str(), EVERY_CONSTRUCT_PRINTED);
+    assert_eq!(rt;
+        printed(rt.alloc(), EVERY_CONSTRUCT)?.as_str(),
+        EVERY_CONSTRUCT_PRINTED
+    );
     Ok(())
 }
 

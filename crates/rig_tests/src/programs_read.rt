@@ -170,12 +170,21 @@ fn counts_nesting_before_the_grammar(rt: HostRuntime) -> Result<(), Fail> {
     let deep = "{({({({({({({({({({({({({({({({({";
     assert_eq!(rt; deep.len(), 33);
     assert_eq!(rt; fault_of(rt.alloc(), deep), Some(ReadFault::TooDeep));
-    assert_eq!(rt; fault_of(rt.alloc(), &deep[..32]), Some(ReadFault::Syntax(0)));
+    assert_eq!(rt;
+        fault_of(rt.alloc(), &deep[..32]),
+        Some(ReadFault::Syntax(0))
+    );
     let mut text = String::from_str(rt.alloc(), "x ")?;
     text.push_str(deep)?;
-    assert_eq!(rt; fault_of(rt.alloc(), text.as_str()), Some(ReadFault::TooDeep));
+    assert_eq!(rt;
+        fault_of(rt.alloc(), text.as_str()),
+        Some(ReadFault::TooDeep)
+    );
     text.push_str("@")?;
-    assert_eq!(rt; fault_of(rt.alloc(), text.as_str()), Some(ReadFault::Syntax(35)));
+    assert_eq!(rt;
+        fault_of(rt.alloc(), text.as_str()),
+        Some(ReadFault::Syntax(35))
+    );
     Ok(())
 }
 
@@ -198,7 +207,10 @@ fn nests_thirty_two_deep(rt: HostRuntime) -> Result<(), Fail> {
     let text = adder_within(rt.alloc(), &open[..31], &close[..31])?;
     assert_eq!(rt; fault_of(rt.alloc(), text.as_str()), None);
     let text = adder_within(rt.alloc(), open, close)?;
-    assert_eq!(rt; fault_of(rt.alloc(), text.as_str()), Some(ReadFault::TooDeep));
+    assert_eq!(rt;
+        fault_of(rt.alloc(), text.as_str()),
+        Some(ReadFault::TooDeep)
+    );
     Ok(())
 }
 
@@ -229,7 +241,8 @@ fn counts_ports_after_the_grammar(rt: HostRuntime) {
     assert_eq!(rt; fault_of(rt.alloc(), cut_off), Some(ReadFault::Syntax(69)));
     let outputs = "task T() output a, b, c, d, e, f, g, h, i, j, k, l, m, n, o, p, q { } start m;";
     assert_eq!(rt; fault_of(rt.alloc(), outputs), Some(ReadFault::TooMany));
-    let states = "task T() state a := 0, b := 0, c := 0, d := 0, e := 0, f := 0, g := 0, h := 0, i := 0, j := 0, k := 0, l := 0, m := 0, n := 0, o := 0, p := 0, q := 0 { } start m;";
+    let states =
+        "task T() state a := 0, b := 0, c := 0, d := 0, e := 0, f := 0, g := 0, h := 0, i := 0, j := 0, k := 0, l := 0, m := 0, n := 0, o := 0, p := 0, q := 0 { } start m;";
     assert_eq!(rt; fault_of(rt.alloc(), states), Some(ReadFault::TooMany));
 }
 

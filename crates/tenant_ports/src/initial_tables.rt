@@ -5,10 +5,10 @@ ghost use Rattle.std.specs.List.{zip};
 ghost use Rattle.giotto_text.specs.ProgramTrees.{task_of};
 ghost use Rattle.tenant_ports.specs.Ports.{own_port, initial_shared, initial_own, initial_of_task};
 
+use super::own_names::OwnName;
 use giotto_tasks::names::Name;
 use giotto_text::programs::{Program, Task};
 use std::alloc::{AllocError, Global};
-use super::own_names::OwnName;
 
 /// Sensors, actuators and outputs with their initial values.
 ///

@@ -19,14 +19,14 @@ mod initial_tables;
 mod own_names;
 mod tables;
 
+use self::initial_tables::{own_table, shared_table};
+use self::own_names::OwnName;
+use self::tables::{assign_own, assign_shared, own_value, shared_value};
 use giotto_tasks::bodies::Expr;
 use giotto_tasks::evaluation::driver;
 use giotto_tasks::names::Name;
 use giotto_tasks::values::Values;
 use giotto_text::programs::Program;
-use self::initial_tables::{own_table, shared_table};
-use self::own_names::OwnName;
-use self::tables::{assign_own, assign_shared, own_value, shared_value};
 use std::alloc::{AllocError, Global};
 use std::marker::Model;
 

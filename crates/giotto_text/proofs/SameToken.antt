@@ -20,7 +20,7 @@ symbol_again : (s : Symbol) → symbol_at (text_of_symbol s) ≡ Some s
 symbol_again symbols.Becomes = refl
 symbol_again _ = refl
 
-same_token_is : (t u : Token) → same_token t u ≡ true → t ≡ u
+pub same_token_is : (t u : Token) → same_token t u ≡ true → t ≡ u
 same_token_is (Word k) (Word l) e =
     let text : text_of_keyword k ≡ text_of_keyword l = same_text (text_of_keyword k) (text_of_keyword l) (sym e) in
     ap Word (same_Some k l (sym (keyword_again k) ∙ ap keyword_of text ∙ keyword_again l))
