@@ -10,9 +10,29 @@ use std::alloc::Global;
 use std::marker::Model;
 use std::sync::Arc;
 
-/// A program: its declarations and modes, each list in text order.
+/// A program that can be printed: its canonical text reads as it.
 #[derive(Drop)]
 pub struct Program {
+    parts: Parts,
+}
+
+impl Model for Program {
+    ghost use Rattle.giotto_text.specs.Program.{GiottoProgram};
+    ghost use Rattle.giotto_text.specs.ProgramCodes.{program_code};
+    ghost use Rattle.giotto_text.specs.Sound.{IsPrintable};
+
+    ghost Value = { GiottoProgram };
+
+    ghost coded = { program_code };
+
+    ghost view = { λ p. p.parts };
+
+    ghost invariant = { λ p. IsPrintable p.parts };
+}
+
+/// What a program declares, and its modes, each list in text order.
+#[derive(Drop)]
+pub struct Parts {
     pub sensors: List<Sensor>,
     pub actuators: List<Actuator>,
     pub outputs: List<Output>,
@@ -22,7 +42,7 @@ pub struct Program {
     pub start: Name,
 }
 
-impl Model for Program {
+impl Model for Parts {
     ghost use Rattle.std.specs.Prelude.{map};
     ghost use Rattle.giotto_text.specs.Program.{GiottoProgram};
     ghost use Rattle.giotto_text.specs.ProgramCodes.{program_code};
@@ -34,6 +54,70 @@ impl Model for Program {
     ghost use Rattle.giotto_text.specs.ProgramTrees.{sensor_of, actuator_of, output_of, task_of, mode_of};
 
     ghost view = { λ p. record { sensors = map sensor_of p.sensors; actuators = map actuator_of p.actuators; outputs = map output_of p.outputs; tasks = map task_of p.tasks; modes = map mode_of p.modes; start = p.start } };
+}
+
+impl Program {
+    ghost use Rattle.std.specs.Prelude.{◌≡◌, map};
+    ghost use Rattle.giotto_text.specs.ProgramTrees.{sensor_of, actuator_of, output_of, task_of, mode_of};
+    ghost use Rattle.giotto_text.specs.Sound.{IsPrintable};
+
+    /// The program of these parts.
+    pub fn new(parts: Parts) -> Program
+        requires { IsPrintable parts }
+        ensures { result ≡ parts }
+    {
+        Program { parts }
+    }
+
+    /// All parts of the program.
+    pub fn parts(&self) -> &Parts
+        ensures tree { result.now ≡ self.now }
+        ensures printable { IsPrintable self.now }
+    {
+        &self.parts
+    }
+
+    /// The sensors, in text order.
+    pub fn sensors(&self) -> &[Sensor]
+        ensures { map sensor_of result.now ≡ self.now.sensors }
+    {
+        self.parts.sensors.as_slice()
+    }
+
+    /// The actuators, in text order.
+    pub fn actuators(&self) -> &[Actuator]
+        ensures { map actuator_of result.now ≡ self.now.actuators }
+    {
+        self.parts.actuators.as_slice()
+    }
+
+    /// The outputs, in text order.
+    pub fn outputs(&self) -> &[Output]
+        ensures { map output_of result.now ≡ self.now.outputs }
+    {
+        self.parts.outputs.as_slice()
+    }
+
+    /// The tasks, in text order.
+    pub fn tasks(&self) -> &[Task]
+        ensures { map task_of result.now ≡ self.now.tasks }
+    {
+        self.parts.tasks.as_slice()
+    }
+
+    /// The modes, in text order.
+    pub fn modes(&self) -> &[Mode]
+        ensures { map mode_of result.now ≡ self.now.modes }
+    {
+        self.parts.modes.as_slice()
+    }
+
+    /// The name of the mode in which the program starts.
+    pub fn start(&self) -> &Name
+        ensures { result.now ≡ self.now.start }
+    {
+        &self.parts.start
+    }
 }
 
 /// Where a sensor's readings come from.
