@@ -6,7 +6,6 @@ ghost use Rattle.std.specs.Prelude.{◌≡◌, ℕ, List, [], ◌∷◌, ◌++�
 ghost use Rattle.std.specs.String.{string_bytes};
 ghost use Rattle.giotto_text.specs.Canonical.{keyword, symbol, initial_tokens, canonical_of, canonical_tokens};
 ghost use Rattle.giotto_text.specs.Parsing.{parsed};
-ghost use Rattle.giotto_text.specs.Sound.{IsPrintable};
 ghost use Rattle.giotto_text.specs.declared.tokens.Token.TheVariants as tokens;
 ghost use Rattle.giotto_read.specs.Printing.{written, comma_before};
 
@@ -17,7 +16,7 @@ mod tasks;
 
 use giotto_tasks::names::Name;
 use giotto_text::laws;
-use giotto_text::programs::Program;
+use giotto_text::programs::{Parts, Program};
 use giotto_text::tokens::{Keyword, Symbol};
 use std::alloc::{AllocError, Global};
 use std::fmt::Write;
@@ -25,20 +24,19 @@ use std::marker::Model;
 
 /// The canonical text of a program: its tokens with one space between each two. Parentheses stand only round an operand
 /// that is itself an operation, there is no empty `else`, an exit without destinations has no braces, and no number has
-/// leading zeros. What the text reads as is the program again, where the program can be printed at all, as each that was
-/// read can.
+/// leading zeros. What the text reads as is the program again.
 ///
 /// # Errors
 /// Want of memory.
 pub fn print(alloc: Global, program: &Program) -> Result<String, AllocError>
     ensures text { IfOk result (λ text. string_bytes text ≡ canonical_of program.now) }
-    ensures reads_back { IfOk result (λ text. IsPrintable program.now → parsed (string_bytes text) ≡ Ok program.now) }
+    ensures reads_back { IfOk result (λ text. parsed (string_bytes text) ≡ Ok program.now) }
 {
     laws::canonical();
     let mut printer = Printer {
         text: String::new(alloc),
     };
-    printer.program(program)?;
+    printer.program(program.parts())?;
     Ok(printer.into_text())
 }
 
@@ -61,7 +59,7 @@ impl Model for Printer {
 impl Printer {
     // program = {sensor} {actuator} {output} {task} {mode} "start" NAME ";"
     #[tactic(auto, using(crate::proofs::Writing::writing))]
-    fn program(&mut self, program: &Program) -> Result<(), AllocError>
+    fn program(&mut self, program: &Parts) -> Result<(), AllocError>
         ensures { OnOk result (self.new ≡ written self.old (canonical_tokens program.now)) }
     {
         self.sensors(program.sensors.as_slice())?;

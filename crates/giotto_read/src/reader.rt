@@ -11,7 +11,7 @@ mod statements;
 mod tasks;
 
 use giotto_tasks::names::Name;
-use giotto_text::programs::Program;
+use giotto_text::programs::Parts;
 use giotto_text::tokens::{Keyword, PlacedToken, Symbol, Token};
 use std::alloc::{AllocError, AllocFailed, Global};
 
@@ -76,7 +76,7 @@ impl Reader<'_> {
     ghost use Rattle.giotto_text.specs.declared.tokens.Token.TheVariants as token;
 
     // program = {sensor} {actuator} {output} {task} {mode} "start" NAME ";"
-    pub(crate) fn program(&mut self) -> Result<Program, Stop>
+    pub(crate) fn program(&mut self) -> Result<Parts, Stop>
         ensures { Does (λ p. p) read_program self.old result self.new }
     {
         let sensors = self.sensors()?;
@@ -85,7 +85,7 @@ impl Reader<'_> {
         let tasks = self.tasks()?;
         let modes = self.modes()?;
         let start = self.start()?;
-        Ok(Program {
+        Ok(Parts {
             sensors,
             actuators,
             outputs,

@@ -13,9 +13,9 @@ ghost use Rattle.giotto_text.specs.declared.faults.ReadFault.{ReadFault};
 
 use crate::reader::{Reader, Stop};
 use giotto_text::faults::ReadFault;
-use giotto_text::lexer;
-use giotto_text::programs::{Program, Task};
+use giotto_text::programs::{Parts, Program, Task};
 use giotto_text::tokens::{PlacedToken, Symbol, Token};
+use giotto_text::{laws, lexer};
 use std::alloc::Global;
 
 /// The program that a text spells.
@@ -30,12 +30,14 @@ pub fn read(alloc: Global, text: &str) -> Result<Program, ReadFault>
     ensures fault { (f : ReadFault) → result ≡ Err f → f ≢ ReadFault.Memory → parsed text.now ≡ Err f }
 {
     let tokens = lexer::tokens(alloc, text.as_bytes())?;
-    read_tokens(alloc, &tokens, text.len())
+    let parts = read_tokens(alloc, &tokens, text.len())?;
+    laws::printable();
+    Ok(Program::new(parts))
 }
 
-// The program that the tokens of a text spell, where `end` is the length of the text in bytes. Nesting is counted first,
+// The parts of the program that the tokens of a text spell, where `end` is the length of the text in bytes. Nesting is counted first,
 // so that the reader, which recurses through what nests, takes little of the stack.
-fn read_tokens(alloc: Global, tokens: &[PlacedToken], end: usize) -> Result<Program, ReadFault>
+fn read_tokens(alloc: Global, tokens: &[PlacedToken], end: usize) -> Result<Parts, ReadFault>
     ensures found { IfOk result (λ p. read_all end tokens.now ≡ Ok p) }
     ensures fault { (f : ReadFault) → result ≡ Err f → f ≢ ReadFault.Memory → read_all end tokens.now ≡ Err f }
 {
@@ -83,7 +85,7 @@ fn depth_behind(depth: usize, token: &Token) -> usize
     }
 }
 
-fn has_small_tasks(program: &Program) -> bool
+fn has_small_tasks(program: &Parts) -> bool
     ensures { result ≡ has_small_tasks program.now }
 {
     are_small(program.tasks.as_slice())

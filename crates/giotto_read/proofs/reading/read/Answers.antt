@@ -1,6 +1,6 @@
 use Rattle.std.proofs.Common.{◌≡◌, length, Ok, Err, sym, ap, ◌∙◌, subst}
-use Rattle.std.proofs.lemmas.Result.{err_from_is_err_and, IfOk-weaker}
-use Rattle.giotto_text.specs.Parsing.{parsed, parsed_tokens, read_all}
+use Rattle.std.proofs.lemmas.Result.{err_from_is_err_and}
+use Rattle.giotto_text.specs.Parsing.{parsed_tokens}
 use Rattle.giotto_text.specs.Reading.{IsLexicalFault}
 use Rattle.giotto_text.specs.Tokens.{tokens_of}
 use Rattle.giotto_read.proofs.TextReading.{parsed_at_fault}
@@ -13,13 +13,7 @@ returns-in_err-tokens-clause-fault c = λ f e other.
     let same : p.0 ≡ f = cc in
     parsed_at_fault c.args.text.now f (subst (IsLexicalFault c.args.text.now) (sym p.2 ∙ same) (rw c.as_bytes.ensures.value at c.in_err-tokens.ensures.fault)) other
 
-pub returns-clause-found : goal.returns-clause-found
-returns-clause-found c =
+pub new-requires : goal.new-requires
+new-requires c =
     let found : tokens_of c.args.text.now ≡ Ok c.deref.result.now = rw c.deref.ensures.value (rw c.as_bytes.ensures.value at c.in_ok-tokens.ensures.ok) in
-    IfOk-weaker c.read_tokens.result (λ p. read_all (length c.args.text.now) c.deref.result.now ≡ Ok p) (λ p. parsed c.args.text.now ≡ Ok p)
-    (λ p e. ap (parsed_tokens (length c.args.text.now)) found ∙ e) c.read_tokens.ensures.found
-
-pub returns-clause-fault : goal.returns-clause-fault
-returns-clause-fault c = λ f e other.
-    let found : tokens_of c.args.text.now ≡ Ok c.deref.result.now = rw c.deref.ensures.value (rw c.as_bytes.ensures.value at c.in_ok-tokens.ensures.ok) in
-    ap (parsed_tokens (length c.args.text.now)) found ∙ c.read_tokens.ensures.fault f e other
+    c.printable.ensures c.args.text.now c.in_ok-parts.parts (ap (parsed_tokens (length c.args.text.now)) found ∙ c.in_ok-parts.ensures.found)
