@@ -15,7 +15,7 @@ pub(crate) fn sensor_names(alloc: Global, program: &Program) -> Result<Vec<Name>
     ensures { IfOk result (λ names. names.items ≡ declared.sensor_names program.now) }
 {
     let mut names = Vec::new(alloc);
-    for sensor in program.sensors.as_slice() {
+    for sensor in program.sensors() {
         names.push(sensor.name.copy())?;
     }
     Ok(names)
@@ -25,7 +25,7 @@ pub(crate) fn actuator_names(alloc: Global, program: &Program) -> Result<Vec<Nam
     ensures { IfOk result (λ names. names.items ≡ declared.actuator_names program.now) }
 {
     let mut names = Vec::new(alloc);
-    for actuator in program.actuators.as_slice() {
+    for actuator in program.actuators() {
         names.push(actuator.name.copy())?;
     }
     Ok(names)
@@ -35,7 +35,7 @@ pub(crate) fn output_names(alloc: Global, program: &Program) -> Result<Vec<Name>
     ensures { IfOk result (λ names. names.items ≡ declared.output_names program.now) }
 {
     let mut names = Vec::new(alloc);
-    for output in program.outputs.as_slice() {
+    for output in program.outputs() {
         names.push(output.name.copy())?;
     }
     Ok(names)
@@ -45,7 +45,7 @@ pub(crate) fn task_names(alloc: Global, program: &Program) -> Result<Vec<Name>, 
     ensures { IfOk result (λ names. names.items ≡ declared.task_names program.now) }
 {
     let mut names = Vec::new(alloc);
-    for task in program.tasks.as_slice() {
+    for task in program.tasks() {
         names.push(task.name.copy())?;
     }
     Ok(names)
@@ -55,7 +55,7 @@ pub(crate) fn mode_names(alloc: Global, program: &Program) -> Result<Vec<Name>, 
     ensures { IfOk result (λ names. names.items ≡ declared.mode_names program.now) }
 {
     let mut names = Vec::new(alloc);
-    for mode in program.modes.as_slice() {
+    for mode in program.modes() {
         names.push(mode.name.copy())?;
     }
     Ok(names)
@@ -86,7 +86,7 @@ pub(crate) fn lines_written(alloc: Global, program: &Program) -> Result<Vec<u64>
     ensures { IfOk result (λ lines. lines.items ≡ declared.lines_written program.now) }
 {
     let mut lines = Vec::new(alloc);
-    for actuator in program.actuators.as_slice() {
+    for actuator in program.actuators() {
         if let Some(line) = actuator.line {
             lines.push(line)?;
         }

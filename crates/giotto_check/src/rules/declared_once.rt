@@ -22,7 +22,7 @@ pub(crate) fn declares_once(alloc: Global, program: &Program) -> Result<bool, Al
     if !names::all_different(&declared) {
         return Ok(false);
     }
-    if !tasks_declare_own(&declared, program.tasks.as_slice()) {
+    if !tasks_declare_own(&declared, program.tasks()) {
         return Ok(false);
     }
     let lines = declarations::lines_written(alloc, program)?;

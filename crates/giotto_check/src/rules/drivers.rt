@@ -21,7 +21,7 @@ use std::alloc::{AllocError, Global};
 pub(crate) fn drivers_read_mode_ports(alloc: Global, program: &Program) -> Result<bool, AllocError>
     ensures { IfOk result (λ holds. holds ≡ rules.drivers_read_mode_ports program.now) }
 {
-    for mode in program.modes.as_slice() {
+    for mode in program.modes() {
         if !mode_drivers_fit(alloc, program, mode)? {
             return Ok(false);
         }

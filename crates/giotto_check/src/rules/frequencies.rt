@@ -13,7 +13,7 @@ use giotto_text::programs::{Invocation, Program, Switch, Update};
 pub(crate) fn frequencies_divide(program: &Program) -> bool
     ensures { result ≡ rules.frequencies_divide program.now }
 {
-    for mode in program.modes.as_slice() {
+    for mode in program.modes() {
         let period = mode.period;
         if !(1 <= period && period <= 1_000_000) {
             return false;

@@ -18,7 +18,7 @@ use std::alloc::{AllocError, Global};
 pub(crate) fn invokes_once(alloc: Global, program: &Program) -> Result<bool, AllocError>
     ensures { IfOk result (λ holds. holds ≡ rules.invokes_once program.now) }
 {
-    for mode in program.modes.as_slice() {
+    for mode in program.modes() {
         if !mode_invokes_once(alloc, mode)? {
             return Ok(false);
         }
@@ -38,7 +38,7 @@ fn mode_invokes_once(alloc: Global, mode: &Mode) -> Result<bool, AllocError>
 pub(crate) fn tasks_share_no_output(alloc: Global, program: &Program) -> Result<bool, AllocError>
     ensures { IfOk result (λ holds. holds ≡ rules.tasks_share_no_output program.now) }
 {
-    for mode in program.modes.as_slice() {
+    for mode in program.modes() {
         let ports = declarations::mode_ports(alloc, program, mode)?;
         if !names::all_different(&ports) {
             return Ok(false);
@@ -51,7 +51,7 @@ pub(crate) fn tasks_share_no_output(alloc: Global, program: &Program) -> Result<
 pub(crate) fn arguments_fit(program: &Program) -> bool
     ensures { result ≡ rules.arguments_fit program.now }
 {
-    for mode in program.modes.as_slice() {
+    for mode in program.modes() {
         if !invocations_fit(program, mode.invocations.as_slice()) {
             return false;
         }

@@ -44,7 +44,7 @@ pub(crate) fn uses_right_kinds(alloc: Global, program: &Program) -> Result<bool,
     ensures { IfOk result (λ holds. holds ≡ rules.uses_right_kinds program.now) }
 {
     let kinds = kinds_of(alloc, program)?;
-    Ok(tasks_use(&kinds, program.tasks.as_slice()) && modes_use(&kinds, program.modes.as_slice()))
+    Ok(tasks_use(&kinds, program.tasks()) && modes_use(&kinds, program.modes()))
 }
 
 fn kinds_of(alloc: Global, program: &Program) -> Result<Kinds, AllocError>

@@ -12,5 +12,5 @@ pub(crate) fn starts_in_a_mode(alloc: Global, program: &Program) -> Result<bool,
     ensures { IfOk result (λ holds. holds ≡ rules.starts_in_a_mode program.now) }
 {
     let modes = declarations::mode_names(alloc, program)?;
-    Ok(names::is_among(&modes, &program.start))
+    Ok(names::is_among(&modes, program.start()))
 }

@@ -16,7 +16,7 @@ use giotto_text::programs::{Invocation, Mode, Program, Switch};
 pub(crate) fn switches_keep_periods(program: &Program) -> bool
     ensures { result ≡ rules.switches_keep_periods program.now }
 {
-    modes_keep_periods(program, program.modes.as_slice())
+    modes_keep_periods(program, program.modes())
 }
 
 fn modes_keep_periods(program: &Program, modes: &[Mode]) -> bool

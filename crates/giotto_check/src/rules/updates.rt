@@ -14,7 +14,7 @@ use std::alloc::{AllocError, Global};
 pub(crate) fn updates_once(alloc: Global, program: &Program) -> Result<bool, AllocError>
     ensures { IfOk result (λ holds. holds ≡ rules.updates_once program.now) }
 {
-    for mode in program.modes.as_slice() {
+    for mode in program.modes() {
         if !mode_updates_once(alloc, mode)? {
             return Ok(false);
         }
