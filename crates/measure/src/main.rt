@@ -64,7 +64,7 @@ fn read_many_times<R: Read + Drop>(
     let mut found = 0i64;
     for _time in 0..times {
         match read(alloc, text.as_str()) {
-            Ok(program) => found = found.saturating_add(program.tasks.as_slice().len() as i64),
+            Ok(program) => found = found.saturating_add(program.tasks().len() as i64),
             Err(_) => return Ok(-1),
         }
     }

@@ -1,14 +1,13 @@
 //! Programs that are checked: well-formed ones, and the first rule that a wrong one breaks.
 
 use crate::examples::ADDER;
-use giotto_check::{CheckFault, check, laws};
+use giotto_check::{CheckFault, check};
 use giotto_read::reading::read;
 use std::alloc::Global;
 use std::test::Fail;
 
 fn fault_of(alloc: Global, text: &str) -> Result<Option<CheckFault>, Fail> {
     let program = read(alloc, text)?;
-    laws::read_with_small_tasks();
     Ok(check(alloc, program).err())
 }
 

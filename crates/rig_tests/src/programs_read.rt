@@ -15,19 +15,19 @@ fn fault_of(alloc: Global, text: &str) -> Option<ReadFault> {
 #[test]
 fn reads_the_parts_of_a_program(rt: HostRuntime) -> Result<(), Fail> {
     let program = read(rt.alloc(), ADDER)?;
-    assert_eq!(rt; program.start.as_str(), "m");
-    let [sensor] = program.sensors.as_slice() else {
+    assert_eq!(rt; program.start().as_str(), "m");
+    let [sensor] = program.sensors() else {
         return Err(Fail::from("one sensor"));
     };
     assert_eq!(rt; sensor.name.as_str(), "s");
     assert_eq!(rt; sensor.initial, 0);
     assert!(rt; matches!(sensor.source, Source::Line(0)));
-    let [actuator] = program.actuators.as_slice() else {
+    let [actuator] = program.actuators() else {
         return Err(Fail::from("one actuator"));
     };
     assert_eq!(rt; actuator.line, None);
-    assert_eq!(rt; program.outputs.as_slice().len(), 1);
-    let [mode] = program.modes.as_slice() else {
+    assert_eq!(rt; program.outputs().len(), 1);
+    let [mode] = program.modes() else {
         return Err(Fail::from("one mode"));
     };
     assert_eq!(rt; mode.period, 2);
@@ -44,7 +44,7 @@ fn reads_the_parts_of_a_program(rt: HostRuntime) -> Result<(), Fail> {
 #[test]
 fn reads_the_body_of_a_task(rt: HostRuntime) -> Result<(), Fail> {
     let program = read(rt.alloc(), ADDER)?;
-    let [task] = program.tasks.as_slice() else {
+    let [task] = program.tasks() else {
         return Err(Fail::from("one task"));
     };
     let body = &*task.body;
@@ -77,7 +77,7 @@ fn reads_what_may_be_left_out(rt: HostRuntime) -> Result<(), Fail> {
     ];
     for text in texts {
         let program = read(rt.alloc(), text)?;
-        assert!(rt; program.start.as_str().len() == 1, "at {text}");
+        assert!(rt; program.start().as_str().len() == 1, "at {text}");
     }
     Ok(())
 }
@@ -85,12 +85,12 @@ fn reads_what_may_be_left_out(rt: HostRuntime) -> Result<(), Fail> {
 #[test]
 fn reads_each_construct(rt: HostRuntime) -> Result<(), Fail> {
     let program = read(rt.alloc(), EVERY_CONSTRUCT)?;
-    let [sensor, granted] = program.sensors.as_slice() else {
+    let [sensor, granted] = program.sensors() else {
         return Err(Fail::from("two sensors"));
     };
     assert_eq!(rt; sensor.initial, -5);
     assert!(rt; matches!(granted.source, Source::Grant));
-    let [task, _] = program.tasks.as_slice() else {
+    let [task, _] = program.tasks() else {
         return Err(Fail::from("two tasks"));
     };
     assert_eq!(rt; task.states.as_slice(), [0, -1].as_slice());
@@ -99,7 +99,7 @@ fn reads_each_construct(rt: HostRuntime) -> Result<(), Fail> {
     };
     assert_eq!(rt; otherwise.len(), 2);
     assert_eq!(rt; nothing.len(), 0);
-    let [mode, _] = program.modes.as_slice() else {
+    let [mode, _] = program.modes() else {
         return Err(Fail::from("two modes"));
     };
     let [switch, plain] = mode.switches.as_slice() else {
@@ -255,6 +255,6 @@ fn reads_a_long_text(rt: HostRuntime) -> Result<(), Fail> {
     text.push_str("start m;    ")?;
     assert_eq!(rt; text.len(), 16_000);
     let program = read(rt.alloc(), text.as_str())?;
-    assert_eq!(rt; program.outputs.as_slice().len(), 1142);
+    assert_eq!(rt; program.outputs().len(), 1142);
     Ok(())
 }

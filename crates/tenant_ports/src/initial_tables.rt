@@ -18,13 +18,13 @@ pub fn shared_table(alloc: Global, program: &Program) -> Result<Vec<(Name, i64)>
     ensures { IfOk result (λ table. table.items ≡ initial_shared program.now) }
 {
     let mut table = Vec::new(alloc);
-    for sensor in program.sensors.as_slice() {
+    for sensor in program.sensors() {
         table.push((sensor.name.copy(), sensor.initial))?;
     }
-    for actuator in program.actuators.as_slice() {
+    for actuator in program.actuators() {
         table.push((actuator.name.copy(), actuator.initial))?;
     }
-    for output in program.outputs.as_slice() {
+    for output in program.outputs() {
         table.push((output.name.copy(), output.initial))?;
     }
     Ok(table)
@@ -38,7 +38,7 @@ pub fn own_table(alloc: Global, program: &Program) -> Result<Vec<(OwnName, i64)>
     ensures { IfOk result (λ table. table.items ≡ initial_own program.now) }
 {
     let mut table = Vec::new(alloc);
-    for task in program.tasks.as_slice() {
+    for task in program.tasks() {
         add_task(&mut table, task)?;
     }
     Ok(table)

@@ -78,7 +78,7 @@ impl Tenant {
             return Err(Refusal::Memory);
         };
         self.state = State::Loaded;
-        self.mode = program.program().start.copy();
+        self.mode = program.program().start().copy();
         self.mode_time = 0;
         self.active = Vec::new(self.alloc);
         self.ports = ports;
@@ -104,7 +104,7 @@ impl Tenant {
         let Ok(initial) = Ports::initial(self.alloc, program.program()) else {
             return Err(Refusal::Memory);
         };
-        self.mode = program.program().start.copy();
+        self.mode = program.program().start().copy();
         self.state = State::Running;
         self.mode_time = 0;
         self.active.clear();
@@ -140,13 +140,12 @@ fn read_program(alloc: Global, text: &str) -> Result<Checked, Refusal>
         Ok(program) => program,
         Err(fault) => return Err(refusal_of(fault)),
     };
-    giotto_check::laws::read_with_small_tasks();
     let checked = match giotto_check::check(alloc, program) {
         Ok(checked) => checked,
         Err(CheckFault::Rule(_)) => return Err(Refusal::Rule(0)),
         Err(CheckFault::Memory) => return Err(Refusal::Memory),
     };
-    if !have_no_switches(checked.program().modes.as_slice()) {
+    if !have_no_switches(checked.program().modes()) {
         return Err(Refusal::Rule(0));
     }
     Ok(checked)
@@ -184,7 +183,7 @@ fn is_within_lines(budgets: &Budgets, program: &Program) -> bool
 fn may_read(lines: &[usize], program: &Program) -> bool
     ensures { result ≡ list_all (may_use lines.now) (lines_read program.now) }
 {
-    let sensors = program.sensors.as_slice();
+    let sensors = program.sensors();
     for sensor in sensors {
         if let Source::Line(line) = sensor.source {
             if !may_use(lines, line) {
@@ -198,7 +197,7 @@ fn may_read(lines: &[usize], program: &Program) -> bool
 fn may_drive(lines: &[usize], program: &Program) -> bool
     ensures { result ≡ list_all (may_use lines.now) (lines_written program.now) }
 {
-    let actuators = program.actuators.as_slice();
+    let actuators = program.actuators();
     for actuator in actuators {
         if let Some(line) = actuator.line {
             if !may_use(lines, line) {

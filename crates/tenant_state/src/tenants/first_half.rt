@@ -88,7 +88,7 @@ fn reset_actuators(checked: &Checked, ports: &mut Ports)
     ensures value { all_ports ports.new ≡ actuators_reset checked.now (all_ports ports.old) }
     ensures names { HaveSameNames ports.old ports.new }
 {
-    for actuator in checked.program().actuators.as_slice() {
+    for actuator in checked.program().actuators() {
         ports.write(&actuator.name, actuator.initial);
     }
 }

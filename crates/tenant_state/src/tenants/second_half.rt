@@ -185,7 +185,7 @@ fn sense(program: &Program, budgets: &Budgets, frame: &[i64], ports: &mut Ports)
     ensures ports { all_ports ports.new ≡ with_values (all_ports ports.old) (sensor_names program.now) (map (reading_taken (readings_within budgets.now.reads frame.now) []) program.now.sensors) }
     ensures names { HaveSameNames ports.old ports.new }
 {
-    for sensor in program.sensors.as_slice() {
+    for sensor in program.sensors() {
         ports.write(&sensor.name, reading(sensor, budgets, frame));
     }
 }

@@ -29,7 +29,7 @@ returns-clause-loaded c = λ row completed stands.
     let inside = c.self.inside in
     let before = subst (λ s. StandsFor s row completed) (sym c.self.view_is) stands in
     let p = c.in_ok-program.program in
-    let starts : c.copy-self-inside.result ≡ p.start = c.copy-self-inside.ensures ∙ ap (λ (q : GiottoProgram). q.start) c.behind-program.view_is ∙ ap (λ (q : GiottoProgram). q.start) c.program-4.ensures.tree in
+    let starts : c.copy-self-inside.result ≡ p.start = c.copy-self-inside.ensures ∙ c.start.ensures ∙ ap (λ (q : GiottoProgram). q.start) c.program-4.ensures.tree in
     let initial : all_ports c.in-Ok.ports ≡ initial_ports p = rw (c.in-Ok.ensures.shared, c.in-Ok.ensures.own, c.program-3.ensures.tree) refl in
     let after = stands_at_beginning inside.state inside.program inside.mode inside.mode_time inside.active.items inside.ports inside.count row completed states.Loaded p c.copy-self-inside.result c.in-Ok.ports before starts initial in
     rw (outcome, c.new.ensures.items) (record { same_reply = refl; stands = after })

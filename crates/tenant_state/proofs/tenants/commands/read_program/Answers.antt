@@ -5,9 +5,6 @@ use Rattle.tenant_state.specs.Commands.{refusal_of, refused}
 use Rattle.tenant_state.proofs.TenantCommands.{refused_by_reader, refused_by_rule}
 use Rattle.tenant_state.proofs.tenants.commands.read_program.Goals as goal
 
-pub check-requires : goal.check-requires
-check-requires c = record { small = c.read_with_small_tasks.ensures c.args.text.now _ c.in-Ok.ensures.found }
-
 pub returns-in-Err-clause-refused : goal.returns-in-Err-clause-refused
 returns-in-Err-clause-refused c = λ other budgets row.
     let not_memory : c.in-Err.fault ≡ Memory → ⊥ = λ memory. other (c.refusal_of.ensures ∙ ap refusal_of memory) in

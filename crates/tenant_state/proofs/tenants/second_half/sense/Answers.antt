@@ -5,7 +5,7 @@ use Rattle.std.proofs.lemmas.Bool.{and_parts}
 use Rattle.std.proofs.lemmas.List.{at_drop_more, at_drop_all}
 use Rattle.giotto_tasks.specs.Names.{Valuation, names_in, is_among, with_value}
 use Rattle.giotto_text.specs.declared.programs.Sensor.{Sensor}
-use Rattle.giotto_text.specs.Program.{SensorDeclaration, GiottoProgram}
+use Rattle.giotto_text.specs.Program.{SensorDeclaration}
 use Rattle.giotto_text.specs.ProgramTrees.{sensor_of}
 use Rattle.tenant_ports.specs.PortTables.{all_ports}
 use Rattle.tenant_ports.specs.Ports.{with_values}
@@ -15,10 +15,10 @@ use Rattle.tenant_state.proofs.tenants.second_half.sense.Goals as goal
 
 pub loop-sensor-init : goal.loop-sensor-init
 loop-sensor-init c =
-    let items = c.as_slice-sensor-items.result.now in
+    let items = c.sensors-sensor-items.result.now in
     let ports = all_ports c.args.ports.now in
     let taken : SensorDeclaration → ℤ = reading_taken (readings_within c.args.budgets.now.reads c.args.frame.now) [] in
-    let same : map sensor_of items ≡ c.args.program.now.sensors = ap (map sensor_of) c.as_slice-sensor-items.ensures ∙ ap (λ (p : GiottoProgram). p.sensors) c.program.view_is in
+    let same : map sensor_of items ≡ c.args.program.now.sensors = c.sensors-sensor-items.ensures in
     record {
       same = same_names_again c.args.ports.now;
       there = ap (λ ss. list_all (is_among (names_in ports)) (map (λ (s : SensorDeclaration). s.name) ss)) same ∙ c.requires;
@@ -27,7 +27,7 @@ loop-sensor-init c =
 
 pub write-requires : goal.write-requires
 write-requires c =
-    let items = c.as_slice-sensor-items.result.now in
+    let items = c.sensors-sensor-items.result.now in
     let i = c.loop-sensor.sensor-index in
     let item = c.sensor-item.result in
     let names = names_in (all_ports c.args.ports.now) in
@@ -39,7 +39,7 @@ write-requires c =
 
 pub loop-sensor-preserved : goal.loop-sensor-preserved
 loop-sensor-preserved c =
-    let items = c.as_slice-sensor-items.result.now in
+    let items = c.sensors-sensor-items.result.now in
     let i = c.loop-sensor.sensor-index in
     let item = c.sensor-item.result in
     let names = names_in (all_ports c.args.ports.now) in
@@ -60,7 +60,7 @@ loop-sensor-preserved c =
 
 pub returns-clause-ports : goal.returns-clause-ports
 returns-clause-ports c =
-    let items = c.as_slice-sensor-items.result.now in
+    let items = c.sensors-sensor-items.result.now in
     let ports = all_ports c.loop-sensor.ports in
     let taken : SensorDeclaration → ℤ = reading_taken (readings_within c.args.budgets.now.reads c.args.frame.now) [] in
     let left = λ (ss : List Sensor). with_values ports (map (λ (s : SensorDeclaration). s.name) (map sensor_of ss)) (map taken (map sensor_of ss)) in
