@@ -74,7 +74,7 @@ impl Checked {
     }
 }
 
-/// Checks a program.
+/// The program, if it keeps the eleven rules.
 ///
 /// # Errors
 /// `Rule` with the first rule that the program breaks, and `Memory` where there is want of memory.

@@ -35,8 +35,8 @@ pub fn read(alloc: Global, text: &str) -> Result<Program, ReadFault>
     Ok(Program::new(parts))
 }
 
-// The parts of the program that the tokens of a text spell, where `end` is the length of the text in bytes. Nesting is counted first,
-// so that the reader, which recurses through what nests, takes little of the stack.
+// The parts of the program that the tokens of a text spell, where `end` is the length of the text in bytes. Nesting is
+// counted first, so that the reader, which recurses through what nests, takes little of the stack.
 fn read_tokens(alloc: Global, tokens: &[PlacedToken], end: usize) -> Result<Parts, ReadFault>
     ensures found { IfOk result (λ p. read_all end tokens.now ≡ Ok p) }
     ensures fault { (f : ReadFault) → result ≡ Err f → f ≢ ReadFault.Memory → read_all end tokens.now ≡ Err f }

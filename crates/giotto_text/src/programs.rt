@@ -30,38 +30,13 @@ impl Model for Program {
     ghost invariant = { λ p. IsPrintable p.parts };
 }
 
-/// What a program declares, and its modes, each list in text order.
-#[derive(Drop)]
-pub struct Parts {
-    pub sensors: List<Sensor>,
-    pub actuators: List<Actuator>,
-    pub outputs: List<Output>,
-    pub tasks: List<Task>,
-    pub modes: List<Mode>,
-    /// The mode in which the program starts.
-    pub start: Name,
-}
-
-impl Model for Parts {
-    ghost use Rattle.std.specs.Prelude.{map};
-    ghost use Rattle.giotto_text.specs.Program.{GiottoProgram};
-    ghost use Rattle.giotto_text.specs.ProgramCodes.{program_code};
-
-    ghost Value = { GiottoProgram };
-
-    ghost coded = { program_code };
-
-    ghost use Rattle.giotto_text.specs.ProgramTrees.{sensor_of, actuator_of, output_of, task_of, mode_of};
-
-    ghost view = { λ p. record { sensors = map sensor_of p.sensors; actuators = map actuator_of p.actuators; outputs = map output_of p.outputs; tasks = map task_of p.tasks; modes = map mode_of p.modes; start = p.start } };
-}
-
 impl Program {
     ghost use Rattle.std.specs.Prelude.{◌≡◌, map};
     ghost use Rattle.giotto_text.specs.ProgramTrees.{sensor_of, actuator_of, output_of, task_of, mode_of};
     ghost use Rattle.giotto_text.specs.Sound.{IsPrintable};
 
-    /// The program of these parts.
+    /// The program of these parts, which must be such that it can be printed. The law `printable` says so of the parts of a
+    /// program that a text reads as.
     pub fn new(parts: Parts) -> Program
         requires { IsPrintable parts }
         ensures { result ≡ parts }
@@ -69,7 +44,7 @@ impl Program {
         Program { parts }
     }
 
-    /// All parts of the program.
+    /// All parts of the program. It can be printed.
     pub fn parts(&self) -> &Parts
         ensures tree { result.now ≡ self.now }
         ensures printable { IsPrintable self.now }
@@ -118,6 +93,32 @@ impl Program {
     {
         &self.parts.start
     }
+}
+
+/// What a program declares, and its modes, each list in text order.
+#[derive(Drop)]
+pub struct Parts {
+    pub sensors: List<Sensor>,
+    pub actuators: List<Actuator>,
+    pub outputs: List<Output>,
+    pub tasks: List<Task>,
+    pub modes: List<Mode>,
+    /// The mode in which the program starts.
+    pub start: Name,
+}
+
+impl Model for Parts {
+    ghost use Rattle.std.specs.Prelude.{map};
+    ghost use Rattle.giotto_text.specs.Program.{GiottoProgram};
+    ghost use Rattle.giotto_text.specs.ProgramCodes.{program_code};
+
+    ghost Value = { GiottoProgram };
+
+    ghost coded = { program_code };
+
+    ghost use Rattle.giotto_text.specs.ProgramTrees.{sensor_of, actuator_of, output_of, task_of, mode_of};
+
+    ghost view = { λ p. record { sensors = map sensor_of p.sensors; actuators = map actuator_of p.actuators; outputs = map output_of p.outputs; tasks = map task_of p.tasks; modes = map mode_of p.modes; start = p.start } };
 }
 
 /// Where a sensor's readings come from.
