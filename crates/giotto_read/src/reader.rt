@@ -10,6 +10,7 @@ mod modes;
 mod statements;
 mod tasks;
 
+use giotto_tasks::faults::CodeFault;
 use giotto_tasks::names::Name;
 use giotto_text::programs::Parts;
 use giotto_text::tokens::{Keyword, PlacedToken, Symbol, Token};
@@ -42,6 +43,18 @@ impl From<AllocError> for Stop {
     ghost from_gives = { λ _ e. e ≡ Memory };
 
     fn from(_failed: AllocError) -> Stop {
+        Stop::Memory
+    }
+}
+
+// Nesting is counted before the first token is read, so no body is too deep for its code.
+impl From<CodeFault> for Stop {
+    ghost use Rattle.std.specs.Prelude.{◌≡◌};
+    ghost use Rattle.giotto_read.specs.declared.reader.Stop.TheVariants.{Memory};
+
+    ghost from_gives = { λ _ e. e ≡ Memory };
+
+    fn from(_fault: CodeFault) -> Stop {
         Stop::Memory
     }
 }

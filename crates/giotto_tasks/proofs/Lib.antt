@@ -1,4 +1,11 @@
+pub mod CodeExamples
+pub mod CodeLemmas
+pub mod CompileLemmas
+pub mod DriverExamples
+pub mod DriverLemmas
+pub mod EvaluationLemmas
 pub mod Examples
+pub mod FrameLemmas
 pub mod ListLemmas
 pub mod NameLemmas
 pub mod SoundLemmas

@@ -1,6 +1,10 @@
 pub mod Arithmetic
+pub mod Code
 pub mod Codes
+pub mod Compiled
+pub mod HasCode
 pub mod Cost
+pub mod DriverCode
 pub mod Meaning
 pub mod Names
 pub mod Sound

@@ -1,6 +1,7 @@
 -- The trees that the program's own types stand for.
 use Rattle.std.specs.Prelude.{List, [], ◌∷◌, map}
-use Rattle.giotto_tasks.specs.Syntax.{Expression, number, port, unary, binary, Statement, assign, branch, repeat, Block, finished, step}
+use Rattle.giotto_tasks.specs.Syntax.{Expression, number, port, unary, binary, Statement, assign, branch, repeat, Block, finished, step, TaskBody}
+use Rattle.giotto_tasks.specs.declared.names.Name.{Name}
 use Rattle.giotto_tasks.specs.declared.bodies.Expr.{Expr}
 use Rattle.giotto_tasks.specs.declared.bodies.Expr.TheVariants.{Number, Port, Unary', Binary'}
 use Rattle.giotto_tasks.specs.declared.bodies.Stmt.{Stmt}
@@ -32,3 +33,7 @@ statement_of = fold-Stmt Statement statement_with
 -- the block that a list of statements stands for
 abbrev pub block_of : List Stmt → Block
 block_of ss = in_order (map statement_of ss)
+
+-- a body with these ports and statements
+abbrev pub body_of : List Name → List Name → List Name → List Stmt → TaskBody
+body_of inputs outputs states ss = record { inputs = inputs; outputs = outputs; states = states; block = block_of ss }

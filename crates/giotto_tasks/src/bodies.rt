@@ -1,12 +1,16 @@
 //! The trees of task bodies and of the expressions in drivers.
 
-ghost use Rattle.std.specs.Prelude.{◌≡◌, ◌↔◌, IsTrue};
+ghost use Rattle.std.specs.Prelude.{◌≡◌, ◌↔◌, ◌≤◌, ◌++◌, length, IsTrue, IfOk};
+ghost use Rattle.giotto_tasks.specs.HasCode.{IsCompiled};
 ghost use Rattle.giotto_tasks.specs.Sound.{is_small};
-ghost use Rattle.giotto_tasks.specs.Trees.{expression_of, statement_of, block_of};
+ghost use Rattle.giotto_tasks.specs.Trees.{expression_of, statement_of, block_of, body_of};
 
+use crate::code::compiled::Code;
+use crate::faults::CodeFault;
 use crate::lists::List;
 use crate::names::Name;
 use crate::operators::{BinaryOperator, UnaryOperator};
+use std::alloc::Global;
 use std::marker::Model;
 
 /// An expression over the values of some ports: the function of a driver, a guard, or a part of a
@@ -50,22 +54,58 @@ pub struct Body {
     pub states: List<Name>,
     /// The statements, in the order in which they run.
     pub block: Vec<Stmt>,
+    code: Code,
 }
 
 impl Model for Body {
     ghost use Rattle.giotto_tasks.specs.Syntax.{TaskBody};
     ghost use Rattle.giotto_tasks.specs.Codes.{body_code};
+    ghost use Rattle.giotto_tasks.specs.HasCode.{IsCompiled};
+    ghost use Rattle.giotto_tasks.specs.Trees.{body_of};
 
     ghost Value = { TaskBody };
 
     ghost coded = { body_code };
 
-    ghost use Rattle.giotto_tasks.specs.Trees.{block_of};
+    ghost view = { λ b. body_of b.inputs b.outputs b.states b.block.items };
 
-    ghost view = { λ b. record { inputs = b.inputs; outputs = b.outputs; states = b.states; block = block_of b.block.items } };
+    ghost invariant = { λ b. IsCompiled (body_of b.inputs b.outputs b.states b.block.items) b.code };
 }
 
 impl Body {
+    /// The body with these ports and this block, together with its code: whoever makes a body makes
+    /// it ready to run. A body of more than 16 inputs, outputs or states, which can't be evaluated,
+    /// has no code.
+    ///
+    /// # Errors
+    /// `Memory` where there is want of memory, `TooDeep` where an expression has more than 32
+    /// operations inside one another, as no program's text can have it.
+    pub fn new(
+        alloc: Global,
+        inputs: List<Name>,
+        outputs: List<Name>,
+        states: List<Name>,
+        block: Vec<Stmt>,
+    ) -> Result<Body, CodeFault>
+        ensures { IfOk result (λ b. b ≡ body_of inputs outputs states block.items) }
+    {
+        let code = compiled(alloc, &inputs, &outputs, &states, &block)?;
+        Ok(Body {
+            inputs,
+            outputs,
+            states,
+            block,
+            code,
+        })
+    }
+
+    /// The code of its block.
+    pub(crate) fn code(&self) -> &Code
+        ensures { IsCompiled self.now result.now }
+    {
+        &self.code
+    }
+
     /// Whether the two bodies are one: the same names in the same order, and the same statements.
     pub fn is_same(&self, other: &Body) -> bool
         ensures { IsTrue result ↔ (self.now ≡ other.now) }
@@ -84,6 +124,41 @@ impl Body {
             && self.outputs.as_slice().len() <= 16
             && self.states.as_slice().len() <= 16
     }
+}
+
+// The code over all ports: inputs, then states, then outputs.
+fn compiled(
+    alloc: Global,
+    inputs: &List<Name>,
+    outputs: &List<Name>,
+    states: &List<Name>,
+    block: &[Stmt],
+) -> Result<Code, CodeFault>
+    ensures { IfOk result (λ c. IsCompiled (body_of inputs.now outputs.now states.now block.now) c) }
+{
+    if !are_few(inputs) || !are_few(outputs) || !are_few(states) {
+        return Ok(Code::none(alloc));
+    }
+    let mut names = Vec::new(alloc);
+    add_names(&mut names, inputs)?;
+    add_names(&mut names, states)?;
+    add_names(&mut names, outputs)?;
+    Code::new(alloc, &names, block)
+}
+
+fn are_few(names: &List<Name>) -> bool
+    ensures { IsTrue result ↔ (length names.now ≤ 16) }
+{
+    names.as_slice().len() <= 16
+}
+
+fn add_names(to: &mut Vec<Name>, names: &List<Name>) -> Result<(), CodeFault>
+    ensures { IfOk result (λ _. to.new.items ≡ to.old.items ++ names.now) }
+{
+    for name in names.as_slice() {
+        to.push(name.copy())?;
+    }
+    Ok(())
 }
 
 fn same_names(a: &List<Name>, b: &List<Name>) -> bool

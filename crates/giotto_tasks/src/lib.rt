@@ -18,8 +18,10 @@
 #![tactic(auto)]
 
 pub mod bodies;
+pub mod code;
 pub mod cost;
 pub mod evaluation;
+pub mod faults;
 pub mod lists;
 pub mod names;
 pub mod operators;

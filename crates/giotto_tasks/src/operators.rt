@@ -1,7 +1,7 @@
 //! The operations of expressions.
 
-ghost use Rattle.std.specs.Prelude.{◌≡◌};
-ghost use Rattle.giotto_tasks.specs.Arithmetic.{unary, binary, truncated_div, remainder};
+ghost use Rattle.std.specs.Prelude.{◌≡◌, ◌+ℤ◌, ◌-ℤ◌, ◌*ℤ◌};
+ghost use Rattle.giotto_tasks.specs.Arithmetic.{saturated, unary, binary, truncated_div, remainder};
 
 /// An operation of one operand.
 #[derive(Clone, Copy, Debug, PartialEq, Eq)]
@@ -46,6 +46,7 @@ pub enum BinaryOperator {
 impl UnaryOperator {
     /// The value of the operation. `-x` is exact, but `i64::MAX` for the least number, whose
     /// negation doesn't fit; `!x` is 1 where x is 0, and 0 elsewhere.
+    #[inline]
     pub fn apply(self, x: i64) -> i64
         ensures { result ≡ unary self x }
     {
@@ -63,13 +64,14 @@ impl BinaryOperator {
     /// they don't fit. `x / y` is rounded towards zero, and `x % y` is what it leaves, with the sign
     /// of x; both are 0 where y is 0, and `i64::MIN / -1` is `i64::MAX`. Comparisons, `&&` and `||`
     /// are 1 for true and 0 for false, and any value but 0 counts as true.
+    #[inline]
     pub fn apply(self, x: i64, y: i64) -> i64
         ensures { result ≡ binary self x y }
     {
         match self {
-            BinaryOperator::Add => x.saturating_add(y),
-            BinaryOperator::Subtract => x.saturating_sub(y),
-            BinaryOperator::Multiply => x.saturating_mul(y),
+            BinaryOperator::Add => sum(x, y),
+            BinaryOperator::Subtract => difference(x, y),
+            BinaryOperator::Multiply => product(x, y),
             BinaryOperator::Divide => divided(x, y),
             BinaryOperator::Remainder => remainder_of(x, y),
             BinaryOperator::Equal => i64::from(x == y),
@@ -81,6 +83,43 @@ impl BinaryOperator {
             BinaryOperator::And => i64::from(x != 0 && y != 0),
             BinaryOperator::Or => i64::from(x != 0 || y != 0),
         }
+    }
+}
+
+// Exact in 128 bits and then cut to the range: a form of which LLVM makes its own saturating sums and
+// differences.
+
+#[inline]
+fn sum(x: i64, y: i64) -> i64
+    ensures { result ≡ saturated (x +ℤ y) }
+{
+    cut(i128::from(x) + i128::from(y))
+}
+
+#[inline]
+fn difference(x: i64, y: i64) -> i64
+    ensures { result ≡ saturated (x -ℤ y) }
+{
+    cut(i128::from(x) - i128::from(y))
+}
+
+#[inline]
+fn product(x: i64, y: i64) -> i64
+    ensures { result ≡ saturated (x *ℤ y) }
+{
+    cut(i128::from(x) * i128::from(y))
+}
+
+#[inline]
+fn cut(z: i128) -> i64
+    ensures { result ≡ saturated z }
+{
+    if z < i128::from(i64::MIN) {
+        i64::MIN
+    } else if z > i128::from(i64::MAX) {
+        i64::MAX
+    } else {
+        z as i64
     }
 }
 

@@ -1,6 +1,7 @@
 //! Work for the stopwatch of `bench/`: a text read many times, a body with many turns, and a plain loop.
 #![tactic(auto)]
 
+mod drivers;
 mod turns;
 
 use giotto_read::printing::print;
@@ -15,7 +16,7 @@ fn main(rt: HostRuntime) -> anyhow::Result<ExitCode> {
     let words: Vec<String> = std::env::args(&rt)?.collect(rt.alloc())?;
     let [_, work, times] = words.as_slice() else {
         eprintln!(rt;
-            "usage: measure tokens|read|print TIMES < TEXT, measure evaluate TURNS or measure loop TURNS"
+            "usage: measure tokens|read|print|drive TIMES < TEXT, or measure evaluate|jobs|loop TIMES"
         )?;
         return Ok(ExitCode::from(2));
     };
@@ -24,6 +25,8 @@ fn main(rt: HostRuntime) -> anyhow::Result<ExitCode> {
         "tokens" => tokens_many_times(rt.alloc(), rt.reader(), times)?,
         "read" => read_many_times(rt.alloc(), rt.reader(), times)?,
         "print" => print_many_times(rt.alloc(), rt.reader(), times)?,
+        "drive" => drive_many_times(rt.alloc(), rt.reader(), times)?,
+        "jobs" => turns::jobs(rt.alloc(), times)?,
         "evaluate" => turns::evaluated(rt.alloc(), times)?,
         "loop" => turns::plain(times),
         _ => {
@@ -88,4 +91,15 @@ fn print_many_times<R: Read + Drop>(
         found = found.saturating_add(printed.len() as i64);
     }
     Ok(found)
+}
+
+// The sum of as many values of the first driver of a reader's text.
+fn drive_many_times<R: Read + Drop>(
+    alloc: Global,
+    mut reader: R,
+    times: u64,
+) -> anyhow::Result<i64> {
+    let mut text = String::new(alloc);
+    reader.read_to_string(&mut text)?;
+    drivers::driven(alloc, text.as_str(), times)
 }

@@ -2,15 +2,18 @@
 
 ghost use Rattle.std.specs.Prelude.{◌≡◌, ◌≤◌, [], ◌∷◌, codes, length, IfOk};
 ghost use Rattle.giotto_tasks.specs.Sound.{IsSound};
+ghost use Rattle.giotto_tasks.specs.Syntax.{step, finished};
+ghost use Rattle.giotto_tasks.specs.Trees.{statement_of};
 
 use giotto_tasks::bodies::{Body, Expr, Stmt};
 use giotto_tasks::evaluation::eval;
+use giotto_tasks::faults::CodeFault;
 use giotto_tasks::lists::List;
 use giotto_tasks::names::Name;
 use giotto_tasks::operators::BinaryOperator;
 use giotto_tasks::steps::Steps;
 use giotto_tasks::values::Values;
-use std::alloc::{AllocError, Global};
+use std::alloc::Global;
 use std::marker::Brand;
 use std::sync::ledger::{Blank, Ledger};
 
@@ -18,7 +21,7 @@ use std::sync::ledger::{Blank, Ledger};
 ///
 /// # Errors
 /// Want of memory.
-pub fn evaluated(alloc: Global, turns: u64) -> Result<i64, AllocError> {
+pub fn evaluated(alloc: Global, turns: u64) -> Result<i64, CodeFault> {
     let body = adding_body(alloc, turns)?;
     let mut inputs = Values::new();
     inputs.push(3);
@@ -27,6 +30,18 @@ pub fn evaluated(alloc: Global, turns: u64) -> Result<i64, AllocError> {
         [sum] => Ok(*sum),
         _ => Ok(-1),
     }
+}
+
+/// The sum of the outputs of `o := i + 1;` at the inputs 0, 1, .., each by an evaluation of its own.
+///
+/// # Errors
+/// Want of memory.
+pub fn jobs(alloc: Global, times: u64) -> Result<i64, CodeFault> {
+    let left = Box::new(alloc, Expr::Port(named("i")))?;
+    let right = Box::new(alloc, Expr::Number(1))?;
+    let sum = Expr::Binary(BinaryOperator::Add, left, right);
+    let body = body_of(alloc, Stmt::Assign(named("o"), sum))?;
+    Ok(summed::<Brand>(&body, times, Blank::new(1)))
 }
 
 /// A sum of as many numbers, by a plain loop.
@@ -38,7 +53,7 @@ pub fn plain(turns: u64) -> i64 {
     sum
 }
 
-fn adding_body(alloc: Global, turns: u64) -> Result<Body, AllocError>
+fn adding_body(alloc: Global, turns: u64) -> Result<Body, CodeFault>
     ensures { IfOk result (λ b. IsSound b × (length b.inputs ≡ 1) × (length b.states ≡ 0)) }
 {
     let left = Box::new(alloc, Expr::Port(named("o")))?;
@@ -46,12 +61,17 @@ fn adding_body(alloc: Global, turns: u64) -> Result<Body, AllocError>
     let sum = Expr::Binary(BinaryOperator::Add, left, right);
     let add = Stmt::Assign(named("o"), sum);
     let repeat = Stmt::Repeat(turns, vec![in alloc; add]?);
-    Ok(Body {
-        inputs: List::from_vec(vec![in alloc; named("i")]?),
-        outputs: List::from_vec(vec![in alloc; named("o")]?),
-        states: List::from_vec(Vec::new(alloc)),
-        block: vec![in alloc; repeat]?,
-    })
+    body_of(alloc, repeat)
+}
+
+// A body with the input i and the output o, of one statement.
+fn body_of(alloc: Global, statement: Stmt) -> Result<Body, CodeFault>
+    ensures { IfOk result (λ b. b ≡ record { inputs = codes "i" ∷ []; outputs = codes "o" ∷ []; states = []; block = step (statement_of statement) finished }) }
+{
+    let inputs = List::from_vec(vec![in alloc; named("i")]?);
+    let outputs = List::from_vec(vec![in alloc; named("o")]?);
+    let states = List::from_vec(Vec::new(alloc));
+    Body::new(alloc, inputs, outputs, states, vec![in alloc; statement]?)
 }
 
 fn named(text: &str) -> Name
@@ -75,4 +95,25 @@ fn outputs_of<L: Ledger>(body: &Body, inputs: &Values, blank: Blank) -> Values
     let mut steps = Steps::<L>::new(blank);
     let (outputs, _) = eval(body, inputs, &Values::new(), &mut steps);
     outputs
+}
+
+fn summed<L: Ledger>(body: &Body, times: u64, blank: Blank) -> i64
+    requires name { blank.name ≡ L.name }
+    requires parts { blank.parts ≡ L.parts }
+    requires some { blank.parts ≡ 1 }
+    requires inputs { length body.now.inputs ≡ 1 }
+    requires states { length body.now.states ≡ 0 }
+    requires sound { IsSound body.now }
+{
+    let mut steps = Steps::<L>::new(blank);
+    let mut sum = 0i64;
+    for time in 0..times {
+        let mut inputs = Values::new();
+        inputs.push((time & 7) as i64);
+        let (outputs, _) = eval(body, &inputs, &Values::new(), &mut steps);
+        for output in outputs.as_slice() {
+            sum = sum.saturating_add(*output);
+        }
+    }
+    sum
 }

@@ -6,8 +6,10 @@ ghost use Rattle.giotto_tasks.specs.Syntax.{binary};
 ghost use Rattle.giotto_tasks.specs.Trees.{expression_of, block_of};
 
 use giotto_tasks::bodies::{Body, Expr, Stmt};
+use giotto_tasks::code::driver::DriverCode;
 use giotto_tasks::cost::{cost, driver_cost};
 use giotto_tasks::evaluation::{driver, eval};
+use giotto_tasks::faults::CodeFault;
 use giotto_tasks::lists::List;
 use giotto_tasks::names::Name;
 use giotto_tasks::operators::{BinaryOperator, UnaryOperator};
@@ -37,19 +39,17 @@ fn operation(alloc: Global, o: BinaryOperator, a: Expr, b: Expr) -> Result<Expr,
 }
 
 // A body with the input i, the output o and these statements.
-fn with_block(alloc: Global, block: Vec<Stmt>) -> Result<Body, AllocError>
+fn with_block(alloc: Global, block: Vec<Stmt>) -> Result<Body, CodeFault>
     ensures { IfOk result (λ b. b ≡ record { inputs = codes "i" ∷ []; outputs = codes "o" ∷ []; states = []; block = block_of block.items }) }
 {
-    Ok(Body {
-        inputs: List::from_vec(vec![in alloc; named("i")]?),
-        outputs: List::from_vec(vec![in alloc; named("o")]?),
-        states: List::from_vec(Vec::new(alloc)),
-        block,
-    })
+    let inputs = List::from_vec(vec![in alloc; named("i")]?);
+    let outputs = List::from_vec(vec![in alloc; named("o")]?);
+    let states = List::from_vec(Vec::new(alloc));
+    Body::new(alloc, inputs, outputs, states, block)
 }
 
 // o := i + 1;
-fn plus_one(alloc: Global) -> Result<Body, AllocError>
+fn plus_one(alloc: Global) -> Result<Body, CodeFault>
     ensures { IfOk result (λ b. IsSound b × (length b.inputs ≡ 1) × (length b.states ≡ 0)) }
 {
     let sum = operation(
@@ -115,6 +115,41 @@ fn drives_from_sources(rt: HostRuntime) -> Result<(), Fail> {
     assert_eq!(rt; driver(&rises, &[(named("s"), 4), (named("o"), 9)]), 1);
     assert_eq!(rt; driver(&rises, &[(named("s"), 9), (named("o"), 4)]), 0);
     assert_eq!(rt; driver_cost(&rises), 1);
+    let code = DriverCode::new(rt.alloc(), &rises, &[named("s"), named("o")])?;
+    assert_eq!(rt; code.value(&[4, 9]), 1);
+    assert_eq!(rt; code.value(&[9, 4]), 0);
+    Ok(())
+}
+
+// 1 + 1 + .. + 1, with the parentheses on the right
+fn ones(alloc: Global, operators: u64) -> Result<Expr, AllocError> {
+    let mut e = Expr::Number(1);
+    for _operator in 0..operators {
+        e = operation(alloc, BinaryOperator::Add, Expr::Number(1), e)?;
+    }
+    Ok(e)
+}
+
+#[test]
+fn refuses_what_is_too_deep(rt: HostRuntime) -> Result<(), Fail> {
+    let alloc = rt.alloc();
+    let deepest = with_block(
+        alloc,
+        vec![in alloc; Stmt::Assign(named("o"), ones(alloc, 32)?)]?,
+    );
+    assert!(rt; deepest.is_ok());
+    let deeper = with_block(
+        alloc,
+        vec![in alloc; Stmt::Assign(named("o"), ones(alloc, 200)?)]?,
+    );
+    assert!(rt; matches!(deeper, Err(CodeFault::TooDeep)));
+    assert!(rt; DriverCode::new(alloc, &ones(alloc, 32)?, &[]).is_ok());
+    assert!(rt;
+        matches!(
+            DriverCode::new(alloc, &ones(alloc, 33)?, &[]),
+            Err(CodeFault::TooDeep)
+        )
+    );
     Ok(())
 }
 

@@ -38,12 +38,7 @@ impl Reader<'_> {
         let outputs = self.task_outputs()?;
         let (states, initials) = self.task_states()?;
         let block = self.block()?;
-        let body = Body {
-            inputs,
-            outputs,
-            states,
-            block,
-        };
+        let body = Body::new(self.alloc, inputs, outputs, states, block)?;
         let body = Arc::new(self.alloc, body)?;
         Ok(Task {
             name,
