@@ -8,6 +8,7 @@ pub mod Examples
 pub mod FrameLemmas
 pub mod ListLemmas
 pub mod NameLemmas
+pub mod PlaceLemmas
 pub mod SoundLemmas
 pub mod StepsLemmas
 pub mod TestLemmas

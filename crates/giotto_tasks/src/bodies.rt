@@ -6,6 +6,7 @@ ghost use Rattle.giotto_tasks.specs.Sound.{is_small};
 ghost use Rattle.giotto_tasks.specs.Trees.{expression_of, statement_of, block_of, body_of};
 
 use crate::code::compiled::Code;
+use crate::code::ports::Ports;
 use crate::faults::CodeFault;
 use crate::lists::List;
 use crate::names::Name;
@@ -139,10 +140,7 @@ fn compiled(
     if !are_few(inputs) || !are_few(outputs) || !are_few(states) {
         return Ok(Code::none(alloc));
     }
-    let mut names = Vec::new(alloc);
-    add_names(&mut names, inputs)?;
-    add_names(&mut names, states)?;
-    add_names(&mut names, outputs)?;
+    let names = Ports::new(inputs.as_slice(), states.as_slice(), outputs.as_slice());
     Code::new(alloc, &names, block)
 }
 
@@ -150,15 +148,6 @@ fn are_few(names: &List<Name>) -> bool
     ensures { IsTrue result ↔ (length names.now ≤ 16) }
 {
     names.as_slice().len() <= 16
-}
-
-fn add_names(to: &mut Vec<Name>, names: &List<Name>) -> Result<(), CodeFault>
-    ensures { IfOk result (λ _. to.new.items ≡ to.old.items ++ names.now) }
-{
-    for name in names.as_slice() {
-        to.push(name.copy())?;
-    }
-    Ok(())
 }
 
 fn same_names(a: &List<Name>, b: &List<Name>) -> bool
