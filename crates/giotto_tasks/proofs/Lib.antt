@@ -6,6 +6,7 @@ pub mod DriverLemmas
 pub mod EvaluationLemmas
 pub mod Examples
 pub mod FrameLemmas
+pub mod IndexLemmas
 pub mod ListLemmas
 pub mod NameLemmas
 pub mod PlaceLemmas

@@ -2,11 +2,12 @@ pub mod Arithmetic
 pub mod Code
 pub mod Codes
 pub mod Compiled
-pub mod HasCode
 pub mod Cost
 pub mod DriverCode
+pub mod HasCode
 pub mod Meaning
 pub mod Names
+pub mod Places
 pub mod Sound
 pub mod Syntax
 pub mod Trees

@@ -22,6 +22,7 @@ pub mod code;
 pub mod cost;
 pub mod evaluation;
 pub mod faults;
+pub mod index;
 pub mod lists;
 pub mod names;
 pub mod operators;

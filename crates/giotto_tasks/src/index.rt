@@ -1,0 +1,89 @@
+//! Names by their places in a list.
+
+ghost use Rattle.std.specs.Prelude.{◌≡◌, ◌<◌, ◌^◌, IfOk, length};
+ghost use Rattle.giotto_tasks.specs.Places.{place_from};
+ghost use Rattle.giotto_tasks.specs.Names as tasks;
+ghost use Rattle.giotto_tasks.specs.Sound as sound;
+
+use crate::names::Name;
+use std::alloc::{AllocError, Global};
+use std::collections::BTreeMap;
+use std::marker::Model;
+
+/// A list of names that finds each name in a time that grows with the logarithm of the list's length, whatever the names.
+/// Contracts see it as the list.
+#[derive(Drop)]
+pub struct Index {
+    names: Vec<Name>,
+    // The first place of each name.
+    places: BTreeMap<Name, usize>,
+    // Whether no name stands twice.
+    different: bool,
+}
+
+impl Model for Index {
+    ghost use Rattle.std.specs.Prelude.{◌≡◌, List};
+    ghost use Rattle.giotto_tasks.specs.declared.names.Name.{Name};
+    ghost use Rattle.giotto_tasks.specs.Sound as sound;
+    ghost use Rattle.giotto_tasks.specs.Places.{HasPlaces};
+
+    ghost Value = { List Name };
+
+    ghost view = { λ i. i.names.items };
+
+    ghost invariant = { λ i. HasPlaces 0 i.names.items i.places × (i.different ≡ sound.all_different i.names.items) };
+}
+
+impl Index {
+    /// The index of these names, in which a name may stand more than once.
+    ///
+    /// # Errors
+    /// Want of memory.
+    pub fn new(alloc: Global, names: Vec<Name>) -> Result<Index, AllocError>
+        ensures { IfOk result (λ index. index ≡ names.items) }
+    {
+        let mut places = BTreeMap::new(alloc);
+        let mut different = true;
+        // From the last name on, so that a first place is what stays.
+        for behind in 0..names.len() {
+            let place = names.len() - 1 - behind;
+            let name = names[place].copy();
+            let first = places.insert(name, place)?.is_none();
+            different = first & different;
+        }
+        Ok(Index {
+            names,
+            places,
+            different,
+        })
+    }
+
+    /// How many names the list has: fewer than half of the numbers of 64 bits.
+    pub fn len(&self) -> usize
+        ensures length { result ≡ length self.now }
+        ensures bound { result < 2 ^ 63 }
+    {
+        self.names.len()
+    }
+
+    /// The first place of the name in the list, counted from 0, or `None` where it isn't there.
+    pub fn place(&self, name: &Name) -> Option<usize>
+        ensures { result ≡ place_from 0 self.now name.now }
+    {
+        self.places.get(name).copied()
+    }
+
+    /// Whether the name stands in the list.
+    pub fn contains(&self, name: &Name) -> bool
+        ensures { result ≡ tasks.is_among self.now name.now }
+    {
+        self.place(name).is_some()
+    }
+
+    /// Whether no name stands twice.
+    pub fn all_different(&self) -> bool
+        ensures { result ≡ sound.all_different self.now }
+    {
+        self.different
+    }
+}
