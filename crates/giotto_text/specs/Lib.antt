@@ -3,6 +3,7 @@ pub mod Canonical
 pub mod Grammar
 pub mod Nesting
 pub mod Parsing
+pub mod PortNames
 pub mod Program
 pub mod ProgramCodes
 pub mod ProgramTrees

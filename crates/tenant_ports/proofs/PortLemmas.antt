@@ -10,7 +10,7 @@ use Rattle.giotto_tasks.specs.Sound.{is_once_among, reads_only}
 use Rattle.giotto_tasks.specs.Syntax.{Expression, number, port, unary, binary}
 use Rattle.giotto_tasks.proofs.NameLemmas.{among_other}
 use Rattle.tenant_ports.specs.PortTables.{PortTables, all_ports, HaveSameNames}
-use Rattle.tenant_ports.specs.Ports.{own_ports, with_values}
+use Rattle.giotto_text.specs.PortNames.{own_ports, with_values}
 
 -- a name of the first list has its value there
 pub value_at_first : (vs ws : Valuation) (x : Name) (z : ℤ) → value_at vs x ≡ Some z → value_at (vs ++ ws) x ≡ Some z

@@ -1,20 +1,13 @@
 -- The ports of a program and their values.
-use Rattle.std.specs.Prelude.{Bool, ℤ, pos, List, [], ◌∷◌, ◌++◌, map, Option, Some, None, codes}
+use Rattle.std.specs.Prelude.{Bool, ℤ, pos, ◌++◌, map, Option, Some, None}
 use Rattle.std.specs.List.{flat_map}
 use Rattle.giotto_tasks.specs.declared.names.Name.{Name}
 use Rattle.giotto_tasks.specs.Arithmetic.{is_true}
-use Rattle.giotto_tasks.specs.Names.{Valuation, with_value}
+use Rattle.giotto_tasks.specs.Names.{Valuation}
 use Rattle.giotto_tasks.specs.Syntax.{Expression}
 use Rattle.giotto_tasks.specs.Meaning.{value_of}
+use Rattle.giotto_text.specs.PortNames.{own_port, with_values}
 use Rattle.giotto_text.specs.Program.{SensorDeclaration, ActuatorDeclaration, OutputDeclaration, TaskDeclaration, GiottoProgram}
-
--- an input or a state of a task, as it is shown: no other port has such a name, since a dot is in no name
-abbrev pub own_port : Name → Name → Name
-own_port task x = task ++ (codes "." ++ x)
-
--- a task's own ports of these names
-abbrev pub own_ports : Name → List Name → List Name
-own_ports task xs = map (own_port task) xs
 
 -- sensors, actuators and outputs with their initial values, each in text order
 abbrev pub initial_shared : GiottoProgram → Valuation
@@ -34,12 +27,6 @@ initial_own p = flat_map initial_of_task p.tasks
 -- every port with its initial value: sensors, actuators, outputs, then for each task its inputs and its states, each in text order
 abbrev pub initial_ports : GiottoProgram → Valuation
 initial_ports p = initial_shared p ++ initial_own p
-
--- the map with these values for these names
-abbrev pub with_values : Valuation → List Name → List ℤ → Valuation
-with_values ports [] zs = ports
-with_values ports (x ∷ xs) [] = ports
-with_values ports (x ∷ xs) (z ∷ zs) = with_values (with_value ports x z) xs zs
 
 -- every actuator with its initial value, all other ports as they are
 abbrev pub actuators_reset : GiottoProgram → Valuation → Valuation

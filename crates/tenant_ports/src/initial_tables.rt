@@ -3,7 +3,8 @@
 ghost use Rattle.std.specs.Prelude.{◌≡◌, ◌++◌, map, IfOk, OnOk};
 ghost use Rattle.std.specs.List.{zip};
 ghost use Rattle.giotto_text.specs.ProgramTrees.{task_of};
-ghost use Rattle.tenant_ports.specs.Ports.{own_port, initial_shared, initial_own, initial_of_task};
+ghost use Rattle.giotto_text.specs.PortNames.{own_port};
+ghost use Rattle.tenant_ports.specs.Ports.{initial_shared, initial_own, initial_of_task};
 
 use super::own_names::OwnName;
 use giotto_tasks::names::Name;

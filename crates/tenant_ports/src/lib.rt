@@ -12,7 +12,8 @@ ghost use Rattle.giotto_tasks.specs.Sound.{AreSourcesOf};
 ghost use Rattle.giotto_tasks.specs.Trees.{expression_of};
 ghost use Rattle.giotto_text.specs.ProgramTrees.{guard_of};
 ghost use Rattle.tenant_ports.specs.PortTables.{all_ports, HaveSameNames};
-ghost use Rattle.tenant_ports.specs.Ports.{own_ports, initial_shared, initial_own, with_values, holds};
+ghost use Rattle.giotto_text.specs.PortNames.{own_ports, with_values};
+ghost use Rattle.tenant_ports.specs.Ports.{initial_shared, initial_own, holds};
 ghost use Rattle.tenant_ports.specs.GuardSources.{AreGuardSources};
 
 mod initial_tables;

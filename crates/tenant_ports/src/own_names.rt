@@ -1,7 +1,7 @@
 //! Names of tasks' own ports.
 
 ghost use Rattle.std.specs.Prelude.{◌≡◌};
-ghost use Rattle.tenant_ports.specs.Ports.{own_port};
+ghost use Rattle.giotto_text.specs.PortNames.{own_port};
 
 use arrayvec::ArrayString;
 use giotto_tasks::names::Name;

@@ -1,7 +1,7 @@
 use Rattle.std.proofs.Common.{◌≡◌, take}
 use Rattle.giotto_tasks.specs.Names.{values_of}
 use Rattle.tenant_ports.specs.PortTables.{all_ports}
-use Rattle.tenant_ports.specs.Ports.{own_ports}
+use Rattle.giotto_text.specs.PortNames.{own_ports}
 use Rattle.tenant_ports.proofs.Ports.own_values.Given as goal
 
 abbrev pub invariant-loop-name : goal.invariant-loop-name

@@ -1,6 +1,6 @@
 use Rattle.std.proofs.Common.{◌≡◌}
 use Rattle.tenant_ports.specs.PortTables.{all_ports, HaveSameNames}
-use Rattle.tenant_ports.specs.Ports.{with_values}
+use Rattle.giotto_text.specs.PortNames.{with_values}
 use Rattle.tenant_ports.proofs.Ports.write_all.Given as goal
 
 abbrev pub invariant-loop-name : goal.invariant-loop-name

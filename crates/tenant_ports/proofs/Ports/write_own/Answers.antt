@@ -2,7 +2,7 @@ use Rattle.std.proofs.Common.{inl, inr, ⊎_elim, sym, ◌∙◌}
 use Rattle.std.proofs.lemmas.Bool.{and_parts}
 use Rattle.std.proofs.lemmas.List.{nil_from_length}
 use Rattle.tenant_ports.specs.PortTables.{all_ports}
-use Rattle.tenant_ports.specs.Ports.{own_ports}
+use Rattle.giotto_text.specs.PortNames.{own_ports}
 use Rattle.tenant_ports.proofs.PortLemmas.{none_given, no_own_ports, is_among_still}
 use Rattle.tenant_ports.proofs.Ports.write_own.Goals as goal
 

@@ -2,7 +2,7 @@ use Rattle.std.proofs.Common.{◌≡◌, true}
 use Rattle.std.specs.List.{list_all}
 use Rattle.giotto_tasks.specs.Names.{names_in, is_among}
 use Rattle.tenant_ports.specs.PortTables.{all_ports, HaveSameNames}
-use Rattle.tenant_ports.specs.Ports.{own_ports, with_values}
+use Rattle.giotto_text.specs.PortNames.{own_ports, with_values}
 use Rattle.tenant_ports.proofs.Ports.write_own.Given as goal
 
 abbrev pub invariant-loop-name : goal.invariant-loop-name

@@ -2,7 +2,7 @@ use Rattle.std.proofs.Common.{◌++◌, ℤ, map, inl, inr, ⊎_elim, append-nil
 use Rattle.std.proofs.lemmas.List.{nil_from_length}
 use Rattle.giotto_tasks.specs.declared.names.Name.{Name}
 use Rattle.giotto_tasks.proofs.ValuationLemmas.{none_zipped}
-use Rattle.tenant_ports.specs.Ports.{own_port}
+use Rattle.giotto_text.specs.PortNames.{own_port}
 use Rattle.tenant_ports.proofs.initial_tables.add_states.Goals as goal
 
 pub returns : goal.returns

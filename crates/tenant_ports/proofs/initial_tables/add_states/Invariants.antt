@@ -1,7 +1,7 @@
 use Rattle.std.proofs.Common.{◌≡◌, ◌++◌, ℤ, map}
 use Rattle.std.specs.List.{zip}
 use Rattle.giotto_tasks.specs.declared.names.Name.{Name}
-use Rattle.tenant_ports.specs.Ports.{own_port}
+use Rattle.giotto_text.specs.PortNames.{own_port}
 use Rattle.tenant_ports.proofs.initial_tables.add_states.Given as goal
 
 abbrev pub invariant-loop-name : goal.invariant-loop-name

@@ -1,5 +1,5 @@
 use Rattle.std.proofs.Common.{◌≡◌, ◌++◌, pos, map, take}
-use Rattle.tenant_ports.specs.Ports.{own_port}
+use Rattle.giotto_text.specs.PortNames.{own_port}
 use Rattle.tenant_ports.proofs.initial_tables.add_task.Given as goal
 
 abbrev pub invariant-loop-input : goal.invariant-loop-input

@@ -1,0 +1,18 @@
+-- Ports by name: the names of tasks' own ports, and maps from names in which several ports get values.
+use Rattle.std.specs.Prelude.{ℤ, List, [], ◌∷◌, ◌++◌, map, codes}
+use Rattle.giotto_tasks.specs.declared.names.Name.{Name}
+use Rattle.giotto_tasks.specs.Names.{Valuation, with_value}
+
+-- an input or a state of a task, as it is shown: no other port has such a name, since a dot is in no name
+abbrev pub own_port : Name → Name → Name
+own_port task x = task ++ (codes "." ++ x)
+
+-- a task's own ports of these names
+abbrev pub own_ports : Name → List Name → List Name
+own_ports task xs = map (own_port task) xs
+
+-- the map with these values for these names
+abbrev pub with_values : Valuation → List Name → List ℤ → Valuation
+with_values ports [] zs = ports
+with_values ports (x ∷ xs) [] = ports
+with_values ports (x ∷ xs) (z ∷ zs) = with_values (with_value ports x z) xs zs
