@@ -1,10 +1,15 @@
--- What is known of a checked program.
-use Rattle.std.specs.Prelude.{◌≡◌, None, IsTrue}
+-- What is known of a checked program, and of what is kept with it.
+use Rattle.std.specs.Prelude.{◌≡◌, ℕ, ◌-◌, ◌^◌, min}
 use Rattle.giotto_text.specs.Program.{GiottoProgram}
-use Rattle.giotto_text.specs.Reading.{has_small_tasks}
-use Rattle.giotto_check.specs.Rules.{first_broken_rule}
+use Rattle.giotto_rules.specs.KeepsRules.{KeepsRules}
+use Rattle.giotto_check.specs.Costs.{greatest_cost_of}
+use Rattle.giotto_check.specs.Facts.{ProgramFits}
+use Rattle.giotto_check.specs.Timetables.{IsNumbering}
+use Rattle.giotto_check.specs.declared.numbering.Numbering.{Numbering}
 
--- a well-formed program of small tasks
-pub record IsChecked (p : GiottoProgram) : Type 0 where
-  pub keeps_rules : first_broken_rule p ≡ None
-  pub small : IsTrue (has_small_tasks p)
+-- a well-formed program with its greatest cost and its numbering
+pub record IsChecked (p : GiottoProgram) (cost : ℕ) (numbering : Numbering) : Type 0 where
+  pub rules : KeepsRules p
+  pub fits : ProgramFits p
+  pub greatest_cost : cost ≡ min (greatest_cost_of p) (2 ^ 64 - 1)
+  pub numbered : IsNumbering p numbering

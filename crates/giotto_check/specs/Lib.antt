@@ -1,12 +1,5 @@
 pub mod Checked
-pub mod Declarations
-pub mod Drivers
-pub mod Frequencies
-pub mod Invocations
-pub mod KeepsRules
-pub mod Kinds
-pub mod Names
-pub mod Reads
-pub mod Rules
-pub mod Switches
-pub mod TaskPorts
+pub mod Costs
+pub mod Facts
+pub mod Slots
+pub mod Timetables

@@ -1,41 +1,53 @@
-//! Well-formed Giotto programs.
+//! Well-formed Giotto programs, checked and numbered.
 //!
-//! [`check`] tells whether a program that was read keeps the eleven rules, or names the first that it breaks:
+//! [`check`] tells whether a program that was read keeps the eleven rules, or names the first that it breaks and hands the
+//! program back:
 //!
 //! ```text
-//! let checked = check(alloc, program)?;
+//! match check(alloc, program) {
+//!     Ok(checked) => run(&checked),
+//!     Err((program, fault)) => println!(rt; "{fault}")?,
+//! }
 //! ```
 //!
-//! The rules stand in `specs/Rules.antt`, over what a program declares (`specs/Declarations.antt`), and the code that tests
-//! them in `src/rules/`; `proofs/RuleExamples.antt` computes them on examples. [`laws`] says what follows from them.
+//! A [`Checked`] program has its greatest cost, and its ports, tasks and modes by number: [`timetables`] has what an instant
+//! needs of it. The rules are those of the crate `giotto_rules`; `specs/Facts.antt` says what follows from them, `Slots.antt`
+//! how ports are numbered, and `Timetables.antt` what the entries stand for.
 #![tactic(auto)]
 
-ghost use Rattle.std.specs.Prelude.{◌≡◌, ℕ, Some, None, Err, IfOk, IfSome, IsTrue};
-ghost use Rattle.giotto_text.specs.ProgramTrees.{mode_of, task_of};
-ghost use Rattle.giotto_text.specs.Reading.{has_small_tasks};
-ghost use Rattle.giotto_check.specs.Checked.{IsChecked};
-ghost use Rattle.giotto_check.specs.Declarations as declared;
-ghost use Rattle.giotto_check.specs.KeepsRules.{KeepsRules};
-ghost use Rattle.giotto_check.specs.Rules.{first_broken_rule};
+ghost use Rattle.std.specs.Prelude.{◌≡◌, ◌≤◌, ℕ, ◌-◌, ◌^◌, min, [], Some, None, IsOk, IfOk, IfErr, IsSomeAnd, length};
+ghost use Rattle.std.specs.List.{slice_get};
+ghost use Rattle.std.specs.Option.{option_map};
+ghost use Rattle.giotto_text.specs.Program.{ModeDeclaration};
+ghost use Rattle.giotto_rules.specs.KeepsRules.{KeepsRules};
+ghost use Rattle.giotto_rules.specs.Rules.{first_broken_rule};
+ghost use Rattle.giotto_check.specs.Costs.{greatest_cost_of};
+ghost use Rattle.giotto_check.specs.Facts.{ProgramFits};
+ghost use Rattle.giotto_check.specs.Slots.{slot_of, slots_of};
+ghost use Rattle.giotto_check.specs.Timetables.{AreEach, AreTaskSlots, IsUpdate, IsExit, IsInvocation, IsTimetable};
 ghost use Rattle.giotto_check.specs.declared.CheckFault.{CheckFault};
 
-mod declarations;
-mod first_broken;
+mod greatest_cost;
 pub mod laws;
-mod names;
-mod reads;
-mod rules;
+mod numbering;
+mod slots;
+pub mod timetables;
 
-use giotto_tasks::names::Name;
-use giotto_text::programs::{Mode, Program, Task};
+use crate::greatest_cost::greatest_cost;
+use crate::numbering::Numbering;
+use crate::timetables::{SlotExit, SlotInvocation, SlotUpdate, TaskSlots, Timetable};
+use giotto_rules::first_broken::first_broken;
+use giotto_text::programs::Program;
 use std::alloc::Global;
 use std::marker::Model;
 use thiserror::Error;
 
-/// A well-formed program.
+/// A well-formed program, with its greatest cost and what an instant needs of it.
 #[derive(Drop)]
 pub struct Checked {
     program: Program,
+    cost: u64,
+    numbering: Numbering,
 }
 
 impl Model for Checked {
@@ -49,7 +61,7 @@ impl Model for Checked {
 
     ghost view = { λ c. c.program };
 
-    ghost invariant = { λ c. IsChecked c.program };
+    ghost invariant = { λ c. IsChecked c.program c.cost c.numbering };
 }
 
 /// Why a program is refused.
@@ -67,60 +79,117 @@ impl Checked {
     /// The program.
     pub fn program(&self) -> &Program
         ensures tree { result.now ≡ self.now }
-        ensures checked { IsChecked self.now }
         ensures rules { KeepsRules self.now }
+        ensures fits { ProgramFits self.now }
     {
         &self.program
     }
-}
 
-/// The program, if it keeps the eleven rules.
-///
-/// # Errors
-/// `Rule` with the first rule that the program breaks, and `Memory` where there is want of memory.
-pub fn check(alloc: Global, program: Program) -> Result<Checked, CheckFault>
-    ensures checked { IfOk result (λ c. c ≡ program) }
-    ensures rule { (n : ℕ) → result ≡ Err (CheckFault.Rule n) → first_broken_rule program ≡ Some n }
-{
-    small_tasks(&program);
-    match first_broken::first_broken(alloc, &program) {
-        Ok(None) => Ok(Checked { program }),
-        Ok(Some(rule)) => Err(CheckFault::Rule(rule)),
-        Err(_) => Err(CheckFault::Memory),
+    /// The greatest cost over its bodies and drivers, in steps; `u64::MAX` where it is greater, and 0 where there are none.
+    pub fn greatest_cost(&self) -> u64
+        ensures { result ≡ min (greatest_cost_of self.now) (2 ^ 64 - 1) }
+    {
+        self.cost
+    }
+
+    /// How many ports it has: their slots are the numbers below.
+    pub fn slots(&self) -> usize
+        ensures { result ≡ slots_of self.now }
+    {
+        self.numbering.slots
+    }
+
+    /// The slot of a port: an input or a state of a task, if one is named, and else a sensor, an actuator or an output.
+    /// `None` where there is no such port.
+    pub fn slot(&self, task: Option<&str>, name: &str) -> Option<usize>
+        ensures { result ≡ slot_of self.now (option_map (λ t. t.now) task.entry) name.now }
+    {
+        // They can be counted, so no sum below is too large.
+        let _slots = self.slots();
+        slots::slot(&self.program, task, name)
+    }
+
+    /// Where the ports of each task lie, in text order.
+    pub fn tasks(&self) -> &[TaskSlots]
+        ensures { AreEach (AreTaskSlots self.now) self.now.tasks result.now }
+    {
+        self.numbering.tasks.as_slice()
+    }
+
+    /// The updates of the mode at this place, in text order; none where there is no such mode.
+    pub fn updates(&self, mode: usize) -> &[SlotUpdate]
+        ensures there { (m : ModeDeclaration) → slice_get self.now.modes mode ≡ Some m → AreEach (IsUpdate self.now m) m.updates result.now }
+        ensures none { length self.now.modes ≤ mode → result.now ≡ [] }
+    {
+        match self.timetable(mode) {
+            Some(table) => table.updates.as_slice(),
+            None => &[],
+        }
+    }
+
+    /// The exits of the mode at this place, in text order; none where there is no such mode.
+    pub fn exits(&self, mode: usize) -> &[SlotExit]
+        ensures there { (m : ModeDeclaration) → slice_get self.now.modes mode ≡ Some m → AreEach (IsExit self.now m) m.switches result.now }
+        ensures none { length self.now.modes ≤ mode → result.now ≡ [] }
+    {
+        match self.timetable(mode) {
+            Some(table) => table.exits.as_slice(),
+            None => &[],
+        }
+    }
+
+    /// The invocations of the mode at this place, in text order; none where there is no such mode.
+    pub fn invocations(&self, mode: usize) -> &[SlotInvocation]
+        ensures there { (m : ModeDeclaration) → slice_get self.now.modes mode ≡ Some m → AreEach (IsInvocation self.now m) m.invocations result.now }
+        ensures none { length self.now.modes ≤ mode → result.now ≡ [] }
+    {
+        match self.timetable(mode) {
+            Some(table) => table.invocations.as_slice(),
+            None => &[],
+        }
+    }
+
+    fn timetable(&self, mode: usize) -> Option<&Timetable>
+        ensures there { (m : ModeDeclaration) → slice_get self.now.modes mode ≡ Some m → IsSomeAnd result (λ table. IsTimetable self.now m table.now) }
+        ensures none { length self.now.modes ≤ mode → result ≡ None }
+    {
+        self.numbering.modes.get(mode)
     }
 }
 
-// The tasks of a program are small: one that can be printed has no others.
-fn small_tasks(program: &Program)
-    ensures { IsTrue (has_small_tasks program.now) }
+// What the rules say of a program that breaks none.
+fn fits(program: &Program)
+    requires { first_broken_rule program.now ≡ None }
+    ensures rules { KeepsRules program.now }
+    ensures fits { ProgramFits program.now }
 {
     let _parts = program.parts();
 }
 
-/// The task of this name.
-pub fn find_task<'a>(program: &'a Program, name: &Name) -> Option<&'a Task>
-    ensures found { IfSome result
-        (λ t. declared.task_of program.now name.now ≡ Some (task_of t.now)) }
-    ensures missing { result ≡ None → declared.task_of program.now name.now ≡ None }
+/// The program checked, if it keeps the eleven rules.
+///
+/// # Errors
+/// The program as it was, with `Rule` and the first rule that it breaks, or with `Memory` where there is want of memory. A
+/// driver with more than 32 operations inside one another, as no text has it, would be told as `Memory` too.
+pub fn check(alloc: Global, program: Program) -> Result<Checked, (Program, CheckFault)>
+    ensures checked { IfOk result (λ c. c ≡ program) }
+    ensures kept { IsOk result → first_broken_rule program ≡ None }
+    ensures back { IfErr result (λ refused. refused.0 ≡ program) }
+    ensures rule { IfErr result (λ refused. (n : ℕ) → refused.1 ≡ CheckFault.Rule n → first_broken_rule program ≡ Some n) }
 {
-    for task in program.tasks() {
-        if task.name == *name {
-            return Some(task);
-        }
+    match first_broken(alloc, &program) {
+        Ok(None) => {}
+        Ok(Some(rule)) => return Err((program, CheckFault::Rule(rule))),
+        Err(_) => return Err((program, CheckFault::Memory)),
     }
-    None
-}
-
-/// The mode of this name.
-pub fn find_mode<'a>(program: &'a Program, name: &Name) -> Option<&'a Mode>
-    ensures found { IfSome result
-        (λ m. declared.mode_of program.now name.now ≡ Some (mode_of m.now)) }
-    ensures missing { result ≡ None → declared.mode_of program.now name.now ≡ None }
-{
-    for mode in program.modes() {
-        if mode.name == *name {
-            return Some(mode);
-        }
-    }
-    None
+    fits(&program);
+    let Ok(numbering) = Numbering::new(alloc, &program) else {
+        return Err((program, CheckFault::Memory));
+    };
+    let cost = greatest_cost(&program);
+    Ok(Checked {
+        program,
+        cost,
+        numbering,
+    })
 }

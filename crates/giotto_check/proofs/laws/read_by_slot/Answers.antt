@@ -1,0 +1,15 @@
+use Rattle.std.proofs.Common.{map, sym, ◌∙◌}
+use Rattle.std.proofs.lemmas.List.{length-map}
+use Rattle.giotto_text.specs.PortNames.{own_port}
+use Rattle.giotto_check.specs.Slots.{port_names, ports_of, shown_name}
+use Rattle.giotto_check.proofs.SlotLemmas.{name_at_slot, names_in_row}
+use Rattle.giotto_check.proofs.Valuations.{value_at_place, values_in_range}
+use Rattle.giotto_check.proofs.laws.read_by_slot.Goals as goal
+
+pub returns-clause-value : goal.returns-clause-value
+returns-clause-value c = λ p values task x k different at. value_at_place (port_names p) values k (shown_name (record { task = task; name = x })) different (name_at_slot p task x k at)
+
+pub returns-clause-range : goal.returns-clause-range
+returns-clause-range c = λ p values t names first different long slots.
+    let count = length-map names (own_port t) in
+    rw (← count) (values_in_range (port_names p) values (map (own_port t) names) first different (names_in_row p t names first slots) (length-map (ports_of p) shown_name ∙ sym long))

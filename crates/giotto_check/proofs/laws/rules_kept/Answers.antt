@@ -1,5 +1,0 @@
-use Rattle.giotto_check.proofs.RulesKept.{rules_kept, none_broken}
-use Rattle.giotto_check.proofs.laws.rules_kept.Goals as goal
-
-pub returns : goal.returns
-returns c = λ p. (rules_kept p, none_broken p)

@@ -1,0 +1,7 @@
+use Rattle.std.proofs.Common.{map, take}
+use Rattle.giotto_text.specs.ProgramTrees.{destination_of}
+use Rattle.giotto_check.specs.Timetables.{AreEach, IsDestination}
+use Rattle.giotto_check.proofs.numbering.numbered.Numbered.destinations.Given as goal
+
+abbrev pub invariant-loop-destination : goal.invariant-loop-destination
+invariant-loop-destination l = AreEach (IsDestination l.self) (map destination_of (take l.destination-index l.destinations)) l.entries.items

@@ -1,0 +1,29 @@
+use Rattle.std.specs.List.{flat_map}
+use Rattle.giotto_tasks.specs.declared.names.Name.{Name}
+use Rattle.giotto_tasks.specs.Names.{is_among}
+use Rattle.giotto_tasks.specs.Syntax.{Expression}
+use Rattle.giotto_text.specs.ProgramTrees.{mode_of, switch_of}
+use Rattle.giotto_rules.specs.Declarations.{driver_ports, names_read}
+use Rattle.giotto_rules.specs.Reads.{names_in_guard, names_in_switch}
+use Rattle.giotto_check.proofs.DriverReads.{readable_are_ports}
+use Rattle.giotto_check.proofs.EntryLemmas.{destinations_are_outputs}
+use Rattle.giotto_check.proofs.TestLists.{all_in_parts}
+use Rattle.giotto_check.proofs.numbering.numbered.Numbered.exit.Goals as goal
+
+pub guard-requires : goal.guard-requires
+guard-requires c =
+    let p = c.args.self.now in
+    let s = switch_of c.args.switch.now in
+    (all_in_parts (is_among (driver_ports p)) (names_in_guard s.guard) (flat_map (λ (d : Name × Expression). names_read d.1) s.destinations) (readable_are_ports p (mode_of c.args.mode.now) c.requires.mode (names_in_switch s) c.requires.switch.reads)).0
+
+pub destinations-requires-clause-outputs : goal.destinations-requires-clause-outputs
+destinations-requires-clause-outputs c =
+    let s = switch_of c.args.switch.now in
+    rw c.as_slice.ensures (destinations_are_outputs c.args.self.now s c.requires.program c.requires.switch.target)
+
+pub destinations-requires-clause-reads : goal.destinations-requires-clause-reads
+destinations-requires-clause-reads c =
+    let p = c.args.self.now in
+    let s = switch_of c.args.switch.now in
+    rw c.as_slice.ensures
+    ((all_in_parts (is_among (driver_ports p)) (names_in_guard s.guard) (flat_map (λ (d : Name × Expression). names_read d.1) s.destinations) (readable_are_ports p (mode_of c.args.mode.now) c.requires.mode (names_in_switch s) c.requires.switch.reads)).1)

@@ -1,0 +1,45 @@
+use Rattle.std.proofs.Common.{length, arith, refl}
+use Rattle.std.specs.List.{flat_map}
+use Rattle.giotto_tasks.specs.Names.{is_among}
+use Rattle.giotto_text.specs.ProgramTrees.{mode_of, invocation_of}
+use Rattle.giotto_rules.specs.Declarations.{driver_ports, names_read}
+use Rattle.giotto_rules.specs.Reads.{names_in_guard, names_in_invocation}
+use Rattle.giotto_check.proofs.DriverReads.{readable_are_ports}
+use Rattle.giotto_check.proofs.EntryLemmas.{inputs_there, task_within}
+use Rattle.giotto_check.proofs.TestLists.{all_in_parts}
+use Rattle.giotto_check.proofs.numbering.numbered.Numbered.invocation.Goals as goal
+
+pub bounds-tasks-task : goal.bounds-tasks-task
+bounds-tasks-task c = task_within c.args.self.now c.args.invocation.now.task c.args.tasks.now c.task-task.result c.requires.tasks c.task-task.ensures
+
+pub bounds-tasks-task-2 : goal.bounds-tasks-task-2
+bounds-tasks-task-2 c = task_within c.args.self.now c.args.invocation.now.task c.args.tasks.now c.task-task.result c.requires.tasks c.task-task.ensures
+
+pub offset_bounds-tasks-task : goal.offset_bounds-tasks-task
+offset_bounds-tasks-task c =
+    let lt = task_within c.args.self.now c.args.invocation.now.task c.args.tasks.now c.task-task.result c.requires.tasks c.task-task.ensures in
+    omega (arith, lt)
+
+pub guard-requires : goal.guard-requires
+guard-requires c =
+    let p = c.args.self.now in
+    let i = invocation_of c.args.invocation.now in
+    (all_in_parts (is_among (driver_ports p)) (names_in_guard i.guard) (flat_map names_read i.arguments) (readable_are_ports p (mode_of c.args.mode.now) c.requires.mode (names_in_invocation i) c.requires.invocation.reads)).0
+
+pub arguments-requires : goal.arguments-requires
+arguments-requires c =
+    let p = c.args.self.now in
+    let i = invocation_of c.args.invocation.now in
+    rw c.as_slice.ensures
+    ((all_in_parts (is_among (driver_ports p)) (names_in_guard i.guard) (flat_map names_read i.arguments) (readable_are_ports p (mode_of c.args.mode.now) c.requires.mode (names_in_invocation i) c.requires.invocation.reads)).1)
+
+pub returns : goal.returns
+returns c =
+    let i = invocation_of c.args.invocation.now in
+    record {
+      interval = refl;
+      guard = c.in_ok-guard.ensures;
+      task = c.task-task.ensures;
+      inputs = inputs_there c.args.self.now i.task (length i.arguments) c.args.tasks.now c.task-task.result c.index-tasks-task.result c.requires.tasks c.task-task.ensures c.requires.invocation.task;
+      arguments = rw c.as_slice.ensures at c.in_ok-arguments.ensures;
+    }

@@ -1,0 +1,25 @@
+use Rattle.giotto_tasks.specs.Names.{is_among}
+use Rattle.giotto_tasks.specs.Trees.{expression_of}
+use Rattle.giotto_text.specs.ProgramTrees.{mode_of, guard_of}
+use Rattle.giotto_rules.specs.Declarations.{names_read}
+use Rattle.giotto_rules.specs.Reads.{names_in_guard, names_in_update}
+use Rattle.giotto_text.specs.ProgramTrees.{update_of}
+use Rattle.giotto_check.proofs.DriverReads.{actuator_is_port, mode_ports_are_ports}
+use Rattle.giotto_check.proofs.TestLists.{all_in_parts}
+use Rattle.giotto_rules.specs.Declarations.{driver_ports}
+use Rattle.giotto_check.proofs.numbering.numbered.Numbered.update.Goals as goal
+
+pub guard-requires : goal.guard-requires
+guard-requires c =
+    let p = c.args.self.now in
+    let u = c.args.update.now in
+    (all_in_parts (is_among (driver_ports p)) (names_in_guard (guard_of u.guard)) (names_read (expression_of u.value)) (mode_ports_are_ports p (mode_of c.args.mode.now) c.requires.mode (names_in_update (update_of u)) c.requires.update.reads)).0
+
+pub slot-requires : goal.slot-requires
+slot-requires c = actuator_is_port c.args.self.now c.args.update.now.actuator c.requires.update.actuator
+
+pub expression-requires : goal.expression-requires
+expression-requires c =
+    let p = c.args.self.now in
+    let u = c.args.update.now in
+    (all_in_parts (is_among (driver_ports p)) (names_in_guard (guard_of u.guard)) (names_read (expression_of u.value)) (mode_ports_are_ports p (mode_of c.args.mode.now) c.requires.mode (names_in_update (update_of u)) c.requires.update.reads)).1

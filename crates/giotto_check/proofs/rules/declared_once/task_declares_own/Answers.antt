@@ -1,5 +1,0 @@
-use Rattle.giotto_check.proofs.ProgramParts.{names_of_states}
-use Rattle.giotto_check.proofs.rules.declared_once.task_declares_own.Goals as goal
-
-pub returns : goal.returns
-returns c = rw (names_of_states c.args.task.now) (rw c.deref-body.ensures at c.body_declares_own.ensures)

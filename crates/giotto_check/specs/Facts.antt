@@ -1,0 +1,62 @@
+-- What follows from the rules for whoever runs a program: names stand once, frequencies divide, and lists fit.
+use Rattle.std.specs.Prelude.{◌≡◌, ℕ, ◌/◌, ◌%◌, ◌≤◌, length, IsTrue, IsSomeAnd, IsSome}
+use Rattle.std.specs.List.{AllByRecursion}
+use Rattle.giotto_tasks.specs.Names.{is_among}
+use Rattle.giotto_tasks.specs.Sound.{all_different, IsSound}
+use Rattle.giotto_text.specs.Program.{TaskDeclaration, ActuatorUpdate, ModeSwitch, TaskInvocation, ModeDeclaration, GiottoProgram, body_of}
+use Rattle.giotto_rules.specs.Declarations.{actuator_names, output_names, declared_names, task_of, mode_of, invoked_tasks, updated_actuators, destinations_of, mode_ports, lines_written}
+use Rattle.giotto_rules.specs.Drivers.{readable_ports}
+use Rattle.giotto_rules.specs.Names.{are_among, all_different_numbers}
+use Rattle.giotto_rules.specs.Reads.{names_in_update, names_in_switch, names_in_invocation}
+use Rattle.giotto_check.specs.Slots.{port_names}
+
+-- a frequency that divides the mode's period into intervals of a tick at least
+pub record IsFrequencyOf (m : ModeDeclaration) (w : ℕ) : Type 0 where
+  pub positive : 1 ≤ w
+  pub divides : m.period % w ≡ 0
+  pub interval : 1 ≤ m.period / w
+
+-- an update writes an actuator, and reads ports of its mode
+pub record UpdateFits (p : GiottoProgram) (m : ModeDeclaration) (u : ActuatorUpdate) : Type 0 where
+  pub frequency : IsFrequencyOf m u.frequency
+  pub actuator : IsTrue (is_among (actuator_names p) u.actuator)
+  pub reads : IsTrue (are_among (mode_ports p m) (names_in_update u))
+
+-- a switch goes to a mode, gives values to ports of it, each once, and reads ports of its own mode and sensors
+pub record SwitchFits (p : GiottoProgram) (m : ModeDeclaration) (s : ModeSwitch) : Type 0 where
+  pub frequency : IsFrequencyOf m s.frequency
+  pub target : IsSomeAnd (mode_of p s.target) (λ target. IsTrue (are_among (mode_ports p target) (destinations_of s)))
+  pub destinations_once : IsTrue (all_different (destinations_of s))
+  pub reads : IsTrue (are_among (readable_ports p m) (names_in_switch s))
+
+-- an invocation has an argument for each input of its task, and reads ports of its mode and sensors
+pub record InvocationFits (p : GiottoProgram) (m : ModeDeclaration) (i : TaskInvocation) : Type 0 where
+  pub frequency : IsFrequencyOf m i.frequency
+  pub task : IsSomeAnd (task_of p i.task) (λ t. length i.arguments ≡ length t.inputs)
+  pub reads : IsTrue (are_among (readable_ports p m) (names_in_invocation i))
+
+-- a mode of 1 to 1,000,000 ticks invokes a task once and updates an actuator once; its ports are outputs, each of one task
+pub record ModeFits (p : GiottoProgram) (m : ModeDeclaration) : Type 0 where
+  pub positive : 1 ≤ m.period
+  pub short : m.period ≤ 1000000
+  pub tasks_once : IsTrue (all_different (invoked_tasks m))
+  pub actuators_once : IsTrue (all_different (updated_actuators m))
+  pub ports_once : IsTrue (all_different (mode_ports p m))
+  pub ports_are_outputs : IsTrue (are_among (output_names p) (mode_ports p m))
+  pub updates : AllByRecursion (UpdateFits p m) m.updates
+  pub switches : AllByRecursion (SwitchFits p m) m.switches
+  pub invocations : AllByRecursion (InvocationFits p m) m.invocations
+
+-- a task writes outputs, and its body can be evaluated
+pub record TaskFits (p : GiottoProgram) (t : TaskDeclaration) : Type 0 where
+  pub outputs : IsTrue (are_among (output_names p) t.outputs)
+  pub sound : IsSound (body_of t)
+
+-- a well-formed program: no name is declared twice, no line has two actuators, no two ports are shown alike, and it starts in a mode
+pub record ProgramFits (p : GiottoProgram) : Type 0 where
+  pub declared_once : IsTrue (all_different (declared_names p))
+  pub lines_once : IsTrue (all_different_numbers (lines_written p))
+  pub ports_once : IsTrue (all_different (port_names p))
+  pub tasks : AllByRecursion (TaskFits p) p.tasks
+  pub modes : AllByRecursion (ModeFits p) p.modes
+  pub start : IsSome (mode_of p p.start)

@@ -1,0 +1,50 @@
+//! The numbers of a program's ports, tasks and modes, and its lines read through them.
+
+ghost use Rattle.std.specs.Prelude.{IfOk};
+ghost use Rattle.giotto_check.specs.Facts.{ProgramFits};
+ghost use Rattle.giotto_check.specs.Timetables.{IsNumbering};
+
+mod exits;
+mod invocations;
+mod modes;
+mod numbered;
+mod tasks;
+mod updates;
+
+use crate::numbering::numbered::Numbered;
+use crate::timetables::{TaskSlots, Timetable};
+use giotto_tasks::faults::CodeFault;
+use giotto_text::programs::Program;
+use std::alloc::Global;
+
+/// A program by number.
+#[derive(Drop)]
+pub(crate) struct Numbering {
+    /// How many ports there are.
+    pub(crate) slots: usize,
+    /// In text order.
+    pub(crate) tasks: Vec<TaskSlots>,
+    /// In text order.
+    pub(crate) modes: Vec<Timetable>,
+}
+
+impl Numbering {
+    /// The numbering of a well-formed program.
+    ///
+    /// # Errors
+    /// `Memory` where there is want of memory, `TooDeep` where an expression has more than 32 operations inside one
+    /// another, as no program's text can have it.
+    pub(crate) fn new(alloc: Global, program: &Program) -> Result<Numbering, CodeFault>
+        requires { ProgramFits program.now }
+        ensures { IfOk result (λ n. IsNumbering program.now n) }
+    {
+        let numbered = Numbered::new(alloc, program)?;
+        let (tasks, slots) = numbered.tasks()?;
+        let modes = numbered.modes(&tasks)?;
+        Ok(Numbering {
+            slots,
+            tasks,
+            modes,
+        })
+    }
+}

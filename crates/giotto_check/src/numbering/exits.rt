@@ -1,0 +1,85 @@
+//! Switches by number.
+
+ghost use Rattle.std.specs.Prelude.{◌≡◌, Some, IfOk, IsTrue, IsSome, map};
+ghost use Rattle.std.specs.List.{flat_map, position_from};
+ghost use Rattle.giotto_tasks.specs.Names.{is_among, same_name};
+ghost use Rattle.giotto_tasks.specs.Trees.{expression_of};
+ghost use Rattle.giotto_text.specs.ProgramTrees.{mode_of, switch_of, destination_of};
+ghost use Rattle.giotto_rules.specs.Declarations as declared;
+ghost use Rattle.giotto_rules.specs.Names.{are_among};
+ghost use Rattle.giotto_check.specs.Facts.{ModeFits, ProgramFits, SwitchFits};
+ghost use Rattle.giotto_check.specs.Timetables.{AreEach, IsDestination, IsExit, place_of_mode};
+
+use crate::numbering::numbered::Numbered;
+use crate::timetables::{SlotDestination, SlotExit};
+use giotto_tasks::faults::CodeFault;
+use giotto_tasks::names::Name;
+use giotto_text::programs::{Destination, Mode, Switch};
+
+impl Numbered<'_> {
+    /// The switches of a mode, in text order.
+    pub(crate) fn exits(&self, mode: &Mode) -> Result<Vec<SlotExit>, CodeFault>
+        requires { ModeFits self.now (mode_of mode.now) }
+        ensures { IfOk result (λ entries. AreEach (IsExit self.now (mode_of mode.now)) (mode_of mode.now).switches entries.items) }
+    {
+        let mut entries = Vec::new(self.alloc);
+        for switch in mode.switches.as_slice() {
+            entries.push(self.exit(mode, switch)?)?;
+        }
+        Ok(entries)
+    }
+
+    fn exit(&self, mode: &Mode, switch: &Switch) -> Result<SlotExit, CodeFault>
+        requires program { ProgramFits self.now }
+        requires mode { ModeFits self.now (mode_of mode.now) }
+        requires switch { SwitchFits self.now (mode_of mode.now) (switch_of switch.now) }
+        ensures { IfOk result (λ entry. IsExit self.now (mode_of mode.now) (switch_of switch.now) entry) }
+    {
+        Ok(SlotExit {
+            interval: mode.period / switch.frequency,
+            guard: self.guard(&switch.guard)?,
+            target: self.target(&switch.target),
+            destinations: self.destinations(switch.destinations.as_slice())?,
+        })
+    }
+
+    // The place of the mode of this name. Goes over the modes once.
+    fn target(&self, name: &Name) -> usize
+        requires { IsSome (declared.mode_of self.now name.now) }
+        ensures { place_of_mode self.now name.now ≡ Some result }
+    {
+        match mode_place(self.program.modes(), name) {
+            Some(place) => place,
+            None => unreachable!(),
+        }
+    }
+
+    fn destinations(&self, destinations: &[Destination]) -> Result<Vec<SlotDestination>, CodeFault>
+        requires outputs { IsTrue (are_among (declared.output_names self.now) (map (λ d. d.0) (map destination_of destinations.now))) }
+        requires reads { IsTrue (are_among (declared.driver_ports self.now) (flat_map (λ d. declared.names_read d.1) (map destination_of destinations.now))) }
+        ensures { IfOk result (λ entries. AreEach (IsDestination self.now) (map destination_of destinations.now) entries.items) }
+    {
+        let mut entries = Vec::new(self.alloc);
+        for destination in destinations {
+            entries.push(self.destination(destination)?)?;
+        }
+        Ok(entries)
+    }
+
+    fn destination(&self, destination: &Destination) -> Result<SlotDestination, CodeFault>
+        requires output { IsTrue (is_among (declared.output_names self.now) destination.now.output) }
+        requires reads { IsTrue (are_among (declared.driver_ports self.now) (declared.names_read (expression_of destination.now.value))) }
+        ensures { IfOk result (λ entry. IsDestination self.now (destination_of destination.now) entry) }
+    {
+        Ok(SlotDestination {
+            output: self.slot(&destination.output),
+            value: self.expression(&destination.value)?,
+        })
+    }
+}
+
+fn mode_place(modes: &[Mode], name: &Name) -> Option<usize>
+    ensures { result ≡ position_from (λ m. same_name m.name name.now) 0 modes.now }
+{
+    modes.iter().position(|mode| mode.name == *name)
+}

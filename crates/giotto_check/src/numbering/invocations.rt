@@ -1,0 +1,87 @@
+//! Invocations by number.
+
+ghost use Rattle.std.specs.Prelude.{◌≡◌, Some, IfOk, IsTrue, IsSome, map};
+ghost use Rattle.std.specs.List.{flat_map, position_from};
+ghost use Rattle.giotto_tasks.specs.Names.{same_name};
+ghost use Rattle.giotto_tasks.specs.Trees.{expression_of};
+ghost use Rattle.giotto_text.specs.ProgramTrees.{mode_of, invocation_of};
+ghost use Rattle.giotto_rules.specs.Declarations as declared;
+ghost use Rattle.giotto_rules.specs.Names.{are_among};
+ghost use Rattle.giotto_check.specs.Facts.{ModeFits, InvocationFits};
+ghost use Rattle.giotto_check.specs.Timetables.{AreEach, AreTaskSlots, IsExpression, IsInvocation, place_of_task};
+
+use crate::numbering::numbered::Numbered;
+use crate::timetables::{SlotExpr, SlotInvocation, TaskSlots};
+use giotto_tasks::bodies::Expr;
+use giotto_tasks::faults::CodeFault;
+use giotto_tasks::names::Name;
+use giotto_text::programs::{Invocation, Mode, Task};
+
+impl Numbered<'_> {
+    /// The invocations of a mode, in text order, where these are the slots of the tasks.
+    pub(crate) fn invocations(
+        &self,
+        tasks: &[TaskSlots],
+        mode: &Mode,
+    ) -> Result<Vec<SlotInvocation>, CodeFault>
+        requires tasks { AreEach (AreTaskSlots self.now) self.now.tasks tasks.now }
+        requires mode { ModeFits self.now (mode_of mode.now) }
+        ensures { IfOk result (λ entries. AreEach (IsInvocation self.now (mode_of mode.now)) (mode_of mode.now).invocations entries.items) }
+    {
+        let mut entries = Vec::new(self.alloc);
+        for invocation in mode.invocations.as_slice() {
+            entries.push(self.invocation(tasks, mode, invocation)?)?;
+        }
+        Ok(entries)
+    }
+
+    fn invocation(
+        &self,
+        tasks: &[TaskSlots],
+        mode: &Mode,
+        invocation: &Invocation,
+    ) -> Result<SlotInvocation, CodeFault>
+        requires tasks { AreEach (AreTaskSlots self.now) self.now.tasks tasks.now }
+        requires mode { ModeFits self.now (mode_of mode.now) }
+        requires invocation { InvocationFits self.now (mode_of mode.now) (invocation_of invocation.now) }
+        ensures { IfOk result (λ entry. IsInvocation self.now (mode_of mode.now) (invocation_of invocation.now) entry) }
+    {
+        let task = self.task(&invocation.task);
+        let inputs = tasks[task].inputs;
+        Ok(SlotInvocation {
+            interval: mode.period / invocation.frequency,
+            guard: self.guard(&invocation.guard)?,
+            task,
+            inputs,
+            arguments: self.arguments(invocation.arguments.as_slice())?,
+        })
+    }
+
+    // The place of the task of this name. Goes over the tasks once.
+    fn task(&self, name: &Name) -> usize
+        requires { IsSome (declared.task_of self.now name.now) }
+        ensures { place_of_task self.now name.now ≡ Some result }
+    {
+        match task_place(self.program.tasks(), name) {
+            Some(place) => place,
+            None => unreachable!(),
+        }
+    }
+
+    fn arguments(&self, arguments: &[Expr]) -> Result<Vec<SlotExpr>, CodeFault>
+        requires { IsTrue (are_among (declared.driver_ports self.now) (flat_map declared.names_read (map expression_of arguments.now))) }
+        ensures { IfOk result (λ codes. AreEach (IsExpression self.now) (map expression_of arguments.now) codes.items) }
+    {
+        let mut codes = Vec::new(self.alloc);
+        for argument in arguments {
+            codes.push(self.expression(argument)?)?;
+        }
+        Ok(codes)
+    }
+}
+
+fn task_place(tasks: &[Task], name: &Name) -> Option<usize>
+    ensures { result ≡ position_from (λ t. same_name t.name name.now) 0 tasks.now }
+{
+    tasks.iter().position(|task| task.name == *name)
+}

@@ -1,0 +1,38 @@
+//! Updates by number.
+
+ghost use Rattle.std.specs.Prelude.{IfOk};
+ghost use Rattle.giotto_text.specs.ProgramTrees.{mode_of, update_of};
+ghost use Rattle.giotto_check.specs.Facts.{ModeFits, UpdateFits};
+ghost use Rattle.giotto_check.specs.Timetables.{AreEach, IsUpdate};
+
+use crate::numbering::numbered::Numbered;
+use crate::timetables::SlotUpdate;
+use giotto_tasks::faults::CodeFault;
+use giotto_text::programs::{Mode, Update};
+
+impl Numbered<'_> {
+    /// The updates of a mode, in text order.
+    pub(crate) fn updates(&self, mode: &Mode) -> Result<Vec<SlotUpdate>, CodeFault>
+        requires { ModeFits self.now (mode_of mode.now) }
+        ensures { IfOk result (λ entries. AreEach (IsUpdate self.now (mode_of mode.now)) (mode_of mode.now).updates entries.items) }
+    {
+        let mut entries = Vec::new(self.alloc);
+        for update in mode.updates.as_slice() {
+            entries.push(self.update(mode, update)?)?;
+        }
+        Ok(entries)
+    }
+
+    fn update(&self, mode: &Mode, update: &Update) -> Result<SlotUpdate, CodeFault>
+        requires mode { ModeFits self.now (mode_of mode.now) }
+        requires update { UpdateFits self.now (mode_of mode.now) (update_of update.now) }
+        ensures { IfOk result (λ entry. IsUpdate self.now (mode_of mode.now) (update_of update.now) entry) }
+    {
+        Ok(SlotUpdate {
+            interval: mode.period / update.frequency,
+            guard: self.guard(&update.guard)?,
+            actuator: self.slot(&update.actuator),
+            value: self.expression(&update.value)?,
+        })
+    }
+}

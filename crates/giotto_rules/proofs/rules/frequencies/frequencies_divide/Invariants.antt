@@ -1,0 +1,8 @@
+use Rattle.std.proofs.Common.{◌≡◌, drop, map}
+use Rattle.giotto_text.specs.ProgramTrees.{mode_of}
+use Rattle.giotto_rules.specs.Rules.{frequencies_divide}
+use Rattle.giotto_rules.proofs.ProgramParts.{with_modes}
+use Rattle.giotto_rules.proofs.rules.frequencies.frequencies_divide.Given as goal
+
+abbrev pub invariant-loop-mode : goal.invariant-loop-mode
+invariant-loop-mode l = frequencies_divide (with_modes l.program (map mode_of (drop l.mode-index l.mode-items))) ≡ frequencies_divide l.program

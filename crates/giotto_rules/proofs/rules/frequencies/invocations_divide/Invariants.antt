@@ -1,0 +1,11 @@
+use Rattle.std.proofs.Common.{◌≡◌, drop, map}
+use Rattle.std.specs.List.{list_all}
+use Rattle.giotto_text.specs.Program.{TaskInvocation}
+use Rattle.giotto_text.specs.ProgramTrees.{invocation_of}
+use Rattle.giotto_rules.specs.Frequencies.{divides}
+use Rattle.giotto_rules.proofs.rules.frequencies.invocations_divide.Given as goal
+
+abbrev pub invariant-loop-invocation : goal.invariant-loop-invocation
+invariant-loop-invocation l =
+    list_all (λ (i : TaskInvocation). divides i.frequency l.period) (map invocation_of (drop l.invocation-index l.invocations))
+    ≡ list_all (λ (i : TaskInvocation). divides i.frequency l.period) (map invocation_of l.invocations)

@@ -1,0 +1,11 @@
+use Rattle.std.proofs.Common.{◌≡◌, drop, map}
+use Rattle.std.specs.List.{list_all}
+use Rattle.giotto_text.specs.Program.{ActuatorUpdate}
+use Rattle.giotto_text.specs.ProgramTrees.{update_of}
+use Rattle.giotto_rules.specs.Frequencies.{divides}
+use Rattle.giotto_rules.proofs.rules.frequencies.updates_divide.Given as goal
+
+abbrev pub invariant-loop-update : goal.invariant-loop-update
+invariant-loop-update l =
+    list_all (λ (u : ActuatorUpdate). divides u.frequency l.period) (map update_of (drop l.update-index l.updates))
+    ≡ list_all (λ (u : ActuatorUpdate). divides u.frequency l.period) (map update_of l.updates)

@@ -1,0 +1,29 @@
+-- What the drivers of a mode may read, and to which ports a switch may give values.
+use Rattle.std.specs.Prelude.{Bool, ◌&&◌, List, [], ◌++◌, Option, Some, None}
+use Rattle.std.specs.List.{list_all}
+use Rattle.giotto_tasks.specs.declared.names.Name.{Name}
+use Rattle.giotto_tasks.specs.Sound.{all_different}
+use Rattle.giotto_text.specs.Program.{ModeSwitch, ModeDeclaration, GiottoProgram}
+use Rattle.giotto_rules.specs.Declarations.{sensor_names, mode_of, mode_ports, destinations_of}
+use Rattle.giotto_rules.specs.Names.{are_among}
+use Rattle.giotto_rules.specs.Reads.{names_in_update, names_in_switch, names_in_invocation}
+
+-- what switches and invocations of a mode may read: the mode's ports, and the sensors
+abbrev pub readable_ports : GiottoProgram → ModeDeclaration → List Name
+readable_ports p m = mode_ports p m ++ sensor_names p
+
+-- the mode ports of a switch's target, and none where there is no such mode
+abbrev pub ports_of_target : GiottoProgram → Option ModeDeclaration → List Name
+ports_of_target p None = []
+ports_of_target p (Some m) = mode_ports p m
+
+-- A switch reads these names alone, and its destinations are ports of its target, each once.
+abbrev pub switch_fits : GiottoProgram → List Name → ModeSwitch → Bool
+switch_fits p readable s = are_among readable (names_in_switch s)
+    && are_among (ports_of_target p (mode_of p s.target)) (destinations_of s) && all_different (destinations_of s)
+
+-- Updates read ports of their mode; switches and invocations read sensors too.
+abbrev pub drivers_fit : GiottoProgram → ModeDeclaration → Bool
+drivers_fit p m = list_all (λ u. are_among (mode_ports p m) (names_in_update u)) m.updates
+    && list_all (switch_fits p (readable_ports p m)) m.switches
+    && list_all (λ i. are_among (readable_ports p m) (names_in_invocation i)) m.invocations

@@ -1,0 +1,71 @@
+//! All eleven rules, in their order.
+
+ghost use Rattle.std.specs.Prelude.{◌≡◌, drop, map, IfOk};
+ghost use Rattle.giotto_rules.specs.Declarations.{mode_ports};
+ghost use Rattle.giotto_rules.specs.Rules.{first_broken_rule};
+ghost use Rattle.giotto_rules.specs.Rules as tests;
+
+use crate::indexed::Indexed;
+use crate::rules::{
+    bodies, declared_once, drivers, frequencies, invocations, kinds, start, switches, updates,
+};
+use giotto_tasks::index::Index;
+use giotto_text::programs::Program;
+use std::alloc::{AllocError, Global};
+
+/// The first rule that the program breaks, 1 to 11, or `None` where it is well-formed.
+///
+/// # Errors
+/// Want of memory.
+pub fn first_broken(alloc: Global, program: &Program) -> Result<Option<usize>, AllocError>
+    ensures { IfOk result (λ rule. rule ≡ first_broken_rule program.now) }
+{
+    if !declared_once::declares_once(alloc, program)? {
+        return Ok(Some(1));
+    }
+    if !kinds::uses_right_kinds(alloc, program)? {
+        return Ok(Some(2));
+    }
+    if !bodies::bodies_use_own_ports(alloc, program)? {
+        return Ok(Some(3));
+    }
+    if !frequencies::frequencies_divide(program) {
+        return Ok(Some(4));
+    }
+    if !invocations::invokes_once(alloc, program)? {
+        return Ok(Some(5));
+    }
+    let program = Indexed::new(alloc, program)?;
+    let ports = invocations::ports_of_modes(alloc, &program)?;
+    first_broken_from_sixth(alloc, &program, &ports)
+}
+
+// The first rule from the sixth on that the program breaks, where these are the ports of each mode.
+fn first_broken_from_sixth(
+    alloc: Global,
+    program: &Indexed,
+    ports: &[Index],
+) -> Result<Option<usize>, AllocError>
+    requires { ports.now ≡ map (mode_ports program.now) program.now.modes }
+    ensures { IfOk result (λ rule. rule ≡ tests.first_broken 6 (drop 5 tests.rules) program.now) }
+{
+    if !invocations::tasks_share_no_output(program, ports) {
+        return Ok(Some(6));
+    }
+    if !updates::updates_once(alloc, program.program())? {
+        return Ok(Some(7));
+    }
+    if !invocations::arguments_fit(program) {
+        return Ok(Some(8));
+    }
+    if !drivers::drivers_read_mode_ports(alloc, program, ports)? {
+        return Ok(Some(9));
+    }
+    if !switches::switches_keep_periods(alloc, program)? {
+        return Ok(Some(10));
+    }
+    if !start::starts_in_a_mode(alloc, program.program())? {
+        return Ok(Some(11));
+    }
+    Ok(None)
+}

@@ -1,0 +1,25 @@
+//! When a Giotto program is well-formed.
+//!
+//! [`first_broken`](first_broken::first_broken) names the first of the eleven rules that a program breaks:
+//!
+//! ```text
+//! match first_broken(alloc, &program)? {
+//!     None => {}
+//!     Some(rule) => println!(rt; "the program breaks rule {rule}")?,
+//! }
+//! ```
+//!
+//! The rules stand in `specs/Rules.antt`, over what a program declares (`specs/Declarations.antt`), and the code that tests
+//! them in `src/rules/`; `proofs/RuleExamples.antt` computes them on examples. [`lookups`] finds tasks and modes by name, and
+//! [`laws`] says what follows from the rules.
+#![tactic(auto)]
+
+pub mod declarations;
+pub mod first_broken;
+mod indexed;
+pub mod laws;
+pub mod lookups;
+mod names;
+mod reads;
+mod rules;
+mod scopes;

@@ -1,0 +1,100 @@
+//! Which names expressions, guards and the drivers of a mode read: its updates, switches and invocations.
+
+ghost use Rattle.std.specs.Prelude.{◌≡◌, map};
+ghost use Rattle.std.specs.List.{flat_map};
+ghost use Rattle.giotto_tasks.specs.Names as tasks;
+ghost use Rattle.giotto_tasks.specs.Sound as sound;
+ghost use Rattle.giotto_tasks.specs.Syntax.{Expression};
+ghost use Rattle.giotto_tasks.specs.Trees.{expression_of};
+ghost use Rattle.giotto_tasks.specs.declared.names.Name.{Name};
+ghost use Rattle.giotto_text.specs.ProgramTrees.{guard_of, update_of, switch_of, invocation_of, destination_of};
+ghost use Rattle.giotto_rules.specs.Declarations.{names_read, destinations_of};
+ghost use Rattle.giotto_rules.specs.Names.{are_among};
+ghost use Rattle.giotto_rules.specs.Reads.{names_in_guard, names_in_update, names_in_switch, names_in_invocation};
+
+use crate::scopes::Scope;
+use giotto_tasks::bodies::Expr;
+use giotto_tasks::index::Index;
+use giotto_text::programs::{Destination, Invocation, Switch, Update};
+
+/// Whether an expression reads these names alone.
+pub(crate) fn reads_only(names: &Scope, e: &Expr) -> bool
+    ensures body { result ≡ sound.reads_only (tasks.is_among names.now) (expression_of e.now) }
+    ensures driver { result ≡ are_among names.now (names_read (expression_of e.now)) }
+{
+    match e {
+        Expr::Number(_) => true,
+        Expr::Port(name) => names.contains(name),
+        Expr::Unary(_, a) => reads_only(names, a),
+        Expr::Binary(_, a, b) => reads_only(names, a) && reads_only(names, b),
+    }
+}
+
+/// Whether a guard, if there is one, reads these names alone.
+pub(crate) fn guard_reads_only(names: &Scope, guard: &Option<Expr>) -> bool
+    ensures { result ≡ are_among names.now (names_in_guard (guard_of guard.now)) }
+{
+    match guard {
+        Some(e) => reads_only(names, e),
+        None => true,
+    }
+}
+
+/// Whether an update reads these names alone.
+pub(crate) fn update_reads_only(names: &Scope, update: &Update) -> bool
+    ensures { result ≡ are_among names.now (names_in_update (update_of update.now)) }
+{
+    guard_reads_only(names, &update.guard) && reads_only(names, &update.value)
+}
+
+/// Whether a switch reads these names alone.
+pub(crate) fn switch_reads_only(names: &Scope, switch: &Switch) -> bool
+    ensures { result ≡ are_among names.now (names_in_switch (switch_of switch.now)) }
+{
+    guard_reads_only(names, &switch.guard)
+        && destinations_read_only(names, switch.destinations.as_slice())
+}
+
+/// Whether a switch gives values to these names alone.
+pub(crate) fn switch_gives_only(names: &Index, switch: &Switch) -> bool
+    ensures { result ≡ are_among names.now (destinations_of (switch_of switch.now)) }
+{
+    for destination in switch.destinations.as_slice() {
+        if !names.contains(&destination.output) {
+            return false;
+        }
+    }
+    true
+}
+
+/// Whether an invocation reads these names alone.
+pub(crate) fn invocation_reads_only(names: &Scope, invocation: &Invocation) -> bool
+    ensures { result ≡ are_among names.now (names_in_invocation (invocation_of invocation.now)) }
+{
+    guard_reads_only(names, &invocation.guard)
+        && arguments_read_only(names, invocation.arguments.as_slice())
+}
+
+fn destinations_read_only(names: &Scope, destinations: &[Destination]) -> bool
+    ensures { result
+        ≡ are_among names.now (flat_map (λ (d : Name × Expression). names_read d.1)
+        (map destination_of destinations.now)) }
+{
+    for destination in destinations {
+        if !reads_only(names, &destination.value) {
+            return false;
+        }
+    }
+    true
+}
+
+fn arguments_read_only(names: &Scope, arguments: &[Expr]) -> bool
+    ensures { result ≡ are_among names.now (flat_map names_read (map expression_of arguments.now)) }
+{
+    for argument in arguments {
+        if !reads_only(names, argument) {
+            return false;
+        }
+    }
+    true
+}

@@ -1,0 +1,159 @@
+//! Rule 9: drivers read mode ports of their mode, those of switches and invocations sensors too, and a switch's
+//! destinations are mode ports of its target, each once.
+
+ghost use Rattle.std.specs.Prelude.{◌≡◌, [], map, None, IfOk, IfSome};
+ghost use Rattle.std.specs.List.{list_all};
+ghost use Rattle.giotto_text.specs.Program as tree;
+ghost use Rattle.giotto_text.specs.ProgramTrees.{mode_of, update_of, switch_of, invocation_of};
+ghost use Rattle.giotto_rules.specs.Declarations as declared;
+ghost use Rattle.giotto_rules.specs.Drivers as tests;
+ghost use Rattle.giotto_rules.specs.Names.{are_among};
+ghost use Rattle.giotto_rules.specs.Reads.{names_in_update, names_in_invocation};
+ghost use Rattle.giotto_rules.specs.Rules as rules;
+
+use crate::indexed::Indexed;
+use crate::scopes::Scope;
+use crate::{declarations, reads};
+use giotto_tasks::index::Index;
+use giotto_tasks::names::Name;
+use giotto_text::programs::{Invocation, Mode, Switch, Update};
+use std::alloc::{AllocError, Global};
+
+/// Whether updates read ports of their mode, switches and invocations these and sensors, and whether a switch gives
+/// values to ports of its target, each once; where these are the ports of each mode.
+pub(crate) fn drivers_read_mode_ports(
+    alloc: Global,
+    program: &Indexed,
+    ports: &[Index],
+) -> Result<bool, AllocError>
+    requires { ports.now ≡ map (declared.mode_ports program.now) program.now.modes }
+    ensures { IfOk result (λ holds. holds ≡ rules.drivers_read_mode_ports program.now) }
+{
+    let sensors = Index::new(alloc, declarations::sensor_names(alloc, program.program())?)?;
+    let modes = program.modes();
+    for i in 0..modes.len() {
+        let mode = &modes[i];
+        let own = &ports[i];
+        let sources = Scope::joined(own, &sensors);
+        if !mode_drivers_fit(alloc, program, ports, own, &sources, mode)? {
+            return Ok(false);
+        }
+    }
+    Ok(true)
+}
+
+// Whether the drivers of a mode read what they may, where these are the ports of each mode, and those of the mode, alone
+// and with the sensors.
+fn mode_drivers_fit(
+    alloc: Global,
+    program: &Indexed,
+    ports: &[Index],
+    own: &Index,
+    sources: &Scope,
+    mode: &Mode,
+) -> Result<bool, AllocError>
+    requires each { ports.now ≡ map (declared.mode_ports program.now) program.now.modes }
+    requires own { own.now ≡ declared.mode_ports program.now (mode_of mode.now) }
+    requires sources { sources.now ≡ tests.readable_ports program.now (mode_of mode.now) }
+    ensures { IfOk result (λ holds. holds ≡ tests.drivers_fit program.now (mode_of mode.now)) }
+{
+    if !updates_read(&Scope::new(own), mode.updates.as_slice()) {
+        return Ok(false);
+    }
+    if !switches_fit(alloc, program, ports, sources, mode.switches.as_slice())? {
+        return Ok(false);
+    }
+    Ok(invocations_read(sources, mode.invocations.as_slice()))
+}
+
+fn updates_read(ports: &Scope, updates: &[Update]) -> bool
+    ensures { result
+        ≡ list_all (λ (u : tree.ActuatorUpdate). are_among ports.now (names_in_update u))
+        (map update_of updates.now) }
+{
+    for update in updates {
+        if !reads::update_reads_only(ports, update) {
+            return false;
+        }
+    }
+    true
+}
+
+fn switches_fit(
+    alloc: Global,
+    program: &Indexed,
+    ports: &[Index],
+    sources: &Scope,
+    switches: &[Switch],
+) -> Result<bool, AllocError>
+    requires { ports.now ≡ map (declared.mode_ports program.now) program.now.modes }
+    ensures { IfOk result
+        (λ holds. holds ≡ list_all (tests.switch_fits program.now sources.now)
+        (map switch_of switches.now)) }
+{
+    for switch in switches {
+        if !switch_fits(alloc, program, ports, sources, switch)? {
+            return Ok(false);
+        }
+    }
+    Ok(true)
+}
+
+fn switch_fits(
+    alloc: Global,
+    program: &Indexed,
+    ports: &[Index],
+    sources: &Scope,
+    switch: &Switch,
+) -> Result<bool, AllocError>
+    requires { ports.now ≡ map (declared.mode_ports program.now) program.now.modes }
+    ensures { IfOk result
+        (λ holds. holds ≡ tests.switch_fits program.now sources.now (switch_of switch.now)) }
+{
+    let destinations = Index::new(alloc, declarations::destinations(alloc, switch)?)?;
+    Ok(
+        reads::switch_reads_only(sources, switch)
+            && gives_to_target(program, ports, switch)
+            && destinations.all_different(),
+    )
+}
+
+// Whether the switch gives values to ports of its target alone.
+fn gives_to_target(program: &Indexed, ports: &[Index], switch: &Switch) -> bool
+    requires { ports.now ≡ map (declared.mode_ports program.now) program.now.modes }
+    ensures { result
+        ≡ are_among (tests.ports_of_target program.now
+        (declared.mode_of program.now (switch_of switch.now).target))
+        (declared.destinations_of (switch_of switch.now)) }
+{
+    match ports_of_target(program, ports, &switch.target) {
+        Some(names) => reads::switch_gives_only(names, switch),
+        None => switch.destinations.as_slice().is_empty(),
+    }
+}
+
+// The ports of the target mode, or `None` where there is no such mode.
+fn ports_of_target<'a>(program: &Indexed, ports: &'a [Index], mode: &Name) -> Option<&'a Index>
+    requires { ports.now ≡ map (declared.mode_ports program.now) program.now.modes }
+    ensures found { IfSome result
+        (λ names. names.now ≡ tests.ports_of_target program.now (declared.mode_of program.now mode.now)) }
+    ensures missing { result ≡ None → tests.ports_of_target program.now (declared.mode_of program.now mode.now) ≡ [] }
+{
+    match program.place_of_mode(mode) {
+        Some(place) => ports.get(place),
+        None => None,
+    }
+}
+
+fn invocations_read(sources: &Scope, invocations: &[Invocation]) -> bool
+    ensures { result
+        ≡ list_all (λ (i : tree.TaskInvocation). are_among sources.now (names_in_invocation i))
+        (map invocation_of invocations.now) }
+{
+    for invocation in invocations {
+        if !reads::invocation_reads_only(sources, invocation) {
+            return false;
+        }
+    }
+    true
+}

@@ -1,0 +1,133 @@
+//! Rule 2: names stand for what they are used as.
+
+ghost use Rattle.std.specs.Prelude.{◌≡◌, map, IfOk};
+ghost use Rattle.std.specs.List.{list_all};
+ghost use Rattle.giotto_text.specs.ProgramTrees.{task_of, mode_of, update_of, switch_of, invocation_of};
+ghost use Rattle.giotto_rules.specs.Kinds as tests;
+ghost use Rattle.giotto_rules.specs.Rules as rules;
+
+use crate::scopes::Scope;
+use crate::{declarations, names, reads};
+use giotto_tasks::bodies::Body;
+use giotto_tasks::index::Index;
+use giotto_text::programs::{Invocation, Mode, Program, Switch, Task, Update};
+use std::alloc::{AllocError, Global};
+use std::marker::Model;
+
+// The names that a program declares, by what they may be used as.
+#[derive(Drop)]
+struct Kinds {
+    actuators: Index,
+    outputs: Index,
+    tasks: Index,
+    modes: Index,
+    /// Sensors, actuators and outputs.
+    ports: Index,
+}
+
+impl Model for Kinds {
+    ghost use Rattle.giotto_rules.specs.Kinds.{Kinds};
+
+    ghost Value = { Kinds };
+
+    ghost view = { λ k. record {
+      actuators = k.actuators;
+      outputs = k.outputs;
+      tasks = k.tasks;
+      modes = k.modes;
+      ports = k.ports;
+    } };
+}
+
+/// Whether tasks write outputs, and modes name actuators, modes, outputs and tasks where these are wanted and read
+/// sensors, actuators and outputs alone.
+pub(crate) fn uses_right_kinds(alloc: Global, program: &Program) -> Result<bool, AllocError>
+    ensures { IfOk result (λ holds. holds ≡ rules.uses_right_kinds program.now) }
+{
+    let kinds = kinds_of(alloc, program)?;
+    Ok(tasks_use(&kinds, program.tasks()) && modes_use(&kinds, program.modes()))
+}
+
+fn kinds_of(alloc: Global, program: &Program) -> Result<Kinds, AllocError>
+    ensures { IfOk result (λ k. k ≡ tests.kinds_of program.now) }
+{
+    Ok(Kinds {
+        actuators: Index::new(alloc, declarations::actuator_names(alloc, program)?)?,
+        outputs: Index::new(alloc, declarations::output_names(alloc, program)?)?,
+        tasks: Index::new(alloc, declarations::task_names(alloc, program)?)?,
+        modes: Index::new(alloc, declarations::mode_names(alloc, program)?)?,
+        ports: Index::new(alloc, declarations::driver_ports(alloc, program)?)?,
+    })
+}
+
+fn tasks_use(kinds: &Kinds, tasks: &[Task]) -> bool
+    ensures { result ≡ list_all (tests.task_uses kinds.now) (map task_of tasks.now) }
+{
+    for task in tasks {
+        let body: &Body = &task.body;
+        if !names::are_among(&kinds.outputs, body.outputs.as_slice()) {
+            return false;
+        }
+    }
+    true
+}
+
+fn modes_use(kinds: &Kinds, modes: &[Mode]) -> bool
+    ensures { result ≡ list_all (tests.mode_uses kinds.now) (map mode_of modes.now) }
+{
+    for mode in modes {
+        if !mode_uses(kinds, mode) {
+            return false;
+        }
+    }
+    true
+}
+
+fn mode_uses(kinds: &Kinds, mode: &Mode) -> bool
+    ensures { result ≡ tests.mode_uses kinds.now (mode_of mode.now) }
+{
+    updates_use(kinds, mode.updates.as_slice())
+        && switches_use(kinds, mode.switches.as_slice())
+        && invocations_use(kinds, mode.invocations.as_slice())
+}
+
+fn updates_use(kinds: &Kinds, updates: &[Update]) -> bool
+    ensures { result ≡ list_all (tests.update_uses kinds.now) (map update_of updates.now) }
+{
+    for update in updates {
+        if !(kinds.actuators.contains(&update.actuator)
+            && reads::update_reads_only(&Scope::new(&kinds.ports), update))
+        {
+            return false;
+        }
+    }
+    true
+}
+
+fn switches_use(kinds: &Kinds, switches: &[Switch]) -> bool
+    ensures { result ≡ list_all (tests.switch_uses kinds.now) (map switch_of switches.now) }
+{
+    for switch in switches {
+        if !(kinds.modes.contains(&switch.target)
+            && reads::switch_gives_only(&kinds.outputs, switch)
+            && reads::switch_reads_only(&Scope::new(&kinds.ports), switch))
+        {
+            return false;
+        }
+    }
+    true
+}
+
+fn invocations_use(kinds: &Kinds, invocations: &[Invocation]) -> bool
+    ensures { result
+        ≡ list_all (tests.invocation_uses kinds.now) (map invocation_of invocations.now) }
+{
+    for invocation in invocations {
+        if !(kinds.tasks.contains(&invocation.task)
+            && reads::invocation_reads_only(&Scope::new(&kinds.ports), invocation))
+        {
+            return false;
+        }
+    }
+    true
+}

@@ -1,0 +1,255 @@
+//! Rule 10: a task that a switch can interrupt goes on in the target mode with its period.
+
+ghost use Rattle.std.specs.Prelude.{◌≡◌, ◌/◌, ◌%◌, ◌==◌, map, IfOk};
+ghost use Rattle.std.specs.Option.{option_copied, option_map};
+ghost use Rattle.giotto_text.specs.ProgramTrees.{mode_of, switch_of, invocation_of};
+ghost use Rattle.giotto_rules.specs.Declarations as declared;
+ghost use Rattle.giotto_tasks.specs.Places.{place_from};
+ghost use Rattle.giotto_rules.specs.Rules as rules;
+ghost use Rattle.giotto_rules.specs.Switches as tests;
+ghost use Rattle.giotto_rules.specs.Periods as by_place;
+
+use crate::indexed::Indexed;
+use crate::lookups::find_mode;
+use giotto_tasks::lists::List;
+use giotto_tasks::names::Name;
+use giotto_text::programs::{Invocation, Mode, Program, Switch};
+use std::alloc::{AllocError, Global};
+
+// An invocation of a mode.
+#[derive(Drop)]
+struct Due {
+    // How many ticks lie between two.
+    every: u64,
+    // The place of its task among the program's tasks.
+    task: Option<usize>,
+}
+
+/// Whether each switch comes where an invocation of a task ends, or goes on to a mode that invokes the task with its
+/// period.
+pub(crate) fn switches_keep_periods(alloc: Global, program: &Indexed) -> Result<bool, AllocError>
+    ensures { IfOk result (λ holds. holds ≡ rules.switches_keep_periods program.now) }
+{
+    let periods = periods_of_modes(alloc, program)?;
+    modes_keep_periods(alloc, program, &periods)
+}
+
+// For each mode how many ticks lie between two invocations of each task.
+fn periods_of_modes(alloc: Global, program: &Indexed) -> Result<Vec<List<Option<u64>>>, AllocError>
+    ensures { IfOk result
+        (λ periods. periods.items ≡ map (by_place.periods_in program.now) program.now.modes) }
+{
+    let mut periods = Vec::new(alloc);
+    for mode in program.modes() {
+        periods.push(periods_in(alloc, program, mode)?)?;
+    }
+    Ok(periods)
+}
+
+fn periods_in(
+    alloc: Global,
+    program: &Indexed,
+    mode: &Mode,
+) -> Result<List<Option<u64>>, AllocError>
+    ensures { IfOk result (λ periods. periods ≡ by_place.periods_in program.now (mode_of mode.now)) }
+{
+    let mut periods = Vec::new(alloc);
+    for task in program.program().tasks() {
+        periods.push(period_of_task(mode, &task.name))?;
+    }
+    Ok(List::from_vec(periods))
+}
+
+fn modes_keep_periods(
+    alloc: Global,
+    program: &Indexed,
+    periods: &[List<Option<u64>>],
+) -> Result<bool, AllocError>
+    requires { periods.now ≡ map (by_place.periods_in program.now) program.now.modes }
+    ensures { IfOk result (λ holds. holds ≡ rules.switches_keep_periods program.now) }
+{
+    for mode in program.modes() {
+        let dues = dues(alloc, program, mode)?;
+        if !mode_keeps_periods(program, periods, mode, &dues) {
+            return Ok(false);
+        }
+    }
+    Ok(true)
+}
+
+fn dues(alloc: Global, program: &Indexed, mode: &Mode) -> Result<Vec<Due>, AllocError>
+    ensures { IfOk result
+        (λ dues. dues.items ≡ map (by_place.due_of program.now mode.now.period) (mode_of mode.now).invocations) }
+{
+    let mut dues = Vec::new(alloc);
+    for invocation in mode.invocations.as_slice() {
+        dues.push(Due {
+            every: ticks_between(mode.period, invocation.frequency),
+            task: program.place_of_task(&invocation.task),
+        })?;
+    }
+    Ok(dues)
+}
+
+fn mode_keeps_periods(
+    program: &Indexed,
+    periods: &[List<Option<u64>>],
+    mode: &Mode,
+    dues: &[Due],
+) -> bool
+    requires periods { periods.now ≡ map (by_place.periods_in program.now) program.now.modes }
+    requires dues { dues.now ≡ map (by_place.due_of program.now mode.now.period) (mode_of mode.now).invocations }
+    ensures { result ≡ tests.mode_keeps_periods program.now (mode_of mode.now) }
+{
+    for switch in mode.switches.as_slice() {
+        if !switch_keeps_periods(program, periods, mode, dues, switch) {
+            return false;
+        }
+    }
+    true
+}
+
+fn switch_keeps_periods(
+    program: &Indexed,
+    periods: &[List<Option<u64>>],
+    mode: &Mode,
+    dues: &[Due],
+    switch: &Switch,
+) -> bool
+    requires periods { periods.now ≡ map (by_place.periods_in program.now) program.now.modes }
+    requires dues { dues.now ≡ map (by_place.due_of program.now mode.now.period) (mode_of mode.now).invocations }
+    ensures { result
+        ≡ tests.switch_keeps_periods program.now (mode_of mode.now) (switch_of switch.now) }
+{
+    let row = periods_of_target(program, periods, &switch.target);
+    let invocations = mode.invocations.as_slice();
+    for i in 0..invocations.len() {
+        let invocation = &invocations[i];
+        let due = &dues[i];
+        if !keeps_period(program, row, mode, switch, invocation, due) {
+            return false;
+        }
+    }
+    true
+}
+
+// The periods of the tasks in a mode, if there is such a mode.
+fn periods_of_target<'a>(
+    program: &Indexed,
+    periods: &'a [List<Option<u64>>],
+    mode: &Name,
+) -> Option<&'a List<Option<u64>>>
+    requires { periods.now ≡ map (by_place.periods_in program.now) program.now.modes }
+    ensures { option_copied result
+        ≡ option_map (by_place.periods_in program.now) (declared.mode_of program.now mode.now) }
+{
+    match program.place_of_mode(mode) {
+        Some(place) => periods.get(place),
+        None => None,
+    }
+}
+
+fn keeps_period(
+    program: &Indexed,
+    row: Option<&List<Option<u64>>>,
+    mode: &Mode,
+    switch: &Switch,
+    invocation: &Invocation,
+    due: &Due,
+) -> bool
+    requires row { option_copied row
+        ≡ option_map (by_place.periods_in program.now) (declared.mode_of program.now switch.now.target) }
+    requires due { due.now ≡ by_place.due_of program.now mode.now.period (invocation_of invocation.now) }
+    ensures { result
+        ≡ tests.keeps_period program.now mode.now.period (switch_of switch.now)
+        (invocation_of invocation.now) }
+{
+    is_multiple(ticks_between(mode.period, switch.frequency), due.every)
+        || goes_on(program, row, &switch.target, &invocation.task, due)
+}
+
+// Whether the mode, whose periods these are, invokes the task each so many ticks.
+fn goes_on(
+    program: &Indexed,
+    row: Option<&List<Option<u64>>>,
+    mode: &Name,
+    task: &Name,
+    due: &Due,
+) -> bool
+    requires row { option_copied row
+        ≡ option_map (by_place.periods_in program.now) (declared.mode_of program.now mode.now) }
+    requires due { due.now.task ≡ place_from 0 (declared.task_names program.now) task.now }
+    ensures { result
+        ≡ tests.goes_on_with (declared.mode_of program.now mode.now) task.now due.now.every }
+{
+    match due.task {
+        Some(place) => is_period_at(row, place, due.every),
+        None => goes_on_by_name(program.program(), mode, task, due.every),
+    }
+}
+
+fn is_period_at(row: Option<&List<Option<u64>>>, place: usize, period: u64) -> bool
+    ensures { result ≡ tests.is_period (by_place.period_at (option_copied row.entry) place) period }
+{
+    let Some(periods) = row else {
+        return false;
+    };
+    let periods = periods.as_slice();
+    if place >= periods.len() {
+        return false;
+    }
+    match periods[place] {
+        Some(own) => own == period,
+        None => false,
+    }
+}
+
+// Whether the mode invokes the task each so many ticks. A task that isn't declared has no place.
+fn goes_on_by_name(program: &Program, mode: &Name, task: &Name, period: u64) -> bool
+    ensures { result ≡ tests.goes_on_with (declared.mode_of program.now mode.now) task.now period }
+{
+    match find_mode(program, mode) {
+        Some(mode) => is_invoked_every(mode, task, period),
+        None => false,
+    }
+}
+
+fn is_invoked_every(mode: &Mode, task: &Name, period: u64) -> bool
+    ensures { result
+        ≡ tests.is_period (declared.period_of_task (mode_of mode.now) task.now) period }
+{
+    match period_of_task(mode, task) {
+        Some(own) => own == period,
+        None => false,
+    }
+}
+
+fn period_of_task(mode: &Mode, task: &Name) -> Option<u64>
+    ensures { result ≡ declared.period_of_task (mode_of mode.now) task.now }
+{
+    for invocation in mode.invocations.as_slice() {
+        if invocation.task == *task {
+            return Some(ticks_between(mode.period, invocation.frequency));
+        }
+    }
+    None
+}
+
+// How many ticks lie between two of so many in a period, or 0 where there are none.
+fn ticks_between(period: u64, frequency: u64) -> u64
+    ensures { result ≡ period / frequency }
+{
+    if frequency == 0 {
+        return 0;
+    }
+    period / frequency
+}
+
+fn is_multiple(n: u64, of: u64) -> bool
+    ensures { result ≡ (n % of == 0) }
+{
+    if of == 0 {
+        return n == 0;
+    }
+    n % of == 0
+}
