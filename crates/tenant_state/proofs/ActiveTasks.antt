@@ -11,8 +11,8 @@ use Rattle.rig_config.specs.declared.Budgets.{Budgets}
 use Rattle.tenant_lines.specs.declared.commands.Command.{Command}
 use Rattle.tenant_lines.specs.declared.commands.Command.TheVariants.{Load, Start, ShowPort}
 use Rattle.tenant_lines.specs.declared.replies.Budget.{Budget}
-use Rattle.giotto_check.specs.Declarations.{task_of, mode_of}
-use Rattle.giotto_check.specs.Rules.{first_broken_rule}
+use Rattle.giotto_rules.specs.Declarations.{task_of, mode_of}
+use Rattle.giotto_rules.specs.Rules.{first_broken_rule}
 use Rattle.tenant_lines.specs.declared.replies.Refusal.TheVariants.{Rule}
 use Rattle.tenant_state.specs.Row.{ActiveTask, Row, StopReason, overrun, is_running, where_some, in_program, in_mode}
 use Rattle.giotto_text.specs.Parsing.{parsed}

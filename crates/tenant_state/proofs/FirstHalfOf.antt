@@ -13,7 +13,7 @@ use Rattle.giotto_text.specs.declared.programs.Mode.{Mode}
 use Rattle.giotto_text.specs.ProgramTrees as tree
 use Rattle.giotto_text.specs.ProgramTrees.{invocation_of, update_of}
 use Rattle.tenant_state.specs.declared.tenants.Active.{Active}
-use Rattle.giotto_check.specs.Declarations.{mode_of}
+use Rattle.giotto_rules.specs.Declarations.{mode_of}
 use Rattle.tenant_state.specs.FirstHalf.{unfinished_tasks, is_due_at, due_in_mode, due_tasks, names_due, all_ended, all_updated, first_half_with, completed_in_mode, first_half_of, stopped_with, happening_of, still_active}
 use Rattle.tenant_ports.specs.Ports.{actuators_reset}
 use Rattle.tenant_ports.specs.PortTables.{PortTables, all_ports}

@@ -6,13 +6,13 @@ use Rattle.std.specs.Option.{option_map_or}
 use Rattle.std.proofs.lemmas.List.{map-append}
 use Rattle.giotto_tasks.specs.Names.{Valuation}
 use Rattle.giotto_text.specs.Program.{ModeDeclaration, GiottoProgram}
-use Rattle.giotto_check.specs.Declarations.{mode_of, sensor_names}
+use Rattle.giotto_rules.specs.Declarations.{mode_of, sensor_names}
 use Rattle.tenant_state.specs.declared.tenants.Active.{Active}
 use Rattle.tenant_state.specs.declared.tenants.State as code
 use Rattle.tenant_state.specs.declared.tenants.State.TheVariants as states
 use Rattle.tenant_state.specs.Jobs.{JobValue, job_in, released_at}
 use Rattle.tenant_ports.specs.PortTables.{PortTables}
-use Rattle.tenant_ports.specs.Ports.{with_values}
+use Rattle.giotto_text.specs.PortNames.{with_values}
 use Rattle.tenant_state.specs.Row.{running, ActiveTask, Row, is_running_state}
 use Rattle.tenant_state.specs.SecondHalf.{Readings, reading_taken, all_invoked, all_released, counted, second_half_of}
 use Rattle.tenant_state.specs.Standing.{StandsFor, without_records}

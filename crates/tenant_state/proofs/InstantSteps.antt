@@ -6,7 +6,7 @@ use Rattle.giotto_tasks.specs.Sound.{AreSourcesOf}
 use Rattle.giotto_text.specs.Program.{ActuatorDeclaration, ActuatorUpdate}
 use Rattle.tenant_ports.specs.GuardSources.{AreGuardSources}
 use Rattle.tenant_ports.specs.PortTables.{PortTables, all_ports}
-use Rattle.tenant_ports.specs.Ports.{with_values}
+use Rattle.giotto_text.specs.PortNames.{with_values}
 
 abbrev pub IsPort : PortTables → Name → Type 0
 IsPort ports x = is_among (names_in (all_ports ports)) x ≡ true

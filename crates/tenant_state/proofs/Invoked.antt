@@ -11,7 +11,7 @@ use Rattle.giotto_text.specs.declared.programs.Invocation.{Invocation}
 use Rattle.giotto_text.specs.declared.programs.Mode.{Mode}
 use Rattle.giotto_text.specs.Program.{TaskDeclaration, TaskInvocation, ModeDeclaration, GiottoProgram, names_of, body_of}
 use Rattle.giotto_text.specs.ProgramTrees as trees
-use Rattle.giotto_check.specs.Declarations.{task_of, mode_of}
+use Rattle.giotto_rules.specs.Declarations.{task_of, mode_of}
 use Rattle.tenant_state.specs.Invocable.{IsInvocationOf, IsInvocationOfSome}
 use Rattle.tenant_state.specs.Jobs.{body_in}
 use Rattle.tenant_state.specs.Row.{ActiveTask, Row}
@@ -21,7 +21,7 @@ use Rattle.tenant_state.specs.declared.tenants.Active.{Active}
 use Rattle.giotto_tasks.specs.declared.bodies.Expr.{Expr}
 use Rattle.giotto_tasks.specs.Trees.{expression_of}
 use Rattle.giotto_tasks.specs.Meaning.{value_of}
-use Rattle.tenant_ports.specs.Ports.{own_ports}
+use Rattle.giotto_text.specs.PortNames.{own_ports}
 use Rattle.std.specs.Prelude.{IfSome}
 use Rattle.tenant_state.specs.SecondHalf.{is_invoked, released, with_inputs, invoked, all_invoked, all_released}
 use Rattle.giotto_tasks.proofs.ListLemmas.{find_passes}

@@ -1,25 +1,25 @@
--- What the rules say of a well-formed program: of its modes with their updates, switches and invocations, and of its tasks.
-use Rattle.std.proofs.Common.{◌≡◌, ℕ, zero, suc, ◌/◌, ◌%◌, ◌*◌, ◌≤◌, Bool, true, false, cond, ◌&&◌, List, [], ◌∷◌, ◌++◌, map, ℤ, pos, Option, Some, None, sym, refl, ap, subst, ◌∙◌, append_assoc, arith}
-use Rattle.std.specs.Prelude.{nat_le, ◌==◌}
+-- What is known of a well-formed program, over tables of its ports: of its modes with their updates and invocations, and of its tasks.
+use Rattle.std.proofs.Common.{◌≡◌, Bool, true, false, cond, List, [], ◌∷◌, ◌++◌, map, ℤ, pos, Option, Some, None, sym, refl, ap, subst, ◌∙◌, append_assoc}
 use Rattle.std.specs.List.{list_all, find, flat_map, AllByRecursion}
-use Rattle.std.proofs.Math.Nat.{div-add-mod}
-use Rattle.std.proofs.lemmas.Bool.{and_parts, and_from, or_left, or_right, leb-true, eqb-true}
+use Rattle.std.proofs.lemmas.Bool.{and_parts, and_from, or_left, or_right}
 use Rattle.std.proofs.lemmas.List.{map-append}
 use Rattle.std.proofs.lemmas.List.Folds.{list_all-append}
 use Rattle.giotto_tasks.specs.declared.names.Name.{Name}
 use Rattle.giotto_tasks.specs.Names.{Valuation, names_in, same_name, is_among}
 use Rattle.giotto_tasks.specs.Sound.{all_different, is_once_among, reads_only, AreSourcesOf}
 use Rattle.giotto_tasks.specs.Syntax.{Expression, number, port, unary, binary}
-use Rattle.giotto_text.specs.Program.{SensorDeclaration, ActuatorDeclaration, OutputDeclaration, TaskDeclaration, ActuatorUpdate, ModeSwitch, TaskInvocation, ModeDeclaration, GiottoProgram, names_of}
-use Rattle.giotto_check.specs.Declarations.{sensor_names, actuator_names, output_names, task_names, mode_names, task_of, mode_of, names_read, driver_ports}
+use Rattle.giotto_text.specs.Program.{SensorDeclaration, ActuatorDeclaration, OutputDeclaration, TaskDeclaration, ActuatorUpdate, TaskInvocation, ModeDeclaration, GiottoProgram, names_of}
+use Rattle.giotto_rules.specs.Declarations.{sensor_names, actuator_names, output_names, task_names, mode_names, task_of, mode_of, mode_ports, names_read, driver_ports}
+use Rattle.giotto_rules.specs.Drivers.{readable_ports}
 use Rattle.tenant_ports.specs.GuardSources.{AreGuardSources}
 use Rattle.tenant_ports.specs.PortTables.{PortTables, all_ports, ArePortsOf}
-use Rattle.tenant_ports.specs.Ports.{own_port, own_ports, initial_shared, initial_of_task}
-use Rattle.giotto_tasks.proofs.NameLemmas.{same_name_self, among_first, among_second, among_once, different_first, each_among}
-use Rattle.giotto_check.specs.KeepsRules.{KeepsRules}
-use Rattle.giotto_check.specs.Names.{are_among}
-use Rattle.giotto_check.specs.Reads.{names_in_guard}
-use Rattle.giotto_tasks.proofs.ListLemmas.{all_wider, both_pass, found_passes}
+use Rattle.giotto_text.specs.PortNames.{own_port, own_ports}
+use Rattle.tenant_ports.specs.Ports.{initial_shared, initial_of_task}
+use Rattle.giotto_tasks.proofs.NameLemmas.{same_name_self, among_first, among_second, among_other, among_passes, among_once, different_first, each_among}
+use Rattle.giotto_check.specs.Facts.{UpdateFits, InvocationFits, ModeFits, TaskFits, ProgramFits}
+use Rattle.giotto_rules.specs.Names.{are_among}
+use Rattle.giotto_rules.specs.Reads.{names_in_guard}
+use Rattle.giotto_tasks.proofs.ListLemmas.{all_wider, found_has}
 
 reads_each : (may : Name → Bool) (e : Expression) → list_all may (names_read e) ≡ true → reads_only may e ≡ true
 reads_each may (number z) h = refl
@@ -51,12 +51,11 @@ names_in_shared p =
     outputs [] = refl
     outputs (s ∷ ss) = ap (λ ns. s.name ∷ ns) (outputs ss)
 
-module _ (p : GiottoProgram) (kept : KeepsRules p) where
+module _ (p : GiottoProgram) (fits : ProgramFits p) where
   drivers_different : all_different (driver_ports p) ≡ true
   drivers_different =
-      let all : all_different (sensor_names p ++ (actuator_names p ++ (output_names p ++ (task_names p ++ mode_names p)))) ≡ true = (and_parts _ _ (and_parts _ _ kept.declares_once).0).0 in
       different_first (driver_ports p) (task_names p ++ mode_names p)
-      (subst (λ ns. all_different ns ≡ true) (sym (append_assoc (sensor_names p) (actuator_names p ++ output_names p) (task_names p ++ mode_names p) ∙ ap (λ ns. sensor_names p ++ ns) (append_assoc (actuator_names p) (output_names p) (task_names p ++ mode_names p)))) all)
+      (subst (λ ns. all_different ns ≡ true) (sym (append_assoc (sensor_names p) (actuator_names p ++ output_names p) (task_names p ++ mode_names p) ∙ ap (λ ns. sensor_names p ++ ns) (append_assoc (actuator_names p) (output_names p) (task_names p ++ mode_names p)))) fits.declared_once)
 
   -- an expression whose names are those of drivers' ports
   sources_of : (e : Expression) → are_among (driver_ports p) (names_read e) ≡ true → (ports : PortTables) → ArePortsOf p ports → AreSourcesOf ports.shared e
@@ -69,59 +68,29 @@ module _ (p : GiottoProgram) (kept : KeepsRules p) where
   guard_sources_of None h ports are = tt
   guard_sources_of (Some e) h ports are = sources_of e h ports are
 
--- an actuator update of a mode
-pub record UpdateFits (p : GiottoProgram) (m : ModeDeclaration) (u : ActuatorUpdate) : Type 0 where
-  pub positive : 1 ≤ u.frequency
-  pub divides : m.period % u.frequency ≡ 0
-  pub spaced : 1 ≤ m.period / u.frequency
-  pub value : (ports : PortTables) → ArePortsOf p ports → AreSourcesOf ports.shared u.value
-  pub guard : (ports : PortTables) → ArePortsOf p ports → AreGuardSources ports.shared u.guard
-  pub actuator : (ports : PortTables) → ArePortsOf p ports → is_among (names_in (all_ports ports)) u.actuator ≡ true
+  are_sources_of : (es : List Expression) → are_among (driver_ports p) (flat_map names_read es) ≡ true → (ports : PortTables) → ArePortsOf p ports → AllByRecursion (AreSourcesOf ports.shared) es
+  are_sources_of [] h ports are = tt
+  are_sources_of (e ∷ es) h ports are =
+      let both = and_parts _ _ (sym (list_all-append (is_among (driver_ports p)) (names_read e) (flat_map names_read es)) ∙ h) in
+      (sources_of e both.0 ports are, are_sources_of es both.1 ports are)
 
-pub record SwitchFits (p : GiottoProgram) (m : ModeDeclaration) (s : ModeSwitch) : Type 0 where
-  pub positive : 1 ≤ s.frequency
-  pub divides : m.period % s.frequency ≡ 0
-  pub spaced : 1 ≤ m.period / s.frequency
-  pub guard : (ports : PortTables) → ArePortsOf p ports → AreGuardSources ports.shared s.guard
+-- a mode's ports, and what its switches and invocations may read, are drivers' ports
+module _ (p : GiottoProgram) (m : ModeDeclaration) (fits : ModeFits p m) where
+  of_mode : (x : Name) → is_among (mode_ports p m) x ≡ true → is_among (driver_ports p) x ≡ true
+  of_mode x h = among_second (sensor_names p) _ x (among_second (actuator_names p) _ x (among_passes (is_among (output_names p)) (mode_ports p m) x fits.ports_are_outputs h))
 
-pub record InvocationFits (p : GiottoProgram) (m : ModeDeclaration) (i : TaskInvocation) : Type 0 where
-  pub positive : 1 ≤ i.frequency
-  pub divides : m.period % i.frequency ≡ 0
-  pub spaced : 1 ≤ m.period / i.frequency
-  pub guard : (ports : PortTables) → ArePortsOf p ports → AreGuardSources ports.shared i.guard
-  pub arguments : (ports : PortTables) → ArePortsOf p ports → AllByRecursion (AreSourcesOf ports.shared) i.arguments
+  readable : (x : Name) → is_among (readable_ports p m) x ≡ true → is_among (driver_ports p) x ≡ true
+  readable x h = by (is_among (mode_ports p m) x) refl
+    where
+      by : (b : Bool) → is_among (mode_ports p m) x ≡ b → is_among (driver_ports p) x ≡ true
+      by true e = of_mode x e
+      by false e = among_first (sensor_names p) _ x (among_other (mode_ports p m) (sensor_names p) x h e)
 
-pub record ModeFits (p : GiottoProgram) (m : ModeDeclaration) : Type 0 where
-  pub positive : 1 ≤ m.period
-  pub short : m.period ≤ 1000000
-  pub updates : AllByRecursion (UpdateFits p m) m.updates
-  pub switches : AllByRecursion (SwitchFits p m) m.switches
-  pub invocations : AllByRecursion (InvocationFits p m) m.invocations
+  read_by_updates : (xs : List Name) → are_among (mode_ports p m) xs ≡ true → are_among (driver_ports p) xs ≡ true
+  read_by_updates xs h = all_wider (is_among (mode_ports p m)) (is_among (driver_ports p)) of_mode xs h
 
--- the ticks between two times of a frequency that divides the period
-spaced_by : (period w : ℕ) → 1 ≤ period → period % w ≡ 0 → 1 ≤ period / w
-spaced_by period w positive divides = apart (period / w) refl
-  where
-    apart : (q : ℕ) → period / w ≡ q → 1 ≤ q
-    apart zero e =
-        let whole = div-add-mod period w in
-        let none : w * (period / w) ≡ 0 = rw e (mul_zero w) in
-        absurd (omega (arith, whole, none, divides, positive))
-      where
-        mul_zero : (n : ℕ) → n * 0 ≡ 0
-        mul_zero n = omega arith
-    apart (suc q) e = omega arith
-
-pub record Divides (period w : ℕ) : Type 0 where
-  pub positive : 1 ≤ w
-  pub divides : period % w ≡ 0
-  pub spaced : 1 ≤ period / w
-
-divides_from : (period w : ℕ) → 1 ≤ period → (nat_le 1 w && period % w == 0) ≡ true → Divides period w
-divides_from period w positive h =
-    let both = and_parts (nat_le 1 w) (period % w == 0) h in
-    let divides : period % w ≡ 0 = eqb-true _ _ both.1 in
-    record { positive = leb-true _ _ both.0; divides = divides; spaced = spaced_by period w positive divides }
+  read_by_others : (xs : List Name) → are_among (readable_ports p m) xs ≡ true → are_among (driver_ports p) xs ≡ true
+  read_by_others xs h = all_wider (is_among (readable_ports p m)) (is_among (driver_ports p)) readable xs h
 
 pub shared_port : (p : GiottoProgram) (x : Name) → is_among (driver_ports p) x ≡ true → (ports : PortTables) → ArePortsOf p ports → is_among (names_in (all_ports ports)) x ≡ true
 shared_port p x h ports are =
@@ -139,60 +108,39 @@ actuators_are_ports p ports are =
     each [] within = tt
     each (a ∷ rest) within = (within a.name (or_left _ _ (same_name_self a.name)), each rest (λ x h. within x (or_right (same_name a.name x) _ h)))
 
-module _ (p : GiottoProgram) (kept : KeepsRules p) where
-  are_sources_of : (es : List Expression) → are_among (driver_ports p) (flat_map names_read es) ≡ true → (ports : PortTables) → ArePortsOf p ports → AllByRecursion (AreSourcesOf ports.shared) es
-  are_sources_of [] h ports are = tt
-  are_sources_of (e ∷ es) h ports are =
-      let both = and_parts _ _ (sym (list_all-append (is_among (driver_ports p)) (names_read e) (flat_map names_read es)) ∙ h) in
-      (sources_of p kept e both.0 ports are, are_sources_of es both.1 ports are)
+-- what an update of a mode reads and writes, whatever values the program's ports have
+pub record UpdateHasPorts (p : GiottoProgram) (u : ActuatorUpdate) : Type 0 where
+  pub value : (ports : PortTables) → ArePortsOf p ports → AreSourcesOf ports.shared u.value
+  pub guard : (ports : PortTables) → ArePortsOf p ports → AreGuardSources ports.shared u.guard
+  pub actuator : (ports : PortTables) → ArePortsOf p ports → is_among (names_in (all_ports ports)) u.actuator ≡ true
 
+-- what an invocation of a mode reads
+pub record InvocationHasPorts (p : GiottoProgram) (i : TaskInvocation) : Type 0 where
+  pub guard : (ports : PortTables) → ArePortsOf p ports → AreGuardSources ports.shared i.guard
+  pub arguments : (ports : PortTables) → ArePortsOf p ports → AllByRecursion (AreSourcesOf ports.shared) i.arguments
+
+module _ (p : GiottoProgram) (fits : ProgramFits p) where
   pub mode_fits : (m : ModeDeclaration) (x : Name) → mode_of p x ≡ Some m → ModeFits p m
-  mode_fits m x found =
-      let kinds = found_passes _ (λ (m : ModeDeclaration). same_name m.name x) p.modes m (and_parts _ _ kept.uses_right_kinds).1 found in
-      let times = found_passes _ (λ (m : ModeDeclaration). same_name m.name x) p.modes m kept.frequencies_divide found in
-      let third = and_parts _ _ times in
-      let second = and_parts _ _ third.0 in
-      let first = and_parts _ _ second.0 in
-      let period = and_parts _ _ first.0 in
-      let others = and_parts _ _ kinds in
-      let of_kind = and_parts _ _ others.0 in
-      let positive : 1 ≤ m.period = leb-true _ _ period.0 in
+  mode_fits m x found = found_has (ModeFits p) (λ (m : ModeDeclaration). same_name m.name x) p.modes m fits.modes found
+
+  pub task_fits : (t : TaskDeclaration) (x : Name) → task_of p x ≡ Some t → TaskFits p t
+  task_fits t x found = found_has (TaskFits p) (λ (t : TaskDeclaration). same_name t.name x) p.tasks t fits.tasks found
+
+  pub update_has_ports : (m : ModeDeclaration) → ModeFits p m → (u : ActuatorUpdate) → UpdateFits p m u → UpdateHasPorts p u
+  update_has_ports m mode u update =
+      let names = and_parts _ _ (sym (list_all-append (is_among (driver_ports p)) (names_in_guard u.guard) (names_read u.value)) ∙ read_by_updates p m mode _ update.reads) in
       record {
-        positive = positive;
-        short = leb-true _ _ period.1;
-        updates = both_pass _ _ _ (λ u h k.
-            let d = divides_from m.period u.frequency positive h in
-            let parts = and_parts _ _ k in
-            let names = and_parts _ _ (sym (list_all-append (is_among (driver_ports p)) (names_in_guard u.guard) (names_read u.value)) ∙ parts.1) in
-            record {
-              positive = d.positive;
-              divides = d.divides;
-              spaced = d.spaced;
-              value = sources_of p kept u.value names.1;
-              guard = guard_sources_of p kept u.guard names.0;
-              actuator = shared_port p u.actuator (among_second (sensor_names p) _ u.actuator (among_first (actuator_names p) (output_names p) u.actuator parts.0));
-            }) m.updates first.1 of_kind.0;
-        switches = both_pass _ _ _ (λ s h k.
-            let d = divides_from m.period s.frequency positive h in
-            let parts = and_parts _ _ k in
-            let names = and_parts _ _ (sym (list_all-append (is_among (driver_ports p)) (names_in_guard s.guard) _) ∙ parts.1) in
-            record {
-              positive = d.positive;
-              divides = d.divides;
-              spaced = d.spaced;
-              guard = guard_sources_of p kept s.guard names.0;
-            }) m.switches second.1 of_kind.1;
-        invocations = both_pass _ _ _ (λ i h k.
-            let d = divides_from m.period i.frequency positive h in
-            let parts = and_parts _ _ k in
-            let names = and_parts _ _ (sym (list_all-append (is_among (driver_ports p)) (names_in_guard i.guard) (flat_map names_read i.arguments)) ∙ parts.1) in
-            record {
-              positive = d.positive;
-              divides = d.divides;
-              spaced = d.spaced;
-              guard = guard_sources_of p kept i.guard names.0;
-              arguments = are_sources_of i.arguments names.1;
-            }) m.invocations third.1 others.1;
+        value = sources_of p fits u.value names.1;
+        guard = guard_sources_of p fits u.guard names.0;
+        actuator = shared_port p u.actuator (among_second (sensor_names p) _ u.actuator (among_first (actuator_names p) (output_names p) u.actuator update.actuator));
+      }
+
+  pub invocation_has_ports : (m : ModeDeclaration) → ModeFits p m → (i : TaskInvocation) → InvocationFits p m i → InvocationHasPorts p i
+  invocation_has_ports m mode i invocation =
+      let names = and_parts _ _ (sym (list_all-append (is_among (driver_ports p)) (names_in_guard i.guard) (flat_map names_read i.arguments)) ∙ read_by_others p m mode _ invocation.reads) in
+      record {
+        guard = guard_sources_of p fits i.guard names.0;
+        arguments = are_sources_of p fits i.arguments names.1;
       }
 
 names_in_task : (t : TaskDeclaration) → names_in (initial_of_task t) ≡ own_ports t.name t.inputs ++ own_ports t.name (names_of t.states)
@@ -226,22 +174,22 @@ among_found look (u ∷ us) t x e h =
     at_head false e further = among_second (names_in (initial_of_task u)) _ x (further e h)
 
 -- the ports of a task
-pub record TaskFits (p : GiottoProgram) (t : TaskDeclaration) : Type 0 where
+pub record TaskHasPorts (p : GiottoProgram) (t : TaskDeclaration) : Type 0 where
   pub outputs : (ports : PortTables) → ArePortsOf p ports → list_all (is_among (names_in (all_ports ports))) t.outputs ≡ true
   pub inputs : (ports : PortTables) → ArePortsOf p ports → list_all (is_among (names_in (all_ports ports))) (own_ports t.name t.inputs) ≡ true
   pub states : (ports : PortTables) → ArePortsOf p ports → list_all (is_among (names_in (all_ports ports))) (own_ports t.name (names_of t.states)) ≡ true
 
-module _ (p : GiottoProgram) (kept : KeepsRules p) where
+module _ (p : GiottoProgram) (fits : ProgramFits p) where
   own_port_of : (ports : PortTables) → ArePortsOf p ports → (look : TaskDeclaration → Bool) (t : TaskDeclaration) → find look p.tasks ≡ Some t
       → (x : Name) → is_among (names_in (initial_of_task t)) x ≡ true → is_among (names_in (all_ports ports)) x ≡ true
   own_port_of ports are look t found x h =
       let there = subst (λ ns. is_among ns x ≡ true) (sym are.own_names) (among_found look p.tasks t x found h) in
       subst (λ ns. is_among ns x ≡ true) (sym (map-append (λ (v : Name × ℤ). v.0) ports.shared ports.own)) (among_second (names_in ports.shared) (names_in ports.own) x there)
 
-  pub task_fits : (t : TaskDeclaration) (x : Name) → task_of p x ≡ Some t → TaskFits p t
-  task_fits t x found =
+  pub task_has_ports : (t : TaskDeclaration) (x : Name) → task_of p x ≡ Some t → TaskHasPorts p t
+  task_has_ports t x found =
       let look : TaskDeclaration → Bool = λ (t : TaskDeclaration). same_name t.name x in
-      let kinds = found_passes _ look p.tasks t (and_parts _ _ kept.uses_right_kinds).0 found in
+      let kinds = (task_fits p fits t x found).outputs in
       let own = names_in_task t in
       let mine : list_all (is_among (names_in (initial_of_task t))) (own_ports t.name t.inputs ++ own_ports t.name (names_of t.states)) ≡ true =
       subst (λ ns. list_all (is_among ns) (own_ports t.name t.inputs ++ own_ports t.name (names_of t.states)) ≡ true) (sym own) (each_among (own_ports t.name t.inputs ++ own_ports t.name (names_of t.states))) in

@@ -4,7 +4,7 @@ use Rattle.giotto_text.specs.declared.programs.Actuator.{Actuator}
 use Rattle.giotto_text.specs.declared.programs.Sensor.{Sensor}
 use Rattle.giotto_text.specs.Program.{GiottoProgram}
 use Rattle.giotto_text.specs.ProgramTrees.{sensor_of, actuator_of}
-use Rattle.giotto_check.specs.Declarations.{lines_read, lines_written}
+use Rattle.giotto_rules.specs.Declarations.{lines_read, lines_written}
 
 abbrev only_with : List Sensor → List Actuator → GiottoProgram
 only_with sensors actuators = record { sensors = map sensor_of sensors; actuators = map actuator_of actuators; outputs = []; tasks = []; modes = []; start = [] }

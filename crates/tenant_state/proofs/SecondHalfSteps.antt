@@ -4,7 +4,7 @@ use Rattle.std.specs.Prelude.{◌==◌, ◌&&◌}
 use Rattle.std.specs.List.{find, AllByRecursion}
 use Rattle.std.proofs.lemmas.Bool.{eq-eqb, ne_eqb}
 use Rattle.giotto_text.specs.Program.{ModeSwitch, ModeDeclaration, GiottoProgram}
-use Rattle.giotto_check.specs.Declarations.{mode_of}
+use Rattle.giotto_rules.specs.Declarations.{mode_of}
 use Rattle.tenant_state.specs.FirstHalf.{is_due_at}
 use Rattle.tenant_ports.specs.Ports.{holds}
 use Rattle.tenant_state.specs.Row.{running, ActiveTask, Row, is_running_state, where_some, in_mode}

@@ -11,7 +11,7 @@ use Rattle.giotto_tasks.specs.declared.names.Name.{Name}
 use Rattle.giotto_tasks.specs.Names.{Valuation, same_name, is_among}
 use Rattle.giotto_tasks.specs.Sound.{all_different}
 use Rattle.giotto_text.specs.Program.{TaskDeclaration, TaskInvocation, ModeDeclaration, GiottoProgram}
-use Rattle.giotto_check.specs.Declarations.{task_of, mode_of}
+use Rattle.giotto_rules.specs.Declarations.{task_of, mode_of}
 use Rattle.tenant_state.specs.declared.tenants.Active.{Active}
 use Rattle.tenant_ports.specs.PortTables.{PortTables, HaveSameNames}
 use Rattle.tenant_state.specs.Row.{ActiveTask}
@@ -24,7 +24,7 @@ use Rattle.tenant_state.proofs.Invoked.{found_name}
 use Rattle.tenant_ports.proofs.PortNames.{ports_of_on}
 use Rattle.tenant_state.proofs.ProgramFacts.{mode_fits}
 use Rattle.giotto_tasks.proofs.NameLemmas.{same_name_is, same_name_self}
-use Rattle.giotto_check.specs.KeepsRules.{KeepsRules}
+use Rattle.giotto_check.specs.Facts.{ProgramFits}
 use Rattle.giotto_tasks.proofs.ListLemmas.{all_append, all_that, found_passes}
 use Rattle.tenant_state.proofs.AwaitedTasks.{is_another_release, are_different, releases_different}
 
@@ -100,10 +100,10 @@ module _ (p : GiottoProgram) (m : ModeDeclaration) (time n : ℕ) where
 
 -- the releases stay different when a mode's tasks are released
 pub different_behind : (p : GiottoProgram) (m : ModeDeclaration) (x : Name) (time n : ℕ) (ports : Valuation) (old new : List Active)
-    → KeepsRules p → mode_of p x ≡ Some m → AllByRecursion (IsActiveIn p n) old → all_different_releases old ≡ true
+    → ProgramFits p → mode_of p x ≡ Some m → AllByRecursion (IsActiveIn p n) old → all_different_releases old ≡ true
     → map active_of new ≡ map active_of old ++ all_released p m time n m.invocations ports → all_different_releases new ≡ true
 different_behind p m x time n ports old new kept found each different active =
-    let once = found_passes _ (λ (m : ModeDeclaration). same_name m.name x) p.modes m kept.invokes_once found in
+    let once = (mode_fits p kept m x found).tasks_once in
     releases_different new ∙ ap are_different active
     ∙ other_joined n (map active_of old) (all_released p m time n m.invocations ports) (older_releases p n old each) (new_releases p m time n ports)
     (sym (releases_different old) ∙ different) (released_other p m time n m.invocations ports once)
@@ -124,7 +124,7 @@ tenant_later program time active ports n is = record { short_time = is.short_tim
 
 -- one at which the mode's tasks are released
 pub tenant_behind : (p : GiottoProgram) (m : ModeDeclaration) (x : Name) (time n : ℕ) (values : Valuation) (old new : List Active) (before after : PortTables)
-    → KeepsRules p → mode_of p x ≡ Some m → IsTenant (Some p) time old before n → HaveSameNames before after
+    → ProgramFits p → mode_of p x ≡ Some m → IsTenant (Some p) time old before n → HaveSameNames before after
     → map active_of new ≡ map active_of old ++ all_released p m time n m.invocations values → AllByRecursion (IsActiveIn p (n + 1)) new
     → IsTenant (Some p) ((time + 1) % m.period) new after (n + 1)
 tenant_behind p m x time n values old new before after kept found is names active each =

@@ -10,7 +10,7 @@ use Rattle.tenant_lines.specs.declared.replies.Budget.{Budget}
 use Rattle.tenant_lines.specs.declared.replies.Refusal.TheVariants.{Rule, Running}
 use Rattle.tenant_state.specs.declared.tenants.Active.{Active}
 use Rattle.tenant_state.specs.declared.tenants.State as code
-use Rattle.giotto_check.specs.Rules.{first_broken_rule}
+use Rattle.giotto_rules.specs.Rules.{first_broken_rule}
 use Rattle.tenant_state.specs.Commands.{refusal_of, refused, has_no_switches, at_beginning, broken_budget, load_within, load_kept, load_checked, load_read}
 use Rattle.tenant_ports.specs.PortTables.{PortTables, all_ports}
 use Rattle.tenant_ports.specs.Ports.{initial_ports}
@@ -22,7 +22,7 @@ module _ (text : List ℕ) (budgets : Budgets) (row : Row) where
   pub refused_by_reader : (f : ReadFault) → parsed text ≡ Err f → load_read budgets row (parsed text) ≡ refused row (refusal_of f)
   refused_by_reader f e = ap (load_read budgets row) e
 
-  pub refused_by_rule : (p : GiottoProgram) (n : ℕ) → parsed text ≡ Ok p → first_broken_rule p ≡ Some n → load_read budgets row (parsed text) ≡ refused row (Rule 0)
+  pub refused_by_rule : (p : GiottoProgram) (n : ℕ) → parsed text ≡ Ok p → first_broken_rule p ≡ Some n → load_read budgets row (parsed text) ≡ refused row (Rule n)
   refused_by_rule p n e broken = ap (load_read budgets row) e ∙ ap (load_checked budgets p row) broken
 
   kept_if : (p : GiottoProgram) → parsed text ≡ Ok p → first_broken_rule p ≡ None → load_read budgets row (parsed text) ≡ load_kept budgets p row

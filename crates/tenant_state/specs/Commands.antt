@@ -17,8 +17,8 @@ use Rattle.tenant_lines.specs.declared.replies.Refusal.TheVariants.{Syntax, TooD
 use Rattle.tenant_lines.specs.declared.replies.Reply.{Reply}
 use Rattle.tenant_lines.specs.declared.replies.Reply.TheVariants.{Loaded, Started, Port, Refused}
 use Rattle.tenant_state.specs.declared.trace.Happening.TheVariants as happening
-use Rattle.giotto_check.specs.Declarations.{lines_read, lines_written}
-use Rattle.giotto_check.specs.Rules.{first_broken_rule}
+use Rattle.giotto_rules.specs.Declarations.{lines_read, lines_written}
+use Rattle.giotto_rules.specs.Rules.{first_broken_rule}
 use Rattle.rig_config.specs.Roster.{may_use}
 use Rattle.tenant_state.specs.Row.{State, loaded, running, Row, is_running, recorded}
 use Rattle.tenant_ports.specs.Ports.{initial_ports}
@@ -65,9 +65,9 @@ load_kept budgets p row =
     if has_no_switches p then (if is_running row then refused row Running else load_within p row (broken_budget budgets p))
     else refused row (Rule 0)
 
--- `load` of a program that was read: it must keep the rules; which one it breaks isn't told yet
+-- `load` of a program that was read: it must keep the rules, and the first that it breaks is named
 abbrev pub load_checked : Budgets → GiottoProgram → Row → Option ℕ → Outcome
-load_checked budgets p row (Some n) = refused row (Rule 0)
+load_checked budgets p row (Some n) = refused row (Rule n)
 load_checked budgets p row None = load_kept budgets p row
 
 -- `load`, by what its text reads as

@@ -8,9 +8,10 @@ use Rattle.giotto_tasks.specs.Meaning.{value_of, outputs_of, states_of}
 use Rattle.giotto_text.specs.Program.{TaskDeclaration, ActuatorUpdate, TaskInvocation, ModeDeclaration, GiottoProgram, body_of, names_of}
 use Rattle.tenant_state.specs.declared.trace.Happening.{Happening}
 use Rattle.tenant_state.specs.declared.trace.Happening.TheVariants as happening
-use Rattle.giotto_check.specs.Declarations.{task_of, mode_of}
+use Rattle.giotto_rules.specs.Declarations.{task_of, mode_of}
 use Rattle.tenant_state.specs.Row.{StopReason, asked, overrun, stopped, ActiveTask, Row, is_running, in_program, in_mode, recorded, with_happenings}
-use Rattle.tenant_ports.specs.Ports.{own_ports, with_values, actuators_reset, holds}
+use Rattle.giotto_text.specs.PortNames.{own_ports, with_values}
+use Rattle.tenant_ports.specs.Ports.{actuators_reset, holds}
 
 -- what has frequency w in a mode happens at the mode times that are multiples of P / w
 abbrev pub is_due_at : ℕ → ModeDeclaration → ℕ → Bool

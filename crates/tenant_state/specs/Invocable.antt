@@ -4,9 +4,10 @@ use Rattle.std.specs.List.{list_all, AllByRecursion}
 use Rattle.giotto_tasks.specs.Names.{names_in, is_among}
 use Rattle.giotto_tasks.specs.Sound.{IsSound, AreSourcesOf}
 use Rattle.giotto_text.specs.Program.{TaskDeclaration, TaskInvocation, ModeDeclaration, GiottoProgram, body_of}
-use Rattle.giotto_check.specs.Declarations.{task_of}
+use Rattle.giotto_rules.specs.Declarations.{task_of}
 use Rattle.tenant_ports.specs.GuardSources.{AreGuardSources}
-use Rattle.tenant_ports.specs.Ports.{own_ports, initial_shared, initial_ports}
+use Rattle.giotto_text.specs.PortNames.{own_ports}
+use Rattle.tenant_ports.specs.Ports.{initial_shared, initial_ports}
 
 -- an invocation of this task
 pub record IsInvocationOf (p : GiottoProgram) (i : TaskInvocation) (t : TaskDeclaration) : Type 0 where

@@ -6,7 +6,7 @@ use Rattle.giotto_tasks.specs.declared.names.Name.{Name}
 use Rattle.giotto_tasks.specs.Sound.{IsSound}
 use Rattle.giotto_tasks.specs.Syntax.{TaskBody, finished}
 use Rattle.giotto_text.specs.Program.{GiottoProgram, body_of}
-use Rattle.giotto_check.specs.Declarations.{task_of}
+use Rattle.giotto_rules.specs.Declarations.{task_of}
 use Rattle.giotto_tasks.specs.Names.{same_name}
 use Rattle.tenant_state.specs.declared.jobs.JobId.{JobId}
 use Rattle.tenant_state.specs.Row.{ActiveTask, Row}

@@ -7,7 +7,7 @@ use Rattle.tenant_state.specs.declared.grants.Offer.{Offer}
 use Rattle.tenant_state.specs.declared.grants.Bind.{Bind}
 use Rattle.tenant_state.specs.declared.trace.Record.{Record}
 use Rattle.tenant_state.specs.declared.trace.Happening.{Happening}
-use Rattle.giotto_check.specs.Declarations.{mode_of}
+use Rattle.giotto_rules.specs.Declarations.{mode_of}
 
 -- why a tenant was stopped
 pub data StopReason : Type 0 where

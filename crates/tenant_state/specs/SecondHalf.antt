@@ -8,10 +8,11 @@ use Rattle.giotto_tasks.specs.Syntax.{Expression}
 use Rattle.giotto_tasks.specs.Meaning.{value_of}
 use Rattle.giotto_text.specs.Program.{Source, from_line, from_grant, SensorDeclaration, TaskDeclaration, ModeSwitch, TaskInvocation, ModeDeclaration, GiottoProgram, names_of}
 use Rattle.tenant_state.specs.declared.trace.Happening.TheVariants as happening
-use Rattle.giotto_check.specs.Declarations.{sensor_names, actuator_names, task_of, mode_of, period_of_task}
+use Rattle.giotto_rules.specs.Declarations.{sensor_names, actuator_names, task_of, mode_of, period_of_task}
 use Rattle.rig_config.specs.Roster.{may_use}
 use Rattle.tenant_state.specs.Row.{ActiveTask, Row, is_running, where_some, in_program, in_mode, recorded}
-use Rattle.tenant_ports.specs.Ports.{own_ports, initial_ports, with_values, holds}
+use Rattle.giotto_text.specs.PortNames.{own_ports, with_values}
+use Rattle.tenant_ports.specs.Ports.{initial_ports, holds}
 use Rattle.tenant_state.specs.FirstHalf.{is_due_at}
 
 -- the input value of each line that the tenant may read

@@ -4,7 +4,7 @@ use Rattle.std.specs.List.{find, zip}
 use Rattle.std.specs.Option.{option_and_then, option_map, option_map_or}
 use Rattle.giotto_tasks.specs.Syntax.{TaskBody}
 use Rattle.giotto_text.specs.Program.{TaskInvocation}
-use Rattle.giotto_check.specs.Declarations.{mode_of}
+use Rattle.giotto_rules.specs.Declarations.{mode_of}
 use Rattle.tenant_state.specs.declared.jobs.JobId.{JobId}
 use Rattle.tenant_lines.specs.declared.replies.Reply.{Reply}
 use Rattle.tenant_state.specs.Commands.{Outcome}

@@ -3,8 +3,8 @@ use Rattle.std.specs.Prelude.{◌≡◌, ◌<◌, ◌^◌, ℕ, nat_eq, IsTrue, 
 use Rattle.std.specs.List.{list_all, AllByRecursion}
 use Rattle.giotto_tasks.specs.declared.names.Name.{Name}
 use Rattle.giotto_tasks.specs.Names.{same_name}
-use Rattle.giotto_text.specs.Program.{TaskDeclaration, ModeDeclaration, GiottoProgram, body_of}
-use Rattle.giotto_check.specs.Declarations.{task_of}
+use Rattle.giotto_text.specs.Program.{TaskDeclaration, GiottoProgram, body_of}
+use Rattle.giotto_rules.specs.Declarations.{task_of}
 use Rattle.tenant_state.specs.declared.tenants.Active.{Active}
 use Rattle.tenant_state.specs.declared.tenants.Reason.{Reason}
 use Rattle.tenant_state.specs.declared.tenants.Reason.TheVariants.{Overrun}

@@ -9,8 +9,8 @@ ghost use Rattle.tenant_lines.specs.declared.commands.Command.{Command};
 ghost use Rattle.tenant_lines.specs.declared.replies.Refusal.{Refusal};
 ghost use Rattle.tenant_lines.specs.declared.replies.Reply.{Reply};
 ghost use Rattle.giotto_text.specs.ProgramTrees.{mode_of};
-ghost use Rattle.giotto_check.specs.Declarations.{lines_read, lines_written};
-ghost use Rattle.giotto_check.specs.Rules.{first_broken_rule};
+ghost use Rattle.giotto_rules.specs.Declarations.{lines_read, lines_written};
+ghost use Rattle.giotto_rules.specs.Rules.{first_broken_rule};
 ghost use Rattle.rig_config.specs.Roster.{may_use};
 ghost use Rattle.tenant_state.specs.Commands.{commanded, has_no_switch, has_no_switches, refusal_of, load_read, show_port, refused, broken_budget};
 ghost use Rattle.tenant_state.specs.Row.{ActiveTask, Row, is_running};
@@ -142,8 +142,8 @@ fn read_program(alloc: Global, text: &str) -> Result<Checked, Refusal>
     };
     let checked = match giotto_check::check(alloc, program) {
         Ok(checked) => checked,
-        Err(CheckFault::Rule(_)) => return Err(Refusal::Rule(0)),
-        Err(CheckFault::Memory) => return Err(Refusal::Memory),
+        Err((_, CheckFault::Rule(rule))) => return Err(Refusal::Rule(rule)),
+        Err((_, CheckFault::Memory)) => return Err(Refusal::Memory),
     };
     if !have_no_switches(checked.program().modes()) {
         return Err(Refusal::Rule(0));

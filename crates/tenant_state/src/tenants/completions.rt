@@ -12,7 +12,7 @@ ghost use Rattle.tenant_state.specs.Tenants.{active_of, is_completed};
 
 use crate::jobs::{Done, Job, JobId};
 use crate::tenants::{Active, Tenant};
-use giotto_check::find_task;
+use giotto_rules::lookups::find_task;
 use giotto_tasks::bodies::Body;
 use giotto_text::programs::Task;
 use rig_config::TenantId;

@@ -8,7 +8,7 @@ ghost use Rattle.giotto_tasks.specs.Sound.{AreSourcesOf};
 ghost use Rattle.giotto_text.specs.Program.{ActuatorUpdate, TaskInvocation};
 ghost use Rattle.giotto_text.specs.declared.programs.Invocation.{Invocation};
 ghost use Rattle.giotto_text.specs.ProgramTrees.{mode_of, update_of, invocation_of};
-ghost use Rattle.giotto_check.specs.Declarations as declared;
+ghost use Rattle.giotto_rules.specs.Declarations as declared;
 ghost use Rattle.tenant_state.specs.FirstHalf.{unfinished_tasks, is_due_at, all_ended, all_updated, first_half_of};
 ghost use Rattle.tenant_ports.specs.GuardSources.{AreGuardSources};
 ghost use Rattle.tenant_ports.specs.PortTables.{all_ports, ArePortsOf, HaveSameNames};
@@ -18,7 +18,8 @@ ghost use Rattle.tenant_state.specs.Standing.{StandsFor, bodies_invoked};
 ghost use Rattle.tenant_state.specs.Tenants.{active_of, is_completed, IsActiveAsSome};
 
 use crate::tenants::{Active, Reason, State, Tenant};
-use giotto_check::{Checked, find_mode, find_task};
+use giotto_check::Checked;
+use giotto_rules::lookups::{find_mode, find_task};
 use giotto_tasks::names::Name;
 use giotto_text::programs::Mode;
 use tenant_ports::Ports;

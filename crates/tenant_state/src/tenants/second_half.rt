@@ -9,12 +9,12 @@ ghost use Rattle.giotto_tasks.specs.Meaning.{value_of};
 ghost use Rattle.giotto_tasks.specs.Sound.{AreSourcesOf, IsSound};
 ghost use Rattle.giotto_tasks.specs.Trees.{expression_of};
 ghost use Rattle.giotto_text.specs.ProgramTrees.{guard_of, invocation_of, mode_of, sensor_of, task_of};
-ghost use Rattle.giotto_check.specs.Declarations.{sensor_names};
+ghost use Rattle.giotto_rules.specs.Declarations.{sensor_names};
 ghost use Rattle.tenant_ports.specs.GuardSources.{AreGuardSources};
 ghost use Rattle.tenant_state.specs.Invocable.{IsInvocable, AreInvocable};
 ghost use Rattle.tenant_state.specs.Jobs.{body_in, job_in, job_of, released_at};
 ghost use Rattle.tenant_ports.specs.PortTables.{all_ports, ArePortsOf, HaveSameNames};
-ghost use Rattle.tenant_ports.specs.Ports.{own_ports, with_values};
+ghost use Rattle.giotto_text.specs.PortNames.{own_ports, with_values};
 ghost use Rattle.tenant_state.specs.Row.{ActiveTask, Row};
 ghost use Rattle.tenant_state.specs.SecondHalf as half;
 ghost use Rattle.tenant_state.specs.SecondHalf.{readings_within, reading_of, reading_taken, released, with_inputs, all_invoked, all_released, second_half_of};
@@ -23,7 +23,8 @@ ghost use Rattle.tenant_state.specs.Tenants.{active_of, is_completed, IsActiveIn
 
 use crate::jobs::{Job, JobId, Jobs};
 use crate::tenants::{Active, State, Tenant};
-use giotto_check::{Checked, find_mode, find_task};
+use giotto_check::Checked;
+use giotto_rules::lookups::{find_mode, find_task};
 use giotto_tasks::bodies::{Body, Expr};
 use giotto_tasks::values::Values;
 use giotto_text::programs::{Invocation, Mode, Program, Sensor, Source, Task};

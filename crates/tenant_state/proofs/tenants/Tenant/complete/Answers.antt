@@ -3,7 +3,7 @@ use Rattle.std.specs.List.{position}
 use Rattle.std.proofs.lemmas.Bool.{false≢true}
 use Rattle.std.proofs.lemmas.List.{get_or_read}
 use Rattle.giotto_text.specs.ProgramTrees as trees
-use Rattle.giotto_check.specs.Declarations.{task_of}
+use Rattle.giotto_rules.specs.Declarations.{task_of}
 use Rattle.tenant_state.specs.Standing.{Standing, StandsFor, outstanding_tasks, awaited_job}
 use Rattle.tenant_state.specs.Tenants.{standing_of, IsTenant}
 use Rattle.tenant_state.proofs.AwaitedTasks.{is_awaited, awaited_nowhere, named_at, with_result}

@@ -7,7 +7,7 @@ use Rattle.giotto_text.specs.declared.programs.Invocation.{Invocation}
 use Rattle.tenant_state.specs.declared.tenants.Active.{Active}
 use Rattle.tenant_state.specs.declared.tenants.Reason.TheVariants.{Overrun}
 use Rattle.tenant_state.specs.declared.tenants.State.TheVariants as states
-use Rattle.giotto_check.specs.Declarations.{task_of, mode_of}
+use Rattle.giotto_rules.specs.Declarations.{task_of, mode_of}
 use Rattle.tenant_state.specs.FirstHalf.{unfinished_tasks, is_due_at, all_ended, first_half_of}
 use Rattle.tenant_ports.specs.PortTables.{all_ports}
 use Rattle.tenant_state.specs.Row.{ActiveTask}
@@ -15,7 +15,8 @@ use Rattle.tenant_state.specs.Standing.{Standing, StandsFor}
 use Rattle.tenant_state.specs.Tenants.{active_of, standing_of, all_different_releases, IsActiveIn, IsActiveAsSome, IsTenantOf}
 use Rattle.tenant_state.proofs.FirstHalfOf.{is_open, ends, finished, halted, map_none, map_some, different_filter, fewer_filter}
 use Rattle.tenant_state.proofs.InstantSteps.{CanUpdate}
-use Rattle.tenant_state.proofs.ProgramFacts.{UpdateFits, mode_fits}
+use Rattle.tenant_state.proofs.ProgramFacts.{mode_fits, update_has_ports}
+use Rattle.giotto_check.specs.Facts.{UpdateFits}
 use Rattle.tenant_ports.proofs.PortNames.{ports_of_on, same_names_on}
 use Rattle.giotto_tasks.proofs.ListLemmas.{all_filter, all_map}
 use Rattle.tenant_state.proofs.tenants.Tenant.first_half.Goals as goal
@@ -64,8 +65,8 @@ update_due-requires c =
     let fits = subst (λ o. IsTenantOf o s.active.items s.ports s.count) c.in-Some.is c.self.invariant.fits in
     let q = c.end_due.new.ports in
     let are = ports_of_on p s.ports q fits.0 c.end_due.ensures.names in
-    let mode = mode_fits p c.program.ensures.rules (tree.mode_of md) s.mode found in
-    all_map (UpdateFits p (tree.mode_of md)) (CanUpdate q) (map tree.update_of md.updates) (λ u f. (f.guard q are, f.value q are, f.actuator q are)) mode.updates
+    let mode = mode_fits p c.program.ensures.fits (tree.mode_of md) s.mode found in
+    all_map (UpdateFits p (tree.mode_of md)) (CanUpdate q) (map tree.update_of md.updates) (λ u f. let has = update_has_ports p c.program.ensures.fits (tree.mode_of md) mode u f in (has.guard q are, has.value q are, has.actuator q are)) mode.updates
 
 pub invariant_of-self-2 : goal.invariant_of-self-2
 invariant_of-self-2 c =

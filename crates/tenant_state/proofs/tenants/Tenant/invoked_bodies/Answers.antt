@@ -3,18 +3,17 @@ use Rattle.std.specs.Prelude.{IfOk}
 use Rattle.std.specs.Arc.{arc_value}
 use Rattle.giotto_tasks.specs.Syntax.{TaskBody}
 use Rattle.giotto_text.specs.ProgramTrees.{mode_of}
-use Rattle.giotto_check.specs.Checked.{IsChecked}
+use Rattle.giotto_check.specs.Facts.{ProgramFits}
 use Rattle.tenant_state.specs.Standing.{Standing}
-use Rattle.giotto_check.specs.Declarations as declared
+use Rattle.giotto_rules.specs.Declarations as declared
 use Rattle.tenant_state.proofs.Invoked.{bodies_in_mode}
 use Rattle.tenant_state.proofs.InvocableModes.{all_invocable}
-use Rattle.giotto_check.specs.KeepsRules.{KeepsRules}
 use Rattle.tenant_state.proofs.tenants.Tenant.invoked_bodies.Goals as goal
 
 pub bodies_of-requires : goal.bodies_of-requires
 bodies_of-requires c =
     let p = c.program-program.result.now in
-    all_invocable p (mode_of c.in-Some-find_mode.mode.now) c.self.inside.mode (subst KeepsRules (sym c.program-program.ensures.tree) c.program-program.ensures.rules) (subst IsChecked (sym c.program-program.ensures.tree) c.program-program.ensures.checked).small c.in-Some-find_mode.ensures.found
+    all_invocable p (mode_of c.in-Some-find_mode.mode.now) c.self.inside.mode (subst ProgramFits (sym c.program-program.ensures.tree) c.program-program.ensures.fits) c.in-Some-find_mode.ensures.found
 
 pub returns : goal.returns
 returns c =

@@ -1,7 +1,7 @@
 use Rattle.std.proofs.Common.{◌≡◌, Some, None, sym, ap, ◌∙◌, subst}
 use Rattle.std.specs.List.{position}
 use Rattle.giotto_text.specs.ProgramTrees as trees
-use Rattle.giotto_check.specs.Declarations.{task_of}
+use Rattle.giotto_rules.specs.Declarations.{task_of}
 use Rattle.tenant_state.specs.Standing.{awaited_job}
 use Rattle.tenant_state.specs.Tenants.{standing_of, IsTenant}
 use Rattle.tenant_state.proofs.AwaitedTasks.{is_awaited, awaited_nowhere}
@@ -27,7 +27,7 @@ new-requires c =
     let a = c.index-active.result.now in
     let t = c.in-Some-find_task.task.now in
     let task : task_of p a.task ≡ Some (trees.task_of t) = rw c.program.ensures.tree at c.in-Some-find_task.ensures.found in
-    let sound = sound_task p c.program.ensures.rules (trees.task_of t) a.task c.program.ensures.checked.small task in
+    let sound = sound_task p (trees.task_of t) a.task c.program.ensures.fits task in
     rw (c.copy.ensures, c.in_ok-body.ensures, c.copy-inputs.ensures, c.copy-states.ensures)
     (job_fits p inside.mode_time items inside.ports inside.count c.args.id.now c.in-Some-place_of.place a found c.index-active.ensures known t task sound)
 

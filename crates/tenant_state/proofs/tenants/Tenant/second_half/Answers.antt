@@ -2,8 +2,8 @@ use Rattle.std.specs.Prelude.{IfSome}
 use Rattle.std.proofs.Common.{◌≡◌, ◌+◌, ◌%◌, false, ◌++◌, Some, map, refl, ap, sym, subst, ◌∙◌, arith}
 use Rattle.std.specs.List.{AllByRecursion}
 use Rattle.giotto_text.specs.ProgramTrees.{mode_of}
-use Rattle.giotto_check.specs.Checked.{IsChecked}
-use Rattle.giotto_check.specs.Declarations as declared
+use Rattle.giotto_check.specs.Facts.{ProgramFits}
+use Rattle.giotto_rules.specs.Declarations as declared
 use Rattle.tenant_state.specs.Jobs.{released_at}
 use Rattle.tenant_ports.specs.PortTables.{all_ports}
 use Rattle.tenant_state.specs.Row.{ActiveTask, Row}
@@ -16,7 +16,6 @@ use Rattle.tenant_state.proofs.InvocableModes.{all_invocable, sensors_are_ports,
 use Rattle.tenant_ports.proofs.PortNames.{same_names_on}
 use Rattle.tenant_state.proofs.ProgramFacts.{mode_fits}
 use Rattle.tenant_state.proofs.TenantBehind.{without_switches, tenant_later, tenant_behind}
-use Rattle.giotto_check.specs.KeepsRules.{KeepsRules}
 use Rattle.tenant_state.proofs.tenants.Tenant.second_half.Goals as goal
 
 pub sense-requires : goal.sense-requires
@@ -29,7 +28,7 @@ sense-requires c =
 pub invoke_all-requires-clause-invocable : goal.invoke_all-requires-clause-invocable
 invoke_all-requires-clause-invocable c =
     let p = c.program-program.result.now in
-    all_invocable p (mode_of c.in-Some-find_mode.mode.now) c.self.inside.mode (subst KeepsRules (sym c.program-program.ensures.tree) c.program-program.ensures.rules) (subst IsChecked (sym c.program-program.ensures.tree) c.program-program.ensures.checked).small c.in-Some-find_mode.ensures.found
+    all_invocable p (mode_of c.in-Some-find_mode.mode.now) c.self.inside.mode (subst ProgramFits (sym c.program-program.ensures.tree) c.program-program.ensures.fits) c.in-Some-find_mode.ensures.found
 
 pub invoke_all-requires-clause-bodies : goal.invoke_all-requires-clause-bodies
 invoke_all-requires-clause-bodies c =
@@ -51,7 +50,7 @@ invoke_all-requires-clause-each c =
 pub nonzero_rem-self : goal.nonzero_rem-self
 nonzero_rem-self c =
     let p = c.program-program.result.now in
-    (mode_fits p (subst KeepsRules (sym c.program-program.ensures.tree) c.program-program.ensures.rules) (mode_of c.in-Some-find_mode.mode.now) c.self.inside.mode c.in-Some-find_mode.ensures.found).positive
+    (mode_fits p (subst ProgramFits (sym c.program-program.ensures.tree) c.program-program.ensures.fits) (mode_of c.in-Some-find_mode.mode.now) c.self.inside.mode c.in-Some-find_mode.ensures.found).positive
 
 pub returns-in_default : goal.returns-in_default
 returns-in_default c =
@@ -137,7 +136,7 @@ invariant_of-self-2 c =
     let old = c.self.inside.active.items in
     let new = c.invoke_all.new.active.items in
     let sensed = all_ports c.sense.new.ports in
-    let kept = subst KeepsRules (sym c.program-program.ensures.tree) c.program-program.ensures.rules in
+    let kept = subst ProgramFits (sym c.program-program.ensures.tree) c.program-program.ensures.fits in
     let program = c.in-Some.is ∙ ap Some (sym c.program-program.ensures.tree) in
     let before = subst (λ o. IsTenant o time old c.self.inside.ports n) program c.self.invariant in
     let items = c.moved.ensures.items ∙ ap (λ v. v.items) c.replace-old.ensures.value in

@@ -9,12 +9,12 @@ use Rattle.giotto_tasks.specs.Names.{names_in, is_among}
 use Rattle.giotto_tasks.specs.Syntax.{TaskBody}
 use Rattle.giotto_text.specs.Program.{GiottoProgram, body_of, names_of}
 use Rattle.giotto_text.specs.ProgramTrees as tree
-use Rattle.giotto_check.specs.Declarations.{task_of}
+use Rattle.giotto_rules.specs.Declarations.{task_of}
 use Rattle.tenant_state.specs.FirstHalf.{ended_with}
 use Rattle.tenant_ports.specs.PortTables.{all_ports}
-use Rattle.tenant_ports.specs.Ports.{own_ports}
+use Rattle.giotto_text.specs.PortNames.{own_ports}
 use Rattle.tenant_state.specs.Tenants.{active_of, IsActiveAs, IsActiveAsSome, IsResultOf}
-use Rattle.tenant_state.proofs.ProgramFacts.{task_fits}
+use Rattle.tenant_state.proofs.ProgramFacts.{task_has_ports}
 use Rattle.tenant_ports.proofs.PortNames.{ports_of_on}
 use Rattle.tenant_state.proofs.tenants.first_half.end.Goals as goal
 
@@ -23,7 +23,7 @@ write_all-requires c =
     let p = c.args.checked.now in
     let t = tree.task_of c.in-Some.task.now in
     let found : task_of p c.args.active.now.task ≡ Some t = ap (λ (q : GiottoProgram). task_of q c.args.active.now.task) (sym c.program.ensures.tree) ∙ c.in-Some.ensures.found in
-    let fits = task_fits p c.program.ensures.rules t c.args.active.now.task found in
+    let fits = task_has_ports p c.program.ensures.fits t c.args.active.now.task found in
     let outputs : c.as_slice.result.now ≡ t.outputs = c.as_slice.ensures ∙ ap (λ (b : TaskBody). b.outputs) (c.behind-task.view_is ∙ c.deref.ensures) in
     subst (λ ns. list_all (is_among (names_in (all_ports c.args.ports.now))) ns ≡ true) (sym outputs) (fits.outputs c.args.ports.now c.requires.ports)
 
@@ -32,7 +32,7 @@ write_own-requires c =
     let p = c.args.checked.now in
     let t = tree.task_of c.in-Some.task.now in
     let found : task_of p c.args.active.now.task ≡ Some t = ap (λ (q : GiottoProgram). task_of q c.args.active.now.task) (sym c.program.ensures.tree) ∙ c.in-Some.ensures.found in
-    let fits = task_fits p c.program.ensures.rules t c.args.active.now.task found in
+    let fits = task_has_ports p c.program.ensures.fits t c.args.active.now.task found in
     let b = arc_value c.in-Some.task.now.body in
     let names : names_of t.states ≡ b.states = firsts-zip b.states c.in-Some.task.now.states c.in-Some.task.now.each_state in
     let states : c.as_slice-2.result.now ≡ names_of t.states = c.as_slice-2.ensures ∙ ap (λ (b : TaskBody). b.states) (c.behind-task-2.view_is ∙ c.deref-2.ensures) ∙ sym names in

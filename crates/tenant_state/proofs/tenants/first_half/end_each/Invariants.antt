@@ -1,7 +1,7 @@
 use Rattle.std.proofs.Common.{◌≡◌, not, false, ◌&&◌, map, filter, drop}
 use Rattle.std.specs.List.{list_any, AllByRecursion}
 use Rattle.giotto_tasks.specs.Names.{same_name}
-use Rattle.giotto_check.specs.Declarations.{task_of}
+use Rattle.giotto_rules.specs.Declarations.{task_of}
 use Rattle.tenant_state.specs.FirstHalf.{all_ended}
 use Rattle.tenant_ports.specs.PortTables.{all_ports, HaveSameNames}
 use Rattle.tenant_state.specs.Row.{ActiveTask}

@@ -8,7 +8,7 @@ use Rattle.giotto_tasks.specs.Trees.{expression_of}
 use Rattle.giotto_text.specs.Program.{names_of}
 use Rattle.giotto_text.specs.ProgramTrees.{task_of, invocation_of}
 use Rattle.tenant_ports.specs.PortTables.{all_ports}
-use Rattle.tenant_ports.specs.Ports.{own_ports, with_values}
+use Rattle.giotto_text.specs.PortNames.{own_ports, with_values}
 use Rattle.tenant_state.specs.SecondHalf.{values_given}
 use Rattle.tenant_state.proofs.Invoked.{arguments_given, state_names, same_active}
 use Rattle.tenant_state.proofs.tenants.second_half.activate.Goals as goal

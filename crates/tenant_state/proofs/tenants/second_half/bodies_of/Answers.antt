@@ -5,7 +5,7 @@ use Rattle.std.proofs.lemmas.List.{map-append, take_more}
 use Rattle.giotto_tasks.specs.Syntax.{TaskBody}
 use Rattle.giotto_text.specs.declared.programs.Invocation.{Invocation}
 use Rattle.giotto_text.specs.ProgramTrees.{invocation_of, mode_of, task_of}
-use Rattle.giotto_check.specs.Declarations as declared
+use Rattle.giotto_rules.specs.Declarations as declared
 use Rattle.tenant_state.specs.Invocable.{IsInvocable}
 use Rattle.tenant_state.specs.Jobs.{body_in}
 use Rattle.tenant_state.proofs.Invoked.{body_found, not_missing, body_of_task}

@@ -4,7 +4,7 @@ use Rattle.std.specs.List.{AllByRecursion}
 use Rattle.giotto_text.specs.ProgramTrees.{mode_of, task_of, invocation_of}
 use Rattle.tenant_state.specs.Jobs.{JobValue, body_in, job_of, job_in}
 use Rattle.tenant_ports.specs.PortTables.{all_ports}
-use Rattle.tenant_ports.specs.Ports.{own_ports}
+use Rattle.giotto_text.specs.PortNames.{own_ports}
 use Rattle.tenant_state.specs.Row.{ActiveTask}
 use Rattle.tenant_state.specs.SecondHalf.{released}
 use Rattle.tenant_state.specs.Tenants.{IsActiveIn}

@@ -3,9 +3,9 @@ use Rattle.std.specs.List.{list_all}
 use Rattle.giotto_tasks.specs.Names.{names_in, is_among}
 use Rattle.giotto_text.specs.Program.{SensorDeclaration}
 use Rattle.giotto_text.specs.ProgramTrees.{sensor_of}
-use Rattle.giotto_check.specs.Declarations.{sensor_names}
+use Rattle.giotto_rules.specs.Declarations.{sensor_names}
 use Rattle.tenant_ports.specs.PortTables.{all_ports, HaveSameNames}
-use Rattle.tenant_ports.specs.Ports.{with_values}
+use Rattle.giotto_text.specs.PortNames.{with_values}
 use Rattle.tenant_state.specs.SecondHalf.{readings_within, reading_taken}
 use Rattle.tenant_state.proofs.tenants.second_half.sense.Given as goal
 
