@@ -1,4 +1,4 @@
-//! Tests of the public calls of all crates, on values from outside. They stand here so that no library is proved a second time for its tests.
+//! Tests of the public calls of all crates, on values from outside. What the built program shows by its lines stands in `runs/`. They stand here so that no library is proved a second time for its tests.
 #![tactic(auto)]
 
 #[cfg(test)]
@@ -21,7 +21,3 @@ mod programs_printed;
 mod programs_read;
 #[cfg(test)]
 mod roster;
-#[cfg(test)]
-mod scripts;
-#[cfg(test)]
-mod tokens;

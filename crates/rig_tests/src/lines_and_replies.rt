@@ -2,7 +2,6 @@
 
 use giotto_tasks::names::Name;
 use std::test::Fail;
-use tenant_lines::command_lines::{LineFault, command_of};
 use tenant_lines::commands::Command;
 use tenant_lines::replies::{Budget, Refusal, Reply, print_reply};
 use tenant_lines::texts::Text;
@@ -31,72 +30,6 @@ fn texts_of_replies(rt: HostRuntime) -> Result<(), Fail> {
         assert_eq!(rt; printed.as_str(), text);
     }
     Ok(())
-}
-
-#[test]
-fn lines_that_start(rt: HostRuntime) {
-    for line in ["start", "  start\t"] {
-        assert!(rt;
-            matches!(command_of(rt.alloc(), line), Ok(Command::Start)),
-            "at {line}"
-        );
-    }
-}
-
-#[test]
-fn ports_shown(rt: HostRuntime) -> Result<(), Fail> {
-    for (line, port) in [
-        ("show port a", "a"),
-        ("show  port\ta ", "a"),
-        (
-            "show port abcdefghijklmnopqrstuvwxyz_01234",
-            "abcdefghijklmnopqrstuvwxyz_01234",
-        ),
-    ] {
-        let command = command_of(rt.alloc(), line);
-        let Ok(Command::ShowPort(name)) = &command else {
-            return Err("the line shows a port".into());
-        };
-        assert_eq!(rt; name.as_str(), port, "at {line}");
-    }
-    Ok(())
-}
-
-#[test]
-fn texts_of_load(rt: HostRuntime) -> Result<(), Fail> {
-    for (line, text) in [
-        ("load", ""),
-        ("load ", ""),
-        ("load  x ", " x "),
-        (" load\tx\r", "x\r"),
-    ] {
-        let Ok(Command::Load(loaded)) = command_of(rt.alloc(), line) else {
-            return Err("the line loads a text".into());
-        };
-        assert_eq!(rt; loaded.as_str(), text, "at {line}");
-    }
-    Ok(())
-}
-
-#[test]
-fn lines_without_command(rt: HostRuntime) {
-    for line in [
-        "",
-        " \t",
-        "start x",
-        "Start",
-        "show",
-        "show port",
-        "show port 9x",
-        "show port a b",
-        "show port T.i",
-        "show ports a",
-        "show port abcdefghijklmnopqrstuvwxyz_012345",
-        "load;",
-    ] {
-        let command = command_of(rt.alloc(), line);
-        assert!(rt; matches!(command, Err(LineFault::BadCommand)), "at {line}");
-    }
 }
 
 #[test]
