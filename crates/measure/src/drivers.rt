@@ -1,54 +1,76 @@
-//! The expression of a driver, evaluated many times.
+//! The expression of a driver, evaluated many times, and the same operations by a plain loop.
 
+use giotto_check::timetables::{SlotExpr, slot_value};
+use giotto_check::{Checked, check};
 use giotto_read::reading::read;
-use giotto_tasks::code::driver::DriverCode;
-use giotto_tasks::names::Name;
-use giotto_text::programs::Program;
+use giotto_tasks::operators::BinaryOperator;
 use std::alloc::{AllocError, Global};
 
-/// The sum of the values that the first update of a text's first mode gives its actuator, over its
-/// sensors and outputs; the first of these counts up. -1 where the text has no such update.
+/// The sum of the values of the first argument of a text's first invocation, where all ports are 5 but the first, which counts
+/// up. -1 where the text has no such argument, or breaks a rule.
 ///
 /// # Errors
-/// Want of memory, and more than 32 operations inside one another.
-pub fn driven(alloc: Global, text: &str, times: u64) -> anyhow::Result<i64> {
+/// Want of memory.
+pub fn driven(alloc: Global, text: &str, times: u64) -> Result<i64, AllocError> {
     let Ok(program) = read(alloc, text) else {
         return Ok(-1);
     };
-    let [mode, ..] = program.modes() else {
+    let Ok(checked) = check(alloc, program) else {
         return Ok(-1);
     };
-    let [update, ..] = mode.updates.as_slice() else {
+    let Some(argument) = first_argument(&checked) else {
         return Ok(-1);
     };
-    let names = sources(alloc, &program)?;
-    let code = DriverCode::new(alloc, &update.value, &names)?;
     let mut values = Vec::new(alloc);
-    for _name in &names {
+    for _slot in 0..checked.slots() {
         values.push(5i64)?;
     }
-    Ok(summed(&code, &mut values, times))
+    Ok(summed(argument, &mut values, times))
 }
 
-// The ports that an update reads.
-fn sources(alloc: Global, program: &Program) -> Result<Vec<Name>, AllocError> {
-    let mut names = Vec::new(alloc);
-    for sensor in program.sensors() {
-        names.push(sensor.name.copy())?;
+fn first_argument(checked: &Checked) -> Option<&SlotExpr> {
+    match checked.invocations(0) {
+        [first, ..] => first.arguments.as_slice().first(),
+        [] => None,
     }
-    for output in program.outputs() {
-        names.push(output.name.copy())?;
-    }
-    Ok(names)
 }
 
-fn summed(code: &DriverCode, values: &mut [i64], times: u64) -> i64 {
+fn summed(e: &SlotExpr, values: &mut [i64], times: u64) -> i64 {
     let mut sum = 0i64;
     for time in 0..times {
         if let [first, ..] = values {
             *first = (time & 7) as i64;
         }
-        sum = sum.saturating_add(code.value(values));
+        sum = sum.saturating_add(slot_value(e, values));
+    }
+    sum
+}
+
+const OPERATORS: [BinaryOperator; 10] = [
+    BinaryOperator::Add,
+    BinaryOperator::Subtract,
+    BinaryOperator::Multiply,
+    BinaryOperator::Less,
+    BinaryOperator::And,
+    BinaryOperator::Divide,
+    BinaryOperator::Equal,
+    BinaryOperator::Or,
+    BinaryOperator::Remainder,
+    BinaryOperator::AtLeast,
+];
+
+/// Thirty operations on values in a row, as many times.
+pub fn plain(times: u64) -> i64 {
+    let mut sum = 0i64;
+    for time in 0..times {
+        let first = (time & 7) as i64;
+        let mut value = first;
+        for _round in 0..3 {
+            for operator in &OPERATORS {
+                value = operator.apply(value, 5);
+            }
+        }
+        sum = sum.saturating_add(value);
     }
     sum
 }

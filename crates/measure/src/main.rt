@@ -4,6 +4,7 @@
 mod drivers;
 mod turns;
 
+use giotto_check::check;
 use giotto_read::printing::print;
 use giotto_read::reading::read;
 use giotto_text::lexer::tokens;
@@ -16,7 +17,7 @@ fn main(rt: HostRuntime) -> anyhow::Result<ExitCode> {
     let words: Vec<String> = std::env::args(&rt)?.collect(rt.alloc())?;
     let [_, work, times] = words.as_slice() else {
         eprintln!(rt;
-            "usage: measure tokens|read|print|drive TIMES < TEXT, or measure evaluate|jobs|loop TIMES"
+            "usage: measure tokens|read|check|print|drive TIMES < TEXT, or measure evaluate|jobs|operate|loop TIMES"
         )?;
         return Ok(ExitCode::from(2));
     };
@@ -24,10 +25,12 @@ fn main(rt: HostRuntime) -> anyhow::Result<ExitCode> {
     let done = match work.as_str() {
         "tokens" => tokens_many_times(rt.alloc(), rt.reader(), times)?,
         "read" => read_many_times(rt.alloc(), rt.reader(), times)?,
+        "check" => check_many_times(rt.alloc(), rt.reader(), times)?,
         "print" => print_many_times(rt.alloc(), rt.reader(), times)?,
         "drive" => drive_many_times(rt.alloc(), rt.reader(), times)?,
         "jobs" => turns::jobs(rt.alloc(), times)?,
         "evaluate" => turns::evaluated(rt.alloc(), times)?,
+        "operate" => drivers::plain(times),
         "loop" => turns::plain(times),
         _ => {
             eprintln!(rt; "measure: no such work")?;
@@ -74,6 +77,28 @@ fn read_many_times<R: Read + Drop>(
     Ok(found)
 }
 
+// How many ports the program of a reader's text has, read and checked anew each time; -1 where the text spells none, or one that
+// breaks a rule.
+fn check_many_times<R: Read + Drop>(
+    alloc: Global,
+    mut reader: R,
+    times: u64,
+) -> anyhow::Result<i64> {
+    let mut text = String::new(alloc);
+    reader.read_to_string(&mut text)?;
+    let mut found = 0i64;
+    for _time in 0..times {
+        let Ok(program) = read(alloc, text.as_str()) else {
+            return Ok(-1);
+        };
+        match check(alloc, program) {
+            Ok(checked) => found = found.saturating_add(checked.slots() as i64),
+            Err(_) => return Ok(-1),
+        }
+    }
+    Ok(found)
+}
+
 // How many bytes the program of a reader's text is printed as, counted anew each time; -1 where the text spells none.
 fn print_many_times<R: Read + Drop>(
     alloc: Global,
@@ -101,5 +126,5 @@ fn drive_many_times<R: Read + Drop>(
 ) -> anyhow::Result<i64> {
     let mut text = String::new(alloc);
     reader.read_to_string(&mut text)?;
-    drivers::driven(alloc, text.as_str(), times)
+    Ok(drivers::driven(alloc, text.as_str(), times)?)
 }
