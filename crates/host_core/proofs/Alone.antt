@@ -12,7 +12,7 @@ use Rattle.host_core.specs.declared.events.Event.{Event}
 use Rattle.host_core.specs.declared.events.Event.TheVariants.{Own}
 use Rattle.tenant_state.specs.declared.jobs.JobId.{JobId}
 use Rattle.tenant_lines.specs.declared.commands.Command.{Command}
-use Rattle.giotto_check.specs.Declarations.{mode_of}
+use Rattle.giotto_rules.specs.Declarations.{mode_of}
 use Rattle.rig_config.specs.Roster.{budgets_at}
 use Rattle.tenant_state.specs.Jobs.{job_of, same_job, is_active}
 use Rattle.tenant_state.specs.Row.{ActiveTask, Row, empty_row, is_running}

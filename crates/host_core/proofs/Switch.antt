@@ -15,7 +15,7 @@ use Rattle.host_core.specs.Setting.{Setting}
 use Rattle.tenant_state.specs.SecondHalf.{second_half_of}
 use Rattle.host_core.proofs.FirstRun.{tick, completed, first_run}
 use Rattle.host_core.proofs.Rig.{rig}
-use Rattle.giotto_check.proofs.ExamplePrograms.{switcher, two_constants}
+use Rattle.giotto_rules.proofs.ExamplePrograms.{switcher, two_constants}
 
 -- the rig where alpha has the switcher, which no `load` of today takes
 abbrev switching : Setting

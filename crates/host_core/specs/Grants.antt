@@ -7,7 +7,7 @@ use Rattle.giotto_tasks.specs.Names.{Valuation, same_name, value_at, is_among}
 use Rattle.rig_config.specs.declared.Config.{Config}
 use Rattle.tenant_state.specs.declared.grants.Offer.{Offer}
 use Rattle.tenant_state.specs.declared.grants.Bind.{Bind}
-use Rattle.giotto_check.specs.Declarations.{actuator_names}
+use Rattle.giotto_rules.specs.Declarations.{actuator_names}
 use Rattle.rig_config.specs.Roster.{place_of, name_at}
 use Rattle.tenant_state.specs.Row.{Row}
 
