@@ -77,7 +77,7 @@ fn read_many_times<R: Read + Drop>(
     Ok(found)
 }
 
-// How many ports the program of a reader's text has, read and checked anew each time; -1 where the text spells none, or one that
+// How many tasks the program of a reader's text has, read and checked anew each time; -1 where the text spells none, or one that
 // breaks a rule.
 fn check_many_times<R: Read + Drop>(
     alloc: Global,
@@ -92,7 +92,7 @@ fn check_many_times<R: Read + Drop>(
             return Ok(-1);
         };
         match check(alloc, program) {
-            Ok(checked) => found = found.saturating_add(checked.slots() as i64),
+            Ok(checked) => found = found.saturating_add(checked.tasks().len() as i64),
             Err(_) => return Ok(-1),
         }
     }
