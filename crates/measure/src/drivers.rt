@@ -63,11 +63,12 @@ const OPERATORS: [BinaryOperator; 10] = [
 pub fn plain(times: u64) -> i64 {
     let mut sum = 0i64;
     for time in 0..times {
-        let first = (time & 7) as i64;
-        let mut value = first;
+        // both change, so that no operation can be done once for all
+        let mut value = (time & 7) as i64;
+        let other = ((time >> 3) & 7) as i64;
         for _round in 0..3 {
             for operator in &OPERATORS {
-                value = operator.apply(value, 5);
+                value = operator.apply(value, other);
             }
         }
         sum = sum.saturating_add(value);
