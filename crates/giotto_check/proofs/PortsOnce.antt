@@ -25,7 +25,7 @@ refuted true f = f refl
 -- a name before a dot
 
 -- the first dot tells the name before it
-before_dot : (t u x y : Name) → has_no_dot t ≡ true → has_no_dot u ≡ true → own_port t x ≡ own_port u y → (t ≡ u) × (x ≡ y)
+pub before_dot : (t u x y : Name) → has_no_dot t ≡ true → has_no_dot u ≡ true → own_port t x ≡ own_port u y → (t ≡ u) × (x ≡ y)
 before_dot [] [] x y h k e = (refl, cc)
 before_dot [] (d ∷ u) x y h k e = let same : 46 ≡ d = cc in absurd (false≢true (subst (λ c. has_no_dot (c ∷ u) ≡ true) (sym same) k))
 before_dot (c ∷ t) [] x y h k e = let same : c ≡ 46 = cc in absurd (false≢true (subst (λ c. has_no_dot (c ∷ t) ≡ true) same h))
@@ -37,7 +37,7 @@ before_dot (c ∷ t) (d ∷ u) x y h k e =
     let rest = before_dot t u x y left.1 right.1 others in
     (ap (λ b. b ∷ t) first ∙ ap (λ bs. d ∷ bs) rest.0, rest.1)
 
-dotted : (t x : Name) → not (has_no_dot (own_port t x)) ≡ true
+pub dotted : (t x : Name) → not (has_no_dot (own_port t x)) ≡ true
 dotted [] x = refl
 dotted (c ∷ t) x = by (not (nat_eq 46 c)) (dotted t x)
   where

@@ -16,7 +16,8 @@ use Rattle.giotto_rules.specs.Declarations.{mode_of}
 use Rattle.rig_config.specs.Roster.{budgets_at}
 use Rattle.tenant_state.specs.Jobs.{job_of, same_job, is_active}
 use Rattle.tenant_state.specs.Row.{ActiveTask, Row, empty_row, is_running}
-use Rattle.tenant_state.specs.FirstHalf.{is_due_at, due_in_mode, due_in_program, due_tasks}
+use Rattle.tenant_state.specs.FirstHalf.{due_in_mode, due_in_program, due_tasks}
+use Rattle.tenant_slots.specs.Due.{is_due_at}
 use Rattle.host_core.specs.Base.{IsBase}
 use Rattle.host_core.specs.Completions.{has_completion}
 use Rattle.host_core.specs.Host.{with_rows, after_event}

@@ -30,7 +30,8 @@ use Rattle.rig_config.specs.Roster.{budgets_at, no_budgets}
 use Rattle.tenant_state.specs.FirstHalf.{unfinished_tasks, first_half_of}
 use Rattle.tenant_state.specs.Jobs.{JobValue, job_of, job_in, same_job, is_active}
 use Rattle.tenant_state.specs.Row.{ActiveTask, Row, empty_row}
-use Rattle.tenant_state.specs.SecondHalf.{second_half_of, readings_within}
+use Rattle.tenant_state.specs.SecondHalf.{second_half_of}
+use Rattle.tenant_slots.specs.Readings.{readings_within}
 use Rattle.tenant_state.specs.Standing.{Standing, empty_standing, StandsFor, IsOutcome, outstanding_tasks, awaited_job}
 use Rattle.host_core.proofs.Alone.{counted_of_active}
 use Rattle.host_core.proofs.AloneAlong.{unfinished_at}

@@ -5,7 +5,8 @@ use Rattle.rig_config.specs.Roster.{budgets_at}
 use Rattle.tenant_state.specs.FirstHalf.{unfinished_tasks, first_half_of}
 use Rattle.host_core.specs.HostStanding.{tenant_at}
 use Rattle.tenant_state.specs.Row.{ActiveTask, Row}
-use Rattle.tenant_state.specs.SecondHalf.{readings_within, second_half_of}
+use Rattle.tenant_state.specs.SecondHalf.{second_half_of}
+use Rattle.tenant_slots.specs.Readings.{readings_within}
 use Rattle.tenant_state.specs.Standing.{Standing, StandsFor, bodies_invoked, RoomValue, IsRoomFor}
 
 -- a tenant before and behind its first half; it is granted nothing, since it has no binds

@@ -10,7 +10,7 @@ use Rattle.tenant_state.specs.Commands.{Outcome, commanded}
 use Rattle.tenant_state.specs.FirstHalf.{unfinished_tasks, first_half_of}
 use Rattle.tenant_state.specs.Jobs.{job_of}
 use Rattle.tenant_state.specs.Instants.{LocalInstant, after_instant}
-use Rattle.tenant_state.specs.SecondHalf.{Readings, readings_within}
+use Rattle.tenant_slots.specs.Readings.{Readings, readings_within}
 use Rattle.host_core.specs.Grants.{granted_to}
 use Rattle.host_core.specs.Completions.{has_completion}
 use Rattle.host_core.specs.HostState.{row_at}

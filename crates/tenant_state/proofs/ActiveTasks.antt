@@ -18,7 +18,8 @@ use Rattle.tenant_state.specs.Row.{ActiveTask, Row, StopReason, overrun, is_runn
 use Rattle.giotto_text.specs.Parsing.{parsed}
 use Rattle.tenant_state.specs.Commands.{Outcome, has_no_switches, refused, load_within, load_checked, load_read, broken_budget, start_program, show_value, show_port, commanded}
 use Rattle.tenant_state.specs.FirstHalf.{stopped_with, completed_in_mode, first_half_with, first_half_of}
-use Rattle.tenant_state.specs.SecondHalf.{Readings, installed, replaced_if_due, sensed, entered, switch_taken, switched, is_invoked, released, invoked, all_released, invoked_in_mode, second_half_running}
+use Rattle.tenant_state.specs.SecondHalf.{installed, replaced_if_due, sensed, entered, switch_taken, switched, is_invoked, released, invoked, all_released, invoked_in_mode, second_half_running}
+use Rattle.tenant_slots.specs.Readings.{Readings}
 use Rattle.tenant_state.specs.Instants.{LocalInstant, after_instant}
 use Rattle.giotto_tasks.proofs.ListLemmas.{all_filter, all_append}
 

@@ -14,7 +14,9 @@ use Rattle.giotto_text.specs.ProgramTrees as tree
 use Rattle.giotto_text.specs.ProgramTrees.{invocation_of, update_of}
 use Rattle.tenant_state.specs.declared.tenants.Active.{Active}
 use Rattle.giotto_rules.specs.Declarations.{mode_of}
-use Rattle.tenant_state.specs.FirstHalf.{unfinished_tasks, is_due_at, due_in_mode, due_tasks, names_due, all_ended, all_updated, first_half_with, completed_in_mode, first_half_of, stopped_with, happening_of, still_active}
+use Rattle.tenant_state.specs.FirstHalf.{unfinished_tasks, due_in_mode, due_tasks, names_due, all_ended, first_half_with, completed_in_mode, first_half_of, stopped_with, happening_of, still_active}
+use Rattle.tenant_slots.specs.Due.{is_due_at}
+use Rattle.tenant_slots.specs.Updates.{all_updated}
 use Rattle.tenant_ports.specs.Ports.{actuators_reset}
 use Rattle.tenant_ports.specs.PortTables.{PortTables, all_ports}
 use Rattle.tenant_state.specs.declared.tenants.State.TheVariants as states

@@ -14,7 +14,8 @@ use Rattle.tenant_state.specs.Jobs.{JobValue, job_in, released_at}
 use Rattle.tenant_ports.specs.PortTables.{PortTables}
 use Rattle.giotto_text.specs.PortNames.{with_values}
 use Rattle.tenant_state.specs.Row.{running, ActiveTask, Row, is_running_state}
-use Rattle.tenant_state.specs.SecondHalf.{Readings, reading_taken, all_invoked, all_released, counted, second_half_of}
+use Rattle.tenant_state.specs.SecondHalf.{all_invoked, all_released, counted, second_half_of}
+use Rattle.tenant_slots.specs.Readings.{Readings, reading_taken}
 use Rattle.tenant_state.specs.Standing.{StandsFor, without_records}
 use Rattle.tenant_state.specs.Tenants.{state_of, active_of, IsActiveIn, IsTenantOf}
 use Rattle.tenant_state.proofs.ActiveTasks.{all_fresh}

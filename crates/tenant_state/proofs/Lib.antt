@@ -10,7 +10,6 @@ pub mod Invoked
 pub mod JobNames
 pub mod ProgramFacts
 pub mod ProgramLines
-pub mod Readings
 pub mod SecondHalfSteps
 pub mod TenantBehind
 pub mod TenantCommands

@@ -1,9 +1,9 @@
 -- The first half of an instant: the due tasks end, and the due actuators are updated; or the tenant is stopped, if a due task isn't completed.
-use Rattle.std.specs.Prelude.{ℕ, ◌/◌, ◌%◌, ◌==◌, Bool, not, ◌&&◌, if◌then◌else◌, ℤ, List, [], ◌∷◌, ◌++◌, map, filter, None}
+use Rattle.std.specs.Prelude.{ℕ, Bool, not, ◌&&◌, if◌then◌else◌, ℤ, List, [], ◌∷◌, ◌++◌, map, filter, None}
 use Rattle.std.specs.List.{flat_map, zip}
 use Rattle.std.specs.Option.{option_map_or}
 use Rattle.giotto_tasks.specs.declared.names.Name.{Name}
-use Rattle.giotto_tasks.specs.Names.{Valuation, same_name, is_among, with_value}
+use Rattle.giotto_tasks.specs.Names.{Valuation, same_name, is_among}
 use Rattle.giotto_tasks.specs.Meaning.{value_of, outputs_of, states_of}
 use Rattle.giotto_text.specs.Program.{TaskDeclaration, ActuatorUpdate, TaskInvocation, ModeDeclaration, GiottoProgram, body_of, names_of}
 use Rattle.tenant_state.specs.declared.trace.Happening.{Happening}
@@ -11,11 +11,9 @@ use Rattle.tenant_state.specs.declared.trace.Happening.TheVariants as happening
 use Rattle.giotto_rules.specs.Declarations.{task_of, mode_of}
 use Rattle.tenant_state.specs.Row.{StopReason, asked, overrun, stopped, ActiveTask, Row, is_running, in_program, in_mode, recorded, with_happenings}
 use Rattle.giotto_text.specs.PortNames.{own_ports, with_values}
-use Rattle.tenant_ports.specs.Ports.{actuators_reset, holds}
-
--- what has frequency w in a mode happens at the mode times that are multiples of P / w
-abbrev pub is_due_at : ℕ → ModeDeclaration → ℕ → Bool
-is_due_at time m w = time % (m.period / w) == 0
+use Rattle.tenant_ports.specs.Ports.{actuators_reset}
+use Rattle.tenant_slots.specs.Due.{is_due_at}
+use Rattle.tenant_slots.specs.Updates.{is_updated, updated, all_updated}
 
 -- the active tasks whose period divides the mode time, in the mode's text order
 abbrev pub due_in_mode : Row → ModeDeclaration → List ActiveTask
@@ -69,19 +67,6 @@ outputs_happened p ended = map (λ (o : Name × ℤ). happening.Out o.0 o.1) (fl
 -- the active tasks that aren't among these
 abbrev pub still_active : List Name → List ActiveTask → List ActiveTask
 still_active ended active = filter (λ (a : ActiveTask). not (is_among ended a.task)) active
-
--- an actuator update happens where it is due and its guard holds
-abbrev pub is_updated : ModeDeclaration → ℕ → ActuatorUpdate → Valuation → Bool
-is_updated m time u ports = is_due_at time m u.frequency && holds u.guard ports
-
--- the ports behind one actuator update
-abbrev pub updated : ModeDeclaration → ℕ → ActuatorUpdate → Valuation → Valuation
-updated m time u ports = if is_updated m time u ports then with_value ports u.actuator (value_of u.value ports) else ports
-
--- the ports behind these actuator updates, in text order
-abbrev pub all_updated : ModeDeclaration → ℕ → List ActuatorUpdate → Valuation → Valuation
-all_updated m time [] ports = ports
-all_updated m time (u ∷ us) ports = all_updated m time us (updated m time u ports)
 
 -- each update that happens
 abbrev pub updates_happened : ModeDeclaration → ℕ → List ActuatorUpdate → Valuation → List Happening

@@ -1,32 +1,19 @@
 -- The second half of an instant: a waiting program is installed, sensors are read, a switch may be taken, tasks are invoked, and the mode time moves on.
 use Rattle.std.specs.Prelude.{ℕ, zero, suc, ◌+◌, ◌-◌, ◌%◌, ◌==◌, Bool, ◌&&◌, ◌||◌, if◌then◌else◌, ℤ, List, [], ◌∷◌, ◌++◌, map, filter, Option, Some, None, unwrap_or, option_to_list}
-use Rattle.std.specs.List.{find, filter_map, list_all, enumerate_from}
+use Rattle.std.specs.List.{find, filter_map, list_all}
 use Rattle.std.specs.Option.{option_map, option_map_or}
 use Rattle.giotto_tasks.specs.declared.names.Name.{Name}
 use Rattle.giotto_tasks.specs.Names.{Valuation, value_at, values_of, is_among}
 use Rattle.giotto_tasks.specs.Syntax.{Expression}
 use Rattle.giotto_tasks.specs.Meaning.{value_of}
-use Rattle.giotto_text.specs.Program.{Source, from_line, from_grant, SensorDeclaration, TaskDeclaration, ModeSwitch, TaskInvocation, ModeDeclaration, GiottoProgram, names_of}
+use Rattle.giotto_text.specs.Program.{TaskDeclaration, ModeSwitch, TaskInvocation, ModeDeclaration, GiottoProgram, names_of}
 use Rattle.tenant_state.specs.declared.trace.Happening.TheVariants as happening
 use Rattle.giotto_rules.specs.Declarations.{sensor_names, actuator_names, task_of, mode_of, period_of_task}
-use Rattle.rig_config.specs.Roster.{may_use}
 use Rattle.tenant_state.specs.Row.{ActiveTask, Row, is_running, where_some, in_program, in_mode, recorded}
 use Rattle.giotto_text.specs.PortNames.{own_ports, with_values}
 use Rattle.tenant_ports.specs.Ports.{initial_ports, holds}
-use Rattle.tenant_state.specs.FirstHalf.{is_due_at}
-
--- the input value of each line that the tenant may read
-abbrev pub Readings : Type 0
-Readings = List (ℕ × ℤ)
-
--- the value of a line, if the tenant has a reading of it
-abbrev pub reading_of : Readings → ℕ → Option ℤ
-reading_of [] k = None
-reading_of (r ∷ rs) k = if r.0 == k then Some r.1 else reading_of rs k
-
--- the readings of those lines of a frame that may be read
-abbrev pub readings_within : List ℕ → List ℤ → Readings
-readings_within reads frame = filter (λ (r : ℕ × ℤ). may_use reads r.0) (enumerate_from 0 frame)
+use Rattle.tenant_slots.specs.Due.{is_due_at}
+use Rattle.tenant_slots.specs.Readings.{Readings, reading_taken}
 
 -- a port of this name stands in both programs, among these names of each
 abbrev pub stands_in_both : (GiottoProgram → List Name) → GiottoProgram → GiottoProgram → Name → Bool
@@ -53,15 +40,6 @@ installed new row = in_program (λ old row.
 -- a waiting program is installed when the mode's period ends
 abbrev pub replaced_if_due : Row → Row
 replaced_if_due row = if row.mode_time == 0 then where_some installed row.waiting row else row
-
--- a sensor's reading: its line's value, or what is granted to it
-abbrev pub reading_from : Readings → Valuation → SensorDeclaration → Source → Option ℤ
-reading_from readings granted s (from_line k) = reading_of readings k
-reading_from readings granted s from_grant = value_at granted s.name
-
--- what a sensor takes: its reading, or else its initial value
-abbrev pub reading_taken : Readings → Valuation → SensorDeclaration → ℤ
-reading_taken readings granted s = unwrap_or (reading_from readings granted s s.source) s.initial
 
 -- each sensor of the program takes its reading
 abbrev pub sensed : Readings → Valuation → GiottoProgram → Row → Row

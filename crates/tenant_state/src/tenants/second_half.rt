@@ -17,7 +17,8 @@ ghost use Rattle.tenant_ports.specs.PortTables.{all_ports, ArePortsOf, HaveSameN
 ghost use Rattle.giotto_text.specs.PortNames.{own_ports, with_values};
 ghost use Rattle.tenant_state.specs.Row.{ActiveTask, Row};
 ghost use Rattle.tenant_state.specs.SecondHalf as half;
-ghost use Rattle.tenant_state.specs.SecondHalf.{readings_within, reading_of, reading_taken, released, with_inputs, all_invoked, all_released, second_half_of};
+ghost use Rattle.tenant_state.specs.SecondHalf.{released, with_inputs, all_invoked, all_released, second_half_of};
+ghost use Rattle.tenant_slots.specs.Readings.{readings_within, reading_of, reading_taken};
 ghost use Rattle.tenant_state.specs.Standing.{StandsFor, IsRoomFor, bodies_invoked};
 ghost use Rattle.tenant_state.specs.Tenants.{active_of, is_completed, IsActiveIn};
 
@@ -27,13 +28,14 @@ use giotto_check::Checked;
 use giotto_rules::lookups::{find_mode, find_task};
 use giotto_tasks::bodies::{Body, Expr};
 use giotto_tasks::values::Values;
-use giotto_text::programs::{Invocation, Mode, Program, Sensor, Source, Task};
+use giotto_text::programs::{Invocation, Mode, Program, Task};
 use rig_config::{Budgets, TenantId};
 use std::alloc::{AllocError, Global};
 use std::marker::Model;
 use std::mem;
 use std::sync::Arc;
 use tenant_ports::Ports;
+use tenant_slots::sensors::reading;
 
 /// Room for what an instant of one tenant releases, made before the instant begins.
 #[derive(Drop)]
@@ -189,27 +191,6 @@ fn sense(program: &Program, budgets: &Budgets, frame: &[i64], ports: &mut Ports)
     for sensor in program.sensors() {
         ports.write(&sensor.name, reading(sensor, budgets, frame));
     }
-}
-
-// A sensor's reading: its line's value, or else its initial value.
-fn reading(sensor: &Sensor, budgets: &Budgets, frame: &[i64]) -> i64
-    ensures { result ≡ reading_taken (readings_within budgets.now.reads frame.now) [] (sensor_of sensor.now) }
-{
-    match &sensor.source {
-        Source::Line(line) => line_value(*line, budgets, frame).unwrap_or(sensor.initial),
-        Source::Grant => sensor.initial,
-    }
-}
-
-// The value of a line that the tenant may read.
-fn line_value(line: u64, budgets: &Budgets, frame: &[i64]) -> Option<i64>
-    ensures { result ≡ reading_of (readings_within budgets.now.reads frame.now) line }
-{
-    let line = line as usize;
-    if !budgets.reads.as_slice().contains(&line) {
-        return None;
-    }
-    frame.get(line).copied()
 }
 
 // The tasks of `from`, in `to`, which has room for them.

@@ -8,7 +8,8 @@ use Rattle.tenant_state.specs.declared.tenants.Active.{Active}
 use Rattle.tenant_state.specs.declared.tenants.Reason.TheVariants.{Overrun}
 use Rattle.tenant_state.specs.declared.tenants.State.TheVariants as states
 use Rattle.giotto_rules.specs.Declarations.{task_of, mode_of}
-use Rattle.tenant_state.specs.FirstHalf.{unfinished_tasks, is_due_at, all_ended, first_half_of}
+use Rattle.tenant_state.specs.FirstHalf.{unfinished_tasks, all_ended, first_half_of}
+use Rattle.tenant_slots.specs.Due.{is_due_at}
 use Rattle.tenant_ports.specs.PortTables.{all_ports}
 use Rattle.tenant_state.specs.Row.{ActiveTask}
 use Rattle.tenant_state.specs.Standing.{Standing, StandsFor}

@@ -7,7 +7,8 @@ use Rattle.giotto_rules.specs.Declarations as declared
 use Rattle.tenant_state.specs.Jobs.{released_at}
 use Rattle.tenant_ports.specs.PortTables.{all_ports}
 use Rattle.tenant_state.specs.Row.{ActiveTask, Row}
-use Rattle.tenant_state.specs.SecondHalf.{readings_within, all_invoked, all_released}
+use Rattle.tenant_state.specs.SecondHalf.{all_invoked, all_released}
+use Rattle.tenant_slots.specs.Readings.{readings_within}
 use Rattle.tenant_state.specs.Standing.{Standing, RoomValue}
 use Rattle.tenant_state.specs.Tenants.{state_of, active_of, is_completed, standing_of, HasNoSwitches, IsActiveIn, IsTenantOf, IsTenant}
 use Rattle.tenant_state.proofs.HalfStands.{new_releases, older_releases, Ran, running_stands, idle_stands, not_running, jobs_behind, no_jobs, jobs_as_before}

@@ -4,7 +4,8 @@ use Rattle.giotto_tasks.specs.Names.{same_name}
 use Rattle.giotto_text.specs.Program.{TaskInvocation}
 use Rattle.giotto_text.specs.declared.programs.Invocation.{Invocation}
 use Rattle.giotto_text.specs.ProgramTrees.{mode_of, invocation_of}
-use Rattle.tenant_state.specs.FirstHalf.{is_due_at, all_ended}
+use Rattle.tenant_state.specs.FirstHalf.{all_ended}
+use Rattle.tenant_slots.specs.Due.{is_due_at}
 use Rattle.tenant_ports.specs.PortTables.{all_ports, HaveSameNames}
 use Rattle.tenant_state.specs.Row.{ActiveTask}
 use Rattle.tenant_state.specs.Tenants.{active_of, is_completed}

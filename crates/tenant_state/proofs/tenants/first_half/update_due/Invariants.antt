@@ -1,7 +1,7 @@
 use Rattle.std.proofs.Common.{◌≡◌, map, drop}
 use Rattle.std.specs.List.{AllByRecursion}
 use Rattle.giotto_text.specs.ProgramTrees.{mode_of, update_of}
-use Rattle.tenant_state.specs.FirstHalf.{all_updated}
+use Rattle.tenant_slots.specs.Updates.{all_updated}
 use Rattle.tenant_ports.specs.PortTables.{all_ports, HaveSameNames}
 use Rattle.tenant_state.proofs.InstantSteps.{CanUpdate}
 use Rattle.tenant_state.proofs.tenants.first_half.update_due.Given as goal

@@ -9,7 +9,7 @@ use Rattle.giotto_text.specs.Program.{SensorDeclaration}
 use Rattle.giotto_text.specs.ProgramTrees.{sensor_of}
 use Rattle.tenant_ports.specs.PortTables.{all_ports}
 use Rattle.giotto_text.specs.PortNames.{with_values}
-use Rattle.tenant_state.specs.SecondHalf.{readings_within, reading_taken}
+use Rattle.tenant_slots.specs.Readings.{readings_within, reading_taken}
 use Rattle.tenant_ports.proofs.PortNames.{same_names_again, same_names_on, same_all_names}
 use Rattle.tenant_state.proofs.tenants.second_half.sense.Goals as goal
 

@@ -6,7 +6,7 @@ use Rattle.giotto_text.specs.ProgramTrees.{sensor_of}
 use Rattle.giotto_rules.specs.Declarations.{sensor_names}
 use Rattle.tenant_ports.specs.PortTables.{all_ports, HaveSameNames}
 use Rattle.giotto_text.specs.PortNames.{with_values}
-use Rattle.tenant_state.specs.SecondHalf.{readings_within, reading_taken}
+use Rattle.tenant_slots.specs.Readings.{readings_within, reading_taken}
 use Rattle.tenant_state.proofs.tenants.second_half.sense.Given as goal
 
 abbrev pub invariant-loop-sensor : goal.invariant-loop-sensor

@@ -1,0 +1,56 @@
+-- Intervals of which none ends for a while.
+use Rattle.std.proofs.Common.{◌≡◌, ℕ, ◌+◌, ◌<◌, ◌≤◌, ◌%◌, ◌==◌, Bool, false, List, [], ◌∷◌, ◌++◌, length, take, get_or, Some, ⊎_elim, sym, ap, subst, ◌∙◌, arith}
+use Rattle.std.specs.Prelude.{min, slice_get}
+use Rattle.std.specs.List.{AllByRecursion}
+use Rattle.std.proofs.Math.Nat.{min-le_left, min-le_right}
+use Rattle.std.proofs.lemmas.List.{take_more}
+use Rattle.std.proofs.lemmas.Option.{slice_get_cases}
+use Rattle.giotto_text.specs.Program.{ActuatorUpdate, TaskInvocation, ModeDeclaration, GiottoProgram}
+use Rattle.giotto_check.specs.Facts.{ProgramFits}
+use Rattle.giotto_check.specs.Timetables.{AreEach, IsUpdate, IsInvocation}
+use Rattle.giotto_check.specs.declared.timetables.SlotUpdate.{SlotUpdate}
+use Rattle.giotto_check.specs.declared.timetables.SlotInvocation.{SlotInvocation}
+use Rattle.giotto_tasks.proofs.ListLemmas.{all_and_one}
+use Rattle.tenant_slots.specs.Due.{is_due_at}
+use Rattle.tenant_slots.specs.Due.{IsQuietUntil}
+use Rattle.tenant_slots.proofs.Numbered.{mode_fits_at, update_due, invocation_due, update_intervals, invocation_intervals}
+
+-- from this time on and before the next
+abbrev pub AreQuiet : {E : Type 0} → (E → ℕ) → List E → ℕ → ℕ → Type 0
+AreQuiet interval es time next = (t : ℕ) → time ≤ t → t < next → AllByRecursion (λ e. (t % interval e == 0) ≡ false) es
+
+pub quiet_more : {E : Type 0} (interval : E → ℕ) (es : List E) (i : ℕ) (x : E) (time next more least : ℕ) → i < length es → x ≡ get_or es i x → AreQuiet interval (take i es) time next
+    → ((t : ℕ) → time ≤ t → t < more → (t % interval x == 0) ≡ false) → least ≡ min next more → AreQuiet interval (take (i + 1) es) time least
+quiet_more {E = E} interval es i x time next more least lt is quiet one e t from before =
+    let P : E → Type 0 = λ e. (t % interval e == 0) ≡ false in
+    subst (AllByRecursion P) (sym (take_more es i x lt ∙ ap (λ z. take i es ++ z ∷ []) (sym is)))
+    (all_and_one P (take i es) x (quiet t from (omega (arith, before, e, min-le_left next more))) (one t from (omega (arith, before, e, min-le_right next more))))
+
+-- lines of a mode are quiet where their entries are
+pub quiet_each : {L E : Type 0} (R : L → E → Type 0) (interval : E → ℕ) (due : L → Bool) (t : ℕ) → ((x : L) (e : E) → R x e → (t % interval e == 0) ≡ due x) → (xs : List L) (es : List E)
+    → AreEach R xs es → AllByRecursion (λ e. (t % interval e == 0) ≡ false) es → AllByRecursion (λ x. due x ≡ false) xs
+quiet_each R interval due t same [] [] each quiet = tt
+quiet_each R interval due t same [] (e ∷ es) each quiet = absurd each
+quiet_each R interval due t same (x ∷ xs) [] each quiet = absurd each
+quiet_each R interval due t same (x ∷ xs) (e ∷ es) each quiet = (sym (same x e each.0) ∙ quiet.0, quiet_each R interval due t same xs es each.1 quiet.1)
+
+module _ (p : GiottoProgram) (fits : ProgramFits p) (mode : ℕ) where
+  pub quiet_until : (m : ModeDeclaration) (us : List SlotUpdate) (is : List SlotInvocation) (time next after : ℕ) → AreEach (IsUpdate p m) m.updates us → AreEach (IsInvocation p m) m.invocations is
+      → AreQuiet (λ (e : SlotUpdate). e.interval) us time next → AreQuiet (λ (e : SlotInvocation). e.interval) is time after → after ≤ next → IsQuietUntil m time after
+  quiet_until m us is time next after each_u each_i quiet_u quiet_i le t from before = record {
+    no_update = quiet_each (IsUpdate p m) (λ (e : SlotUpdate). e.interval) (λ (u : ActuatorUpdate). is_due_at t m u.frequency) t (update_due p fits t m) m.updates us each_u (quiet_u t from (omega (arith, before, le)));
+    no_invocation = quiet_each (IsInvocation p m) (λ (e : SlotInvocation). e.interval) (λ (i : TaskInvocation). is_due_at t m i.frequency) t (invocation_due p fits t m) m.invocations is each_i (quiet_i t from before);
+  }
+
+  -- the intervals of a mode's entries are positive
+  pub updates_positive : (es : List SlotUpdate) → ((m : ModeDeclaration) → slice_get p.modes mode ≡ Some m → AreEach (IsUpdate p m) m.updates es) → (length p.modes ≤ mode → es ≡ [])
+      → AllByRecursion (λ (e : SlotUpdate). 0 < e.interval) es
+  updates_positive es there none = ⊎_elim
+      (λ found. update_intervals p fits found.0 (mode_fits_at p fits mode found.0 found.2) es (there found.0 found.2))
+      (λ past. subst (AllByRecursion (λ (e : SlotUpdate). 0 < e.interval)) (sym (none past.0)) tt) (slice_get_cases p.modes mode).1
+
+  pub invocations_positive : (es : List SlotInvocation) → ((m : ModeDeclaration) → slice_get p.modes mode ≡ Some m → AreEach (IsInvocation p m) m.invocations es) → (length p.modes ≤ mode → es ≡ [])
+      → AllByRecursion (λ (e : SlotInvocation). 0 < e.interval) es
+  invocations_positive es there none = ⊎_elim
+      (λ found. invocation_intervals p fits found.0 (mode_fits_at p fits mode found.0 found.2) es (there found.0 found.2))
+      (λ past. subst (AllByRecursion (λ (e : SlotInvocation). 0 < e.interval)) (sym (none past.0)) tt) (slice_get_cases p.modes mode).1

@@ -1,0 +1,4 @@
+pub mod Due
+pub mod Places
+pub mod Readings
+pub mod Updates

@@ -1,0 +1,42 @@
+//! Actuators: their updates in a mode, and their reset when a program is stopped.
+
+ghost use Rattle.std.specs.Prelude.{◌≡◌, Some, length, slice_get};
+ghost use Rattle.giotto_text.specs.Program.{ModeDeclaration};
+ghost use Rattle.giotto_check.specs.Slots.{slots_of, valuation_of};
+ghost use Rattle.tenant_ports.specs.Ports.{actuators_reset};
+ghost use Rattle.tenant_slots.specs.Updates.{all_updated};
+
+use crate::drivers::holds;
+use crate::due::Due;
+use giotto_check::Checked;
+use giotto_check::timetables::slot_value;
+
+/// Gives each actuator its initial value. Takes no memory.
+pub fn reset_actuators(checked: &Checked, values: &mut [i64])
+    requires { length values.old ≡ slots_of checked.now }
+    ensures { valuation_of checked.now values.new ≡ actuators_reset checked.now (valuation_of checked.now values.old) }
+{
+    let first = checked.program().sensors().len();
+    let actuators = checked.program().actuators();
+    for i in 0..actuators.len() {
+        let actuator = &actuators[i];
+        values[first + i] = actuator.initial;
+    }
+}
+
+/// Updates the actuators that are due in the mode at this place, at this mode time, and whose guards hold, in text order.
+/// Takes no memory.
+pub fn update_due(checked: &Checked, mode: usize, time: u64, values: &mut [i64])
+    requires { length values.old ≡ slots_of checked.now }
+    ensures { (m : ModeDeclaration) → slice_get checked.now.modes mode ≡ Some m
+        → valuation_of checked.now values.new ≡ all_updated m time m.updates (valuation_of checked.now values.old) }
+{
+    // Its frequencies are positive, and its ports stand once.
+    let _program = checked.program();
+    let mut due = Due::at(time);
+    for update in checked.updates(mode) {
+        if due.is_due(update.interval) && holds(&update.guard, values) {
+            values[update.actuator] = slot_value(&update.value, values);
+        }
+    }
+}

@@ -1,0 +1,20 @@
+//! The guards of drivers.
+
+ghost use Rattle.std.specs.Prelude.{◌≡◌, Option, length};
+ghost use Rattle.giotto_tasks.specs.Syntax.{Expression};
+ghost use Rattle.giotto_text.specs.Program.{GiottoProgram};
+ghost use Rattle.giotto_check.specs.Slots.{slots_of, valuation_of};
+ghost use Rattle.giotto_check.specs.Timetables.{IsGuard};
+ghost use Rattle.tenant_ports.specs.Ports.{holds};
+
+use giotto_check::timetables::{SlotExpr, slot_value};
+
+/// Whether a guard holds, where these are the values of all ports by their slots. No guard holds always. Takes no memory.
+pub fn holds(guard: &Option<SlotExpr>, values: &[i64]) -> bool
+    ensures { (p : GiottoProgram) (g : Option Expression) → IsGuard p g guard.now → length values.now ≡ slots_of p → result ≡ holds g (valuation_of p values.now) }
+{
+    match guard {
+        None => true,
+        Some(e) => slot_value(e, values) != 0,
+    }
+}

@@ -1,0 +1,45 @@
+//! What the sensors of a program read.
+
+ghost use Rattle.std.specs.Prelude.{◌≡◌, [], length, map};
+ghost use Rattle.giotto_text.specs.PortNames.{with_values};
+ghost use Rattle.giotto_text.specs.ProgramTrees.{sensor_of};
+ghost use Rattle.giotto_rules.specs.Declarations.{sensor_names};
+ghost use Rattle.giotto_check.specs.Slots.{slots_of, valuation_of};
+ghost use Rattle.tenant_slots.specs.Readings.{readings_within, reading_of, reading_taken};
+
+use giotto_check::Checked;
+use giotto_text::programs::{Sensor, Source};
+use rig_config::Budgets;
+
+/// Writes each sensor's reading. `frame` has the input value of each line. Takes no memory.
+pub fn sense(checked: &Checked, budgets: &Budgets, frame: &[i64], values: &mut [i64])
+    requires { length values.old ≡ slots_of checked.now }
+    ensures { valuation_of checked.now values.new
+        ≡ with_values (valuation_of checked.now values.old) (sensor_names checked.now) (map (reading_taken (readings_within budgets.now.reads frame.now) []) checked.now.sensors) }
+{
+    let sensors = checked.program().sensors();
+    for i in 0..sensors.len() {
+        values[i] = reading(&sensors[i], budgets, frame);
+    }
+}
+
+/// A sensor's reading where nothing is granted: its line's value, if the tenant may read the line, or else its initial value.
+pub fn reading(sensor: &Sensor, budgets: &Budgets, frame: &[i64]) -> i64
+    ensures { result ≡ reading_taken (readings_within budgets.now.reads frame.now) [] (sensor_of sensor.now) }
+{
+    match &sensor.source {
+        Source::Line(line) => line_value(*line, budgets, frame).unwrap_or(sensor.initial),
+        Source::Grant => sensor.initial,
+    }
+}
+
+// The value of a line that the tenant may read.
+fn line_value(line: u64, budgets: &Budgets, frame: &[i64]) -> Option<i64>
+    ensures { result ≡ reading_of (readings_within budgets.now.reads frame.now) line }
+{
+    let line = line as usize;
+    if !budgets.reads.as_slice().contains(&line) {
+        return None;
+    }
+    frame.get(line).copied()
+}
