@@ -49,6 +49,15 @@ impl Values {
         self.items.push(value);
     }
 
+    /// Takes these values in place of its own: at most 16.
+    pub fn set(&mut self, values: &[i64])
+        requires { length values.now ≤ 16 }
+        ensures { self.new ≡ values.now }
+    {
+        self.items.clear();
+        let _ = self.items.try_extend_from_slice(values);
+    }
+
     /// How many values there are: at most 16.
     pub fn len(&self) -> usize
         ensures value { result ≡ length self.now }
@@ -77,9 +86,7 @@ impl Values {
         ensures { result ≡ self.now }
     {
         let mut copy = Values::new();
-        for value in self.as_slice() {
-            copy.push(*value);
-        }
+        copy.set(self.as_slice());
         copy
     }
 

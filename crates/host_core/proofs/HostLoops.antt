@@ -1,55 +1,68 @@
 -- One tenant more has gone through its step, in the loops over all tenants.
-use Rattle.std.proofs.Common.{◌≡◌, ℕ, suc, ◌+◌, ◌<◌, ◌≤◌, ◌≢◌, ⊎_elim, List, [], ◌∷◌, ◌++◌, ℤ, length, map, get_or, set, take, refl, sym, ap, ◌∙◌, subst, length-set, arith}
+use Rattle.std.proofs.Common.{◌≡◌, ℕ, ◌+◌, ◌<◌, ◌≢◌, ⊎_elim, List, [], ◌∷◌, ◌++◌, ℤ, length, map, get_or, set, take, drop, refl, sym, ap, ◌∙◌, subst, length-set, arith}
 use Rattle.std.specs.List.{All}
 use Rattle.std.proofs.lemmas.Bool.{cases_eq}
 use Rattle.std.proofs.lemmas.List.{get_or-set_same, get_or-set_other, get_or_default, append-nil, append_assoc, take_more_set, length-take}
-use Rattle.std.proofs.lemmas.List.Sums.{sum_by-cons}
-use Rattle.host_core.specs.HostStanding.{released_from, tenant_at}
-use Rattle.host_core.specs.Halves.{AreStepped, AreFirstHalves, AreSecondHalves, AreReady, no_room, places_of}
+use Rattle.std.proofs.lemmas.List.Sums.{sum_by-append, sum_by-cons, sum_by-drop_more}
+use Rattle.host_core.specs.HostStanding.{IsAt, Stands, released_from, tenant_at}
+use Rattle.host_core.specs.Halves.{AreStepped, AreFirstHalves, AreSecondHalves, IsSecondHalf, most_of}
+use Rattle.host_core.specs.Host.{after_event}
+use Rattle.host_core.specs.declared.events.Event.TheVariants.{Tick}
+use Rattle.host_core.specs.HostState.{HostState}
+use Rattle.host_core.specs.Setting.{Setting}
+use Rattle.rig_config.specs.declared.Budgets.{Budgets}
 use Rattle.rig_config.specs.declared.Config.{Config}
+use Rattle.rig_config.specs.declared.TenantConfig.{TenantConfig}
+use Rattle.rig_config.specs.Roster.{budgets_at}
 use Rattle.tenant_state.specs.Jobs.{JobValue, released_at}
-use Rattle.tenant_state.specs.Standing.{Standing, empty_standing, RoomValue, IsRoomFor}
+use Rattle.tenant_state.specs.Standing.{Standing, at_rest, empty_standing, most_released}
+use Rattle.host_core.proofs.AtRest.{same_length, rest_twice, all_at_rest, stands_at_rest, stands_outside}
+use Rattle.host_core.proofs.HostSteps.{budgets_here, stands_after_tick}
 
 pub stepped_none : (R : ℕ → Standing → Standing → Type 0) (xs : List Standing) → AreStepped R 0 xs xs
 stepped_none R xs = record { as_many = refl; stepped = λ t lt. absurd (omega arith); others = λ t le. refl }
-
-pub stepped_more : (R : ℕ → Standing → Standing → Type 0) (i : ℕ) (before now : List Standing) (s : Standing) → i < length before
-    → AreStepped R i before now → R i (tenant_at before i) s → AreStepped R (i + 1) before (set now i s)
-stepped_more R i before now s lt steps here = record {
-  as_many = length-set now i s ∙ steps.as_many;
-  stepped = λ t below. ⊎_elim
-      (λ (e : t ≡ i).
-      subst (λ k. R k (tenant_at before k) (tenant_at (set now i s) k)) (sym e)
-      (subst (R i (tenant_at before i)) (sym (get_or-set_same now i s (empty_standing 0) (omega (arith, steps.as_many)))) here))
-      (λ (differ : t ≢ i). subst (R t (tenant_at before t)) (sym (get_or-set_other now i t s (empty_standing 0) differ)) (steps.stepped t (omega arith)))
-      (cases_eq t i);
-  others = λ t le. get_or-set_other now i t s (empty_standing 0) (λ e. absurd (omega arith)) ∙ steps.others t (omega arith);
-}
 
 -- the next tenant is as it was
 pub unstepped : (R : ℕ → Standing → Standing → Type 0) (i : ℕ) (before now : List Standing) (d : Standing) → i < length before → AreStepped R i before now → get_or now i d ≡ tenant_at before i
 unstepped R i before now d lt steps = get_or_default now i d (empty_standing 0) (omega (arith, steps.as_many)) ∙ steps.others i (omega arith)
 
-pub released_more : (n from : ℕ) (xs : List Standing) (s : Standing)
+pub stepped_more : (R : ℕ → Standing → Standing → Type 0) (i : ℕ) (before now : List Standing) (x s : Standing) → i < length before → x ≡ get_or now i x
+    → AreStepped R i before now → R i x s → AreStepped R (i + 1) before (set now i s)
+stepped_more R i before now x s lt here steps one = record {
+  as_many = length-set now i s ∙ steps.as_many;
+  stepped = λ t below. ⊎_elim
+      (λ (e : t ≡ i).
+      subst (λ k. R k (tenant_at before k) (tenant_at (set now i s) k)) (sym e)
+      (subst (R i (tenant_at before i)) (sym (get_or-set_same now i s (empty_standing 0) (omega (arith, steps.as_many))))
+      (subst (λ y. R i y s) (here ∙ unstepped R i before now x lt steps) one)))
+      (λ (differ : t ≢ i). subst (R t (tenant_at before t)) (sym (get_or-set_other now i t s (empty_standing 0) differ)) (steps.stepped t (omega arith)))
+      (cases_eq t i);
+  others = λ t le. get_or-set_other now i t s (empty_standing 0) (λ e. absurd (omega arith)) ∙ steps.others t (omega arith);
+}
+
+-- a second half, for the tenant's own budgets
+pub second_more : (config : Config) (frame : List ℤ) (i : ℕ) (before now : List Standing) (x s : Standing) (tenants : List TenantConfig) (t : TenantConfig) → i < length before → x ≡ get_or now i x
+    → length before ≡ length config.tenants → tenants ≡ config.tenants → AreSecondHalves config frame i before now → IsSecondHalf (get_or tenants i t).budgets.reads frame x s
+    → AreSecondHalves config frame (i + 1) before (set now i s)
+second_more config frame i before now x s tenants t lt here long same steps one =
+    stepped_more (λ t. IsSecondHalf (budgets_at config t).reads frame) i before now x s lt here steps
+    (subst (λ (b : Budgets). IsSecondHalf b.reads frame x s)
+    (ap (λ (xs : List TenantConfig). (get_or xs i t).budgets) same ∙ sym (budgets_here config i t (omega (arith, long)))) one)
+
+-- how many jobs the tenants left can release
+pub most_left : (R : ℕ → Standing → Standing → Type 0) (i : ℕ) (before now : List Standing) (x : Standing) → i < length before → x ≡ get_or now i x → AreStepped R i before now
+    → most_of (drop i before) ≡ most_released x.row + most_of (drop (i + 1) before)
+most_left R i before now x lt here steps =
+    sum_by-drop_more (λ (s : Standing). most_released s.row) before i (empty_standing 0) lt
+    ∙ ap (λ (s : Standing). most_released s.row + most_of (drop (i + 1) before)) (sym (here ∙ unstepped R i before now x lt steps))
+
+released_more : (n from : ℕ) (xs : List Standing) (s : Standing)
     → released_from n from (xs ++ s ∷ []) ≡ released_from n from xs ++ released_at (from + length xs) n s.row
 released_more n from [] s = ap (λ k. released_at k n s.row ++ []) (omega arith) ∙ append-nil (released_at (from + 0) n s.row)
 released_more n from (x ∷ xs) s =
     ap (λ js. released_at from n x.row ++ js) (released_more n (from + 1) xs s)
     ∙ (sym (append_assoc (released_at from n x.row) (released_from n (from + 1) xs) (released_at (from + 1 + length xs) n s.row))
     ∙ ap (λ k. (released_at from n x.row ++ released_from n (from + 1) xs) ++ released_at k n s.row) (omega arith))
-
--- the room of the first tenant that is left, and of those behind it
-pub ready_first : (from : ℕ) (tenants : List Standing) (room : RoomValue) (rest : List RoomValue) → AreReady from tenants (room ∷ rest) → IsRoomFor (tenant_at tenants from).row room
-ready_first from tenants room rest ready = subst (λ k. IsRoomFor (tenant_at tenants k).row room) (omega arith) (ready.each 0 (omega arith))
-
-pub ready_rest : (from : ℕ) (tenants : List Standing) (room : RoomValue) (rest : List RoomValue) → AreReady from tenants (room ∷ rest) → AreReady (from + 1) tenants rest
-ready_rest from tenants room rest ready = record {
-  as_many = omega (arith, ready.as_many);
-  each = λ k lt.
-      let one : k + 1 ≡ suc k = omega arith in
-      subst (IsRoomFor (tenant_at tenants (from + 1 + k)).row) (ap (λ n. get_or (room ∷ rest) n no_room) one)
-      (subst (λ j. IsRoomFor (tenant_at tenants j).row (get_or (room ∷ rest) (k + 1) no_room)) (omega arith) (ready.each (k + 1) (omega arith)));
-}
 
 -- the jobs of the next tenant stand behind those of the tenants before
 pub jobs_more : (n i : ℕ) (now : List Standing) (s x : Standing) (first old new : List JobValue) → i < length now → x.row.count ≡ n
@@ -63,28 +76,34 @@ jobs_more n i now s x first old new lt count more before =
     ∙ ap (λ js. first ++ js)
     (sym (ap (released_from n 0) (take_more_set now i s lt) ∙ (released_more n 0 (take i now) s ∙ ap (λ k. released_from n 0 (take i now) ++ released_at k n s.row) place))))))
 
--- what the second halves need, behind the first halves
-pub counts_behind : (n : ℕ) (before middle : List Standing) → All (λ (s : Standing). s.row.count ≡ n) before → AreFirstHalves (length before) before middle → All (λ (s : Standing). s.row.count ≡ n) middle
-counts_behind n before middle all first k d lt =
-    let within : k < length before = omega (arith, first.as_many) in
-    ap (λ (s : Standing). s.row.count) (get_or_default middle k d (empty_standing 0) lt) ∙ ((first.stepped k within).count ∙ all k (empty_standing 0) within)
+-- the most jobs of the tenants so far, and of one more
+pub most_more : (xs : List Standing) (i : ℕ) (s : Standing) → i < length xs → most_of (take (i + 1) (set xs i s)) ≡ most_of (take i xs) + most_released s.row
+most_more xs i s lt =
+    let most : Standing → ℕ = λ s. most_released s.row in
+    ap most_of (take_more_set xs i s lt) ∙ omega (arith, sum_by-append most (take i xs) (s ∷ []), sum_by-cons most s [])
 
-pub counts_after : (config : Config) (frame : List ℤ) (n : ℕ) (middle after : List Standing) → All (λ (s : Standing). s.row.count ≡ n) middle
-    → AreSecondHalves config frame (length middle) middle after → All (λ (s : Standing). s.row.count ≡ n + 1) after
-counts_after config frame n middle after all second k d lt =
-    let within : k < length middle = omega (arith, second.as_many) in
-    ap (λ (s : Standing). s.row.count) (get_or_default after k d (empty_standing 0) lt) ∙ ((second.stepped k within).count ∙ ap (λ m. m + 1) (all k (empty_standing 0) within))
+-- an instant of all tenants: before it, ready for it, between its halves, and behind it
+module _ (clock : ℕ) (before ready middle : List Standing) (rest : map at_rest ready ≡ map at_rest before) (known : All (IsAt clock) before) (first : AreFirstHalves (length ready) ready middle) where
+  pub counts_middle : All (λ (s : Standing). s.row.count ≡ clock) middle
+  counts_middle k d lt =
+      let within : k < length ready = omega (arith, first.as_many) in
+      ap (λ (s : Standing). s.row.count) (get_or_default middle k d (empty_standing 0) lt) ∙ (first.stepped k within).count ∙ (all_at_rest clock before ready rest known k (empty_standing 0) within).0
 
-pub ready_behind : (before middle : List Standing) (rooms : List RoomValue) → AreReady 0 before rooms → AreFirstHalves (length before) before middle → AreReady 0 middle rooms
-ready_behind before middle rooms ready first = record {
-  as_many = omega (arith, ready.as_many, first.as_many);
-  each = λ k lt.
-      let one = first.stepped (0 + k) (omega (arith, ready.as_many)) in
-      let room = ready.each k lt in
-      record { enough = omega (arith, one.fewer, room.enough); same_bodies = room.same_bodies ∙ sym one.bodies };
-}
+  -- what a host has kept behind it
+  pub record IsInstant (config : Config) (frame : List ℤ) (after : List Standing) : Type 0 where
+    pub as_many : length after ≡ length before
+    pub each : All (IsAt (clock + 1)) after
+    pub stands : (setting : Setting) (state : HostState) → Stands setting (record { config = config; tenants = map at_rest before; clock = clock }) state
+        → Stands setting (record { config = config; tenants = map at_rest after; clock = clock + 1 }) (after_event setting state (Tick frame))
 
-pub space_left : (room : RoomValue) (rest : List RoomValue) (before after : ℕ) → places_of (room ∷ rest) ≤ before → before ≤ after + length room.bodies → places_of rest ≤ after
-space_left room rest before after enough less =
-    let all : places_of (room ∷ rest) ≡ length room.bodies + places_of rest = sum_by-cons (λ (n : ℕ). n) (length room.bodies) (map (λ (r : RoomValue). length r.bodies) rest) in
-    omega arith
+  pub is_instant : (config : Config) (frame : List ℤ) (after : List Standing) → AreSecondHalves config frame (length middle) middle after → IsInstant config frame after
+  is_instant config frame after second = record {
+    as_many = second.as_many ∙ first.as_many ∙ same_length before ready rest;
+    each = λ k d lt.
+        let one = second.stepped k (omega (arith, second.as_many)) in
+        subst (IsAt (clock + 1)) (get_or_default after k (empty_standing 0) d lt) (one.count ∙ ap (λ n. n + 1) (counts_middle k (empty_standing 0) (omega (arith, second.as_many))), one.known);
+    stands = λ setting state stands.
+        let inside = stands_at_rest setting (record { config = config; tenants = map at_rest before; clock = clock }) state ready (rest ∙ sym (rest_twice before)) stands in
+        stands_outside setting (record { config = config; tenants = after; clock = clock + 1 }) (after_event setting state (Tick frame))
+        (stands_after_tick setting (record { config = config; tenants = ready; clock = clock }) state frame middle after inside (all_at_rest clock before ready rest known) first second);
+  }

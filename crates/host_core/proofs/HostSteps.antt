@@ -1,7 +1,7 @@
 -- What the host's code stands for behind each event.
 use Rattle.std.proofs.Common.{◌≡◌, ℕ, ◌+◌, ◌<◌, ◌≤◌, ◌≢◌, ⊎_elim, Bool, true, false, cond, not, ◌&&◌, ◌||◌, ℤ, List, [], ◌∷◌, length, map, filter, get_or, set, Option, Some, None, refl, sym, ap, ◌∙◌, subst, length-set, zero-add, arith}
 use Rattle.std.specs.Prelude.{is_some, slice_get, Result, Ok, Err, IfOk}
-use Rattle.std.specs.List.{list_any, find, zip, filter_map, enumerate_from, AllByRecursion}
+use Rattle.std.specs.List.{list_any, find, zip, filter_map, enumerate_from, All, AllByRecursion}
 use Rattle.std.specs.Option.{option_map, option_map_or, option_and_then}
 use Rattle.std.proofs.lemmas.Bool.{cases_eq, and_parts, false_from_ne_true}
 use Rattle.std.proofs.lemmas.List.{length-map, get_or-map, get_or_default, get_or-set_same, get_or-set_other}
@@ -17,7 +17,7 @@ use Rattle.tenant_state.specs.declared.jobs.JobId.{JobId}
 use Rattle.host_core.specs.Halves.{IsFirstHalf, IsSecondHalf, AreFirstHalves, AreSecondHalves}
 use Rattle.host_core.specs.Host.{instant_of, with_rows, after_event}
 use Rattle.host_core.specs.HostState.{HostState, is_counted, row_at, awaits}
-use Rattle.host_core.specs.HostStanding.{HostStanding, tenant_at, Stands, awaited_in}
+use Rattle.host_core.specs.HostStanding.{HostStanding, IsAt, tenant_at, Stands, awaited_in}
 use Rattle.host_core.specs.Setting.{Setting}
 use Rattle.tenant_state.specs.Commands.{commanded}
 use Rattle.tenant_lines.specs.declared.replies.Refusal.TheVariants.{Memory}
@@ -32,11 +32,11 @@ use Rattle.tenant_state.specs.Jobs.{JobValue, job_of, job_in, same_job, is_activ
 use Rattle.tenant_state.specs.Row.{ActiveTask, Row, empty_row}
 use Rattle.tenant_state.specs.SecondHalf.{second_half_of}
 use Rattle.tenant_slots.specs.Readings.{readings_within}
-use Rattle.tenant_state.specs.Standing.{Standing, empty_standing, StandsFor, IsOutcome, outstanding_tasks, awaited_job}
+use Rattle.tenant_state.specs.Standing.{Standing, at_rest, empty_standing, IsKnown, StandsFor, IsOutcome, outstanding_tasks, awaited_job}
 use Rattle.host_core.proofs.Alone.{counted_of_active}
+use Rattle.host_core.proofs.AtRest.{stands_inside}
 use Rattle.host_core.proofs.AloneAlong.{unfinished_at}
 use Rattle.tenant_state.proofs.JobNames.{same_job_is, own_jobs_active}
-use Rattle.tenant_state.proofs.TenantFacts.{AreEarly}
 use Rattle.giotto_tasks.proofs.TestLemmas.{and_turned, either}
 use Rattle.giotto_tasks.proofs.ListLemmas.{all_map, all_of, any_of_filter, find_is_any, find_passes, is_some-option_map, map_same}
 
@@ -137,6 +137,7 @@ module _ (setting : Setting) where
 
   module _ (host : HostStanding) (state : HostState) (frame : List ℤ) (middle after : List Standing)
       (stands : Stands setting host state)
+      (known : All (IsAt host.clock) host.tenants)
       (first : AreFirstHalves (length host.tenants) host.tenants middle)
       (second : AreSecondHalves host.config frame (length middle) middle after) where
     abbrev rows_behind : List Row
@@ -168,7 +169,7 @@ module _ (setting : Setting) where
       fresh a e = false_from_ne_true (completed a) (λ h. let before = stands.early (job_of t a) h in absurd (omega (arith, half_count)))
 
       no_binds : row.binds ≡ []
-      no_binds = sym (ap (λ (r : Row). r.binds) (stands.each t lt).same_row) ∙ one.no_binds
+      no_binds = sym (ap (λ (r : Row). r.binds) (stands.each t lt).same_row) ∙ (known t (empty_standing 0) (omega (arith, stands.as_many))).1.no_binds
 
       same_step : second_half_of (readings_within (budgets_at host.config t).reads frame) [] half ≡ after_instant (instant_of setting state frame t) row
       same_step =
@@ -219,40 +220,35 @@ awaited_along f (x ∷ xs) = by (f x) (awaited_along f xs)
     by true rest = rest
     by false rest = ap (λ ys. x ∷ ys) rest
 
--- active tasks only with a program
-abbrev pub HasTasksWithProgram : Standing → Type 0
-HasTasksWithProgram s = s.row.program ≡ None → s.row.active ≡ []
+-- the outstanding tasks of a tenant
+pub outstanding_are : (s : Standing) (row : Row) (completed : ActiveTask → Bool) → StandsFor s row completed → outstanding_tasks s ≡ filter (λ a. not (completed a)) row.active
+outstanding_are s row completed stands =
+    ap (λ xs. map (λ (p : ActiveTask × Bool). p.0) (filter (λ (p : ActiveTask × Bool). not p.1) (zip xs s.completed))) (ap (λ (r : Row). r.active) stands.same_row)
+    ∙ (ap (λ marks. map (λ (p : ActiveTask × Bool). p.0) (filter (λ (p : ActiveTask × Bool). not p.1) (zip row.active marks))) stands.same_marks
+    ∙ awaited_along completed row.active)
 
-awaited_is : (s : Standing) (row : Row) (j : JobId) (counted : JobId → Bool) → ((i k : JobId) → i ≡ k → counted i ≡ counted k) → HasTasksWithProgram s
+awaited_is : (s : Standing) (row : Row) (j : JobId) (counted : JobId → Bool) → ((i k : JobId) → i ≡ k → counted i ≡ counted k) → IsKnown s.row
     → StandsFor s row (λ a. counted (job_of j.tenant a)) → is_some (awaited_job s j) ≡ (is_active row j && not (counted j))
-awaited_is s row j counted same has stands = program s.row.program refl ∙ (any_awaited ∙ and_turned (not (counted j)) (is_active row j))
+awaited_is s row j counted same known stands = program s.row.program refl ∙ (any_awaited ∙ and_turned (not (counted j)) (is_active row j))
   where
-    same_active : s.row.active ≡ row.active
-    same_active = ap (λ (r : Row). r.active) stands.same_row
-
-    same_awaited : outstanding_tasks s ≡ filter (λ a. not (counted (job_of j.tenant a))) row.active
-    same_awaited =
-        ap (λ xs. map (λ (p : ActiveTask × Bool). p.0) (filter (λ (p : ActiveTask × Bool). not p.1) (zip xs s.completed))) same_active
-        ∙ (ap (λ marks. map (λ (p : ActiveTask × Bool). p.0) (filter (λ (p : ActiveTask × Bool). not p.1) (zip row.active marks))) stands.same_marks
-        ∙ awaited_along (λ a. counted (job_of j.tenant a)) row.active)
-
     program : (o : Option GiottoProgram) → s.row.program ≡ o
         → is_some (option_and_then (λ p. option_map (job_in p j.tenant) (find (λ a. same_job (job_of j.tenant a) j) (outstanding_tasks s))) s.row.program)
         ≡ list_any (λ a. same_job (job_of j.tenant a) j) (outstanding_tasks s)
     program None e =
         ap (λ o. is_some (option_and_then (λ p. option_map (job_in p j.tenant) (find (λ a. same_job (job_of j.tenant a) j) (outstanding_tasks s))) o)) e
-        ∙ sym (ap (λ xs. list_any (λ a. same_job (job_of j.tenant a) j) (map (λ (p : ActiveTask × Bool). p.0) (filter (λ (p : ActiveTask × Bool). not p.1) (zip xs s.completed)))) (has e))
+        ∙ sym (ap (λ xs. list_any (λ a. same_job (job_of j.tenant a) j) (map (λ (p : ActiveTask × Bool). p.0) (filter (λ (p : ActiveTask × Bool). not p.1) (zip xs s.completed)))) (known.tasks e))
     program (Some p) e =
         ap (λ o. is_some (option_and_then (λ p. option_map (job_in p j.tenant) (find (λ a. same_job (job_of j.tenant a) j) (outstanding_tasks s))) o)) e
         ∙ (is_some-option_map (job_in p j.tenant) (find (λ a. same_job (job_of j.tenant a) j) (outstanding_tasks s)) ∙ find_is_any (λ a. same_job (job_of j.tenant a) j) (outstanding_tasks s))
 
     any_awaited : list_any (λ a. same_job (job_of j.tenant a) j) (outstanding_tasks s) ≡ (not (counted j) && is_active row j)
     any_awaited =
-        ap (list_any (λ a. same_job (job_of j.tenant a) j)) same_awaited
+        ap (list_any (λ a. same_job (job_of j.tenant a) j)) (outstanding_are s row (λ a. counted (job_of j.tenant a)) stands)
         ∙ any-filter_same (λ a. same_job (job_of j.tenant a) j) (λ a. not (counted (job_of j.tenant a))) (not (counted j))
         (λ a e. ap not (same (job_of j.tenant a) j (same_job_is (job_of j.tenant a) j e))) row.active
 
-early_active : (t count : ℕ) (j : JobId) (xs : List ActiveTask) → AreEarly count xs → list_any (λ (a : ActiveTask). same_job (job_of t a) j) xs ≡ true → j.tick < count
+-- an active task was released before the next instant
+pub early_active : (t count : ℕ) (j : JobId) (xs : List ActiveTask) → AllByRecursion (λ (a : ActiveTask). a.release < count) xs → list_any (λ (a : ActiveTask). same_job (job_of t a) j) xs ≡ true → j.tick < count
 early_active t count j [] all e = absurd (cc)
 early_active t count j (a ∷ rest) all e =
     either (same_job (job_of t a) j) (list_any (λ (b : ActiveTask). same_job (job_of t b) j) rest) (j.tick < count) e
@@ -262,10 +258,10 @@ early_active t count j (a ∷ rest) all e =
 module _ (setting : Setting) where
   -- the host awaits a job exactly where the definitions do
   pub awaits_here : (host : HostStanding) (state : HostState) (j : JobId) → j.tenant < length setting.config.tenants → Stands setting host state
-      → HasTasksWithProgram (tenant_at host.tenants j.tenant) → awaits state j ≡ is_some (awaited_in host j)
-  awaits_here host state j lt stands has =
+      → IsKnown (tenant_at host.tenants j.tenant).row → awaits state j ≡ is_some (awaited_in host j)
+  awaits_here host state j lt stands known =
       sym (ap (λ o. is_some (option_and_then (λ s. awaited_job s j) o)) (slice_get-get_or host.tenants j.tenant (empty_standing 0) (omega (arith, stands.as_many)))
-      ∙ awaited_is (tenant_at host.tenants j.tenant) (row_at state j.tenant) j (is_counted state) (λ i k e. ap (is_counted state) e) has (stands.each j.tenant lt))
+      ∙ awaited_is (tenant_at host.tenants j.tenant) (row_at state j.tenant) j (is_counted state) (λ i k e. ap (is_counted state) e) known (stands.each j.tenant lt))
 
   -- a completion
   module _ (host : HostStanding) (state : HostState) (j : JobId) (s : Standing) (stands : Stands setting host state) where
@@ -305,30 +301,26 @@ module _ (setting : Setting) where
       }
 
   -- an awaited job was released before the next instant
-  pub awaited_is_early : (host : HostStanding) (state : HostState) (j : JobId) → j.tenant < length setting.config.tenants → Stands setting host state
-      → HasTasksWithProgram (tenant_at host.tenants j.tenant) → AreEarly (tenant_at host.tenants j.tenant).row.count (tenant_at host.tenants j.tenant).row.active
-      → is_some (awaited_job (tenant_at host.tenants j.tenant) j) ≡ true → j.tick < (tenant_at host.tenants j.tenant).row.count
-  awaited_is_early host state j lt stands has early e =
+  awaited_is_early : (host : HostStanding) (state : HostState) (j : JobId) → j.tenant < length setting.config.tenants → Stands setting host state
+      → IsKnown (tenant_at host.tenants j.tenant).row → is_some (awaited_job (tenant_at host.tenants j.tenant) j) ≡ true → j.tick < (tenant_at host.tenants j.tenant).row.count
+  awaited_is_early host state j lt stands known e =
       let s : Standing = tenant_at host.tenants j.tenant in
       let row : Row = row_at state j.tenant in
-      let parts = and_parts (is_active row j) (not (is_counted state j)) (sym (awaited_is s row j (is_counted state) (λ i k e. ap (is_counted state) e) has (stands.each j.tenant lt)) ∙ e) in
-      early_active j.tenant s.row.count j row.active (subst (AreEarly s.row.count) (ap (λ (r : Row). r.active) (stands.each j.tenant lt).same_row) early) parts.0
+      let parts = and_parts (is_active row j) (not (is_counted state j)) (sym (awaited_is s row j (is_counted state) (λ i k e. ap (is_counted state) e) known (stands.each j.tenant lt)) ∙ e) in
+      early_active j.tenant s.row.count j row.active (subst (AllByRecursion (λ (a : ActiveTask). a.release < s.row.count)) (ap (λ (r : Row). r.active) (stands.each j.tenant lt).same_row) known.early) parts.0
 
   pub done_counts : (host : HostStanding) (state : HostState) (j : JobId) (place : ℕ) (before after : Standing)
       → place ≡ j.tenant → Stands setting host state → place < length host.tenants → before ≡ get_or host.tenants place before
-      → before.row.count ≡ host.clock → HasTasksWithProgram before → AreEarly before.row.count before.row.active → is_some (awaited_job before j) ≡ true
+      → All (IsAt host.clock) host.tenants → is_some (awaited_job before j) ≡ true
       → ((row : Row) (completed : ActiveTask → Bool) → StandsFor before row completed → StandsFor after row (λ a. same_job j (job_of j.tenant a) || completed a))
       → Stands setting (record host { tenants = set host.tenants place after }) (record state { counted = j ∷ state.counted })
-  done_counts host state j place before after e stands within here count has early awaited own =
+  done_counts host state j place before after e stands within here all awaited own =
       let lt : j.tenant < length setting.config.tenants = omega (arith, stands.as_many) in
       let same : before ≡ tenant_at host.tenants j.tenant = here ∙ (get_or_default host.tenants place before (empty_standing 0) within ∙ ap (λ k. get_or host.tenants k (empty_standing 0)) e) in
-      let tick : j.tick < (tenant_at host.tenants j.tenant).row.count =
-      awaited_is_early host state j lt stands (subst HasTasksWithProgram same has) (subst (λ (s : Standing). AreEarly s.row.count s.row.active) same early)
-      (subst (λ s. is_some (awaited_job s j) ≡ true) same awaited) in
+      let known : IsAt host.clock (tenant_at host.tenants j.tenant) = all j.tenant (empty_standing 0) (omega (arith, stands.as_many)) in
+      let tick = awaited_is_early host state j lt stands known.1 (subst (λ s. is_some (awaited_job s j) ≡ true) same awaited) in
       subst (λ k. Stands setting (record host { tenants = set host.tenants k after }) (record state { counted = j ∷ state.counted })) (sym e)
-      (stands_after_done host state j after stands lt
-      (λ row completed st. own row completed (subst (λ s. StandsFor s row completed) (sym same) st))
-      (subst (λ n. j.tick < n) (sym (ap (λ (s : Standing). s.row.count) same) ∙ count) tick))
+      (stands_after_done host state j after stands lt (λ row completed st. own row completed (subst (λ s. StandsFor s row completed) (sym same) st)) (omega (arith, known.0, tick)))
 
 -- an awaited job has the name that was asked for
 pub awaited_name : (s : Standing) (j : JobId) (d : JobValue) → awaited_job s j ≡ Some d → d.id ≡ j
@@ -359,13 +351,14 @@ module _ (setting : Setting) where
 
 -- a tenant's answer to a job's name is the host's
 pub job_awaits : {E : Type 0} (host : HostStanding) (j : JobId) (before : Standing) (result : Result (Option JobValue) E)
-    → j.tenant < length host.tenants → before ≡ get_or host.tenants j.tenant before → HasTasksWithProgram before
+    → j.tenant < length host.tenants → before ≡ get_or host.tenants j.tenant before → All (IsAt host.clock) host.tenants
     → IfOk result (λ job. job ≡ awaited_job before j)
-    → IfOk result (λ job. (setting : Setting) (state : HostState) → Stands setting host state → is_some job ≡ awaits state j)
-job_awaits host j before (Err e) within here has is = tt
-job_awaits host j before (Ok job) within here has is = λ setting state stands.
+    → IfOk result (λ job. (setting : Setting) (state : HostState) → Stands setting (record host { tenants = map at_rest host.tenants }) state → is_some job ≡ awaits state j)
+job_awaits host j before (Err e) within here known is = tt
+job_awaits host j before (Ok job) within here known is = λ setting state view.
+    let stands : Stands setting host state = stands_inside setting host state view in
     let same : before ≡ tenant_at host.tenants j.tenant = here ∙ get_or_default host.tenants j.tenant before (empty_standing 0) within in
     ap is_some is
     ∙ (ap (λ s. is_some (awaited_job s j)) same
     ∙ (sym (ap (λ o. is_some (option_and_then (λ s. awaited_job s j) o)) (slice_get-get_or host.tenants j.tenant (empty_standing 0) within))
-    ∙ sym (awaits_here setting host state j (omega (arith, stands.as_many)) stands (subst HasTasksWithProgram same has))))
+    ∙ sym (awaits_here setting host state j (omega (arith, stands.as_many)) stands (known j.tenant (empty_standing 0) within).1)))

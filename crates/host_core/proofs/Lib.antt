@@ -1,5 +1,7 @@
 pub mod Alone
 pub mod AloneAlong
+pub mod AtRest
+pub mod Completed
 pub mod EqualTenants
 pub mod FirstRun
 pub mod FromABase

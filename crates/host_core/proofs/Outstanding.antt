@@ -1,13 +1,20 @@
--- The outstanding jobs, and how many they are.
-use Rattle.std.proofs.Common.{◌≡◌, ℕ, zero, suc, ◌+◌, ◌<◌, List, [], ◌∷◌, ◌++◌, map, length, get_or, set, take, refl, sym, ap, ◌∙◌, arith, append-nil, append_assoc, length-append}
-use Rattle.std.specs.List.{sum_by}
+-- The outstanding jobs, how many they are, and which they are in the definitions.
+use Rattle.std.proofs.Common.{◌≡◌, ℕ, zero, suc, ◌+◌, ◌<◌, Bool, not, List, [], ◌∷◌, ◌++◌, map, filter, length, get_or, set, take, refl, sym, ap, ◌∙◌, subst, arith, zero-add, append-nil, append_assoc, length-append}
+use Rattle.std.specs.List.{sum_by, flat_map, enumerate_from}
 use Rattle.std.specs.Prelude.{sum}
 use Rattle.std.proofs.lemmas.List.{length-map, length-take, take_more}
 use Rattle.std.proofs.lemmas.List.Sums.{sum-map, sum_by-cons}
 use Rattle.tenant_state.specs.declared.jobs.JobId.{JobId}
-use Rattle.host_core.specs.HostStanding.{outstanding_from}
+use Rattle.rig_config.specs.declared.TenantConfig.{TenantConfig}
+use Rattle.host_core.specs.HostStanding.{HostStanding, Stands, tenant_at, outstanding_from, outstanding_jobs}
+use Rattle.host_core.specs.HostState.{HostState, row_at, is_counted}
+use Rattle.host_core.specs.Setting.{Setting}
 use Rattle.tenant_state.specs.Jobs.{job_of}
-use Rattle.tenant_state.specs.Standing.{Standing, outstanding_tasks}
+use Rattle.tenant_state.specs.Row.{Row}
+use Rattle.tenant_state.specs.Standing.{Standing, StandsFor, empty_standing, outstanding_tasks}
+use Rattle.giotto_tasks.proofs.ListLemmas.{all_of, filter-map}
+use Rattle.host_core.proofs.HostSteps.{outstanding_are}
+use Rattle.host_core.proofs.NewHost.{no_tenant}
 
 -- how many a tenant has
 abbrev pub outstanding_of : Standing → ℕ
@@ -51,3 +58,39 @@ jobs_more i xs x old new lt at more before =
     ∙ sym (ap (outstanding_from 0) (take_more xs i x lt) ∙ (behind_all 0 (take i xs) (get_or xs i x)
     ∙ (ap (λ k. outstanding_from 0 (take i xs) ++ map (job_of k) (outstanding_tasks (get_or xs i x))) place
     ∙ ap (λ y. outstanding_from 0 (take i xs) ++ map (job_of i) (outstanding_tasks y)) (sym at)))))
+
+-- what is found at the same places of two lists of one length
+places : {A B C : Type 0} (f : ℕ × A → List C) (g : ℕ × B → List C) (a : A) (b : B) (n : ℕ) (xs : List A) (ys : List B) → length xs ≡ length ys
+    → ((i : ℕ) → i < length ys → f (n + i, get_or xs i a) ≡ g (n + i, get_or ys i b)) → flat_map f (enumerate_from n xs) ≡ flat_map g (enumerate_from n ys)
+places f g a b n [] [] long same = refl
+places f g a b n [] (y ∷ ys) long same = absurd (omega (arith, long))
+places f g a b n (x ∷ xs) [] long same = absurd (omega (arith, long))
+places f g a b n (x ∷ xs) (y ∷ ys) long same =
+    let here : n + 0 ≡ n = omega arith in
+    let first : f (n, x) ≡ g (n, y) = subst (λ k. f (k, x) ≡ g (k, y)) here (same 0 (omega arith)) in
+    let rest = places f g a b (n + 1) xs ys (omega (arith, long)) (λ i lt.
+    let on : n + suc i ≡ n + 1 + i = omega arith in
+    subst (λ k. f (k, get_or xs i a) ≡ g (k, get_or ys i b)) on (same (suc i) (omega (arith, lt)))) in
+    ap (λ l. l ++ flat_map f (enumerate_from (n + 1) xs)) first ∙ ap (λ l. g (n, y) ++ l) rest
+
+pub places_from_start : {A B C : Type 0} (f : ℕ × A → List C) (g : ℕ × B → List C) (a : A) (b : B) (xs : List A) (ys : List B) → length xs ≡ length ys
+    → ((i : ℕ) → i < length ys → f (i, get_or xs i a) ≡ g (i, get_or ys i b)) → flat_map f (enumerate_from 0 xs) ≡ flat_map g (enumerate_from 0 ys)
+places_from_start f g a b xs ys long same = places f g a b 0 xs ys long (λ i lt. subst (λ k. f (k, get_or xs i a) ≡ g (k, get_or ys i b)) (sym (zero-add i)) (same i lt))
+
+module _ (setting : Setting) where
+  -- the jobs of a state's active tasks that aren't counted
+  abbrev pub jobs_at : HostState → ℕ → List JobId
+  jobs_at state t = filter (λ j. not (is_counted state j)) (map (job_of t) (row_at state t).active)
+
+  abbrev pub all_jobs : HostState → List JobId
+  all_jobs state = flat_map (λ (place : ℕ × TenantConfig). jobs_at state place.0) (enumerate_from 0 setting.config.tenants)
+
+  awaited_at : (s : Standing) (t : ℕ) (row : Row) (c : JobId → Bool) → StandsFor s row (λ a. c (job_of t a)) → map (job_of t) (outstanding_tasks s) ≡ filter (λ j. not (c j)) (map (job_of t) row.active)
+  awaited_at s t row c h =
+      ap (map (job_of t)) (outstanding_are s row (λ a. c (job_of t a)) h) ∙ sym (filter-map (job_of t) (λ j. not (c j)) (λ a. not (c (job_of t a))) row.active (all_of (λ a. refl) row.active))
+
+  -- what the code awaits is what its state's active tasks lack
+  pub code_awaits : (host : HostStanding) (state : HostState) → Stands setting host state → outstanding_jobs host ≡ all_jobs state
+  code_awaits host state h =
+      places_from_start (λ (place : ℕ × Standing). map (job_of place.0) (outstanding_tasks place.1)) (λ (place : ℕ × TenantConfig). jobs_at state place.0) (empty_standing 0) no_tenant host.tenants setting.config.tenants h.as_many
+      (λ i lt. awaited_at (tenant_at host.tenants i) i (row_at state i) (is_counted state) (h.each i lt))

@@ -31,11 +31,10 @@ use Rattle.tenant_state.specs.Jobs.{JobValue, job_of, job_in, same_job, is_activ
 use Rattle.tenant_lines.specs.Replies.{text_of_reply}
 use Rattle.tenant_state.specs.Row.{ActiveTask, Row, empty_row}
 use Rattle.tenant_state.specs.SecondHalf.{second_half_of}
-use Rattle.tenant_state.specs.Standing.{Standing, empty_standing}
+use Rattle.tenant_state.specs.Standing.{Standing, empty_standing, IsKnown}
 use Rattle.tenant_state.proofs.ActiveTasks.{kept_by_command, kept_by_instant}
 use Rattle.host_core.proofs.AloneAlong.{same_rows, same_clock}
 use Rattle.host_core.proofs.Histories.{unfinished_of, own_instant, own_row, releases}
-use Rattle.host_core.proofs.HostSteps.{HasTasksWithProgram}
 use Rattle.host_core.proofs.LaterBase.{new_is_base, new_row}
 use Rattle.host_core.proofs.NewHost.{new_stands}
 use Rattle.tenant_state.proofs.JobNames.{same_job_is}
@@ -205,7 +204,7 @@ module _ (setting : Setting) (base : IsBase setting.config setting.base) where
       ap (λ (row : Row). is_active row j) (stands.each t lt).same_row ∙ ap (λ row. is_active row j) (same_rows setting base past t legal (is_within t lt))
 
   released_tick : (past : List Event) (frame : List ℤ) (host : HostStanding) (j : JobId) → is_legal setting (Tick frame ∷ past) ≡ true → Stands setting host (host_after setting (Tick frame ∷ past))
-      → All HasTasksWithProgram host.tenants
+      → All (λ (s : Standing). IsKnown s.row) host.tenants
       → (was_released setting past j || list_any (is_it j) (released_from (next_tick setting past) 0 host.tenants)) ≡ was_released setting (Tick frame ∷ past) j
   released_tick past frame host j legal stands has =
       same_answers (before || among) (active || before)
@@ -233,7 +232,7 @@ module _ (setting : Setting) (base : IsBase setting.config setting.base) where
           let inside : j.tenant < length host.tenants = omega (arith, stands.as_many) in
           found_at j (next_tick setting past) 0 host.tenants j.tenant inside
           (ap (λ k. list_any (is_it j) (released_at k (next_tick setting past) (tenant_at host.tenants j.tenant).row)) (zero-add j.tenant)
-          ∙ complete_at j (next_tick setting past) (tenant_at host.tenants j.tenant).row (has j.tenant (empty_standing 0) inside) tick
+          ∙ complete_at j (next_tick setting past) (tenant_at host.tenants j.tenant).row (has j.tenant (empty_standing 0) inside).tasks tick
           (same_active (Tick frame ∷ past) host j.tenant j legal stands lt ∙ e))
       new tick e (inr le) =
           let bad : true ≡ false = sym e ∙ ap (λ row. is_active row j) (row_outside (Tick frame ∷ past) j.tenant legal le) in
@@ -258,7 +257,7 @@ module _ (setting : Setting) (base : IsBase setting.config setting.base) where
   }
 
   pub step_tick : (past : List Event) (frame : List ℤ) (host host_new : HostStanding) (texts : List (List ℕ)) (released released_new : List JobId) (jobs : List JobValue)
-      → may_follow setting past (Tick frame) ≡ true → Stands setting host_new (host_after setting (Tick frame ∷ past)) → All HasTasksWithProgram host_new.tenants
+      → may_follow setting past (Tick frame) ≡ true → Stands setting host_new (host_after setting (Tick frame ∷ past)) → All (λ (s : Standing). IsKnown s.row) host_new.tenants
       → jobs ≡ released_from host.clock 0 host_new.tenants → released_new ≡ released ++ map (λ (k : JobValue). k.id) jobs
       → IsPlayed setting past host texts released → IsPlayed setting (Tick frame ∷ past) host_new texts released_new
   step_tick past frame host host_new texts released released_new jobs may stands has are more played =

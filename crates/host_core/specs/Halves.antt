@@ -1,5 +1,6 @@
--- The two halves of an instant, for all tenants in turn, as the host's code goes through them.
-use Rattle.std.specs.Prelude.{◌≡◌, ◌<◌, ◌≤◌, ◌+◌, ℕ, Bool, false, ℤ, List, [], map, length, slice_index_or, sum}
+-- What is done for all tenants in turn: the two halves of an instant, and the completion of all jobs.
+use Rattle.std.specs.Prelude.{◌≡◌, ◌<◌, ◌≤◌, ◌+◌, ℕ, Bool, true, false, ℤ, List, [], map, length}
+use Rattle.std.specs.List.{sum_by}
 use Rattle.rig_config.specs.declared.Config.{Config}
 use Rattle.rig_config.specs.Roster.{budgets_at}
 use Rattle.tenant_state.specs.FirstHalf.{unfinished_tasks, first_half_of}
@@ -7,14 +8,20 @@ use Rattle.host_core.specs.HostStanding.{tenant_at}
 use Rattle.tenant_state.specs.Row.{ActiveTask, Row}
 use Rattle.tenant_state.specs.SecondHalf.{second_half_of}
 use Rattle.tenant_slots.specs.Readings.{readings_within}
-use Rattle.tenant_state.specs.Standing.{Standing, StandsFor, bodies_invoked, RoomValue, IsRoomFor}
+use Rattle.tenant_state.specs.Standing.{Standing, StandsFor, HasRoom, HasShares, IsKnown, most_released}
 
--- a tenant before and behind its first half; it is granted nothing, since it has no binds
+-- ready for the next instant
+pub record IsReady (s : Standing) : Type 0 where
+  pub places : HasRoom s
+  pub shares : HasShares s
+
+-- the most jobs that the next instant of all these can release
+abbrev pub most_of : List Standing → ℕ
+most_of tenants = sum_by (λ (s : Standing). most_released s.row) tenants
+
+-- a tenant before and behind its first half
 pub record IsFirstHalf (before after : Standing) : Type 0 where
   pub step : (row : Row) (completed : ActiveTask → Bool) → StandsFor before row completed → StandsFor after (first_half_of (unfinished_tasks completed row) row) completed
-  pub no_binds : before.row.binds ≡ []
-  pub fewer : length after.row.active ≤ length before.row.active
-  pub bodies : bodies_invoked after.row ≡ bodies_invoked before.row
   pub count : after.row.count ≡ before.row.count
 
 -- a tenant that may read these lines, before and behind its second half
@@ -23,6 +30,12 @@ pub record IsSecondHalf (reads : List ℕ) (frame : List ℤ) (before after : St
       → ((a : ActiveTask) → a.release ≡ row.count → completed a ≡ false)
       → StandsFor after (second_half_of (readings_within reads frame) [] row) completed
   pub count : after.row.count ≡ before.row.count + 1
+  pub known : IsKnown after.row
+
+-- a tenant before and behind the completion of its outstanding jobs
+pub record IsCompleted (before after : Standing) : Type 0 where
+  pub row : after.row ≡ before.row
+  pub completed : after.completed ≡ map (λ b. true) before.completed
 
 -- all tenants, by their places, the first `n` of which have gone through the step
 pub record AreStepped (step : ℕ → Standing → Standing → Type 0) (n : ℕ) (before after : List Standing) : Type 0 where
@@ -35,15 +48,3 @@ AreFirstHalves = AreStepped (λ t. IsFirstHalf)
 
 abbrev pub AreSecondHalves : Config → List ℤ → ℕ → List Standing → List Standing → Type 0
 AreSecondHalves config frame = AreStepped (λ t. IsSecondHalf (budgets_at config t).reads frame)
-
-abbrev pub no_room : RoomValue
-no_room = record { places = 0; bodies = [] }
-
--- room for each tenant, from this place on
-pub record AreReady (from : ℕ) (tenants : List Standing) (rooms : List RoomValue) : Type 0 where
-  pub as_many : from + length rooms ≡ length tenants
-  pub each : (k : ℕ) → k < length rooms → IsRoomFor (tenant_at tenants (from + k)).row (slice_index_or rooms k no_room)
-
--- how many tasks there is room for in all
-abbrev pub places_of : List RoomValue → ℕ
-places_of rooms = sum (map (λ (r : RoomValue). length r.bodies) rooms)

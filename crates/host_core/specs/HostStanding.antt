@@ -8,19 +8,19 @@ use Rattle.tenant_state.specs.declared.jobs.JobId.{JobId}
 use Rattle.host_core.specs.HostState.{HostState, row_at, is_counted}
 use Rattle.host_core.specs.Setting.{Setting}
 use Rattle.tenant_state.specs.Jobs.{JobValue, job_of, released_at}
-use Rattle.tenant_state.specs.Standing.{Standing, empty_standing, StandsFor, outstanding_tasks, awaited_job}
+use Rattle.tenant_state.specs.Standing.{Standing, empty_standing, at_rest, IsKnown, StandsFor, outstanding_tasks, awaited_job}
 
 -- the host as its code has it
 pub record HostStanding : Type 0 where
   pub config : Config
-  -- by their places in the roster
+  -- by their places in the roster, with nothing ready
   pub tenants : List Standing
   -- the number of the next instant
   pub clock : ℕ
 
 -- a new host, whose first instant has this number
 abbrev pub new_host : Config → ℕ → HostStanding
-new_host config first_tick = record { config = config; tenants = map (λ (t : TenantConfig). empty_standing first_tick) config.tenants; clock = first_tick }
+new_host config first_tick = record { config = config; tenants = map (λ (t : TenantConfig). at_rest (empty_standing first_tick)) config.tenants; clock = first_tick }
 
 -- the tenant at place t
 abbrev pub tenant_at : List Standing → ℕ → Standing
@@ -36,6 +36,10 @@ pub record Stands (setting : Setting) (host : HostStanding) (state : HostState) 
   pub counts : (t : ℕ) → t < length setting.config.tenants → (row_at state t).count ≡ state.clock
   -- what is counted was released before the next instant
   pub early : (j : JobId) → is_counted state j ≡ true → j.tick < state.clock
+
+-- what is known of each tenant of a host whose next instant has this number
+abbrev pub IsAt : ℕ → Standing → Type 0
+IsAt n s = (s.row.count ≡ n) × IsKnown s.row
 
 -- the job of this name, if its completion is awaited
 abbrev pub awaited_in : HostStanding → JobId → Option JobValue

@@ -1,14 +1,13 @@
 //! The host of a rig: all its tenants, on one clock.
 
-ghost use Rattle.std.specs.Prelude.{◌≡◌, ◌≢◌, ◌<◌, ◌≤◌, ◌+◌, ◌-◌, ◌^◌, ◌↔◌, ℕ, [], ◌∷◌, ◌++◌, length, is_some, IfOk, IfSome, OnOk, OnErr, Ok, Err, Some, None};
-ghost use Rattle.std.specs.List.{All, AllByRecursion};
-ghost use Rattle.host_core.specs.Halves.{AreFirstHalves, AreSecondHalves, AreReady, places_of};
-ghost use Rattle.host_core.specs.Host.{after_event};
+ghost use Rattle.std.specs.Prelude.{◌≡◌, ◌≢◌, ◌<◌, ◌≤◌, ◌+◌, ◌-◌, ◌^◌, ◌↔◌, ℕ, ◌∷◌, ◌++◌, List, length, map, reverse, is_some, IfOk, IfSome, OnOk, OnErr, OnSome, Ok, Err, Some, None};
+ghost use Rattle.std.specs.List.{All};
+ghost use Rattle.host_core.specs.Halves.{AreStepped, AreFirstHalves, AreSecondHalves, IsReady, IsCompleted, most_of};
+ghost use Rattle.host_core.specs.Host.{after_event, host_after};
 ghost use Rattle.host_core.specs.HostState.{HostState, row_at, awaits};
 ghost use Rattle.host_core.specs.HostStanding.{Stands, new_host, awaited_in, released_from, outstanding_jobs};
 ghost use Rattle.host_core.specs.Setting.{Setting};
-ghost use Rattle.tenant_state.specs.Row.{ActiveTask};
-ghost use Rattle.tenant_state.specs.Standing.{Standing};
+ghost use Rattle.tenant_state.specs.Standing.{Standing, at_rest, IsKnown};
 ghost use Rattle.host_core.specs.Views.{after_command};
 ghost use Rattle.host_core.specs.declared.events.Event.{Event};
 ghost use Rattle.tenant_lines.specs.declared.replies.Refusal.{Refusal};
@@ -18,13 +17,11 @@ ghost use Rattle.host_core.specs.declared.hosts.Counted.{Counted};
 
 use rig_config::{Config, TenantId};
 use std::alloc::{AllocError, Global};
-use std::collections::VecDeque;
 use std::marker::Model;
 use tenant_lines::commands::Command;
 use tenant_lines::replies::Reply;
 use tenant_state::jobs::{Done, Job, JobId, Jobs, run_job};
 use tenant_state::tenants::Tenant;
-use tenant_state::tenants::second_half::Room;
 use thiserror::Error;
 
 /// Why an instant is refused.
@@ -60,20 +57,20 @@ pub struct Host {
 }
 
 impl Model for Host {
-    ghost use Rattle.std.specs.Prelude.{◌≡◌, ℕ, length};
+    ghost use Rattle.std.specs.Prelude.{◌≡◌, length, map};
     ghost use Rattle.std.specs.List.{All};
     ghost use Rattle.std.specs.Coded.{codes};
     ghost use Rattle.giotto_text.specs.ProgramCodes.{program_code};
-    ghost use Rattle.host_core.specs.HostStanding.{HostStanding};
-    ghost use Rattle.tenant_state.specs.Standing.{Standing};
+    ghost use Rattle.host_core.specs.HostStanding.{HostStanding, IsAt};
+    ghost use Rattle.tenant_state.specs.Standing.{at_rest};
 
     ghost Value = { HostStanding };
 
     ghost coded = { Prim.hlevel (codes, program_code) };
 
-    ghost view = { λ h. record { config = h.config; tenants = h.tenants.items; clock = h.clock } };
+    ghost view = { λ h. record { config = h.config; tenants = map at_rest h.tenants.items; clock = h.clock } };
 
-    ghost invariant = { λ h. (length h.tenants.items ≡ length h.config.tenants) × All (λ (s : Standing). s.row.count ≡ h.clock) h.tenants.items };
+    ghost invariant = { λ h. (length h.tenants.items ≡ length h.config.tenants) × All (IsAt h.clock) h.tenants.items };
 }
 
 impl Host {
@@ -108,7 +105,10 @@ impl Host {
             → result ≢ Reply.Refused Refusal.Memory → Stands setting self.new (after_event setting state (Event.Own tenant command)) }
     {
         let budgets = &self.config.tenants.as_slice()[tenant].budgets;
-        self.tenants[tenant].command(budgets, command)
+        let tenant = &mut self.tenants[tenant];
+        let reply = tenant.command(budgets, command);
+        let _ = tenant.next_tick();
+        reply
     }
 
     /// An instant of all tenants: the first half of each, then the second half of each. `frame` has the input value of each line.
@@ -123,6 +123,47 @@ impl Host {
         ensures refused { OnErr result (self.new ≡ self.old) }
         ensures bad_frame { result ≡ Err TickFault.BadFrame ↔ length frame.now ≢ self.old.config.lines }
         ensures clock_ended { result ≡ Err TickFault.ClockEnded ↔ ((length frame.now ≡ self.old.config.lines) × (self.old.clock ≡ 2 ^ 64 - 1)) }
+        ensures known { OnOk result (All (λ (s : Standing). IsKnown s.row) self.new.tenants) }
+    {
+        self.check(frame)?;
+        let Some(most) = all_ready(&mut self.tenants) else {
+            return Err(TickFault::Memory);
+        };
+        let Ok(mut jobs) = Jobs::with_room(self.alloc, most) else {
+            return Err(TickFault::Memory);
+        };
+        first_halves(&mut self.tenants);
+        second_halves(&mut self.tenants, &self.config, frame, &mut jobs);
+        self.clock += 1;
+        Ok(jobs)
+    }
+
+    /// An instant of all tenants, as `tick`, where nobody takes its jobs.
+    ///
+    /// # Errors
+    /// As `tick`. Nothing has changed then.
+    pub fn instant(&mut self, frame: &[i64]) -> Result<(), TickFault>
+        ensures step { OnOk result ((setting : Setting) (state : HostState) → Stands setting self.old state → Stands setting self.new (after_event setting state (Event.Tick frame.now))) }
+        ensures refused { OnErr result (self.new ≡ self.old) }
+        ensures bad_frame { result ≡ Err TickFault.BadFrame ↔ length frame.now ≢ self.old.config.lines }
+        ensures clock_ended { result ≡ Err TickFault.ClockEnded ↔ ((length frame.now ≡ self.old.config.lines) × (self.old.clock ≡ 2 ^ 64 - 1)) }
+    {
+        self.check(frame)?;
+        let tenants = &mut self.tenants;
+        if all_ready(tenants).is_none() {
+            return Err(TickFault::Memory);
+        }
+        first_halves(tenants);
+        second_halves_without_jobs(tenants, &self.config, frame);
+        self.clock += 1;
+        Ok(())
+    }
+
+    // Whether an instant with this frame may come.
+    fn check(&self, frame: &[i64]) -> Result<(), TickFault>
+        ensures bad_frame { result ≡ Err TickFault.BadFrame ↔ length frame.now ≢ self.now.config.lines }
+        ensures clock_ended { result ≡ Err TickFault.ClockEnded ↔ ((length frame.now ≡ self.now.config.lines) × (self.now.clock ≡ 2 ^ 64 - 1)) }
+        ensures next { OnOk result (self.now.clock < 2 ^ 64 - 1) }
     {
         if frame.len() != self.config.lines {
             return Err(TickFault::BadFrame);
@@ -130,20 +171,7 @@ impl Host {
         if self.clock == u64::MAX {
             return Err(TickFault::ClockEnded);
         }
-        let Ok(rooms) = all_ready(self.alloc, self.tenants.as_slice()) else {
-            return Err(TickFault::Memory);
-        };
-        let Some(released) = places_in(&rooms) else {
-            return Err(TickFault::Memory);
-        };
-        let Ok(mut jobs) = Jobs::with_room(self.alloc, released) else {
-            return Err(TickFault::Memory);
-        };
-        let tenants = self.tenants.as_mut_slice();
-        first_halves(tenants);
-        second_halves(tenants, &self.config, frame, rooms, &mut jobs);
-        self.clock += 1;
-        Ok(jobs)
+        Ok(())
     }
 
     /// Takes a completion: it counts where its job is awaited, by its name, its body, and the inputs and states of the release. Takes no memory.
@@ -158,13 +186,22 @@ impl Host {
         if place >= self.tenants.len() {
             return Counted::Late;
         }
-        let tenant = &mut self.tenants[place];
-        known(tenant);
-        if tenant.complete(done) {
+        if self.tenants[place].complete(done) {
             Counted::Counted
         } else {
             Counted::Late
         }
+    }
+
+    /// Computes and counts all outstanding jobs, in the order of the roster, and says how many they were. Takes no memory.
+    pub fn complete_all(&mut self) -> u128
+        ensures number { result ≡ length (outstanding_jobs self.old) }
+        ensures step { (setting : Setting) (past : List Event) → Stands setting self.old (host_after setting past)
+            → Stands setting self.new (host_after setting (reverse (map Event.Done (outstanding_jobs self.old)) ++ past)) }
+    {
+        let number = self.outstanding();
+        complete_each(&mut self.tenants);
+        number
     }
 
     /// The job of this name, where its completion is awaited.
@@ -178,9 +215,7 @@ impl Host {
         if id.tenant >= self.tenants.len() {
             return Ok(None);
         }
-        let tenant = &self.tenants[id.tenant];
-        known(tenant);
-        tenant.job(id)
+        self.tenants[id.tenant].job(id)
     }
 
     /// The rig's configuration.
@@ -188,15 +223,6 @@ impl Host {
         ensures { result.now ≡ self.now.config }
     {
         &self.config
-    }
-
-    // A tenant has active tasks only with a program.
-    pub(crate) fn known(&self)
-        ensures { All (λ (s : Standing). s.row.program ≡ None → s.row.active ≡ []) self.now.tenants }
-    {
-        for tenant in self.tenants.as_slice() {
-            known(tenant);
-        }
     }
 
     /// The number of the next instant.
@@ -249,73 +275,70 @@ pub fn complete(host: &mut Host, id: &JobId) -> Result<Counted, AllocError>
     Ok(counted)
 }
 
-// What is known of every tenant: it has no binds, and active tasks only with a program, each released before the next instant.
-fn known(tenant: &Tenant)
-    ensures no_binds { tenant.now.row.binds ≡ [] }
-    ensures tasks { tenant.now.row.program ≡ None → tenant.now.row.active ≡ [] }
-    ensures early { AllByRecursion (λ (a : ActiveTask). a.release < tenant.now.row.count) tenant.now.row.active }
+// Makes what each tenant's next instant needs. How many jobs all of them can release at most, if that is a number of this size.
+fn all_ready(tenants: &mut Vec<Tenant>) -> Option<usize>
+    ensures rest { map at_rest tenants.new.items ≡ map at_rest tenants.old.items }
+    ensures ready { OnSome result (All IsReady tenants.new.items) }
+    ensures most { IfSome result (λ n. n ≡ most_of tenants.new.items) }
 {
-    let _ = tenant.next_tick();
-}
-
-// Room for what each tenant's next instant releases.
-fn all_ready(alloc: Global, tenants: &[Tenant]) -> Result<VecDeque<Room>, AllocError>
-    ensures { IfOk result (λ rooms. AreReady 0 tenants.now rooms.items) }
-{
-    let mut rooms = VecDeque::new(alloc);
-    for tenant in tenants {
-        rooms.push_back(tenant.ready()?)?;
-    }
-    Ok(rooms)
-}
-
-// How many tasks all these have room for, if that is a number of this size.
-fn places_in(rooms: &VecDeque<Room>) -> Option<usize>
-    ensures { IfSome result (λ n. n ≡ places_of rooms.now.items) }
-{
-    let mut places: usize = 0;
-    for i in 0..rooms.len() {
-        let Some(room) = rooms.get(i) else {
-            unreachable!()
+    let mut most: usize = 0;
+    for i in 0..tenants.len() {
+        let Ok(jobs) = tenants[i].ready() else {
+            return None;
         };
-        places = places.checked_add(room.len())?;
+        most = most.checked_add(jobs)?;
     }
-    Some(places)
+    Some(most)
 }
 
 // The first half of each tenant.
-fn first_halves(tenants: &mut [Tenant])
-    ensures { AreFirstHalves (length tenants.old) tenants.old tenants.new }
+fn first_halves(tenants: &mut Vec<Tenant>)
+    ensures halves { AreFirstHalves (length tenants.old.items) tenants.old.items tenants.new.items }
+    ensures ready { All IsReady tenants.old.items → All IsReady tenants.new.items }
+    ensures fewer { most_of tenants.new.items ≤ most_of tenants.old.items }
 {
     for i in 0..tenants.len() {
-        let tenant = &mut tenants[i];
-        known(tenant);
-        tenant.first_half();
+        tenants[i].first_half();
     }
 }
 
-// The second half of each tenant, with its place, its budgets and its room.
-fn second_halves(
-    tenants: &mut [Tenant],
-    config: &Config,
-    frame: &[i64],
-    rooms: VecDeque<Room>,
-    jobs: &mut Jobs,
-)
-    requires tenants { length tenants.old ≡ length config.now.tenants }
-    requires counts { All (λ (s : Standing). s.row.count < 2 ^ 64 - 1) tenants.old }
-    requires rooms { AreReady 0 tenants.old rooms.items }
-    requires jobs { places_of rooms.items ≤ jobs.old.room }
-    ensures halves { AreSecondHalves config.now frame.now (length tenants.old) tenants.old tenants.new }
-    ensures jobs { (n : ℕ) → All (λ (s : Standing). s.row.count ≡ n) tenants.old → jobs.new.jobs ≡ jobs.old.jobs ++ released_from n 0 tenants.new }
+// The second half of each tenant, with its place and its budgets.
+fn second_halves(tenants: &mut Vec<Tenant>, config: &Config, frame: &[i64], jobs: &mut Jobs)
+    requires tenants { length tenants.old.items ≡ length config.now.tenants }
+    requires counts { All (λ (s : Standing). s.row.count < 2 ^ 64 - 1) tenants.old.items }
+    requires ready { All IsReady tenants.old.items }
+    requires jobs { most_of tenants.old.items ≤ jobs.old.room }
+    ensures halves { AreSecondHalves config.now frame.now (length tenants.old.items) tenants.old.items tenants.new.items }
+    ensures jobs { (n : ℕ) → All (λ (s : Standing). s.row.count ≡ n) tenants.old.items → jobs.new.jobs ≡ jobs.old.jobs ++ released_from n 0 tenants.new.items }
 {
-    let mut rooms = rooms;
     for i in 0..tenants.len() {
-        let Some(room) = rooms.pop_front() else {
-            unreachable!()
-        };
-        let tenant = &mut tenants[i];
         let budgets = &config.tenants.as_slice()[i].budgets;
-        tenant.second_half(i, budgets, frame, room, jobs);
+        let tenant = &mut tenants[i];
+        tenant.second_half(i, budgets, frame, jobs);
+        let _ = tenant.next_tick();
+    }
+}
+
+// The second half of each tenant, where nobody takes the jobs.
+fn second_halves_without_jobs(tenants: &mut Vec<Tenant>, config: &Config, frame: &[i64])
+    requires tenants { length tenants.old.items ≡ length config.now.tenants }
+    requires counts { All (λ (s : Standing). s.row.count < 2 ^ 64 - 1) tenants.old.items }
+    requires ready { All IsReady tenants.old.items }
+    ensures { AreSecondHalves config.now frame.now (length tenants.old.items) tenants.old.items tenants.new.items }
+{
+    for i in 0..tenants.len() {
+        let budgets = &config.tenants.as_slice()[i].budgets;
+        let tenant = &mut tenants[i];
+        tenant.second_half_without_jobs(budgets, frame);
+        let _ = tenant.next_tick();
+    }
+}
+
+// Computes and counts each tenant's outstanding jobs.
+fn complete_each(tenants: &mut Vec<Tenant>)
+    ensures { AreStepped (λ t. IsCompleted) (length tenants.old.items) tenants.old.items tenants.new.items }
+{
+    for i in 0..tenants.len() {
+        tenants[i].complete_all();
     }
 }

@@ -136,7 +136,6 @@ impl Stage {
         let Ok(jobs) = self.host.tick(frame) else {
             return Err(AllocError);
         };
-        self.host.known();
         add_names(&mut self.released, jobs)?;
         Ok(())
     }

@@ -1,7 +1,8 @@
-//! Work for the stopwatch of `bench/`: a text read many times, a body with many turns, and a plain loop.
+//! Work for the stopwatch of `bench/`: a text read many times, a body with many turns, instants of a host, and a plain loop.
 #![tactic(auto)]
 
 mod drivers;
+mod instants;
 mod turns;
 
 use giotto_check::check;
@@ -17,7 +18,7 @@ fn main(rt: HostRuntime) -> anyhow::Result<ExitCode> {
     let words: Vec<String> = std::env::args(&rt)?.collect(rt.alloc())?;
     let [_, work, times] = words.as_slice() else {
         eprintln!(rt;
-            "usage: measure tokens|read|check|print|drive TIMES < TEXT, or measure evaluate|jobs|operate|loop TIMES"
+            "usage: measure tokens|read|check|print|drive|alone|crowded|quiet TIMES < TEXT, or measure evaluate|jobs|operate|loop TIMES"
         )?;
         return Ok(ExitCode::from(2));
     };
@@ -28,6 +29,9 @@ fn main(rt: HostRuntime) -> anyhow::Result<ExitCode> {
         "check" => check_many_times(rt.alloc(), rt.reader(), times)?,
         "print" => print_many_times(rt.alloc(), rt.reader(), times)?,
         "drive" => drive_many_times(rt.alloc(), rt.reader(), times)?,
+        "alone" => instants::instants(rt.alloc(), rt.reader(), 1, true, times)?,
+        "quiet" => instants::instants(rt.alloc(), rt.reader(), 1, false, times)?,
+        "crowded" => instants::instants(rt.alloc(), rt.reader(), 16, true, times)?,
         "jobs" => turns::jobs(rt.alloc(), times)?,
         "evaluate" => turns::evaluated(rt.alloc(), times)?,
         "operate" => drivers::plain(times),

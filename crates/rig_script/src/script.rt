@@ -17,7 +17,7 @@ use crate::answers::{Answers, answer_lines};
 use crate::faults::ScriptFault;
 use crate::lines::Lines;
 use crate::speakers::{Speaker, who_speaks};
-use host_core::hosts::{Host, TickFault, complete};
+use host_core::hosts::{Host, TickFault};
 use rig_config::{Config, TenantId};
 use std::alloc::{AllocError, Global};
 use std::io::{Read, Write};
@@ -121,8 +121,8 @@ fn tick(alloc: Global, host: &mut Host, line: &str) -> Result<String, AllocError
         return reply_line(alloc, "op", "err bad-command");
     };
     let number = host.clock();
-    match host.tick(frame.as_slice()) {
-        Ok(_) => format!(in alloc; "op ok tick {number}\n"),
+    match host.instant(frame.as_slice()) {
+        Ok(()) => format!(in alloc; "op ok tick {number}\n"),
         Err(TickFault::BadFrame) => reply_line(alloc, "op", "err bad-frame"),
         Err(TickFault::ClockEnded) => reply_line(alloc, "op", "err clock-ended"),
         Err(TickFault::Memory) => Err(AllocError),
@@ -145,11 +145,7 @@ fn complete_all(alloc: Global, host: &mut Host) -> Result<String, AllocError>
     ensures { (setting : Setting) (past : List Event) → IsHostAfter setting host.old past
         → IsStep (work_step (outstanding_after setting past)) past result (IsHostAfter setting host.new) }
 {
-    let names = host.outstanding_jobs()?;
-    for name in &names {
-        complete(host, name)?;
-    }
-    let number = names.len();
+    let number = host.complete_all();
     format!(in alloc; "op ok work {number}\n")
 }
 

@@ -12,7 +12,7 @@ use Rattle.giotto_check.specs.Facts.{ProgramFits}
 use Rattle.giotto_check.specs.Slots.{port_names, ports_of, ports_of_task, shown_name, slots_of, valuation_of, with_slots}
 use Rattle.giotto_check.proofs.SlotLemmas.{port_names_begin}
 use Rattle.giotto_check.proofs.Valuations.{with_values_at_places}
-use Rattle.tenant_ports.specs.Ports.{actuators_reset}
+use Rattle.tenant_slots.specs.Ports.{actuators_reset}
 
 pub map_both : (as' : List Actuator) → map (λ (a : Actuator). a.initial) as' ≡ map (λ (a : ActuatorDeclaration). a.initial) (map actuator_of as')
 map_both [] = refl

@@ -13,7 +13,7 @@ use Rattle.giotto_text.specs.declared.programs.Output.{Output}
 use Rattle.giotto_text.specs.declared.programs.Task.{Task}
 use Rattle.giotto_check.specs.Slots.{ports_of, port_names, slots_of, shown_name, valuation_of}
 use Rattle.giotto_check.proofs.PortsOnce.{all_shown, shown_of_task}
-use Rattle.tenant_ports.specs.Ports.{initial_shared, initial_of_task, initial_own, initial_ports}
+use Rattle.tenant_slots.specs.Ports.{initial_shared, initial_of_task, initial_own, initial_ports}
 
 -- the values of a map, in its order
 abbrev pub values_in : Valuation → List ℤ

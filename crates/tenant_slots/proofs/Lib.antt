@@ -1,8 +1,11 @@
 pub mod ActuatorSlots
 pub mod InitialValues
 pub mod Numbered
+pub mod PortRows
 pub mod Quiet
 pub mod Readings
 pub mod SensedSlots
 pub mod Shown
+pub mod TaskValues
 pub mod Updates
+pub mod WrittenSlots

@@ -13,7 +13,7 @@ use Rattle.giotto_check.proofs.EachLemmas.{each_at, each_long}
 use Rattle.giotto_check.proofs.SlotLemmas.{name_at_slot}
 use Rattle.giotto_check.proofs.Valuations.{with_value_at_place}
 use Rattle.tenant_slots.specs.Updates.{is_updated, updated, all_updated}
-use Rattle.tenant_ports.specs.Ports.{holds}
+use Rattle.tenant_slots.specs.Ports.{holds}
 use Rattle.tenant_slots.proofs.Numbered.{slot_within, update_due}
 
 -- the one that an entry stands for

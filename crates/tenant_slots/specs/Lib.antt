@@ -1,4 +1,5 @@
 pub mod Due
 pub mod Places
+pub mod Ports
 pub mod Readings
 pub mod Updates

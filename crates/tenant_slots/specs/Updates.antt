@@ -3,7 +3,7 @@ use Rattle.std.specs.Prelude.{ℕ, Bool, ◌&&◌, if◌then◌else◌, List, []
 use Rattle.giotto_tasks.specs.Names.{Valuation, with_value}
 use Rattle.giotto_tasks.specs.Meaning.{value_of}
 use Rattle.giotto_text.specs.Program.{ActuatorUpdate, ModeDeclaration}
-use Rattle.tenant_ports.specs.Ports.{holds}
+use Rattle.tenant_slots.specs.Ports.{holds}
 use Rattle.tenant_slots.specs.Due.{is_due_at}
 
 -- an actuator update happens where it is due and its guard holds

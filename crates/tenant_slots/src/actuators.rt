@@ -3,7 +3,7 @@
 ghost use Rattle.std.specs.Prelude.{◌≡◌, Some, length, slice_get};
 ghost use Rattle.giotto_text.specs.Program.{ModeDeclaration};
 ghost use Rattle.giotto_check.specs.Slots.{slots_of, valuation_of};
-ghost use Rattle.tenant_ports.specs.Ports.{actuators_reset};
+ghost use Rattle.tenant_slots.specs.Ports.{actuators_reset};
 ghost use Rattle.tenant_slots.specs.Updates.{all_updated};
 
 use crate::drivers::holds;

@@ -5,7 +5,7 @@ ghost use Rattle.giotto_tasks.specs.Syntax.{Expression};
 ghost use Rattle.giotto_text.specs.Program.{GiottoProgram};
 ghost use Rattle.giotto_check.specs.Slots.{slots_of, valuation_of};
 ghost use Rattle.giotto_check.specs.Timetables.{IsGuard};
-ghost use Rattle.tenant_ports.specs.Ports.{holds};
+ghost use Rattle.tenant_slots.specs.Ports.{holds};
 
 use giotto_check::timetables::{SlotExpr, slot_value};
 

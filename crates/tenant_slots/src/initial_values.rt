@@ -3,7 +3,7 @@
 ghost use Rattle.std.specs.Prelude.{◌≡◌, ◌++◌, length, map, IfOk, OnOk};
 ghost use Rattle.giotto_check.specs.Slots.{slots_of, valuation_of};
 ghost use Rattle.giotto_text.specs.ProgramTrees.{task_of};
-ghost use Rattle.tenant_ports.specs.Ports.{initial_of_task, initial_ports};
+ghost use Rattle.tenant_slots.specs.Ports.{initial_of_task, initial_ports};
 
 use giotto_check::Checked;
 use giotto_tasks::bodies::Body;

@@ -1,10 +1,10 @@
 //! The names that commands and replies have, by slots and places.
 
-ghost use Rattle.std.specs.Prelude.{◌≡◌, slice_get, IsSomeAnd};
+ghost use Rattle.std.specs.Prelude.{◌≡◌, length, slice_get, IsSomeAnd};
 ghost use Rattle.std.specs.List.{position_from};
-ghost use Rattle.giotto_tasks.specs.Names.{same_name};
+ghost use Rattle.giotto_tasks.specs.Names.{same_name, value_at};
 ghost use Rattle.giotto_text.specs.declared.programs.Mode.{Mode};
-ghost use Rattle.giotto_check.specs.Slots.{port_names};
+ghost use Rattle.giotto_check.specs.Slots.{port_names, slots_of, valuation_of};
 
 use giotto_check::Checked;
 use giotto_tasks::names::Name;
@@ -20,6 +20,18 @@ pub fn shown_slot(program: &Checked, name: &str) -> Option<usize>
         Some((task, port)) => program.slot(Some(task), port),
         None => program.slot(None, name),
     }
+}
+
+/// The value of the port that is shown by this name, where these are the values of all ports by their slots. `None` where
+/// there is no such port.
+pub fn shown_value(program: &Checked, name: &str, values: &[i64]) -> Option<i64>
+    requires { length values.now ≡ slots_of program.now }
+    ensures { result ≡ value_at (valuation_of program.now values.now) name.now }
+{
+    // Its ports stand once.
+    let _program = program.program();
+    let slot = shown_slot(program, name)?;
+    values.get(slot).copied()
 }
 
 /// The place of the mode in which a program starts, in text order from 0.

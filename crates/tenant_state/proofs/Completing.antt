@@ -1,117 +1,170 @@
--- What a completion does, over what a tenant's code keeps.
-use Rattle.std.proofs.Common.{◌≡◌, ℕ, ◌+◌, ℤ, Bool, true, not, List, map, length, get_or, set, Some, None, refl, sym, ap, ◌∙◌, subst}
+-- What a result leaves, over what a tenant's code keeps.
+use Rattle.std.proofs.Common.{◌≡◌, ℕ, zero, suc, ◌+◌, ◌<◌, ◌↔◌, ℤ, Bool, true, not, List, [], ◌∷◌, map, find, length, take, get_or, set, slice_get, option_map, IsSomeAnd, Option, Some, None, refl, sym, ap, ◌∙◌, subst, add-one, arith}
 use Rattle.std.specs.Arc.{arc_value}
-use Rattle.std.specs.List.{position}
-use Rattle.std.specs.Prelude.{IfSome}
-use Rattle.std.proofs.lemmas.List.{get_or_read, length-map}
-use Rattle.std.proofs.lemmas.List.Quantifiers.{position-Some}
-use Rattle.giotto_tasks.specs.declared.names.Name.{Name}
+use Rattle.std.specs.List.{AllByRecursion}
+use Rattle.std.specs.Option.{option_map_or}
+use Rattle.std.proofs.lemmas.Bool.{and_parts}
+use Rattle.std.proofs.lemmas.List.{map-set, length-map, get_or_read}
+use Rattle.std.proofs.lemmas.Option.{slice_get_read}
+use Rattle.std.proofs.Math.ListN.{get_or-map}
+use Rattle.std.proofs.Math.Seq.{map-set_same}
+use Rattle.giotto_tasks.specs.Meaning.{outputs_of, states_of}
 use Rattle.giotto_tasks.specs.Sound.{IsSound}
-use Rattle.giotto_tasks.specs.Syntax.{TaskBody}
-use Rattle.giotto_text.specs.Program.{GiottoProgram, body_of}
+use Rattle.giotto_tasks.specs.Syntax.{TaskBody, finished}
+use Rattle.giotto_text.specs.Program.{TaskDeclaration, GiottoProgram, body_of}
 use Rattle.giotto_text.specs.ProgramTrees as trees
 use Rattle.giotto_text.specs.declared.programs.Task.{Task}
+use Rattle.giotto_check.specs.Facts.{ProgramFits}
+use Rattle.tenant_slots.proofs.Numbered.{task_here, task_fits_at}
 use Rattle.tenant_state.specs.declared.jobs.JobId.{JobId}
 use Rattle.tenant_state.specs.declared.tenants.Active.{Active}
-use Rattle.tenant_state.specs.declared.tenants.State as code
-use Rattle.giotto_rules.specs.Declarations.{task_of}
-use Rattle.tenant_state.specs.Jobs.{JobValue, IsComputable, job_in}
-use Rattle.tenant_ports.specs.PortTables.{PortTables}
+use Rattle.tenant_state.specs.declared.tenants.Computed.{Computed}
+use Rattle.tenant_state.specs.Jobs.{JobValue, body_in, job_in, job_of, same_job}
 use Rattle.tenant_state.specs.Row.{ActiveTask, Row}
-use Rattle.tenant_state.specs.Standing.{StandsFor, outstanding_tasks, awaited_job}
-use Rattle.tenant_state.specs.Tenants.{active_of, is_completed, standing_of, IsResultOf, IsActiveAs, IsActiveAsSome, IsActiveIn, IsTenant}
-use Rattle.tenant_state.proofs.AwaitedTasks.{awaited_of, awaited_tasks_are, is_awaited, is_named, awaited_at, named_at, same_releases, still_different, marks_with, marks_after, counts_if, counts_only_if, with_result, completed_as}
-use Rattle.std.proofs.lemmas.Bool.{and_parts}
-use Rattle.giotto_tasks.proofs.ListLemmas.{filter_set, all_at, all_set, some_same}
-use Rattle.tenant_state.proofs.Invoked.{body_of_task}
+use Rattle.tenant_state.specs.Standing.{Standing, StandsFor}
+use Rattle.tenant_state.specs.Tenants.{active_of, is_completed, all_different_releases, IsResultOf, IsActiveAs, IsActiveOf, IsActiveIn, IsTenant}
+use Rattle.tenant_state.proofs.AwaitedTasks.{awaited_of, is_named, is_awaited, outstanding_in, outstanding_are, job_found, named_is, marks_with, marked}
+use Rattle.giotto_tasks.proofs.ListLemmas.{filter_set, find_passes, all_at, all_set, some_same}
+use Rattle.tenant_state.proofs.TenantFacts.{body_of_task}
 
-abbrev pub IsJobOf : Task → Active → JobValue → Type 0
-IsJobOf t a d = (arc_value t.body ≡ d.body) × (a.inputs ≡ d.inputs) × (a.states ≡ d.states)
+-- the result of an active task of the program
+abbrev pub IsResultIn : GiottoProgram → Active → Computed → Type 0
+IsResultIn p a r = IsSomeAnd (slice_get p.tasks a.task) (λ t. IsResultOf a t r)
 
-pub result_of_job : (t : Task) (a : Active) (d : JobValue) → IsJobOf t a d → IsResultOf a (trees.task_of t) d
-result_of_job t a d is = record { same_body = sym is.0 ∙ sym (body_of_task t); same_inputs = sym is.1; same_states = sym is.2 }
+abbrev pub with_result : Active → Computed → Active
+with_result a r = record a { result = Some r }
 
-pub job_of_result : (t : Task) (a : Active) (d : JobValue) → IsResultOf a (trees.task_of t) d → IsJobOf t a d
-job_of_result t a d is = (sym (body_of_task t) ∙ sym is.same_body, sym is.same_inputs, sym is.same_states)
+-- the task of an active task
+module _ (p : GiottoProgram) (a : Active) where
+  module _ (t : Task) (task : slice_get p.tasks a.task ≡ Some (trees.task_of t)) where
+    pub fits_body : IsActiveOf p a → (length a.inputs ≡ length (arc_value t.body).inputs) × (length a.states ≡ length (arc_value t.body).states)
+    fits_body of =
+        let is = subst (λ o. IsSomeAnd o (IsActiveAs a)) task of in
+        (is.inputs_fit, is.states_fit ∙ sym (length-map (trees.task_of t).states (λ s. s.0)) ∙ ap (λ (b : TaskBody). length b.states) (body_of_task t))
 
--- the job of the active task at place i, which is this task of the program
-pub job_is : (state : code.State) (p : GiottoProgram) (mode : Name) (time : ℕ) (active : List Active) (ports : PortTables) (count : ℕ) (j : JobId) (i : ℕ) (a : Active)
-    → position (is_awaited j) active ≡ Some i → a ≡ get_or active i a → (t : Task) → task_of p a.task ≡ Some (trees.task_of t)
-    → awaited_job (standing_of state (Some p) mode time active ports count) j ≡ Some (record { id = j; body = arc_value t.body; inputs = a.inputs; states = a.states })
-job_is state p mode time active ports count j i a found at t task =
-    let d : JobValue = record { id = j; body = arc_value t.body; inputs = a.inputs; states = a.states } in
-    let result : IsResultOf a (trees.task_of t) d = record { same_body = sym (body_of_task t); same_inputs = refl; same_states = refl } in
-    awaited_at state p mode time active ports count j i a found at ∙ ap (λ j. Some j) (counts_if p a d (trees.task_of t) task (named_at j active i a found at).1 result)
+    pub sound_body : ProgramFits p → IsSound (arc_value t.body)
+    sound_body fits = subst IsSound (body_of_task t) (task_fits_at p fits a.task (trees.task_of t) task).sound
 
-pub job_fits : (p : GiottoProgram) (time : ℕ) (active : List Active) (ports : PortTables) (count : ℕ) (j : JobId) (i : ℕ) (a : Active)
-    → position (is_awaited j) active ≡ Some i → a ≡ get_or active i a → IsTenant (Some p) time active ports count
-    → (t : Task) → task_of p a.task ≡ Some (trees.task_of t) → IsSound (body_of (trees.task_of t))
-    → IsComputable (record { id = j; body = arc_value t.body; inputs = a.inputs; states = a.states })
-job_fits p time active ports count j i a found at known t task sound =
-    let there = subst (IsActiveIn p count) (sym at) (all_at (IsActiveIn p count) active i a (named_at j active i a found at).0 known.fits.1) in
-    let fits : IsActiveAs a (trees.task_of t) = subst (IsActiveAsSome a) task there.1 in
-    record {
-      inputs = fits.inputs_fit;
-      states = fits.states_fit ∙ sym (length-map (trees.task_of t).states (λ (v : Name × ℤ). v.0)) ∙ ap (λ (b : TaskBody). length b.states) (body_of_task t);
-      sound = subst IsSound (body_of_task t) sound;
-    }
+    pub result_of : (r : Computed) → r.outputs ≡ outputs_of (arc_value t.body) a.inputs a.states → r.states ≡ states_of (arc_value t.body) a.inputs a.states → IsResultIn p a r
+    result_of r outputs states = subst (λ o. IsSomeAnd o (λ t. IsResultOf a t r)) (sym task) (record {
+      outputs = outputs ∙ ap (λ b. outputs_of b a.inputs a.states) (sym (body_of_task t));
+      states = states ∙ ap (λ b. states_of b a.inputs a.states) (sym (body_of_task t));
+    })
 
--- the active task of this name stands at place i, and is a task of the program
-module _ (state : code.State) (p : GiottoProgram) (mode : Name) (time : ℕ) (active : List Active) (ports : PortTables) (count : ℕ) (d : JobValue) (i : ℕ) (a : Active)
-    (found : position (is_awaited d.id) active ≡ Some i) (at : a ≡ get_or active i a) (known : IsTenant (Some p) time active ports count) where
-  active_in : IsActiveIn p count a
-  active_in = subst (IsActiveIn p count) (sym at) (all_at (IsActiveIn p count) active i a (named_at d.id active i a found at).0 known.fits.1)
+-- with its result it is active as before
+pub active_with : (p : GiottoProgram) (a : Active) (r : Computed) → IsResultIn p a r → IsActiveOf p a → IsActiveOf p (with_result a r)
+active_with p a r is fits = by (slice_get p.tasks a.task) fits is
+  where
+    by : (o : Option TaskDeclaration) → IsSomeAnd o (IsActiveAs a) → IsSomeAnd o (λ t. IsResultOf a t r) → IsSomeAnd o (IsActiveAs (with_result a r))
+    by None fits is = fits
+    by (Some t) fits is = record { inputs_fit = fits.inputs_fit; states_fit = fits.states_fit; result_fits = record { outputs = is.outputs; states = is.states } }
 
-  pub is_task : task_of p a.task ≡ None → ⊥
-  is_task none = subst (IsActiveAsSome a) none active_in.1
+-- the tenant fits its program with other active tasks that stand for the same
+pub still_tenant : {p : GiottoProgram} {mode time next count : ℕ} {active : List Active} {values : List ℤ} {shares : List (Option TaskBody)} (new : List Active)
+    → map (active_of p) new ≡ map (active_of p) active → AllByRecursion (IsActiveIn p count) new → IsTenant (Some p) mode time next active values shares count → IsTenant (Some p) mode time next new values shares count
+still_tenant new same each known = record {
+  short_time = known.short_time;
+  no_switches = known.no_switches;
+  different = ap all_different_releases same ∙ known.different;
+  fits = record {
+    long = known.fits.long;
+    mode_there = known.fits.mode_there;
+    quiet = known.fits.quiet;
+    each = each;
+    share_each = known.fits.share_each;
+  };
+}
 
-  pub counted_if : (t : Task) → task_of p a.task ≡ Some (trees.task_of t) → IsJobOf t a d → awaited_job (standing_of state (Some p) mode time active ports count) d.id ≡ Some d
-  counted_if t task is =
-      awaited_at state p mode time active ports count d.id i a found at
-      ∙ ap (λ j. Some j) (counts_if p a d (trees.task_of t) task (named_at d.id active i a found at).1 (result_of_job t a d is))
+-- the active task at a place
+module _ (tasks : List Active) (i : ℕ) (a : Active) (lt : i < length tasks) (at : a ≡ get_or tasks i a) where
+  pub so_there : (P : Active → Type 0) → AllByRecursion P tasks → P a
+  so_there P all = subst P (sym at) (all_at P tasks i a lt all)
 
-  pub counted_only_if : (t : Task) → task_of p a.task ≡ Some (trees.task_of t) → awaited_job (standing_of state (Some p) mode time active ports count) d.id ≡ Some d → IsJobOf t a d
-  counted_only_if t task counted =
-      let same = some_same (job_in p d.id.tenant (active_of a)) d (sym (awaited_at state p mode time active ports count d.id i a found at) ∙ counted) in
-      job_of_result t a d (counts_only_if p a d (trees.task_of t) task same)
+module _ (p : GiottoProgram) (tasks : List Active) (i : ℕ) (a : Active) (lt : i < length tasks) (at : a ≡ get_or tasks i a) where
+  -- with another that stands for the same
+  module _ (b : Active) (same : active_of p b ≡ active_of p a) where
+    pub same_tasks : map (active_of p) (set tasks i b) ≡ map (active_of p) tasks
+    same_tasks = map-set_same (active_of p) tasks i b a (same ∙ ap (active_of p) at)
 
-  releases : map active_of (set active i (with_result p a d)) ≡ map active_of active
-  releases = same_releases active i (with_result p a d) (ap active_of (get_or_read active i a (named_at d.id active i a found at).0 at (with_result p a d)))
+    pub still_active : (n : ℕ) → IsActiveOf p b → AllByRecursion (IsActiveIn p n) tasks → AllByRecursion (IsActiveIn p n) (set tasks i b)
+    still_active n of all =
+        let early = (so_there tasks i a lt at (IsActiveIn p n) all).early in
+        all_set (IsActiveIn p n) tasks i b (record { early = subst (λ (x : ActiveTask). x.release < n) (sym same) early; declared = of }) all
 
-  pub still_tenant : (t : Task) → task_of p a.task ≡ Some (trees.task_of t) → IsJobOf t a d → IsTenant (Some p) time (set active i (with_result p a d)) ports count
-  still_tenant t task is =
-      let result = subst (λ o. IfSome o (λ t. IsResultOf a t d)) (sym task) (result_of_job t a d is) in
-      record {
-        short_time = known.short_time;
-        no_switches = known.no_switches;
-        different = still_different (set active i (with_result p a d)) active releases known.different;
-        fits = (known.fits.0, all_set (IsActiveIn p count) active i (with_result p a d) (active_in.0, completed_as p a d (task_of p a.task) active_in.1 result) known.fits.1);
-      }
+  module _ (j : JobId) (found : find (is_awaited p j) tasks ≡ slice_get tasks i) where
+    found_is : find (is_awaited p j) tasks ≡ Some a
+    found_is = found ∙ slice_get_read tasks (length tasks) i a refl lt at
 
-  pub same_row_with_result : (standing_of state (Some p) mode time (set active i (with_result p a d)) ports count).row ≡ (standing_of state (Some p) mode time active ports count).row
-  same_row_with_result = λ k. record (standing_of state (Some p) mode time active ports count).row { active = releases k }
+    parts : (not (is_completed a) ≡ true) × (is_named p j a ≡ true)
+    parts = and_parts (not (is_completed a)) (is_named p j a) (find_passes (is_awaited p j) tasks a found_is)
 
-  pub stands_completed : (row : Row) (completed : ActiveTask → Bool) → StandsFor (standing_of state (Some p) mode time active ports count) row completed
-      → StandsFor (standing_of state (Some p) mode time (set active i (with_result p a d)) ports count) row (marks_with d.id completed)
-  stands_completed row completed stands =
-      let b = with_result p a d in
-      let there = named_at d.id active i a found at in
-      let same_active : map active_of active ≡ row.active = ap (λ (r : Row). r.active) stands.same_row in
-      let named : is_named d.id (get_or active i b) ≡ true = ap (is_named d.id) (sym (get_or_read active i a there.0 at b)) ∙ there.1 in
-      record {
-        same_row = same_row_with_result ∙ stands.same_row;
-        same_marks = marks_after d.id completed active i b there.0 known.different named refl (stands.same_marks ∙ ap (map completed) (sym same_active)) ∙ ap (map (marks_with d.id completed)) same_active;
-      }
+    -- its job
+    module _ (fits : ProgramFits p) (t : Task) (task : slice_get p.tasks a.task ≡ Some (trees.task_of t)) where
+      abbrev pub own_job : JobValue
+      own_job = record { id = j; body = arc_value t.body; inputs = a.inputs; states = a.states }
 
-  -- one completion fewer is awaited
-  pub one_fewer : length (outstanding_tasks (standing_of state (Some p) mode time active ports count))
-      ≡ length (outstanding_tasks (standing_of state (Some p) mode time (set active i (with_result p a d)) ports count)) + 1
-  one_fewer =
-      let b = with_result p a d in
-      let there = named_at d.id active i a found at in
-      let open_there : not (is_completed (get_or active i b)) ≡ true =
-      (and_parts _ _ (position-Some (is_awaited d.id) active i b found).1).0 in
-      ap length (awaited_tasks_are state (Some p) mode time active ports count)
-      ∙ (length-map (awaited_of active) active_of
-      ∙ (filter_set (λ x. not (is_completed x)) active i b there.0 open_there refl
-      ∙ ap (λ n. n + 1) (sym (length-map (awaited_of (set active i b)) active_of) ∙ ap length (sym (awaited_tasks_are state (Some p) mode time (set active i b) ports count)))))
+      body_is : body_in p (active_of p a).task ≡ arc_value t.body
+      body_is = ap (λ o. option_map_or body_of o (record { inputs = []; outputs = []; states = []; block = finished })) (task_here p fits a.task (trees.task_of t) task) ∙ body_of_task t
+
+      pub job_is : option_map (job_in p j.tenant) (find (λ b. same_job (job_of j.tenant b) j) (outstanding_in p tasks)) ≡ Some own_job
+      job_is =
+          job_found p j tasks ∙ ap (option_map (λ b. job_in p j.tenant (active_of p b))) found_is
+          ∙ λ k. Some (record { id = named_is p j a parts.1 k; body = body_is k; inputs = a.inputs; states = a.states })
+
+      pub counts : (d : JobValue) → d.id ≡ j → ((arc_value t.body ≡ d.body) × (a.inputs ≡ d.inputs) × (a.states ≡ d.states))
+          ↔ (option_map (job_in p j.tenant) (find (λ b. same_job (job_of j.tenant b) j) (outstanding_in p tasks)) ≡ Some d)
+      counts d own = (
+        λ is. job_is ∙ λ k. Some (record { id = sym own k; body = is.0 k; inputs = is.1 k; states = is.2 k }),
+        λ e. let same = some_same own_job d (sym job_is ∙ e) in (ap (λ (j : JobValue). j.body) same, ap (λ (j : JobValue). j.inputs) same, ap (λ (j : JobValue). j.states) same),
+      )
+
+    -- its result
+    module _ (r : Computed) where
+      -- one completion fewer is awaited
+      pub one_fewer : length (outstanding_in p tasks) ≡ length (outstanding_in p (set tasks i (with_result a r))) + 1
+      one_fewer =
+          let awaited = subst (λ b. not (is_completed b) ≡ true) (get_or_read tasks i a lt at (with_result a r)) parts.0 in
+          ap length (outstanding_are p tasks) ∙ length-map (awaited_of tasks) (active_of p)
+          ∙ filter_set (λ b. not (is_completed b)) tasks i (with_result a r) lt awaited refl
+          ∙ ap (λ n. n + 1) (sym (ap length (outstanding_are p (set tasks i (with_result a r))) ∙ length-map (awaited_of (set tasks i (with_result a r))) (active_of p)))
+
+      pub stands_after : {s new : Standing} {row : Row} {completed : ActiveTask → Bool} → StandsFor s row completed → s.row.active ≡ map (active_of p) tasks → s.completed ≡ map is_completed tasks
+          → all_different_releases (map (active_of p) tasks) ≡ true → new.row ≡ record s.row { active = map (active_of p) (set tasks i (with_result a r)) } → new.completed ≡ map is_completed (set tasks i (with_result a r)) → StandsFor new row (marks_with j completed)
+      stands_after {s = s} {completed = completed} stands of marks different same_row same_marks =
+          let same = sym (ap (λ (r : Row). r.active) stands.same_row) ∙ of in
+          let within = subst (λ n. i < n) (sym (length-map tasks (active_of p))) lt in
+          let there = ap (active_of p) at ∙ sym (get_or-map (active_of p) tasks i a) in
+          record {
+            same_row = same_row ∙ (λ k. record s.row { active = (same_tasks (with_result a r) refl ∙ sym of) k }) ∙ stands.same_row;
+            same_marks =
+                same_marks ∙ map-set is_completed tasks i (with_result a r) ∙ ap (λ bs. set bs i true) (sym marks ∙ stands.same_marks ∙ ap (map completed) same)
+                ∙ marked j completed (map (active_of p) tasks) i (active_of p a) within there (sym (named_is p j a parts.1)) different ∙ ap (map (marks_with j completed)) (sym same);
+          }
+
+-- the entries before this place have their results, and all stand for the same
+pub record AreComputedTo (p : GiottoProgram) (k : ℕ) (old new : List Active) : Type 0 where
+  pub releases : map (active_of p) new ≡ map (active_of p) old
+  pub declared : AllByRecursion (IsActiveOf p) new
+  pub tasks : (n : ℕ) → AllByRecursion (IsActiveIn p n) old → AllByRecursion (IsActiveIn p n) new
+  pub completed : take k (map is_completed new) ≡ map (λ b. true) (take k (map is_completed old))
+
+done_more : (tasks : List Active) (i : ℕ) (a : Active) (marks : List Bool) → i < length tasks → length tasks ≡ length marks → is_completed a ≡ true
+    → take i (map is_completed tasks) ≡ map (λ b. true) (take i marks) → take (suc i) (map is_completed (set tasks i a)) ≡ map (λ b. true) (take (suc i) marks)
+done_more [] i a marks lt long done e = absurd (omega (arith, lt))
+done_more (b ∷ tasks) i a [] lt long done e = absurd (omega (arith, long))
+done_more (b ∷ tasks) zero a (m ∷ marks) lt long done e = λ k. done k ∷ []
+done_more (b ∷ tasks) (suc i) a (m ∷ marks) lt long done e =
+    let first : is_completed b ≡ true = cc in
+    let rest : take i (map is_completed tasks) ≡ map (λ b. true) (take i marks) = cc in
+    let more = done_more tasks i a marks (omega (arith, lt)) (omega (arith, long)) done rest in
+    λ k. first k ∷ more k
+
+pub computed_more : (p : GiottoProgram) (old tasks : List Active) (i : ℕ) (a b : Active) → i < length tasks → a ≡ get_or tasks i a → active_of p b ≡ active_of p a → IsActiveOf p b → is_completed b ≡ true
+    → AreComputedTo p i old tasks → AreComputedTo p (i + 1) old (set tasks i b)
+computed_more p old tasks i a b lt at same of done is = record {
+  releases = same_tasks p tasks i a lt at b same ∙ is.releases;
+  declared = all_set (IsActiveOf p) tasks i b of is.declared;
+  tasks = λ n all. still_active p tasks i a lt at b same n of (is.tasks n all);
+  completed = rw add-one
+      (done_more tasks i b (map is_completed old) lt (sym (length-map tasks (active_of p)) ∙ ap length is.releases ∙ length-map old (active_of p) ∙ sym (length-map old is_completed)) done is.completed);
+}

@@ -6,7 +6,7 @@ use Rattle.std.proofs.lemmas.Bool.{eq-eqb, ne_eqb}
 use Rattle.giotto_text.specs.Program.{ModeSwitch, ModeDeclaration, GiottoProgram}
 use Rattle.giotto_rules.specs.Declarations.{mode_of}
 use Rattle.tenant_slots.specs.Due.{is_due_at}
-use Rattle.tenant_ports.specs.Ports.{holds}
+use Rattle.tenant_slots.specs.Ports.{holds}
 use Rattle.tenant_state.specs.Row.{running, ActiveTask, Row, is_running_state, where_some, in_mode}
 use Rattle.tenant_state.specs.SecondHalf.{installed, replaced_if_due, sensed, entered, switched, invoked_in_mode, moved_on, counted, second_half_running, second_half_of}
 use Rattle.tenant_slots.specs.Readings.{Readings}

@@ -1,140 +1,182 @@
 -- What is known of a tenant behind the second half of an instant.
-use Rattle.std.proofs.Common.{◌≡◌, ℕ, ◌+◌, ◌%◌, ◌<◌, ◌≤◌, ◌^◌, Bool, true, false, not, cond, nat_eq, ◌&&◌, List, [], ◌∷◌, ◌++◌, map, Option, Some, None, refl, ap, sym, ◌∙◌, arith}
-use Rattle.std.specs.Prelude.{option_to_list}
-use Rattle.std.specs.Option.{option_map}
+use Rattle.std.proofs.Common.{◌≡◌, ℕ, zero, suc, ◌+◌, ◌-◌, ◌%◌, ◌<◌, ◌≤◌, true, false, not, nat_eq, ◌&&◌, ℤ, List, [], ◌∷◌, ◌++◌, length, map, filter, take, drop, Option, Some, None, refl, ap, sym, subst, ◌∙◌, arith}
+use Rattle.std.specs.Prelude.{◌==◌, slice_get, slice_index_or}
+use Rattle.std.specs.Option.{option_map, option_map_or}
 use Rattle.std.specs.List.{list_all, AllByRecursion}
-use Rattle.std.proofs.lemmas.Bool.{and_parts, and_from, or_parts, false≢true, ne_eqb, eqb-true, false_from_ne_true, not_from_false}
-use Rattle.std.proofs.lemmas.List.{nil_from_length}
+use Rattle.std.proofs.lemmas.Bool.{and_parts, and_from, or_parts, false≢true, ne_eqb, eq-eqb, eqb-true, false_from_ne_true, not-true}
+use Rattle.std.proofs.lemmas.List.{nil_from_length, length-map, length-drop, drop-map, take-append-drop, take_rest}
 use Rattle.std.proofs.lemmas.Nat.{mod_below}
 use Rattle.std.proofs.lemmas.List.Folds.{list_all-append}
+use Rattle.std.proofs.lemmas.Option.{slice_get-map, slice_get-get_or}
 use Rattle.giotto_tasks.specs.declared.names.Name.{Name}
 use Rattle.giotto_tasks.specs.Names.{Valuation, same_name, is_among}
 use Rattle.giotto_tasks.specs.Sound.{all_different}
+use Rattle.giotto_tasks.specs.Syntax.{TaskBody}
+use Rattle.giotto_text.specs.declared.programs.Mode.{Mode}
+use Rattle.giotto_text.specs.ProgramTrees as tree
 use Rattle.giotto_text.specs.Program.{TaskDeclaration, TaskInvocation, ModeDeclaration, GiottoProgram}
-use Rattle.giotto_rules.specs.Declarations.{task_of, mode_of}
-use Rattle.tenant_state.specs.declared.tenants.Active.{Active}
-use Rattle.tenant_ports.specs.PortTables.{PortTables, HaveSameNames}
-use Rattle.tenant_state.specs.Row.{ActiveTask}
-use Rattle.tenant_state.specs.SecondHalf.{is_invoked, released, invoked, all_released}
-use Rattle.tenant_state.specs.Commands.{has_no_switch}
-use Rattle.tenant_state.specs.Tenants.{active_of, all_different_releases, HasNoSwitches, IsActiveIn, IsTenantOf, IsTenant}
-use Rattle.tenant_state.proofs.HalfStands.{new_releases, older_releases}
-use Rattle.tenant_state.proofs.InvocableModes.{active_later}
-use Rattle.tenant_state.proofs.Invoked.{found_name}
-use Rattle.tenant_ports.proofs.PortNames.{ports_of_on}
-use Rattle.tenant_state.proofs.ProgramFacts.{mode_fits}
-use Rattle.giotto_tasks.proofs.NameLemmas.{same_name_is, same_name_self}
 use Rattle.giotto_check.specs.Facts.{ProgramFits}
-use Rattle.giotto_tasks.proofs.ListLemmas.{all_append, all_that, found_passes}
-use Rattle.tenant_state.proofs.AwaitedTasks.{is_another_release, are_different, releases_different}
+use Rattle.tenant_slots.specs.Due.{IsQuietUntil}
+use Rattle.tenant_slots.specs.Places.{name_of_task, name_of_mode}
+use Rattle.tenant_slots.proofs.Numbered.{mode_here, mode_fits_at}
+use Rattle.tenant_state.specs.declared.tenants.Active.{Active}
+use Rattle.tenant_state.specs.declared.tenants.State as code
+use Rattle.tenant_state.specs.declared.tenants.State.TheVariants.{Empty}
+use Rattle.tenant_state.specs.Jobs.{job_in, released_at}
+use Rattle.tenant_state.specs.Row.{ActiveTask, Row}
+use Rattle.tenant_state.specs.SecondHalf.{released, all_released}
+use Rattle.tenant_state.specs.Commands.{has_no_switch}
+use Rattle.tenant_state.specs.Standing.{Standing, AreReleased, most_released}
+use Rattle.tenant_state.specs.Tenants.{active_of, tasks_in, standing_of, is_another, all_different_releases, AreInvoked, HasNoSwitches, IsActiveOf, IsActiveIn, FitsIts, IsTenant}
+use Rattle.tenant_state.proofs.HalfStands.{released_by, new_releases}
+use Rattle.tenant_state.proofs.SecondHalfSteps.{those_released}
+use Rattle.tenant_state.proofs.TenantFacts.{known_of}
+use Rattle.giotto_tasks.proofs.TestLemmas.{and_true, and_false, not_either}
+use Rattle.giotto_tasks.proofs.NameLemmas.{same_name_is, same_name_self}
+use Rattle.giotto_tasks.proofs.ListLemmas.{all_wider, all_map, all_that, find_passes, found_passes}
 
-other_by_release : (a b : ActiveTask) → (a.release ≡ b.release → ⊥) → is_another_release a b ≡ true
-other_by_release a b apart = by (same_name a.task b.task) (ne_eqb a.release b.release apart)
-  where
-    by : (same : Bool) → nat_eq a.release b.release ≡ false → not (same && nat_eq a.release b.release) ≡ true
-    by false e = refl
-    by true e = ap not e
+other_by_release : (a b : ActiveTask) → (a.release ≡ b.release → ⊥) → is_another a b ≡ true
+other_by_release a b apart = ap not (ap (λ same. same_name a.task b.task && same) (ne_eqb a.release b.release apart) ∙ and_false _)
 
-other_by_task : (a b : ActiveTask) → same_name a.task b.task ≡ false → is_another_release a b ≡ true
-other_by_task a b e = ap (λ same. not (same && nat_eq a.release b.release)) e
+-- an active task stays one at the next instant
+pub active_later : (p : GiottoProgram) (n : ℕ) (xs : List Active) → AllByRecursion (IsActiveIn p n) xs → AllByRecursion (IsActiveIn p (n + 1)) xs
+active_later p n xs = all_map (IsActiveIn p n) (IsActiveIn p (n + 1)) xs (λ a is. record { early = omega (arith, is.early); declared = is.declared })
 
 -- older releases and those of this instant
 other_joined : (n : ℕ) (older new : List ActiveTask) → AllByRecursion (λ (a : ActiveTask). a.release < n) older → AllByRecursion (λ (a : ActiveTask). a.release ≡ n) new
-    → are_different older ≡ true → are_different new ≡ true → are_different (older ++ new) ≡ true
+    → all_different_releases older ≡ true → all_different_releases new ≡ true → all_different_releases (older ++ new) ≡ true
 other_joined n [] new before now h k = k
 other_joined n (a ∷ rest) new before now h k =
-    let both = and_parts (list_all (is_another_release a) rest) (are_different rest) h in
+    let both = and_parts (list_all (is_another a) rest) (all_different_releases rest) h in
     let early = before.0 in
-    let apart : list_all (is_another_release a) new ≡ true = all_that (is_another_release a) (λ (b : ActiveTask). b.release ≡ n) (λ b at. other_by_release a b (λ e. absurd (omega (arith, early, e, at)))) new now in
-    and_from (list_all (is_another_release a) (rest ++ new)) (are_different (rest ++ new)) (list_all-append (is_another_release a) rest new ∙ and_from _ _ both.0 apart) (other_joined n rest new before.1 now both.1 k)
+    let apart : list_all (is_another a) new ≡ true = all_that (is_another a) (λ (b : ActiveTask). b.release ≡ n) (λ b at. other_by_release a b (λ e. absurd (omega (arith, early, e, at)))) new now in
+    and_from (list_all (is_another a) (rest ++ new)) (all_different_releases (rest ++ new)) (list_all-append (is_another a) rest new ∙ and_from _ _ both.0 apart) (other_joined n rest new before.1 now both.1 k)
 
--- a name is not that of any of these, if it isn't among them
-none_named : (x : Name) (is : List TaskInvocation) → not (is_among (map (λ (i : TaskInvocation). i.task) is) x) ≡ true → AllByRecursion (λ (i : TaskInvocation). same_name x i.task ≡ false) is
-none_named x [] h = tt
-none_named x (i ∷ is) h =
-    let parts = or_parts (same_name i.task x) (is_among (map (λ (i : TaskInvocation). i.task) is) x) (false_from_ne_true _ (λ e. false≢true (ap not (sym e) ∙ h))) in
-    (turned parts.0, none_named x is (not_from_false _ parts.1))
-  where
-    turned : same_name i.task x ≡ false → same_name x i.task ≡ false
-    turned e = false_from_ne_true _ (λ same.
-        let one : x ≡ i.task = same_name_is x i.task same in
-        false≢true (sym e ∙ ap (same_name i.task) one ∙ same_name_self i.task))
+-- names differ either way
+other_name : (x y : Name) → same_name x y ≡ false → same_name y x ≡ false
+other_name x y e = false_from_ne_true _ (λ same.
+    let one : y ≡ x = same_name_is y x same in
+    false≢true (sym e ∙ ap (same_name x) one ∙ same_name_self x))
 
-module _ (p : GiottoProgram) (m : ModeDeclaration) (time n : ℕ) where
-  -- what holds of a release of each invocation holds of all that are released
-  each_released : (Q : TaskInvocation → Type 0) (P : ActiveTask → Type 0)
-      → ((i : TaskInvocation) (ports : Valuation) (t : TaskDeclaration) → Q i → task_of p i.task ≡ Some t → P (released n i ports t))
-      → (is : List TaskInvocation) (ports : Valuation) → AllByRecursion Q is → AllByRecursion P (all_released p m time n is ports)
-  each_released Q P means [] ports all = tt
-  each_released Q P means (i ∷ is) ports all =
-      all_append P (cond (is_invoked m time i ports) (option_to_list (option_map (released n i ports) (task_of p i.task))) []) (all_released p m time n is (invoked p m time i ports))
-      (first (is_invoked m time i ports) (task_of p i.task) refl) (each_released Q P means is (invoked p m time i ports) all.1)
-    where
-      first : (happens : Bool) (o : Option TaskDeclaration) → task_of p i.task ≡ o → AllByRecursion P (cond happens (option_to_list (option_map (released n i ports) o)) [])
-      first false o e = tt
-      first true None e = tt
-      first true (Some t) e = (means i ports t all.0 e, tt)
+-- what a mode's invocations release is of different tasks
+abbrev tasks_of : List TaskInvocation → List Name
+tasks_of is = map (λ (i : TaskInvocation). i.task) is
 
-  -- all are of different tasks
-  released_other : (is : List TaskInvocation) (ports : Valuation) → all_different (map (λ (i : TaskInvocation). i.task) is) ≡ true → are_different (all_released p m time n is ports) ≡ true
-  released_other [] ports h = refl
-  released_other (i ∷ is) ports h =
-      let both = and_parts (not (is_among (map (λ (i : TaskInvocation). i.task) is) i.task)) (all_different (map (λ (i : TaskInvocation). i.task) is)) h in
-      first (is_invoked m time i ports) (task_of p i.task) refl (none_named i.task is both.0) (released_other is (invoked p m time i ports) both.1)
-    where
-      later : List ActiveTask
-      later = all_released p m time n is (invoked p m time i ports)
+released_other : (p : GiottoProgram) (m : ModeDeclaration) (time n : ℕ) (is : List TaskInvocation) (ports : Valuation) → all_different (tasks_of is) ≡ true
+    → all_different_releases (all_released p m time n is ports) ≡ true
+released_other p m time n is ports = (released_by p m time n
+    (λ is new. ((x : Name) → is_among (tasks_of is) x ≡ false → list_all (λ (b : ActiveTask). not (same_name x b.task)) new ≡ true) × (all_different (tasks_of is) ≡ true → all_different_releases new ≡ true))
+    ((λ x h. refl), λ h. refl)
+    (λ i is later on. ((λ x h. on.0 x (or_parts _ _ h).1), λ h. on.1 (and_parts _ _ h).1))
+    (λ i is later ports t due e on.
+    let same : t.name ≡ i.task = same_name_is t.name i.task (find_passes (λ (t : TaskDeclaration). same_name t.name i.task) p.tasks t e) in (
+      (λ x h. and_from _ _ (ap not (ap (same_name x) same ∙ other_name i.task x (or_parts _ _ h).0)) (on.0 x (or_parts _ _ h).1)),
+      λ h.
+          let both = and_parts (not (is_among (tasks_of is) i.task)) (all_different (tasks_of is)) h in
+          and_from _ _ (all_wider (λ (b : ActiveTask). not (same_name i.task b.task)) (is_another (released n i ports t))
+          (λ b d. ap (λ y. not (same_name y b.task && nat_eq n b.release)) same ∙ ap (λ s. not (s && nat_eq n b.release)) (not-true _ d)) later (on.0 i.task (not-true _ both.0)))
+          (on.1 both.1),
+    ))
+    is ports).1
 
-      apart : (t : TaskDeclaration) → task_of p i.task ≡ Some t → AllByRecursion (λ (j : TaskInvocation). same_name i.task j.task ≡ false) is → list_all (is_another_release (released n i ports t)) later ≡ true
-      apart t e others =
-          all_that (is_another_release (released n i ports t)) (λ (b : ActiveTask). same_name t.name b.task ≡ false) (λ b. other_by_task (released n i ports t) b) later
-          (each_released (λ (j : TaskInvocation). same_name i.task j.task ≡ false) (λ (b : ActiveTask). same_name t.name b.task ≡ false)
-          (λ j vs u q found. ap (λ x. same_name x u.name) (found_name p i.task t e) ∙ ap (same_name i.task) (found_name p j.task u found) ∙ q)
-          is (invoked p m time i ports) others)
+module _ (p : GiottoProgram) (kept : ProgramFits p) (mode : ℕ) where
+  -- the mode that the code reads at its place
+  pub mode_read : (modes : List Mode) (d : Mode) → map tree.mode_of modes ≡ p.modes → mode < length p.modes → slice_get p.modes mode ≡ Some (tree.mode_of (slice_index_or modes mode d))
+  mode_read modes d same lt =
+      sym (ap (λ ms. slice_get ms mode) same) ∙ slice_get-map tree.mode_of modes mode ∙ ap (option_map tree.mode_of) (slice_get-get_or modes mode d (omega (arith, lt, ap length (sym same) ∙ length-map modes tree.mode_of)))
 
-      first : (happens : Bool) (o : Option TaskDeclaration) → task_of p i.task ≡ o → AllByRecursion (λ (j : TaskInvocation). same_name i.task j.task ≡ false) is → are_different later ≡ true
-          → are_different (cond happens (option_to_list (option_map (released n i ports) o)) [] ++ later) ≡ true
-      first false o e others rest = rest
-      first true None e others rest = rest
-      first true (Some t) e others rest = and_from _ _ (apart t e others) rest
+  module _ (m : ModeDeclaration) (at : slice_get p.modes mode ≡ Some m) where
+    -- a mode of a program without switches
+    pub without_switches : HasNoSwitches p → m.switches ≡ []
+    without_switches none = nil_from_length m.switches (eqb-true _ _ (found_passes has_no_switch (λ (n : ModeDeclaration). same_name n.name (name_of_mode p mode)) p.modes m none (mode_here p kept mode m at)))
 
--- the releases stay different when a mode's tasks are released
-pub different_behind : (p : GiottoProgram) (m : ModeDeclaration) (x : Name) (time n : ℕ) (ports : Valuation) (old new : List Active)
-    → ProgramFits p → mode_of p x ≡ Some m → AllByRecursion (IsActiveIn p n) old → all_different_releases old ≡ true
-    → map active_of new ≡ map active_of old ++ all_released p m time n m.invocations ports → all_different_releases new ≡ true
-different_behind p m x time n ports old new kept found each different active =
-    let once = (mode_fits p kept m x found).tasks_once in
-    releases_different new ∙ ap are_different active
-    ∙ other_joined n (map active_of old) (all_released p m time n m.invocations ports) (older_releases p n old each) (new_releases p m time n ports)
-    (sym (releases_different old) ∙ different) (released_other p m time n m.invocations ports once)
+    -- an instant at which the mode's tasks are released
+    pub tenant_behind : (time next later n : ℕ) (ports : Valuation) (old new : List Active) (values written : List ℤ) (shares : List (Option TaskBody)) → IsTenant (Some p) mode time next old values shares n
+        → AreInvoked p m time n ports old new written → ((o : ModeDeclaration) → slice_get p.modes mode ≡ Some o → IsQuietUntil o time next → IsQuietUntil o ((time + 1) % m.period) later)
+        → IsTenant (Some p) mode ((time + 1) % m.period) later new written shares (n + 1)
+    tenant_behind time next later n ports old new values written shares is ran quiet =
+        let fits = mode_fits_at p kept mode m at in
+        let below = mod_below (time + 1) m.period fits.positive in
+        record {
+          short_time = omega (arith, below, fits.short);
+          no_switches = is.no_switches;
+          different = ap all_different_releases ran.tasks
+              ∙ other_joined n (map (active_of p) old) (all_released p m time n m.invocations ports) (known_of mode time next old values shares n Empty (Some p) is).early (new_releases p m time n m.invocations ports)
+              is.different (released_other p m time n m.invocations ports fits.tasks_once);
+          fits = record { long = ran.long; mode_there = is.fits.mode_there; quiet = λ o there. quiet o there (is.fits.quiet o there); each = ran.each; share_each = is.fits.share_each };
+        }
 
--- a mode of a program without switches
-pub without_switches : (p : GiottoProgram) (m : ModeDeclaration) (x : Name) → HasNoSwitches p → mode_of p x ≡ Some m → m.switches ≡ []
-without_switches p m x none found =
-    nil_from_length m.switches (eqb-true _ _ (found_passes has_no_switch (λ (m : ModeDeclaration). same_name m.name x) p.modes m none found))
+all_drop : {X : Type 0} (P : X → Type 0) (k : ℕ) (xs : List X) → AllByRecursion P xs → AllByRecursion P (drop k xs)
+all_drop P zero xs all = all
+all_drop P (suc k) [] all = tt
+all_drop P (suc k) (x ∷ xs) all = all_drop P k xs all.1
 
--- an instant at which nothing happens
-pub tenant_later : (program : Option GiottoProgram) (time : ℕ) (active : List Active) (ports : PortTables) (n : ℕ)
-    → IsTenant program time active ports n → IsTenant program time active ports (n + 1)
-tenant_later program time active ports n is = record { short_time = is.short_time; no_switches = is.no_switches; different = is.different; fits = later program is.fits }
-  where
-    later : (o : Option GiottoProgram) → IsTenantOf o active ports n → IsTenantOf o active ports (n + 1)
-    later None none = none
-    later (Some p) fits = (fits.0, active_later p n active fits.1)
+different_drop : (k : ℕ) (xs : List ActiveTask) → all_different_releases xs ≡ true → all_different_releases (drop k xs) ≡ true
+different_drop zero xs h = h
+different_drop (suc k) [] h = refl
+different_drop (suc k) (x ∷ xs) h = different_drop k xs (and_parts (list_all (is_another x) xs) (all_different_releases xs) h).1
 
--- one at which the mode's tasks are released
-pub tenant_behind : (p : GiottoProgram) (m : ModeDeclaration) (x : Name) (time n : ℕ) (values : Valuation) (old new : List Active) (before after : PortTables)
-    → ProgramFits p → mode_of p x ≡ Some m → IsTenant (Some p) time old before n → HaveSameNames before after
-    → map active_of new ≡ map active_of old ++ all_released p m time n m.invocations values → AllByRecursion (IsActiveIn p (n + 1)) new
-    → IsTenant (Some p) ((time + 1) % m.period) new after (n + 1)
-tenant_behind p m x time n values old new before after kept found is names active each =
-    let fits = mode_fits p kept m x found in
+module _ (p : GiottoProgram) (n : ℕ) where
+  abbrev names : List Active → List Name
+  names active = map (λ (a : Active). name_of_task p a.task) active
+
+  abbrev ReleasedNow : List Active → Type 0
+  ReleasedNow active = AllByRecursion (λ (a : ActiveTask). a.release ≡ n) (map (active_of p) active)
+
+  -- releases of one instant are of different tasks
+  others_named : (a : Active) (rest : List Active) → a.release ≡ n → ReleasedNow rest → list_all (is_another (active_of p a)) (map (active_of p) rest) ≡ true
+      → not (is_among (names rest) (name_of_task p a.task)) ≡ true
+  others_named a [] at now h = refl
+  others_named a (b ∷ rest) at now h =
+      let both = and_parts (is_another (active_of p a) (active_of p b)) (list_all (is_another (active_of p a)) (map (active_of p) rest)) h in
+      let apart = ap not (other_name (name_of_task p a.task) (name_of_task p b.task) (not-true _
+      (ap not (sym (and_true _) ∙ ap (λ t. same_name (name_of_task p a.task) (name_of_task p b.task) && t) (sym (eq-eqb a.release b.release (at ∙ sym now.0)))) ∙ both.0))) in
+      not_either (same_name (name_of_task p b.task) (name_of_task p a.task)) _ apart (others_named a rest at now.1 both.1)
+
+  names_differ : (active : List Active) → ReleasedNow active → all_different_releases (map (active_of p) active) ≡ true → all_different (names active) ≡ true
+  names_differ [] now h = refl
+  names_differ (a ∷ rest) now h =
+      let both = and_parts (list_all (is_another (active_of p a)) (map (active_of p) rest)) (all_different_releases (map (active_of p) rest)) h in
+      and_from _ _ (others_named a rest now.0 now.1 both.0) (names_differ rest now.1 both.1)
+
+-- the tasks that an instant made active, for their jobs
+pub record AreNew (p : GiottoProgram) (tenant : ℕ) (before after : Row) (news : List Active) : Type 0 where
+  pub few : length news ≤ most_released before
+  pub declared : AllByRecursion (IsActiveOf p) news
+  pub different : all_different (names p before.count news) ≡ true
+  pub jobs : released_at tenant before.count after ≡ map (job_in p tenant) (map (active_of p) news)
+
+new_tasks : (p : GiottoProgram) (tenant n : ℕ) (before after : Row) (items : List Active) → AreReleased before after → AllByRecursion (λ (a : ActiveTask). a.release < before.count) before.active
+    → after.program ≡ Some p → after.active ≡ map (active_of p) items → AllByRecursion (IsActiveIn p n) items → all_different_releases (map (active_of p) items) ≡ true
+    → AreNew p tenant before after (drop (length before.active) items)
+new_tasks p tenant n before after items is early program active each different =
+    let k = length before.active in
+    let dropped : drop k after.active ≡ map (active_of p) (drop k items) = ap (drop k) active ∙ drop-map (active_of p) k items in
+    let now : ReleasedNow p before.count (drop k items) = subst (AllByRecursion (λ (a : ActiveTask). a.release ≡ before.count)) dropped is.newer in
     record {
-      short_time = below_period (time + 1) m.period fits.positive fits.short;
-      no_switches = is.no_switches;
-      different = different_behind p m x time n values old new kept found is.fits.1 is.different active;
-      fits = (ports_of_on p before after is.fits.0 names, each);
+      few = omega (arith, is.few, length-drop k items, ap length active ∙ length-map items (active_of p));
+      declared = all_drop (IsActiveOf p) k items (all_map (IsActiveIn p n) (IsActiveOf p) items (λ a is. is.declared) each);
+      different = names_differ p before.count (drop k items) now (subst (λ xs. all_different_releases xs ≡ true) (drop-map (active_of p) k items) (different_drop k (map (active_of p) items) different));
+      jobs = ap (λ o. option_map_or (λ p. map (job_in p tenant) (filter (λ (a : ActiveTask). a.release == before.count) after.active)) o []) program
+          ∙ ap (λ xs. map (job_in p tenant) (filter (λ (a : ActiveTask). a.release == before.count) xs)) (sym (take-append-drop k after.active) ∙ ap (λ xs. xs ++ drop k after.active) is.older)
+          ∙ ap (map (job_in p tenant)) (those_released before.count before.active (drop k after.active) early is.newer ∙ dropped);
     }
-  where
-    below_period : (t period : ℕ) → 1 ≤ period → period ≤ 1000000 → t % period < 2 ^ 32
-    below_period t period positive short = let below = mod_below t period positive in omega (arith, below, short)
+
+active_long : (o : Option GiottoProgram) (mode time next : ℕ) (active : List Active) (values : List ℤ) (shares : List (Option TaskBody)) (n : ℕ) → FitsIts o mode time next active values shares n
+    → length (tasks_in o active) ≡ length active
+active_long None mode time next active values shares n none = ap length (sym none)
+active_long (Some p) mode time next active values shares n fits = length-map active (active_of p)
+
+-- as the code has them
+pub are_new : {o q : Option GiottoProgram} {mode time next places n to at later room m : ℕ} {old items : List Active} {values written : List ℤ} {shares others : List (Option TaskBody)}
+    (p : GiottoProgram) (tenant : ℕ) (before after : Standing) (s t : code.State)
+    → IsTenant o mode time next old values shares n → standing_of s o mode time old places values shares n ≡ before
+    → IsTenant q to at later items written others m → standing_of t q to at items room written others m ≡ after
+    → q ≡ Some p → AreReleased before.row after.row → (k : ℕ) (xs : List Active) → k ≡ length old → xs ≡ items → AreNew p tenant before.row after.row (take (length xs - k) (drop k xs))
+are_new {o} {q} {mode} {time} {next} {places} {n} {to} {at} {later} {room} {m} {old} {items} {values} {written} {shares} {others} p tenant before after s t known view known_after view_after program released k xs long same =
+    let is : IsTenant (Some p) to at later items written others m = subst (λ o. IsTenant o to at later items written others m) program known_after in
+    let early = (known_of mode time next old values shares n s o known).early in
+    let olds : length before.row.active ≡ k = ap (λ (b : Standing). length b.row.active) (sym view) ∙ active_long o mode time next old values shares n known.fits ∙ sym long in
+    subst (λ news. AreNew p tenant before.row after.row news) (ap (λ i. drop i items) olds ∙ ap (drop k) (sym same) ∙ sym (take_rest xs k))
+    (new_tasks p tenant m before.row after.row items released (subst (λ (b : Standing). AllByRecursion (λ (a : ActiveTask). a.release < b.row.count) b.row.active) view early)
+    (ap (λ (b : Standing). b.row.program) (sym view_after) ∙ program) (ap (λ (b : Standing). b.row.active) (sym view_after) ∙ ap (λ o. tasks_in o items) program) is.fits.each is.different)

@@ -1,7 +1,7 @@
 -- What a tenant's commands do, over what its code keeps.
-use Rattle.std.proofs.Common.{◌≡◌, ℕ, Bool, true, false, cond, List, [], Option, Some, None, refl, ap, ◌∙◌}
+use Rattle.std.proofs.Common.{◌≡◌, ℕ, Bool, true, false, cond, ℤ, List, [], ◌∷◌, map, Option, Some, None, refl, ap, ◌∙◌}
 use Rattle.std.specs.Prelude.{Ok, Err}
-use Rattle.giotto_tasks.specs.declared.names.Name.{Name}
+use Rattle.giotto_tasks.specs.Syntax.{TaskBody}
 use Rattle.giotto_text.specs.declared.faults.ReadFault.{ReadFault}
 use Rattle.giotto_text.specs.Program.{GiottoProgram}
 use Rattle.giotto_text.specs.Parsing.{parsed}
@@ -12,11 +12,15 @@ use Rattle.tenant_state.specs.declared.tenants.Active.{Active}
 use Rattle.tenant_state.specs.declared.tenants.State as code
 use Rattle.giotto_rules.specs.Rules.{first_broken_rule}
 use Rattle.tenant_state.specs.Commands.{refusal_of, refused, has_no_switches, at_beginning, broken_budget, load_within, load_kept, load_checked, load_read}
-use Rattle.tenant_ports.specs.PortTables.{PortTables, all_ports}
-use Rattle.tenant_ports.specs.Ports.{initial_ports}
+use Rattle.giotto_text.specs.declared.programs.Task.{Task}
+use Rattle.giotto_text.specs.ProgramTrees.{task_of}
+use Rattle.giotto_check.specs.Timetables.{AreEach}
+use Rattle.giotto_check.specs.Slots.{valuation_of}
+use Rattle.tenant_slots.specs.Places.{name_of_mode}
+use Rattle.tenant_slots.specs.Ports.{initial_ports}
 use Rattle.tenant_state.specs.Row.{ActiveTask, Row, is_running}
 use Rattle.tenant_state.specs.Standing.{StandsFor}
-use Rattle.tenant_state.specs.Tenants.{state_of, standing_of}
+use Rattle.tenant_state.specs.Tenants.{state_of, standing_of, IsShareOf}
 
 module _ (text : List ℕ) (budgets : Budgets) (row : Row) where
   pub refused_by_reader : (f : ReadFault) → parsed text ≡ Err f → load_read budgets row (parsed text) ≡ refused row (refusal_of f)
@@ -47,11 +51,11 @@ module _ (text : List ℕ) (budgets : Budgets) (row : Row) where
       loaded_if p e kept plain ∙ ap (λ b. cond b (refused row Running) (load_within p row (broken_budget budgets p))) rests ∙ ap (load_within p row) over
 
 -- what stands after a program was put at its beginning
-module _ (state : code.State) (program : Option GiottoProgram) (mode : Name) (time : ℕ) (active : List Active) (ports : PortTables) (count : ℕ) where
-  pub stands_at_beginning : (row : Row) (completed : ActiveTask → Bool) (next : code.State) (p : GiottoProgram) (start : Name) (new : PortTables)
-      → StandsFor (standing_of state program mode time active ports count) row completed → start ≡ p.start → all_ports new ≡ initial_ports p
-      → StandsFor (standing_of next (Some p) start 0 [] new count) (at_beginning (state_of next) p row) completed
-  stands_at_beginning row completed next p start new stands starts initial =
+module _ (state : code.State) (program : Option GiottoProgram) (mode time : ℕ) (active : List Active) (places : ℕ) (values : List ℤ) (shares : List (Option TaskBody)) (count : ℕ) where
+  pub stands_at_beginning : (row : Row) (completed : ActiveTask → Bool) (next : code.State) (p : GiottoProgram) (start room : ℕ) (new : List ℤ) (at_hand : List (Option TaskBody))
+      → StandsFor (standing_of state program mode time active places values shares count) row completed → name_of_mode p start ≡ p.start → valuation_of p new ≡ initial_ports p
+      → StandsFor (standing_of next (Some p) start 0 [] room new at_hand count) (at_beginning (state_of next) p row) completed
+  stands_at_beginning row completed next p start room new at_hand stands starts initial =
       let e = stands.same_row in
       record {
         same_row = λ k. record {
@@ -69,3 +73,8 @@ module _ (state : code.State) (program : Option GiottoProgram) (mode : Name) (ti
         };
         same_marks = refl;
       }
+
+-- no share is at hand
+pub none_shared : (tasks : List Task) → AreEach IsShareOf (map task_of tasks) (map (λ t. None) tasks)
+none_shared [] = tt
+none_shared (t ∷ rest) = (tt, none_shared rest)

@@ -1,19 +1,32 @@
--- What every tenant's view tells: its active tasks were released before the next instant.
-use Rattle.std.proofs.Common.{ℕ, ◌<◌, List, [], ◌∷◌, map, Option, Some, None, sym, subst}
+-- What is known of every tenant, and of the tasks of its program.
+use Rattle.std.proofs.Common.{◌≡◌, ℕ, ◌<◌, ℤ, List, Option, Some, None, refl, ap}
+use Rattle.std.specs.Arc.{arc_value}
 use Rattle.std.specs.List.{AllByRecursion}
-use Rattle.giotto_text.specs.Program.{GiottoProgram}
+use Rattle.std.proofs.lemmas.Slice.Zip.{firsts-zip}
+use Rattle.giotto_tasks.specs.Syntax.{TaskBody}
+use Rattle.giotto_text.specs.Program.{GiottoProgram, body_of}
+use Rattle.giotto_text.specs.ProgramTrees as trees
+use Rattle.giotto_text.specs.declared.programs.Task.{Task}
 use Rattle.tenant_state.specs.declared.tenants.Active.{Active}
-use Rattle.tenant_ports.specs.PortTables.{PortTables}
+use Rattle.tenant_state.specs.declared.tenants.State as code
 use Rattle.tenant_state.specs.Row.{ActiveTask}
-use Rattle.tenant_state.specs.Tenants.{active_of, IsActiveIn, IsTenantOf}
+use Rattle.tenant_state.specs.Standing.{IsKnown}
+use Rattle.tenant_state.specs.Tenants.{active_of, tasks_in, standing_of, IsActiveIn, FitsIts, IsTenant}
+use Rattle.giotto_tasks.proofs.ListLemmas.{all_map, all_mapped}
 
 abbrev pub AreEarly : ℕ → List ActiveTask → Type 0
 AreEarly count tasks = AllByRecursion (λ (a : ActiveTask). a.release < count) tasks
 
-early_in : (p : GiottoProgram) (count : ℕ) (active : List Active) → AllByRecursion (IsActiveIn p count) active → AreEarly count (map active_of active)
-early_in p count [] all = tt
-early_in p count (a ∷ rest) all = (all.0.0, early_in p count rest all.1)
+module _ (mode time next : ℕ) (active : List Active) (values : List ℤ) (shares : List (Option TaskBody)) (count : ℕ) where
+  early_of : (o : Option GiottoProgram) → FitsIts o mode time next active values shares count → AreEarly count (tasks_in o active)
+  early_of None fits = tt
+  early_of (Some p) fits = all_mapped _ (active_of p) active (all_map (IsActiveIn p count) _ active (λ a is. is.early) fits.each)
 
-pub early_of : (program : Option GiottoProgram) (active : List Active) (ports : PortTables) (count : ℕ) → IsTenantOf program active ports count → AreEarly count (map active_of active)
-early_of None active ports count none = subst (λ xs. AreEarly count (map active_of xs)) (sym none) tt
-early_of (Some p) active ports count fits = early_in p count active fits.1
+  pub known_of : (state : code.State) (o : Option GiottoProgram) → IsTenant o mode time next active values shares count → IsKnown (standing_of state o mode time active 0 values shares count).row
+  known_of state o known = record { no_binds = refl; tasks = λ e. ap (λ o. tasks_in o active) e; early = early_of o known.fits }
+
+-- a task's body is that of its declaration
+pub body_of_task : (t : Task) → body_of (trees.task_of t) ≡ arc_value t.body
+body_of_task t =
+    let b = arc_value t.body in
+    λ k. record { inputs = b.inputs; outputs = b.outputs; states = firsts-zip b.states t.states t.each_state k; block = b.block }

@@ -21,7 +21,7 @@ use Rattle.giotto_rules.specs.Declarations.{lines_read, lines_written}
 use Rattle.giotto_rules.specs.Rules.{first_broken_rule}
 use Rattle.rig_config.specs.Roster.{may_use}
 use Rattle.tenant_state.specs.Row.{State, loaded, running, Row, is_running, recorded}
-use Rattle.tenant_ports.specs.Ports.{initial_ports}
+use Rattle.tenant_slots.specs.Ports.{initial_ports}
 
 -- what a command leads to: the row behind it, and the reply
 pub record Outcome : Type 0 where

@@ -11,7 +11,7 @@ use Rattle.tenant_state.specs.declared.trace.Happening.TheVariants as happening
 use Rattle.giotto_rules.specs.Declarations.{task_of, mode_of}
 use Rattle.tenant_state.specs.Row.{StopReason, asked, overrun, stopped, ActiveTask, Row, is_running, in_program, in_mode, recorded, with_happenings}
 use Rattle.giotto_text.specs.PortNames.{own_ports, with_values}
-use Rattle.tenant_ports.specs.Ports.{actuators_reset}
+use Rattle.tenant_slots.specs.Ports.{actuators_reset}
 use Rattle.tenant_slots.specs.Due.{is_due_at}
 use Rattle.tenant_slots.specs.Updates.{is_updated, updated, all_updated}
 

@@ -1,7 +1,7 @@
 pub mod Commands
+pub mod EntryTable
 pub mod FirstHalf
 pub mod Instants
-pub mod Invocable
 pub mod JobLists
 pub mod Jobs
 pub mod Row

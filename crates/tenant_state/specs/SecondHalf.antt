@@ -11,7 +11,7 @@ use Rattle.tenant_state.specs.declared.trace.Happening.TheVariants as happening
 use Rattle.giotto_rules.specs.Declarations.{sensor_names, actuator_names, task_of, mode_of, period_of_task}
 use Rattle.tenant_state.specs.Row.{ActiveTask, Row, is_running, where_some, in_program, in_mode, recorded}
 use Rattle.giotto_text.specs.PortNames.{own_ports, with_values}
-use Rattle.tenant_ports.specs.Ports.{initial_ports, holds}
+use Rattle.tenant_slots.specs.Ports.{initial_ports, holds}
 use Rattle.tenant_slots.specs.Due.{is_due_at}
 use Rattle.tenant_slots.specs.Readings.{Readings, reading_taken}
 

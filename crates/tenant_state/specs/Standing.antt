@@ -1,25 +1,33 @@
 -- What a tenant's code stands for: all of its row but the records, and which active tasks' computations are completed.
-use Rattle.std.specs.Prelude.{◌≡◌, ◌+◌, ◌≤◌, ℕ, Bool, not, List, [], map, filter, length, Option}
-use Rattle.std.specs.List.{find, zip}
+use Rattle.std.specs.Prelude.{◌≡◌, ◌+◌, ◌≤◌, ◌<◌, ℕ, Bool, true, false, not, if◌then◌else◌, List, [], map, filter, length, take, drop, Option, None}
+use Rattle.std.specs.List.{AllByRecursion, find, zip}
 use Rattle.std.specs.Option.{option_and_then, option_map, option_map_or}
-use Rattle.giotto_tasks.specs.Syntax.{TaskBody}
-use Rattle.giotto_text.specs.Program.{TaskInvocation}
+use Rattle.giotto_text.specs.Program.{ModeDeclaration, TaskInvocation}
 use Rattle.giotto_rules.specs.Declarations.{mode_of}
 use Rattle.tenant_state.specs.declared.jobs.JobId.{JobId}
 use Rattle.tenant_lines.specs.declared.replies.Reply.{Reply}
+use Rattle.tenant_slots.specs.Due.{is_due_at}
 use Rattle.tenant_state.specs.Commands.{Outcome}
-use Rattle.tenant_state.specs.Jobs.{JobValue, body_in, job_in, job_of, same_job}
-use Rattle.tenant_state.specs.Row.{ActiveTask, Row, empty_row}
+use Rattle.tenant_state.specs.Jobs.{JobValue, job_in, job_of, same_job}
+use Rattle.tenant_state.specs.Row.{ActiveTask, Row, empty_row, is_running}
 
--- what a tenant's code keeps: a row without records, and marks
+-- what a tenant's code keeps: a row without records, and marks; and what it has ready for the next instant
 pub record Standing : Type 0 where
   pub row : Row
   -- for each active task, whether its computation is completed
   pub completed : List Bool
+  -- how many more tasks there is room for
+  pub places : ℕ
+  -- whether a share of each task's body is at hand
+  pub shared : Bool
+
+-- with nothing ready for the next instant
+abbrev pub at_rest : Standing → Standing
+at_rest s = record s { places = 0; shared = false }
 
 -- that of a tenant without a program, whose first instant has this number
 abbrev pub empty_standing : ℕ → Standing
-empty_standing first_tick = record { row = empty_row first_tick; completed = [] }
+empty_standing first_tick = record { row = empty_row first_tick; completed = []; places = 0; shared = true }
 
 -- the row but for its records, which the code doesn't keep
 abbrev pub without_records : Row → Row
@@ -30,10 +38,14 @@ pub record StandsFor (standing : Standing) (row : Row) (completed : ActiveTask �
   pub same_row : standing.row ≡ without_records row
   pub same_marks : standing.completed ≡ map completed row.active
 
--- the bodies of the tasks that the row's mode invokes, in text order
-abbrev pub bodies_invoked : Row → List TaskBody
-bodies_invoked row =
-    option_map_or (λ p. option_map_or (λ m. map (λ (i : TaskInvocation). body_in p i.task) m.invocations) (mode_of p row.mode) []) row.program []
+-- the invocations of the row's mode that are due
+abbrev pub invocations_due : Row → List TaskInvocation
+invocations_due row =
+    option_map_or (λ p. option_map_or (λ (m : ModeDeclaration). filter (λ (i : TaskInvocation). is_due_at row.mode_time m i.frequency) m.invocations) (mode_of p row.mode) []) row.program []
+
+-- the most tasks that the row's next instant can release
+abbrev pub most_released : Row → ℕ
+most_released row = if is_running row then length (invocations_due row) else 0
 
 -- a command's outcome: this reply was given, and this is what is left
 pub record IsOutcome (outcome : Outcome) (reply : Reply) (standing : Standing) (completed : ActiveTask → Bool) : Type 0 where
@@ -48,12 +60,22 @@ outstanding_tasks s = map (λ (p : ActiveTask × Bool). p.0) (filter (λ (p : Ac
 abbrev pub awaited_job : Standing → JobId → Option JobValue
 awaited_job s j = option_and_then (λ p. option_map (job_in p j.tenant) (find (λ a. same_job (job_of j.tenant a) j) (outstanding_tasks s))) s.row.program
 
--- room for what an instant releases: places for active tasks, and a share of each body
-pub record RoomValue : Type 0 where
-  pub places : ℕ
-  pub bodies : List TaskBody
+-- room for the most tasks that the next instant can release
+abbrev pub HasRoom : Standing → Type 0
+HasRoom s = most_released s.row ≤ s.places
 
--- room for the row's next instant: places for its active tasks and those released, and the bodies of these
-pub record IsRoomFor (row : Row) (room : RoomValue) : Type 0 where
-  pub enough : length row.active + length room.bodies ≤ room.places
-  pub same_bodies : room.bodies ≡ bodies_invoked row
+-- a share of each body that the next instant can need
+abbrev pub HasShares : Standing → Type 0
+HasShares s = 0 < most_released s.row → s.shared ≡ true
+
+-- what is known of every tenant: it has no binds, and active tasks only with a program, each released before the next instant
+pub record IsKnown (row : Row) : Type 0 where
+  pub no_binds : row.binds ≡ []
+  pub tasks : row.program ≡ None → row.active ≡ []
+  pub early : AllByRecursion (λ (a : ActiveTask). a.release < row.count) row.active
+
+-- the tasks that an instant made active, behind those of before: no more than it can release, and of its number
+pub record AreReleased (before after : Row) : Type 0 where
+  pub older : take (length before.active) after.active ≡ before.active
+  pub newer : AllByRecursion (λ (a : ActiveTask). a.release ≡ before.count) (drop (length before.active) after.active)
+  pub few : length after.active ≤ length before.active + most_released before

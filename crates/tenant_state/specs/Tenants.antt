@@ -1,18 +1,24 @@
 -- How a tenant's code stands for its row, and what is known of it at any time.
-use Rattle.std.specs.Prelude.{◌≡◌, ◌<◌, ◌^◌, ℕ, nat_eq, IsTrue, Bool, not, ◌&&◌, true, List, [], ◌∷◌, map, Option, Some, None, is_some, length, IfSome}
+use Rattle.std.specs.Prelude.{◌≡◌, ◌<◌, ◌+◌, ◌^◌, ℕ, ℤ, nat_eq, IsTrue, Bool, not, ◌&&◌, true, false, List, [], ◌∷◌, ◌++◌, map, Option, Some, None, is_some, length, IfSome, IsSomeAnd, slice_get}
 use Rattle.std.specs.List.{list_all, AllByRecursion}
+use Rattle.std.specs.Option.{option_map_or}
 use Rattle.giotto_tasks.specs.declared.names.Name.{Name}
-use Rattle.giotto_tasks.specs.Names.{same_name}
-use Rattle.giotto_text.specs.Program.{TaskDeclaration, GiottoProgram, body_of}
-use Rattle.giotto_rules.specs.Declarations.{task_of}
+use Rattle.giotto_tasks.specs.Meaning.{outputs_of, states_of}
+use Rattle.giotto_tasks.specs.Names.{Valuation, same_name}
+use Rattle.giotto_tasks.specs.Syntax.{TaskBody}
+use Rattle.giotto_text.specs.Program.{TaskDeclaration, ModeDeclaration, GiottoProgram, body_of}
+use Rattle.giotto_check.specs.Slots.{slots_of, valuation_of}
+use Rattle.giotto_check.specs.Timetables.{AreEach}
+use Rattle.tenant_slots.specs.Due.{IsQuietUntil}
+use Rattle.tenant_slots.specs.Places.{name_of_task, name_of_mode}
 use Rattle.tenant_state.specs.declared.tenants.Active.{Active}
+use Rattle.tenant_state.specs.declared.tenants.Computed.{Computed}
 use Rattle.tenant_state.specs.declared.tenants.Reason.{Reason}
 use Rattle.tenant_state.specs.declared.tenants.Reason.TheVariants.{Overrun}
 use Rattle.tenant_state.specs.declared.tenants.State as code
 use Rattle.tenant_state.specs.declared.tenants.State.TheVariants as states
-use Rattle.tenant_state.specs.Jobs.{JobValue}
-use Rattle.tenant_ports.specs.PortTables.{PortTables, all_ports, ArePortsOf}
 use Rattle.tenant_state.specs.Row.{StopReason, overrun, State, empty, loaded, running, stopped, ActiveTask}
+use Rattle.tenant_state.specs.SecondHalf.{all_invoked, all_released}
 use Rattle.tenant_state.specs.Standing.{Standing}
 use Rattle.tenant_state.specs.Commands.{has_no_switches}
 
@@ -27,24 +33,34 @@ state_of states.Loaded = loaded
 state_of states.Running = running
 state_of (states.Stopped r) = stopped (reason_of r)
 
--- the active task that the code's stands for
-abbrev pub active_of : Active → ActiveTask
-active_of a = record { task = a.task; release = a.release; inputs = a.inputs; states = a.states }
+-- the active task that the code's stands for: its task's place is read in the program
+abbrev pub active_of : GiottoProgram → Active → ActiveTask
+active_of p a = record { task = name_of_task p a.task; release = a.release; inputs = a.inputs; states = a.states }
 
 -- whether its result came
 abbrev pub is_completed : Active → Bool
 is_completed a = is_some a.result
 
--- what a tenant's fields stand for
-abbrev pub standing_of : code.State → Option GiottoProgram → Name → ℕ → List Active → PortTables → ℕ → Standing
-standing_of state program mode time active ports count = record {
+-- the active tasks, the mode and the ports for which places and slots stand; none without a program
+abbrev pub tasks_in : Option GiottoProgram → List Active → List ActiveTask
+tasks_in o active = option_map_or (λ p. map (active_of p) active) o []
+
+abbrev pub mode_in : Option GiottoProgram → ℕ → Name
+mode_in o mode = option_map_or (λ p. name_of_mode p mode) o []
+
+abbrev pub ports_in : Option GiottoProgram → List ℤ → Valuation
+ports_in o values = option_map_or (λ p. valuation_of p values) o []
+
+-- what a tenant's fields stand for: `places` is the room left for active tasks, and `shares` has the shares of bodies that are at hand
+abbrev pub standing_of : code.State → Option GiottoProgram → ℕ → ℕ → List Active → ℕ → List ℤ → List (Option TaskBody) → ℕ → Standing
+standing_of state program mode time active places values shares count = record {
   row = record {
     state = state_of state;
     program = program;
-    mode = mode;
+    mode = mode_in program mode;
     mode_time = time;
-    active = map active_of active;
-    ports = all_ports ports;
+    active = tasks_in program active;
+    ports = ports_in program values;
     offers = [];
     binds = [];
     waiting = None;
@@ -52,22 +68,23 @@ standing_of state program mode time active ports count = record {
     count = count;
   };
   completed = map is_completed active;
+  places = places;
+  shared = list_all is_some shares;
 }
 
 -- two releases of one task come at different instants
-abbrev pub is_another : Active → Active → Bool
+abbrev pub is_another : ActiveTask → ActiveTask → Bool
 is_another a b = not (same_name a.task b.task && nat_eq a.release b.release)
 
 -- no two of the active tasks are one release of one task
-abbrev pub all_different_releases : List Active → Bool
+abbrev pub all_different_releases : List ActiveTask → Bool
 all_different_releases [] = true
 all_different_releases (a ∷ rest) = list_all (is_another a) rest && all_different_releases rest
 
 -- the result is that of the release
-pub record IsResultOf (a : Active) (t : TaskDeclaration) (d : JobValue) : Type 0 where
-  pub same_body : d.body ≡ body_of t
-  pub same_inputs : d.inputs ≡ a.inputs
-  pub same_states : d.states ≡ a.states
+pub record IsResultOf (a : Active) (t : TaskDeclaration) (c : Computed) : Type 0 where
+  pub outputs : c.outputs ≡ outputs_of (body_of t) a.inputs a.states
+  pub states : c.states ≡ states_of (body_of t) a.inputs a.states
 
 -- an active task of this declaration
 pub record IsActiveAs (a : Active) (t : TaskDeclaration) : Type 0 where
@@ -75,27 +92,48 @@ pub record IsActiveAs (a : Active) (t : TaskDeclaration) : Type 0 where
   pub states_fit : length a.states ≡ length t.states
   pub result_fits : IfSome a.result (IsResultOf a t)
 
--- an active task that is declared, and as it is declared
-abbrev pub IsActiveAsSome : Active → Option TaskDeclaration → Type 0
-IsActiveAsSome a None = ⊥
-IsActiveAsSome a (Some t) = IsActiveAs a t
+-- an active task of the program: it is declared at its place, and as it is declared
+abbrev pub IsActiveOf : GiottoProgram → Active → Type 0
+IsActiveOf p a = IsSomeAnd (slice_get p.tasks a.task) (IsActiveAs a)
 
--- an active task of the program, released before the next instant
-abbrev pub IsActiveIn : GiottoProgram → ℕ → Active → Type 0
-IsActiveIn p count a = (a.release < count) × IsActiveAsSome a (task_of p a.task)
+-- and released before the next instant
+pub record IsActiveIn (p : GiottoProgram) (count : ℕ) (a : Active) : Type 0 where
+  pub early : a.release < count
+  pub declared : IsActiveOf p a
 
--- the ports are those of the program, and the active tasks are tasks of it
-abbrev pub IsTenantOf : Option GiottoProgram → List Active → PortTables → ℕ → Type 0
-IsTenantOf None active ports count = active ≡ []
-IsTenantOf (Some p) active ports count = ArePortsOf p ports × AllByRecursion (IsActiveIn p count) active
+-- the mode's invocations happened: behind the older tasks stand those that were released, not completed, and the values are those behind all drivers
+pub record AreInvoked (p : GiottoProgram) (m : ModeDeclaration) (time n : ℕ) (sensed : Valuation) (old new : List Active) (values : List ℤ) : Type 0 where
+  pub tasks : map (active_of p) new ≡ map (active_of p) old ++ all_released p m time n m.invocations sensed
+  pub marks : map is_completed new ≡ map is_completed old ++ map (λ (a : ActiveTask). false) (all_released p m time n m.invocations sensed)
+  pub ports : valuation_of p values ≡ all_invoked p m time m.invocations sensed
+  pub each : AllByRecursion (IsActiveIn p (n + 1)) new
+  pub long : length values ≡ slots_of p
+
+-- a share of the body of this task, where one is at hand
+abbrev pub IsShareOf : TaskDeclaration → Option TaskBody → Type 0
+IsShareOf t share = IfSome share (λ b. b ≡ body_of t)
+
+-- a tenant with this program: its values are as many as the program has ports, its mode is one of the program's, in which nothing is
+-- due before `next`, its active tasks are tasks of it, and the shares are of its bodies, in their order
+pub record FitsProgram (p : GiottoProgram) (mode time next : ℕ) (active : List Active) (values : List ℤ) (shares : List (Option TaskBody)) (count : ℕ) : Type 0 where
+  pub long : length values ≡ slots_of p
+  pub mode_there : mode < length p.modes
+  pub quiet : (m : ModeDeclaration) → slice_get p.modes mode ≡ Some m → IsQuietUntil m time next
+  pub each : AllByRecursion (IsActiveIn p count) active
+  pub share_each : AreEach IsShareOf p.tasks shares
+
+-- the tenant fits its program, or it has none and nothing is active
+abbrev pub FitsIts : Option GiottoProgram → ℕ → ℕ → ℕ → List Active → List ℤ → List (Option TaskBody) → ℕ → Type 0
+FitsIts None mode time next active values shares count = active ≡ []
+FitsIts (Some p) mode time next active values shares count = FitsProgram p mode time next active values shares count
 
 -- the program's modes have no switches: no instant takes one yet
 abbrev pub HasNoSwitches : GiottoProgram → Type 0
 HasNoSwitches p = IsTrue (has_no_switches p)
 
--- what is known of a tenant at any time: its mode time is small, its releases differ, and its ports and active tasks are its program's
-pub record IsTenant (program : Option GiottoProgram) (time : ℕ) (active : List Active) (ports : PortTables) (count : ℕ) : Type 0 where
+-- what is known of a tenant at any time: its mode time is small, its releases differ, and the rest fits its program
+pub record IsTenant (program : Option GiottoProgram) (mode time next : ℕ) (active : List Active) (values : List ℤ) (shares : List (Option TaskBody)) (count : ℕ) : Type 0 where
   pub short_time : time < 2 ^ 32
   pub no_switches : IfSome program HasNoSwitches
-  pub different : all_different_releases active ≡ true
-  pub fits : IsTenantOf program active ports count
+  pub different : all_different_releases (tasks_in program active) ≡ true
+  pub fits : FitsIts program mode time next active values shares count

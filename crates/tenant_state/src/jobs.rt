@@ -3,10 +3,11 @@
 ghost use Rattle.std.specs.Prelude.{◌≡◌, ◌<◌, ◌≤◌, ◌+◌, ◌-◌, [], ◌∷◌, ◌++◌, ◌↔◌, length, IsTrue, IsSome, IfOk, option_to_list};
 ghost use Rattle.std.specs.Arc.{arc_value};
 ghost use Rattle.giotto_tasks.specs.Meaning.{outputs_of, states_of};
+ghost use Rattle.giotto_tasks.specs.Sound.{IsSound};
 ghost use Rattle.tenant_state.specs.Jobs.{IsComputable};
 
 use giotto_tasks::bodies::Body;
-use giotto_tasks::evaluation::eval;
+use giotto_tasks::evaluation::eval_into;
 use giotto_tasks::names::Name;
 use giotto_tasks::steps::Steps;
 use giotto_tasks::values::Values;
@@ -166,7 +167,15 @@ impl Done {
 pub fn run_job(job: Job) -> Done
     ensures { result ≡ job }
 {
-    let (outputs, states) = uncounted::<Brand>(&job, Blank::new(1));
+    let mut outputs = Values::new();
+    let mut states = Values::new();
+    put_results(
+        &job.body,
+        &job.inputs,
+        &job.states,
+        &mut outputs,
+        &mut states,
+    );
     Done {
         job,
         outputs,
@@ -174,16 +183,42 @@ pub fn run_job(job: Job) -> Done
     }
 }
 
-// The job's results, counted by a counter that nobody reads.
-fn uncounted<L: Ledger>(job: &Job, blank: Blank) -> (Values, Values)
+// Puts the new outputs and states of a body in place of what these held before. Its steps are counted by a counter that nobody reads.
+pub(crate) fn put_results(
+    body: &Body,
+    inputs: &Values,
+    states: &Values,
+    outputs: &mut Values,
+    new_states: &mut Values,
+)
+    requires inputs { length inputs.now ≡ length body.now.inputs }
+    requires states { length states.now ≡ length body.now.states }
+    requires sound { IsSound body.now }
+    ensures outputs { outputs.new ≡ outputs_of body.now inputs.now states.now }
+    ensures states { new_states.new ≡ states_of body.now inputs.now states.now }
+{
+    uncounted::<Brand>(body, inputs, states, outputs, new_states, Blank::new(1));
+}
+
+fn uncounted<L: Ledger>(
+    body: &Body,
+    inputs: &Values,
+    states: &Values,
+    outputs: &mut Values,
+    new_states: &mut Values,
+    blank: Blank,
+)
     requires name { blank.name ≡ L.name }
     requires parts { blank.parts ≡ L.parts }
     requires some { blank.parts ≡ 1 }
-    ensures outputs { result.0 ≡ outputs_of job.now.body job.now.inputs job.now.states }
-    ensures states { result.1 ≡ states_of job.now.body job.now.inputs job.now.states }
+    requires inputs { length inputs.now ≡ length body.now.inputs }
+    requires states { length states.now ≡ length body.now.states }
+    requires sound { IsSound body.now }
+    ensures outputs { outputs.new ≡ outputs_of body.now inputs.now states.now }
+    ensures states { new_states.new ≡ states_of body.now inputs.now states.now }
 {
     let mut steps = Steps::<L>::new(blank);
-    eval(&job.body, &job.inputs, &job.states, &mut steps)
+    eval_into(body, inputs, states, outputs, new_states, &mut steps);
 }
 
 /// The jobs that an instant released, in the order of their release.

@@ -4,6 +4,9 @@
 //! the completion of a job. The rows and steps stand in `specs/`: `Row` first, then `Commands`, `FirstHalf`, `SecondHalf`
 //! and `Jobs`; `Standing` and `Tenants` say which rows a tenant stands for.
 //!
+//! A tenant has one list of the values of its ports, by the slots of its checked program, and its tasks and its mode by
+//! their places in it. An instant goes down the timetables of the mode, by the steps of `tenant_slots`.
+//!
 //! The commands, the replies and their texts are those of `tenant_lines`, and stand here under their own names too.
 #![tactic(auto)]
 

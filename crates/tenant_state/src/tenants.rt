@@ -1,22 +1,22 @@
 //! A tenant: its program and what the program is at.
 
-ghost use Rattle.std.specs.Prelude.{◌≡◌, ◌<◌, [], None};
-ghost use Rattle.std.specs.List.{AllByRecursion};
-ghost use Rattle.tenant_state.specs.Row.{ActiveTask};
-ghost use Rattle.tenant_state.specs.Standing.{empty_standing};
+ghost use Rattle.std.specs.Prelude.{◌≡◌};
+ghost use Rattle.tenant_state.specs.Standing.{empty_standing, IsKnown};
 
 pub mod commands;
 pub mod completions;
 pub mod first_half;
+pub mod readiness;
+pub mod releases;
 pub mod second_half;
 
-use crate::jobs::Done;
 use giotto_check::Checked;
+use giotto_tasks::bodies::Body;
 use giotto_tasks::names::Name;
 use giotto_tasks::values::Values;
 use std::alloc::Global;
 use std::marker::Model;
-use tenant_ports::Ports;
+use std::sync::Arc;
 
 /// Why a tenant was stopped.
 #[derive(Drop)]
@@ -37,14 +37,23 @@ pub enum State {
 /// A task between its release and its deadline.
 #[derive(Drop)]
 pub(crate) struct Active {
-    pub(crate) task: Name,
+    /// The place of the task in the program's text, from 0.
+    pub(crate) task: usize,
     /// The number of the instant that released it.
     pub(crate) release: u64,
     /// What the task was given at its release.
     pub(crate) inputs: Values,
     pub(crate) states: Values,
     /// Its result, once that came.
-    pub(crate) result: Option<Done>,
+    pub(crate) result: Option<Computed>,
+}
+
+/// The result of a computation.
+#[derive(Drop)]
+pub(crate) struct Computed {
+    /// The new values of the task's outputs and states.
+    pub(crate) outputs: Values,
+    pub(crate) states: Values,
 }
 
 /// One tenant of a host.
@@ -53,15 +62,25 @@ pub struct Tenant {
     pub(crate) alloc: Global,
     pub(crate) state: State,
     pub(crate) program: Option<Checked>,
-    pub(crate) mode: Name,
+    /// The place of the mode in the program's text, from 0.
+    pub(crate) mode: usize,
     pub(crate) mode_time: u64,
+    /// No task, update or invocation of the mode is due before this mode time.
+    pub(crate) next_due: u64,
     pub(crate) active: Vec<Active>,
-    pub(crate) ports: Ports,
+    /// The value of each port, by its slot.
+    pub(crate) values: Vec<i64>,
+    /// For each task a share of its body, where one is at hand.
+    pub(crate) shares: Vec<Option<Arc<Body, Global>>>,
     /// The number of the next instant.
     pub(crate) count: u64,
 }
 
 impl Model for Tenant {
+    ghost use Rattle.std.specs.Prelude.{◌-◌, map};
+    ghost use Rattle.std.specs.Arc.{arc_value};
+    ghost use Rattle.std.specs.Option.{option_map};
+    ghost use Rattle.std.specs.Vec.{vec_capacity, vec_len};
     ghost use Rattle.tenant_state.specs.Standing.{Standing};
     ghost use Rattle.tenant_state.specs.Tenants.{standing_of, IsTenant};
     ghost use Rattle.std.specs.Coded.{codes};
@@ -71,9 +90,9 @@ impl Model for Tenant {
 
     ghost coded = { Prim.hlevel (codes, program_code) };
 
-    ghost view = { λ t. standing_of t.state t.program t.mode t.mode_time t.active.items t.ports t.count };
+    ghost view = { λ t. standing_of t.state t.program t.mode t.mode_time t.active.items (vec_capacity t.active - vec_len t.active) t.values.items (map (option_map arc_value) t.shares.items) t.count };
 
-    ghost invariant = { λ t. IsTenant t.program t.mode_time t.active.items t.ports t.count };
+    ghost invariant = { λ t. IsTenant t.program t.mode t.mode_time t.next_due t.active.items t.values.items (map (option_map arc_value) t.shares.items) t.count };
 }
 
 impl Tenant {
@@ -85,10 +104,12 @@ impl Tenant {
             alloc,
             state: State::Empty,
             program: None,
-            mode: Name::default(),
+            mode: 0,
             mode_time: 0,
+            next_due: 0,
             active: Vec::new(alloc),
-            ports: Ports::new(alloc),
+            values: Vec::new(alloc),
+            shares: Vec::new(alloc),
             count: first_tick,
         }
     }
@@ -96,9 +117,7 @@ impl Tenant {
     /// The number of the tenant's next instant. Each active task was released before it.
     pub fn next_tick(&self) -> u64
         ensures number { result ≡ self.now.row.count }
-        ensures no_binds { self.now.row.binds ≡ [] }
-        ensures tasks { self.now.row.program ≡ None → self.now.row.active ≡ [] }
-        ensures early { AllByRecursion (λ (a : ActiveTask). a.release < self.now.row.count) self.now.row.active }
+        ensures known { IsKnown self.now.row }
     {
         self.count
     }

@@ -3,7 +3,9 @@
 ghost use Rattle.std.specs.Prelude.{◌≡◌, ◌≢◌, ◌&&◌, Bool, true, Ok, Err, None, IfOk, IfErr, OnOk, OnErr, if◌then◌else◌, Some, map};
 ghost use Rattle.rig_config.specs.declared.Budgets.{Budgets};
 ghost use Rattle.tenant_lines.specs.declared.replies.Budget.{Budget};
+ghost use Rattle.std.specs.Arc.{arc_value};
 ghost use Rattle.std.specs.List.{list_all};
+ghost use Rattle.std.specs.Option.{option_map};
 ghost use Rattle.giotto_text.specs.Parsing.{parsed};
 ghost use Rattle.tenant_lines.specs.declared.commands.Command.{Command};
 ghost use Rattle.tenant_lines.specs.declared.replies.Refusal.{Refusal};
@@ -19,14 +21,17 @@ ghost use Rattle.tenant_state.specs.Standing.{StandsFor, IsOutcome, without_reco
 use crate::tenants::{State, Tenant};
 use giotto_check::{self, CheckFault, Checked};
 use giotto_read::reading;
+use giotto_tasks::bodies::Body;
 use giotto_tasks::names::Name;
 use giotto_text::faults::ReadFault;
-use giotto_text::programs::{Actuator, Mode, Program, Sensor, Source};
+use giotto_text::programs::{Actuator, Mode, Program, Sensor, Source, Task};
 use rig_config::Budgets;
-use std::alloc::Global;
+use std::alloc::{AllocError, Global};
+use std::sync::Arc;
 use tenant_lines::commands::Command;
 use tenant_lines::replies::{Budget, Refusal, Reply};
-use tenant_ports::Ports;
+use tenant_slots::initial_values::initial_values;
+use tenant_slots::names::{shown_value, start_place};
 
 impl Tenant {
     /// Carries out a command. A refusal changes nothing, want of memory included.
@@ -74,14 +79,19 @@ impl Tenant {
         if !is_within_lines(budgets, program.program()) {
             return Err(Refusal::OverBudget(Budget::Lines));
         }
-        let Ok(ports) = Ports::initial(self.alloc, program.program()) else {
+        let Ok(values) = initial_values(self.alloc, &program) else {
+            return Err(Refusal::Memory);
+        };
+        let Ok(shares) = no_shares(self.alloc, program.program().tasks()) else {
             return Err(Refusal::Memory);
         };
         self.state = State::Loaded;
-        self.mode = program.program().start().copy();
+        self.mode = start_place(&program);
         self.mode_time = 0;
+        self.next_due = 0;
         self.active = Vec::new(self.alloc);
-        self.ports = ports;
+        self.values = values;
+        self.shares = shares;
         self.program = Some(program);
         Ok(())
     }
@@ -101,14 +111,15 @@ impl Tenant {
         let Some(program) = &self.program else {
             return Err(Refusal::NotLoaded);
         };
-        let Ok(initial) = Ports::initial(self.alloc, program.program()) else {
+        let Ok(values) = initial_values(self.alloc, program) else {
             return Err(Refusal::Memory);
         };
-        self.mode = program.program().start().copy();
+        self.mode = start_place(program);
         self.state = State::Running;
         self.mode_time = 0;
+        self.next_due = 0;
         self.active.clear();
-        self.ports = initial;
+        self.values = values;
         Ok(())
     }
 
@@ -118,10 +129,10 @@ impl Tenant {
         ensures shown { IfOk result (λ z. (row : Row) → self.now.row ≡ without_records row
             → show_port name.now row row.program ≡ record { row = row; reply = Reply.Port name.now z }) }
     {
-        if self.program.is_none() {
+        let Some(program) = &self.program else {
             return Err(Refusal::NotLoaded);
-        }
-        match self.ports.value(name) {
+        };
+        match shown_value(program, name.as_str(), self.values.as_slice()) {
             Some(value) => Ok(value),
             None => Err(Refusal::NoPort),
         }
@@ -149,6 +160,17 @@ fn read_program(alloc: Global, text: &str) -> Result<Checked, Refusal>
         return Err(Refusal::Rule(0));
     }
     Ok(checked)
+}
+
+// A place for a share of each task's body, with none at hand.
+fn no_shares(alloc: Global, tasks: &[Task]) -> Result<Vec<Option<Arc<Body, Global>>>, AllocError>
+    ensures { IfOk result (λ shares. map (option_map arc_value) shares.items ≡ map (λ t. None) tasks.now) }
+{
+    let mut shares = Vec::new(alloc);
+    for _task in tasks {
+        shares.push(None)?;
+    }
+    Ok(shares)
 }
 
 fn have_no_switches(modes: &[Mode]) -> bool

@@ -1,19 +1,24 @@
 //! The jobs of a tenant whose completion is awaited.
 
-ghost use Rattle.std.specs.Prelude.{◌≡◌, ◌+◌, ◌↔◌, ◌||◌, ◌&&◌, not, nat_eq, Bool, filter, length, map, ◌++◌, IsTrue, IfOk, OnOk, Some};
+ghost use Rattle.std.specs.Prelude.{◌≡◌, ℕ, ◌<◌, ◌+◌, ◌↔◌, ◌||◌, ◌&&◌, not, nat_eq, Bool, filter, length, map, ◌++◌, IsTrue, IfOk, IfSome, OnOk, Some, find, true, slice_get};
 ghost use Rattle.std.specs.Arc.{arc_value};
 ghost use Rattle.std.specs.Bool.{OnTrue, OnFalse};
-ghost use Rattle.std.specs.List.{position};
+ghost use Rattle.std.specs.List.{AllByRecursion};
+ghost use Rattle.std.specs.Option.{option_and_then};
+ghost use Rattle.giotto_text.specs.ProgramTrees.{task_of};
+ghost use Rattle.tenant_slots.specs.Places.{name_of_task};
 ghost use Rattle.giotto_tasks.specs.Names.{same_name};
 ghost use Rattle.tenant_state.specs.Jobs.{job_of, same_job};
 ghost use Rattle.tenant_state.specs.Row.{ActiveTask, Row};
 ghost use Rattle.tenant_state.specs.Standing.{StandsFor, outstanding_tasks, awaited_job};
-ghost use Rattle.tenant_state.specs.Tenants.{active_of, is_completed};
+ghost use Rattle.tenant_state.specs.Tenants.{IsActiveIn, IsActiveOf, active_of, is_completed};
+ghost use Rattle.giotto_check.specs.Facts.{ProgramFits};
 
-use crate::jobs::{Done, Job, JobId};
-use crate::tenants::{Active, Tenant};
-use giotto_rules::lookups::find_task;
+use crate::jobs::{Done, Job, JobId, put_results};
+use crate::tenants::{Active, Computed, Tenant};
+use giotto_check::Checked;
 use giotto_tasks::bodies::Body;
+use giotto_tasks::values::Values;
 use giotto_text::programs::Task;
 use rig_config::TenantId;
 use std::alloc::AllocError;
@@ -27,17 +32,14 @@ impl Tenant {
     pub fn job(&self, id: &JobId) -> Result<Option<Job>, AllocError>
         ensures { IfOk result (λ job. job ≡ awaited_job self.now id.now) }
     {
-        let Some(program) = &self.program else {
+        let Some(checked) = &self.program else {
             return Ok(None);
         };
-        let Some(place) = place_of(&self.active, id) else {
+        let Some(place) = place_of(checked, &self.active, id) else {
             return Ok(None);
         };
         let active = &self.active[place];
-        let Some(task) = find_task(program.program(), &active.task) else {
-            return Ok(None);
-        };
-        let body = Arc::try_clone(&task.body)?;
+        let body = Arc::try_clone(&declared(checked, active).body)?;
         let inputs = active.inputs.copy();
         let states = active.states.copy();
         Ok(Some(Job::new(id.copy(), body, inputs, states)))
@@ -53,21 +55,32 @@ impl Tenant {
         ensures step { OnTrue result ((row : Row) (completed : ActiveTask → Bool) → StandsFor self.old row completed
             → StandsFor self.new row (λ a. same_job done.id (job_of done.id.tenant a) || completed a)) }
     {
-        let Some(program) = &self.program else {
+        let Some(checked) = &self.program else {
             return false;
         };
-        let Some(place) = place_of(&self.active, done.id()) else {
+        let Some(place) = place_of(checked, &self.active, done.id()) else {
             return false;
         };
         let active = &self.active[place];
-        let Some(task) = find_task(program.program(), &active.task) else {
-            return false;
-        };
-        if !is_of_release(task, active, done.job()) {
+        if !is_of_release(declared(checked, active), active, done.job()) {
             return false;
         }
-        self.active[place].result = Some(done);
+        self.active[place].result = Some(Computed {
+            outputs: done.outputs().copy(),
+            states: done.states().copy(),
+        });
         true
+    }
+
+    /// Computes each outstanding job where its task is active, and counts its completion. Takes no memory.
+    pub fn complete_all(&mut self)
+        ensures row { self.new.row ≡ self.old.row }
+        ensures completed { self.new.completed ≡ map (λ b. true) self.old.completed }
+    {
+        let Some(checked) = &self.program else {
+            return;
+        };
+        compute_each(checked, &mut self.active);
     }
 
     /// Adds the names of the outstanding jobs, in the order of their release, for the tenant at this place of the roster.
@@ -81,7 +94,10 @@ impl Tenant {
     ) -> Result<(), AllocError>
         ensures { OnOk result (names.new.items ≡ names.old.items ++ map (job_of tenant) (outstanding_tasks self.now)) }
     {
-        add_names(tenant, &self.active, names)
+        let Some(checked) = &self.program else {
+            return Ok(());
+        };
+        add_names(checked, tenant, &self.active, names)
     }
 
     /// How many jobs are outstanding: their tasks are active, and not completed.
@@ -92,27 +108,82 @@ impl Tenant {
     }
 }
 
+// Gives each active task without a result its own.
+fn compute_each(checked: &Checked, active: &mut [Active])
+    requires { AllByRecursion (IsActiveOf checked.now) active.old }
+    ensures releases { map (active_of checked.now) active.new ≡ map (active_of checked.now) active.old }
+    ensures tasks { (count : ℕ) → AllByRecursion (IsActiveIn checked.now count) active.old → AllByRecursion (IsActiveIn checked.now count) active.new }
+    ensures completed { map is_completed active.new ≡ map (λ b. true) (map is_completed active.old) }
+{
+    for task in active.iter_mut() {
+        if !is_awaited(task) {
+            continue;
+        }
+        compute(checked, task);
+    }
+}
+
+// Gives an active task its result.
+#[tactic(auto, using(crate::proofs::Completing::fits_body, crate::proofs::Completing::sound_body))]
+fn compute(checked: &Checked, active: &mut Active)
+    requires { IsActiveOf checked.now active.old }
+    ensures same { active_of checked.now active.new ≡ active_of checked.now active.old }
+    ensures fits { IsActiveOf checked.now active.new }
+    ensures completed { is_completed active.new ≡ true }
+{
+    let body = &declared(checked, active).body;
+    active.result = Some(Computed {
+        outputs: Values::new(),
+        states: Values::new(),
+    });
+    if let Some(computed) = &mut active.result {
+        put_results(
+            body,
+            &active.inputs,
+            &active.states,
+            &mut computed.outputs,
+            &mut computed.states,
+        );
+    }
+}
+
 // Adds the names of the jobs that have no result.
-fn add_names(tenant: TenantId, active: &[Active], names: &mut Vec<JobId>) -> Result<(), AllocError>
-    ensures { OnOk result (names.new.items ≡ names.old.items ++ map (job_of tenant) (map active_of (filter (λ a. not (is_completed a)) active.now))) }
+fn add_names(
+    checked: &Checked,
+    tenant: TenantId,
+    active: &[Active],
+    names: &mut Vec<JobId>,
+) -> Result<(), AllocError>
+    requires { AllByRecursion (IsActiveOf checked.now) active.now }
+    ensures { OnOk result (names.new.items ≡ names.old.items ++ map (job_of tenant) (map (active_of checked.now) (filter (λ a. not (is_completed a)) active.now))) }
 {
     for entry in active {
         if is_awaited(entry) {
-            names.push(name_of(tenant, entry))?;
+            names.push(name_of(checked, tenant, entry))?;
         }
     }
     Ok(())
 }
 
 // The name of an active task's job.
-fn name_of(tenant: TenantId, active: &Active) -> JobId
-    ensures { result ≡ job_of tenant (active_of active.now) }
+fn name_of(checked: &Checked, tenant: TenantId, active: &Active) -> JobId
+    requires { IsActiveOf checked.now active.now }
+    ensures { result ≡ job_of tenant (active_of checked.now active.now) }
 {
     JobId {
         tenant,
         tick: active.release,
-        task: active.task.copy(),
+        task: declared(checked, active).name.copy(),
     }
+}
+
+// The task of an active task.
+fn declared<'a>(checked: &'a Checked, active: &Active) -> &'a Task
+    requires { IsActiveOf checked.now active.now }
+    ensures task { slice_get checked.now.tasks active.now.task ≡ Some (task_of result.now) }
+    ensures fits { ProgramFits checked.now }
+{
+    &checked.program().tasks()[active.task]
 }
 
 fn count_awaited(active: &[Active]) -> usize
@@ -135,12 +206,26 @@ fn is_awaited(active: &Active) -> bool
 }
 
 // The place of the first release of this name whose completion is awaited.
-fn place_of(active: &[Active], id: &JobId) -> Option<usize>
-    ensures { result ≡ position (λ a. not (is_completed a) && (nat_eq a.release id.now.tick && same_name a.task id.now.task)) active.now }
+#[tactic(auto, using(crate::proofs::AwaitedTasks::found_here))]
+fn place_of(checked: &Checked, active: &[Active], id: &JobId) -> Option<usize>
+    requires { AllByRecursion (IsActiveOf checked.now) active.now }
+    ensures within { IfSome result (λ place. place < length active.now) }
+    ensures found { find (λ a. not (is_completed a) && (nat_eq a.release id.now.tick && same_name (name_of_task checked.now a.task) id.now.task)) active.now ≡ option_and_then (slice_get active.now) result }
 {
-    active.iter().position(|active| {
-        is_awaited(active) && active.release == id.tick && active.task == id.task
-    })
+    for (place, entry) in active.iter().enumerate() {
+        if is_named(checked, entry, id) {
+            return Some(place);
+        }
+    }
+    None
+}
+
+// Whether an active task's job has this name and no result.
+fn is_named(checked: &Checked, active: &Active, id: &JobId) -> bool
+    requires { IsActiveOf checked.now active.now }
+    ensures { result ≡ not (is_completed active.now) && (nat_eq active.now.release id.now.tick && same_name (name_of_task checked.now active.now.task) id.now.task) }
+{
+    is_awaited(active) && active.release == id.tick && declared(checked, active).name == id.task
 }
 
 // Whether the job has the body of this task, and the inputs and the states of this release.

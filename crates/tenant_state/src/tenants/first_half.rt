@@ -1,30 +1,30 @@
 //! The first half of an instant: due tasks end, and due actuators are updated.
 
-ghost use Rattle.std.specs.Prelude.{◌≡◌, ◌≤◌, ◌&&◌, Bool, not, true, false, [], ◌∷◌, length, map, filter, Some, None, IsTrue};
-ghost use Rattle.std.specs.List.{find, flat_map, list_any, AllByRecursion};
+ghost use Rattle.std.specs.Prelude.{◌≡◌, ◌<◌, ◌≤◌, ◌%◌, ◌==◌, ◌&&◌, Bool, not, true, false, ◌∷◌, [], nat_eq, length, map, filter, Some, None, IfSome, ◌⊎◌, slice_get};
+ghost use Rattle.std.specs.List.{find, flat_map, list_all, list_any, AllByRecursion};
 ghost use Rattle.std.specs.Option.{option_map};
-ghost use Rattle.giotto_tasks.specs.Names.{names_in, same_name, is_among};
-ghost use Rattle.giotto_tasks.specs.Sound.{AreSourcesOf};
-ghost use Rattle.giotto_text.specs.Program.{ActuatorUpdate, TaskInvocation};
-ghost use Rattle.giotto_text.specs.declared.programs.Invocation.{Invocation};
-ghost use Rattle.giotto_text.specs.ProgramTrees.{mode_of, update_of, invocation_of};
-ghost use Rattle.giotto_rules.specs.Declarations as declared;
-ghost use Rattle.tenant_state.specs.FirstHalf.{unfinished_tasks, all_ended, first_half_of};
+ghost use Rattle.std.specs.Vec.{vec_capacity};
+ghost use Rattle.giotto_tasks.specs.Names.{same_name};
+ghost use Rattle.giotto_text.specs.Program.{ModeDeclaration, TaskInvocation};
+ghost use Rattle.giotto_check.specs.Slots.{slots_of, valuation_of};
+ghost use Rattle.giotto_check.specs.Timetables.{AreEach, IsInvocation};
+ghost use Rattle.giotto_check.specs.declared.timetables.SlotInvocation.{SlotInvocation};
 ghost use Rattle.tenant_slots.specs.Due.{is_due_at};
-ghost use Rattle.tenant_slots.specs.Updates.{all_updated};
-ghost use Rattle.tenant_ports.specs.GuardSources.{AreGuardSources};
-ghost use Rattle.tenant_ports.specs.PortTables.{all_ports, ArePortsOf, HaveSameNames};
-ghost use Rattle.tenant_ports.specs.Ports.{actuators_reset};
+ghost use Rattle.tenant_slots.specs.Places.{name_of_task};
+ghost use Rattle.tenant_state.specs.EntryTable.{IsTableOf, MarksDue};
+ghost use Rattle.tenant_state.specs.FirstHalf.{unfinished_tasks, all_ended, first_half_of};
 ghost use Rattle.tenant_state.specs.Row.{ActiveTask, Row};
-ghost use Rattle.tenant_state.specs.Standing.{StandsFor, bodies_invoked};
-ghost use Rattle.tenant_state.specs.Tenants.{active_of, is_completed, IsActiveAsSome};
+ghost use Rattle.tenant_state.specs.Standing.{StandsFor, most_released};
+ghost use Rattle.tenant_state.specs.Tenants.{active_of, is_completed, IsActiveOf};
 
 use crate::tenants::{Active, Reason, State, Tenant};
 use giotto_check::Checked;
-use giotto_rules::lookups::{find_mode, find_task};
+use giotto_check::timetables::SlotInvocation;
 use giotto_tasks::names::Name;
-use giotto_text::programs::Mode;
-use tenant_ports::Ports;
+use giotto_text::programs::Program;
+use tenant_slots::actuators::{reset_actuators, update_due};
+use tenant_slots::due::Due;
+use tenant_slots::tasks::write_results;
 
 impl Tenant {
     /// The first half of an instant. The due tasks write their results, and the due actuators are updated; or the tenant is
@@ -32,8 +32,9 @@ impl Tenant {
     pub fn first_half(&mut self)
         ensures step { (row : Row) (completed : ActiveTask → Bool) → StandsFor self.old row completed
             → StandsFor self.new (first_half_of (unfinished_tasks completed row) row) completed }
-        ensures fewer { length self.new.row.active ≤ length self.old.row.active }
-        ensures bodies { bodies_invoked self.new.row ≡ bodies_invoked self.old.row }
+        ensures places { self.old.places ≤ self.new.places }
+        ensures shared { self.new.shared ≡ self.old.shared }
+        ensures fewer { most_released self.new.row ≤ most_released self.old.row }
         ensures count { self.new.row.count ≡ self.old.row.count }
     {
         let State::Running = &self.state else {
@@ -42,139 +43,223 @@ impl Tenant {
         let Some(checked) = &self.program else {
             return;
         };
-        let Some(mode) = find_mode(checked.program(), &self.mode) else {
-            return;
-        };
+        let _program = checked.program();
         let time = self.mode_time;
-        if let Some(task) = first_unfinished(mode, time, &self.active) {
-            self.state = State::Stopped(Reason::Overrun(task.copy()));
-            self.active.clear();
-            reset_actuators(checked, &mut self.ports);
+        if time < self.next_due {
             return;
         }
-        end_due(checked, mode, time, &self.active, &mut self.ports);
-        drop_due(mode, time, &mut self.active);
-        update_due(mode, time, &mut self.ports);
+        let invocations = checked.invocations(self.mode);
+        let values = self.values.as_mut_slice();
+        let table = entry_table(&self.active);
+        if let Some(task) = first_unfinished(invocations, time, &self.active, &table) {
+            self.state = State::Stopped(Reason::Overrun(name_of(checked.program(), task)));
+            self.active.clear();
+            reset_actuators(checked, values);
+            return;
+        }
+        end_due(checked, invocations, time, &self.active, &table, values);
+        drop_due(invocations, time, &mut self.active);
+        update_due(checked, self.mode, time, values);
     }
 }
 
-// Whether what has this frequency in a mode happens at this mode time. A division by 0 counts as 0, though no checked program has one.
-fn is_due(mode: &Mode, frequency: u64, time: u64) -> bool
-    ensures { result ≡ is_due_at time (mode_of mode.now) frequency }
+// The name of the task at this place.
+fn name_of(program: &Program, task: usize) -> Name
+    requires { task < length program.now.tasks }
+    ensures { result ≡ name_of_task program.now task }
 {
-    let ticks = mode.period.checked_div(frequency).unwrap_or(0);
-    time.checked_rem(ticks).unwrap_or(time) == 0
+    program.tasks()[task].name.copy()
 }
 
-// Whether an active task of this name isn't completed.
-fn is_unfinished(active: &[Active], task: &Name) -> bool
-    ensures { result ≡ list_any (λ a. same_name a.task task.now && not (is_completed a)) active.now }
+// Whether every active task is completed.
+fn all_completed(active: &[Active]) -> bool
+    ensures { result ≡ list_all is_completed active.now }
 {
-    active.iter().any(|a| a.task == *task && a.result.is_none())
+    active.iter().all(|a| a.result.is_some())
 }
 
-// The first task in the mode's text order that is due and not completed.
-fn first_unfinished<'a>(mode: &'a Mode, time: u64, active: &[Active]) -> Option<&'a Name>
-    ensures { option_map (λ n. n.now) result ≡ option_map (λ (i : Invocation). i.task) (find (λ (i : Invocation). is_due_at time (mode_of mode.now) i.frequency
-        && list_any (λ a. same_name a.task i.task && not (is_completed a)) active.now) mode.now.invocations) }
+// Whether an active task at this place of the program isn't completed.
+fn is_unfinished(active: &[Active], task: usize) -> bool
+    ensures { result ≡ list_any (λ a. nat_eq a.task task && not (is_completed a)) active.now }
 {
-    mode.invocations
-        .as_slice()
-        .iter()
-        .find(|i| is_due(mode, i.frequency, time) && is_unfinished(active, &i.task))
-        .map(|i| &i.task)
+    active.iter().any(|a| a.task == task && a.result.is_none())
 }
 
-// Each actuator gets its initial value.
-fn reset_actuators(checked: &Checked, ports: &mut Ports)
-    requires { ArePortsOf checked.now ports.old }
-    ensures value { all_ports ports.new ≡ actuators_reset checked.now (all_ports ports.old) }
-    ensures names { HaveSameNames ports.old ports.new }
+// The number of each task's one active entry, from 1, or 0 where it has none. Nothing where a task has two, or there are few, or many.
+fn entry_table(active: &[Active]) -> Option<[u8; 64]>
+    ensures { IfSome result (IsTableOf (length active.now) active.now) }
 {
-    for actuator in checked.program().actuators() {
-        ports.write(&actuator.name, actuator.initial);
+    if active.len() < 4 {
+        return None; // A few are looked through at once.
+    }
+    let mut table = [0u8; 64];
+    for i in 0..active.len() {
+        let task = active[i].task;
+        if i >= 64 || task >= 64 || table[task] != 0 {
+            return None;
+        }
+        table[task] = i as u8 + 1;
+    }
+    Some(table)
+}
+
+// Active entries, among which are all of the task at this place. By the table only these.
+fn entries_of<'a>(active: &'a [Active], table: &Option<[u8; 64]>, task: usize) -> &'a [Active]
+    requires { IfSome table.now (IsTableOf (length active.now) active.now) }
+    ensures { (result.now ≡ active.now) ⊎ (result.now ≡ filter (λ a. nat_eq a.task task) active.now) }
+{
+    let Some(table) = table else {
+        return active;
+    };
+    if task >= 64 {
+        return active;
+    }
+    let end = usize::from(table[task]);
+    &active[end.saturating_sub(1)..end]
+}
+
+// The place of the first task in text order that is due and not completed.
+fn first_unfinished(
+    invocations: &[SlotInvocation],
+    time: u64,
+    active: &[Active],
+    table: &Option<[u8; 64]>,
+) -> Option<usize>
+    requires positive { AllByRecursion (λ i. 0 < i.interval) invocations.now }
+    requires table { IfSome table.now (IsTableOf (length active.now) active.now) }
+    ensures { result ≡ option_map (λ i. i.task) (find (λ i. (time % i.interval == 0) && list_any (λ a. nat_eq a.task i.task && not (is_completed a)) active.now) invocations.now) }
+{
+    if all_completed(active) {
+        return None;
+    }
+    let mut due = Due::at(time);
+    for invocation in invocations {
+        let task = invocation.task;
+        if due.is_due(invocation.interval) && is_unfinished(entries_of(active, table, task), task) {
+            return Some(task);
+        }
+    }
+    None
+}
+
+// The due tasks end, in the order of these invocations.
+fn end_due(
+    checked: &Checked,
+    invocations: &[SlotInvocation],
+    time: u64,
+    active: &[Active],
+    table: &Option<[u8; 64]>,
+    values: &mut [i64],
+)
+    requires values { length values.old ≡ slots_of checked.now }
+    requires active { AllByRecursion (IsActiveOf checked.now) active.now }
+    requires positive { AllByRecursion (λ i. 0 < i.interval) invocations.now }
+    requires there { AllByRecursion (λ i. i.task < length checked.now.tasks) invocations.now }
+    requires table { IfSome table.now (IsTableOf (length active.now) active.now) }
+    requires completed { find (λ i. (time % i.interval == 0) && list_any (λ a. nat_eq a.task i.task && not (is_completed a)) active.now) invocations.now ≡ None }
+    ensures { (m : ModeDeclaration) → AreEach (IsInvocation checked.now m) m.invocations invocations.now
+        → valuation_of checked.now values.new ≡ all_ended checked.now (flat_map (λ (i : TaskInvocation). filter (λ (a : ActiveTask). same_name a.task i.task
+        && is_due_at time m i.frequency) (map (active_of checked.now) active.now)) m.invocations) (valuation_of checked.now values.old) }
+{
+    let _program = checked.program();
+    let mut due = Due::at(time);
+    for invocation in invocations {
+        if due.is_due(invocation.interval) {
+            let task = invocation.task;
+            end_each(checked, entries_of(active, table, task), task, values);
+        }
+    }
+}
+
+// Each active task at this place of the program ends.
+fn end_each(checked: &Checked, active: &[Active], task: usize, values: &mut [i64])
+    requires there { task < length checked.now.tasks }
+    requires values { length values.old ≡ slots_of checked.now }
+    requires active { AllByRecursion (IsActiveOf checked.now) active.now }
+    requires completed { list_any (λ a. nat_eq a.task task && not (is_completed a)) active.now ≡ false }
+    ensures { valuation_of checked.now values.new
+        ≡ all_ended checked.now (map (active_of checked.now) (filter (λ a. nat_eq a.task task) active.now)) (valuation_of checked.now values.old) }
+{
+    for a in active {
+        if a.task == task {
+            end(checked, a, values);
+        }
     }
 }
 
 // A task ends: its outputs and its states get the values of its computation.
-fn end(checked: &Checked, active: &Active, ports: &mut Ports)
-    requires ports { ArePortsOf checked.now ports.old }
-    requires active { IsActiveAsSome active.now (declared.task_of checked.now active.now.task) }
+fn end(checked: &Checked, active: &Active, values: &mut [i64])
+    requires values { length values.old ≡ slots_of checked.now }
+    requires active { IsActiveOf checked.now active.now }
     requires completed { is_completed active.now ≡ true }
-    ensures value { all_ports ports.new ≡ all_ended checked.now (active_of active.now ∷ []) (all_ports ports.old) }
-    ensures names { HaveSameNames ports.old ports.new }
+    ensures { valuation_of checked.now values.new ≡ all_ended checked.now (active_of checked.now active.now ∷ []) (valuation_of checked.now values.old) }
 {
-    let Some(task) = find_task(checked.program(), &active.task) else {
+    let _program = checked.program();
+    let Some(computed) = &active.result else {
         return;
     };
-    let Some(done) = &active.result else {
-        return;
-    };
-    ports.write_all(task.body.outputs.as_slice(), done.outputs());
-    ports.write_own(&task.name, task.body.states.as_slice(), done.states());
+    write_results(
+        checked,
+        active.task,
+        &computed.outputs,
+        &computed.states,
+        values,
+    );
 }
 
-// Each active task of this name ends.
-fn end_each(checked: &Checked, active: &[Active], task: &Name, ports: &mut Ports)
-    requires ports { ArePortsOf checked.now ports.old }
-    requires active { AllByRecursion (λ a. IsActiveAsSome a (declared.task_of checked.now a.task)) active.now }
-    requires completed { list_any (λ a. same_name a.task task.now && not (is_completed a)) active.now ≡ false }
-    ensures value { all_ports ports.new ≡ all_ended checked.now (filter (λ (a : ActiveTask). same_name a.task task.now) (map active_of active.now)) (all_ports ports.old) }
-    ensures names { HaveSameNames ports.old ports.new }
+// For each of the first 64 tasks whether it is due.
+fn due_marks(invocations: &[SlotInvocation], time: u64) -> [bool; 64]
+    requires { AllByRecursion (λ i. 0 < i.interval) invocations.now }
+    ensures { MarksDue invocations.now time result }
 {
-    for a in active {
-        if a.task == *task {
-            end(checked, a, ports);
+    let mut due = Due::at(time);
+    let mut marks = [false; 64];
+    for i in invocations {
+        if i.task < 64 && due.is_due(i.interval) {
+            marks[i.task] = true;
         }
     }
+    marks
 }
 
-// The due tasks end, in the mode's text order.
-fn end_due(checked: &Checked, mode: &Mode, time: u64, active: &[Active], ports: &mut Ports)
-    requires ports { ArePortsOf checked.now ports.old }
-    requires active { AllByRecursion (λ a. IsActiveAsSome a (declared.task_of checked.now a.task)) active.now }
-    requires completed { find (λ (i : Invocation). is_due_at time (mode_of mode.now) i.frequency
-        && list_any (λ a. same_name a.task i.task && not (is_completed a)) active.now) mode.now.invocations ≡ None }
-    ensures value { all_ports ports.new ≡ all_ended checked.now (flat_map (λ (i : TaskInvocation). filter (λ (a : ActiveTask). same_name a.task i.task
-        && is_due_at time (mode_of mode.now) i.frequency) (map active_of active.now)) (map invocation_of mode.now.invocations)) (all_ports ports.old) }
-    ensures names { HaveSameNames ports.old ports.new }
+// Whether a task at this place of the program is due.
+fn is_task_due(invocations: &[SlotInvocation], time: u64, marks: &[bool; 64], task: usize) -> bool
+    requires positive { AllByRecursion (λ i. 0 < i.interval) invocations.now }
+    requires marks { MarksDue invocations.now time marks.now }
+    ensures { result ≡ list_any (λ i. nat_eq task i.task && (time % i.interval == 0)) invocations.now }
 {
-    for invocation in mode.invocations.as_slice() {
-        if is_due(mode, invocation.frequency, time) {
-            end_each(checked, active, &invocation.task, ports);
+    if task < 64 {
+        return marks[task];
+    }
+    for i in invocations {
+        if task == i.task && time % i.interval == 0 {
+            return true;
         }
     }
+    false
 }
 
-// Whether a task of this name is due.
-fn is_task_due(mode: &Mode, time: u64, task: &Name) -> bool
-    ensures { result ≡ list_any (λ (i : Invocation). same_name i.task task.now && is_due_at time (mode_of mode.now) i.frequency) mode.now.invocations }
+// Whether all active tasks are due.
+fn all_end(invocations: &[SlotInvocation], time: u64, marks: &[bool; 64], active: &[Active]) -> bool
+    requires positive { AllByRecursion (λ i. 0 < i.interval) invocations.now }
+    requires marks { MarksDue invocations.now time marks.now }
+    ensures { result ≡ list_all (λ a. list_any (λ (i : SlotInvocation). nat_eq a.task i.task && (time % i.interval == 0)) invocations.now) active.now }
 {
-    mode.invocations
-        .as_slice()
+    active
         .iter()
-        .any(|i| i.task == *task && is_due(mode, i.frequency, time))
+        .all(|a| is_task_due(invocations, time, marks, a.task))
 }
 
 // The due tasks are active no longer.
-fn drop_due(mode: &Mode, time: u64, active: &mut Vec<Active>)
-    ensures { active.new.items ≡ filter (λ a. not (list_any (λ (i : Invocation). same_name i.task a.task && is_due_at time (mode_of mode.now) i.frequency)
-        mode.now.invocations)) active.old.items }
+fn drop_due(invocations: &[SlotInvocation], time: u64, active: &mut Vec<Active>)
+    requires { AllByRecursion (λ i. 0 < i.interval) invocations.now }
+    ensures items { active.new.items ≡ filter (λ a. not (list_any (λ (i : SlotInvocation). nat_eq a.task i.task && (time % i.interval == 0)) invocations.now)) active.old.items }
+    ensures capacity { vec_capacity active.new ≡ vec_capacity active.old }
 {
-    active.retain(|a| !is_task_due(mode, time, &a.task));
-}
-
-// The updates that are due and whose guards hold, in text order.
-fn update_due(mode: &Mode, time: u64, ports: &mut Ports)
-    requires { AllByRecursion (λ (u : ActuatorUpdate). AreGuardSources ports.old.shared u.guard × AreSourcesOf ports.old.shared u.value
-        × IsTrue (is_among (names_in (all_ports ports.old)) u.actuator)) (map update_of mode.now.updates) }
-    ensures value { all_ports ports.new ≡ all_updated (mode_of mode.now) time (map update_of mode.now.updates) (all_ports ports.old) }
-    ensures names { HaveSameNames ports.old ports.new }
-{
-    for update in mode.updates.as_slice() {
-        if is_due(mode, update.frequency, time) && ports.holds(&update.guard) {
-            let value = ports.evaluate(&update.value);
-            ports.write(&update.actuator, value);
-        }
+    let marks = due_marks(invocations, time);
+    if all_end(invocations, time, &marks, active) {
+        active.clear();
+        return;
     }
+    active.retain(|a| !is_task_due(invocations, time, &marks, a.task));
 }

@@ -9,14 +9,14 @@ returns-in-Ok c = λ setting past h.
     let values : values_of_words (words_of c.args.line.now) ≡ Some c.in-Some.frame.items = rw c.in-Some.is at (sym c.in_ok-frame.ensures) in
     let values : values_of_words (words_of c.args.line.now) ≡ Some c.as_slice.result.now = values ∙ ap (λ l. Some l) (sym c.as_slice.ensures.value) in
     let low : c.clock-number.result < 2 ^ 64 = search rules in
-    tick_done setting past c.args.host.now c.tick.new.self h c.format.result (words_of c.args.line.now) c.as_slice.result.now values
-    c.clock-number.result c.clock-number.ensures low (λ other. let e = sym c.in-Ok.is ∙ c.tick.ensures.bad_frame.1 other in cc) (λ ended. let e = sym c.in-Ok.is ∙ c.tick.ensures.clock_ended.1 ended in cc)
+    tick_done setting past c.args.host.now c.instant.new.self h c.format.result (words_of c.args.line.now) c.as_slice.result.now values
+    c.clock-number.result c.clock-number.ensures low (λ other. let e = sym c.in-Ok.is ∙ c.instant.ensures.bad_frame.1 other in cc) (λ ended. let e = sym c.in-Ok.is ∙ c.instant.ensures.clock_ended.1 ended in cc)
     (c.in-Ok.ensures.step setting (host_after setting past) h.stands) c.format.ensures.ok
 
 pub returns-in-Err-ClockEnded : goal.returns-in-Err-ClockEnded
 returns-in-Err-ClockEnded c = λ setting past h.
     let values : values_of_words (words_of c.args.line.now) ≡ Some c.in-Some.frame.items = rw c.in-Some.is at (sym c.in_ok-frame.ensures) in
     let values : values_of_words (words_of c.args.line.now) ≡ Some c.as_slice.result.now = values ∙ ap (λ l. Some l) (sym c.as_slice.ensures.value) in
-    let ended = c.tick.ensures.clock_ended.0 (c.in-Err-ClockEnded.is ∙ ap (λ x. Err x) c.in-Err-ClockEnded.field-0-is) in
-    tick_ended setting past c.args.host.now c.tick.new.self h c.reply_line-in-Err-ClockEnded.result (words_of c.args.line.now) c.as_slice.result.now values ended.0 ended.1
+    let ended = c.instant.ensures.clock_ended.0 (c.in-Err-ClockEnded.is ∙ ap (λ x. Err x) c.in-Err-ClockEnded.field-0-is) in
+    tick_ended setting past c.args.host.now c.instant.new.self h c.reply_line-in-Err-ClockEnded.result (words_of c.args.line.now) c.as_slice.result.now values ended.0 ended.1
     c.in-Err-ClockEnded.ensures.refused c.reply_line-in-Err-ClockEnded.ensures

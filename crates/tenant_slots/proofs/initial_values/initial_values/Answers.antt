@@ -6,7 +6,7 @@ use Rattle.giotto_text.specs.Program.{GiottoProgram}
 use Rattle.giotto_text.specs.declared.programs.Sensor.{Sensor}
 use Rattle.giotto_text.specs.declared.programs.Actuator.{Actuator}
 use Rattle.giotto_text.specs.declared.programs.Output.{Output}
-use Rattle.tenant_ports.specs.Ports.{initial_ports}
+use Rattle.tenant_slots.specs.Ports.{initial_ports}
 use Rattle.tenant_slots.proofs.InitialValues.{values_in, values_of_task, all_values, ports_are, values_long}
 use Rattle.tenant_slots.proofs.initial_values.initial_values.Goals as goal
 

@@ -11,4 +11,4 @@ returns-clause-awaited c =
     let host : HostStanding = record { config = c.self.inside.config; tenants = c.self.inside.tenants.items; clock = c.self.inside.clock } in
     let within : c.args.id.now.tenant < length host.tenants = omega (arith, c.if-id-len.false) in
     subst (λ (h : HostStanding). IfOk c.job.result (λ job. (setting : Setting) (state : HostState) → Stands setting h state → is_some job ≡ awaits state c.args.id.now)) c.self.view_is
-    (job_awaits host c.args.id.now c.index-tenant.result.now c.job.result within c.index-tenant.ensures c.known.ensures.tasks c.job.ensures)
+    (job_awaits host c.args.id.now c.index.result.now c.job.result within c.index.ensures c.self.invariant.1 c.job.ensures)

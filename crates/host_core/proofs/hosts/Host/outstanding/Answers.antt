@@ -1,7 +1,8 @@
-use Rattle.std.proofs.Common.{◌≡◌, List, length, take, ap, ◌∙◌}
+use Rattle.std.proofs.Common.{◌≡◌, List, length, take, sym, ap, ◌∙◌}
 use Rattle.std.proofs.lemmas.List.{take_all}
 use Rattle.host_core.specs.HostStanding.{HostStanding, outstanding_from, outstanding_jobs}
 use Rattle.tenant_state.specs.Standing.{Standing}
+use Rattle.host_core.proofs.AtRest.{outstanding_at_rest}
 use Rattle.host_core.proofs.Outstanding.{counted_in_all}
 use Rattle.host_core.proofs.hosts.Host.outstanding.Goals as goal
 
@@ -12,4 +13,4 @@ returns c =
     c.loop-tenant.invariant.0
     ∙ (counted_in_all (take c.loop-tenant.tenant-index items)
     ∙ (ap (λ (xs : List Standing). length (outstanding_from 0 xs)) (all ∙ c.deref-tenant-items.ensures.value)
-    ∙ ap (λ (h : HostStanding). length (outstanding_jobs h)) c.self.view_is))
+    ∙ (sym (ap length (outstanding_at_rest c.self.inside.tenants.items)) ∙ ap (λ (h : HostStanding). length (outstanding_jobs h)) c.self.view_is)))

@@ -1,7 +1,8 @@
-use Rattle.std.proofs.Common.{◌≡◌, List, take, ap, ◌∙◌}
+use Rattle.std.proofs.Common.{◌≡◌, List, take, sym, ap, ◌∙◌}
 use Rattle.std.proofs.lemmas.List.{take_all}
 use Rattle.host_core.specs.HostStanding.{HostStanding, outstanding_from, outstanding_jobs}
 use Rattle.tenant_state.specs.Standing.{Standing}
+use Rattle.host_core.proofs.AtRest.{outstanding_at_rest}
 use Rattle.host_core.proofs.Outstanding.{jobs_more}
 use Rattle.host_core.proofs.hosts.Host.outstanding_jobs.Goals as goal
 
@@ -16,4 +17,4 @@ returns c =
     let all : take c.loop-place.place items ≡ items = take_all c.loop-place.place items c.loop-place-test.false in
     c.loop-place.invariant
     ∙ (ap (λ (xs : List Standing). outstanding_from 0 xs) (all ∙ c.as_slice-tenant-items.ensures.value)
-    ∙ ap (λ (h : HostStanding). outstanding_jobs h) c.self.view_is)
+    ∙ (sym (outstanding_at_rest c.self.inside.tenants.items) ∙ ap (λ (h : HostStanding). outstanding_jobs h) c.self.view_is))

@@ -3,10 +3,6 @@ use Rattle.tenant_lines.specs.declared.replies.Refusal.TheVariants.{Memory}
 use Rattle.tenant_lines.specs.declared.replies.Reply.TheVariants.{Refused}
 use Rattle.tenant_state.proofs.tenants.Tenant.command.Goals as goal
 
-pub returns-in-Ok-clause-step : goal.returns-in-Ok-clause-step
-returns-in-Ok-clause-step c = λ row completed stands other.
-    rw (c.in-Load.is) (rw c.as_str.ensures at (c.in-Ok.ensures.loaded row completed stands))
-
 pub returns-in-Ok-start-clause-step : goal.returns-in-Ok-start-clause-step
 returns-in-Ok-start-clause-step c = λ row completed stands other.
     rw c.in-Start.is (c.in-Ok-start.ensures.started c.args.budgets.now row completed stands)

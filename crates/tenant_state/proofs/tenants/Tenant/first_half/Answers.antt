@@ -1,112 +1,159 @@
-use Rattle.std.proofs.Common.{◌≡◌, ◌≤◌, true, Bool, not, ◌&&◌, map, filter, length, Some, None, sym, ap, subst, ◌∙◌}
+use Rattle.std.proofs.Common.{◌≡◌, ◌<◌, ◌≤◌, ◌-◌, ◌++◌, true, [], map, take, drop, length, Some, None, sym, ap, subst, ◌∙◌, arith}
+use Rattle.std.specs.Arc.{arc_value}
 use Rattle.std.specs.List.{find, flat_map, AllByRecursion}
-use Rattle.giotto_tasks.specs.Names.{same_name}
-use Rattle.giotto_text.specs.Program.{TaskInvocation, GiottoProgram}
-use Rattle.giotto_text.specs.ProgramTrees as tree
-use Rattle.giotto_text.specs.declared.programs.Invocation.{Invocation}
-use Rattle.tenant_state.specs.declared.tenants.Active.{Active}
+use Rattle.std.specs.Option.{option_map}
+use Rattle.std.specs.Vec.{vec_capacity, vec_len, with_items}
+use Rattle.giotto_text.specs.Program.{GiottoProgram}
+use Rattle.tenant_slots.specs.Places.{name_of_task}
+use Rattle.giotto_check.specs.Slots.{valuation_of}
+use Rattle.giotto_check.specs.declared.timetables.SlotInvocation.{SlotInvocation}
+use Rattle.giotto_tasks.proofs.ListLemmas.{all_filter, all_map, filter_shorter, found_has, whole_slice}
+use Rattle.tenant_slots.specs.Ports.{actuators_reset}
+use Rattle.tenant_slots.proofs.Quiet.{invocations_positive}
 use Rattle.tenant_state.specs.declared.tenants.Reason.TheVariants.{Overrun}
 use Rattle.tenant_state.specs.declared.tenants.State.TheVariants as states
-use Rattle.giotto_rules.specs.Declarations.{task_of, mode_of}
-use Rattle.tenant_state.specs.FirstHalf.{unfinished_tasks, all_ended, first_half_of}
-use Rattle.tenant_slots.specs.Due.{is_due_at}
-use Rattle.tenant_ports.specs.PortTables.{all_ports}
-use Rattle.tenant_state.specs.Row.{ActiveTask}
-use Rattle.tenant_state.specs.Standing.{Standing, StandsFor}
-use Rattle.tenant_state.specs.Tenants.{active_of, standing_of, all_different_releases, IsActiveIn, IsActiveAsSome, IsTenantOf}
-use Rattle.tenant_state.proofs.FirstHalfOf.{is_open, ends, finished, halted, map_none, map_some, different_filter, fewer_filter}
-use Rattle.tenant_state.proofs.InstantSteps.{CanUpdate}
-use Rattle.tenant_state.proofs.ProgramFacts.{mode_fits, update_has_ports}
-use Rattle.giotto_check.specs.Facts.{UpdateFits}
-use Rattle.tenant_ports.proofs.PortNames.{ports_of_on, same_names_on}
-use Rattle.giotto_tasks.proofs.ListLemmas.{all_filter, all_map}
+use Rattle.tenant_state.specs.FirstHalf.{all_ended, unfinished_tasks, first_half_of}
+use Rattle.tenant_state.specs.Standing.{Standing, StandsFor, most_released}
+use Rattle.tenant_state.specs.Tenants.{active_of, standing_of, tasks_in, all_different_releases, FitsProgram, FitsIts, IsActiveIn, IsActiveOf}
+use Rattle.tenant_state.proofs.DueTasks.{group}
+use Rattle.tenant_state.proofs.EndedTasks.{different_filter, finished, halted, its_mode, kept, map_none, map_some, opens, quiet_stands, tasks_within}
 use Rattle.tenant_state.proofs.tenants.Tenant.first_half.Goals as goal
 
-pub returns-in-Some-first_unfinished-clause-step : goal.returns-in-Some-first_unfinished-clause-step
-returns-in-Some-first_unfinished-clause-step c =
+pub returns-then-time-self-clause-step : goal.returns-then-time-self-clause-step
+returns-then-time-self-clause-step c = λ row completed st.
     let s = c.self.inside in
     let p = c.in-Some.checked in
-    let md = c.in-Some-find_mode.mode.now in
-    let found : mode_of p s.mode ≡ Some (tree.mode_of md) = ap (λ (q : GiottoProgram). mode_of q s.mode) (sym c.program.ensures.tree) ∙ c.in-Some-find_mode.ensures.found in
-    let was : c.args.self.now ≡ standing_of states.Running (Some p) s.mode s.mode_time s.active.items s.ports s.count =
-    sym c.self.view_is ∙ ap (λ x. standing_of x s.program s.mode s.mode_time s.active.items s.ports s.count) c.in-Running.is
-    ∙ ap (λ o. standing_of states.Running o s.mode s.mode_time s.active.items s.ports s.count) c.in-Some.is in
-    let some = map_some (λ (i : Invocation). i.task) _ c.in-Some-first_unfinished.task.now c.in-Some-first_unfinished.ensures in
-    let i = some.0 in
-    let first = subst (λ acts. find (is_open (λ (i : Invocation). is_due_at s.mode_time (tree.mode_of md) i.frequency) acts) md.invocations ≡ Some i) c.deref.ensures.value some.1 in
-    let after = c.reset_actuators.new.ports in
-    let name : c.copy.result ≡ i.task = c.copy.ensures ∙ sym some.2 in
-    let is = ap (λ x. standing_of (states.Stopped (Overrun x)) s.program s.mode s.mode_time c.clear.new.self.items after s.count) name
-    ∙ ap (λ o. standing_of (states.Stopped (Overrun i.task)) o s.mode s.mode_time c.clear.new.self.items after s.count) c.in-Some.is
-    ∙ ap (λ acts. standing_of (states.Stopped (Overrun i.task)) (Some p) s.mode s.mode_time acts after s.count) c.clear.ensures.items in
-    λ row completed st. subst (λ t. StandsFor t (first_half_of (unfinished_tasks completed row) row) completed) (sym is)
-    (halted md i p s.mode s.mode_time s.active.items s.ports after s.count found first c.reset_actuators.ensures.value row completed (subst (λ t. StandsFor t row completed) was st))
+    let shares = map (option_map arc_value) s.shares.items in
+    let places = vec_capacity s.active - vec_len s.active in
+    let was : c.args.self.now ≡ standing_of states.Running (Some p) s.mode s.mode_time s.active.items places s.values.items shares s.count =
+    sym c.self.view_is ∙ (λ k. standing_of (c.in-Running.is k) (c.in-Some.is k) s.mode s.mode_time s.active.items places s.values.items shares s.count) in
+    let fits = subst (λ o. FitsIts o s.mode s.mode_time s.next_due s.active.items s.values.items shares s.count) c.in-Some.is c.self.invariant.fits in
+    let m = its_mode p s.mode fits.mode_there in
+    subst (λ t. StandsFor t (first_half_of (unfinished_tasks completed row) row) completed) (sym was)
+    (quiet_stands p c.program-program.ensures.fits m.0 s.mode s.mode_time s.active.items places s.values.items shares s.count m.1 row completed (subst (λ t. StandsFor t row completed) was st)
+    (fits.quiet m.0 m.1 s.mode_time (omega arith) c.if-time-self.true))
+
+pub first_unfinished-requires-clause-positive : goal.first_unfinished-requires-clause-positive
+first_unfinished-requires-clause-positive c =
+    invocations_positive c.in-Some.checked c.program-program.ensures.fits c.self.inside.mode _ c.invocations-invocations.ensures.there c.invocations-invocations.ensures.none
+
+pub drop_due-requires : goal.drop_due-requires
+drop_due-requires c =
+    invocations_positive c.in-Some.checked c.program-program.ensures.fits c.self.inside.mode _ c.invocations-invocations.ensures.there c.invocations-invocations.ensures.none
+
+pub end_due-requires-clause-positive : goal.end_due-requires-clause-positive
+end_due-requires-clause-positive c =
+    invocations_positive c.in-Some.checked c.program-program.ensures.fits c.self.inside.mode _ c.invocations-invocations.ensures.there c.invocations-invocations.ensures.none
+
+pub end_due-requires-clause-there : goal.end_due-requires-clause-there
+end_due-requires-clause-there c =
+    let s = c.self.inside in
+    let p = c.in-Some.checked in
+    let fits = subst (λ o. FitsIts o s.mode s.mode_time s.next_due s.active.items s.values.items (map (option_map arc_value) s.shares.items) s.count) c.in-Some.is c.self.invariant.fits in
+    let m = its_mode p s.mode fits.mode_there in
+    tasks_within p m.0 m.0.invocations _ (c.invocations-invocations.ensures.there m.0 m.1)
 
 pub end_due-requires-clause-active : goal.end_due-requires-clause-active
 end_due-requires-clause-active c =
     let s = c.self.inside in
     let p = c.in-Some.checked in
-    let fits = subst (λ o. IsTenantOf o s.active.items s.ports s.count) c.in-Some.is c.self.invariant.fits in
-    subst (λ acts. AllByRecursion (λ (a : Active). IsActiveAsSome a (task_of p a.task)) acts) (sym c.deref-2.ensures.value)
-    (all_map (IsActiveIn p s.count) (λ (a : Active). IsActiveAsSome a (task_of p a.task)) s.active.items (λ a k. k.1) fits.1)
+    let fits = subst (λ o. FitsIts o s.mode s.mode_time s.next_due s.active.items s.values.items (map (option_map arc_value) s.shares.items) s.count) c.in-Some.is c.self.invariant.fits in
+    subst (AllByRecursion (IsActiveOf p)) (sym c.deref-3.ensures.value) (all_map (IsActiveIn p s.count) (IsActiveOf p) s.active.items (λ a is. is.declared) fits.each)
 
-pub end_due-requires-clause-completed : goal.end_due-requires-clause-completed
-end_due-requires-clause-completed c =
-    let s = c.self.inside in
-    let md = c.in-Some-find_mode.mode.now in
-    let none = map_none (λ (i : Invocation). i.task) _ c.in_default-first_unfinished.ensures in
-    subst (λ acts. find (is_open (λ (i : Invocation). is_due_at s.mode_time (tree.mode_of md) i.frequency) acts) md.invocations ≡ None) (c.deref.ensures.value ∙ sym c.deref-2.ensures.value) none
-
-pub update_due-requires : goal.update_due-requires
-update_due-requires c =
+pub name_of-requires : goal.name_of-requires
+name_of-requires c =
     let s = c.self.inside in
     let p = c.in-Some.checked in
-    let md = c.in-Some-find_mode.mode.now in
-    let found : mode_of p s.mode ≡ Some (tree.mode_of md) = ap (λ (q : GiottoProgram). mode_of q s.mode) (sym c.program.ensures.tree) ∙ c.in-Some-find_mode.ensures.found in
-    let fits = subst (λ o. IsTenantOf o s.active.items s.ports s.count) c.in-Some.is c.self.invariant.fits in
-    let q = c.end_due.new.ports in
-    let are = ports_of_on p s.ports q fits.0 c.end_due.ensures.names in
-    let mode = mode_fits p c.program.ensures.fits (tree.mode_of md) s.mode found in
-    all_map (UpdateFits p (tree.mode_of md)) (CanUpdate q) (map tree.update_of md.updates) (λ u f. let has = update_has_ports p c.program.ensures.fits (tree.mode_of md) mode u f in (has.guard q are, has.value q are, has.actuator q are)) mode.updates
+    let fits = subst (λ o. FitsIts o s.mode s.mode_time s.next_due s.active.items s.values.items (map (option_map arc_value) s.shares.items) s.count) c.in-Some.is c.self.invariant.fits in
+    let m = its_mode p s.mode fits.mode_there in
+    let some = map_some (λ (i : SlotInvocation). i.task) _ c.in-Some-first_unfinished.task c.in-Some-first_unfinished.ensures in
+    let within = found_has (λ (e : SlotInvocation). e.task < length p.tasks) _ _ some.0 (tasks_within p m.0 m.0.invocations _ (c.invocations-invocations.ensures.there m.0 m.1)) some.1 in
+    subst (λ (q : GiottoProgram). c.in-Some-first_unfinished.task < length q.tasks) (sym c.program.ensures.tree) (subst (λ k. k < length p.tasks) some.2 within)
+
+pub returns-in-Some-first_unfinished-clause-step : goal.returns-in-Some-first_unfinished-clause-step
+returns-in-Some-first_unfinished-clause-step c = λ row completed st.
+    let s = c.self.inside in
+    let p = c.in-Some.checked in
+    let fits = subst (λ o. FitsIts o s.mode s.mode_time s.next_due s.active.items s.values.items (map (option_map arc_value) s.shares.items) s.count) c.in-Some.is c.self.invariant.fits in
+    let m = its_mode p s.mode fits.mode_there in
+    let shares = map (option_map arc_value) s.shares.items in
+    let places = vec_capacity s.active - vec_len s.active in
+    let was : c.args.self.now ≡ standing_of states.Running (Some p) s.mode s.mode_time s.active.items places s.values.items shares s.count =
+    sym c.self.view_is ∙ (λ k. standing_of (c.in-Running.is k) (c.in-Some.is k) s.mode s.mode_time s.active.items places s.values.items shares s.count) in
+    let some = map_some (λ (i : SlotInvocation). i.task) _ c.in-Some-first_unfinished.task c.in-Some-first_unfinished.ensures in
+    let es = c.invocations-invocations.result.now in
+    let first = subst (λ acts. find (opens s.mode_time acts) es ≡ Some some.0) c.deref-2.ensures.value some.1 in
+    let after = with_items s.values c.reset_actuators.new.values in
+    let room = vec_capacity c.clear.new.self - vec_len c.clear.new.self in
+    let name : c.name_of.result ≡ name_of_task p some.0.task = c.name_of.ensures ∙ ap (λ (q : GiottoProgram). name_of_task q c.in-Some-first_unfinished.task) c.program.ensures.tree ∙ ap (name_of_task p) (sym some.2) in
+    let written : after.items ≡ c.reset_actuators.new.values = whole_slice s.values.len c.reset_actuators.new.values s.values.items (omega (arith, c.as_mut_slice-values.ensures.len, c.reset_actuators.auto.values)) in
+    let began : c.as_mut_slice-values.result.now ≡ s.values.items = c.as_mut_slice-values.ensures.value in
+    let is : standing_of (states.Stopped (Overrun c.name_of.result)) s.program s.mode s.mode_time c.clear.new.self.items room after.items shares s.count
+    ≡ standing_of (states.Stopped (Overrun c.name_of.result)) (Some p) s.mode s.mode_time [] room c.reset_actuators.new.values shares s.count =
+    λ k. standing_of (states.Stopped (Overrun c.name_of.result)) (c.in-Some.is k) s.mode s.mode_time (c.clear.ensures.items k) room (written k) shares s.count in
+    subst (λ t. StandsFor t (first_half_of (unfinished_tasks completed row) row) completed) (sym is)
+    (halted p c.program-program.ensures.fits m.0 s.mode s.mode_time s.active.items places s.values.items shares s.count m.1 row completed (subst (λ t. StandsFor t row completed) was st)
+    es (c.invocations-invocations.ensures.there m.0 m.1) (all_map (IsActiveIn p s.count) (IsActiveOf p) s.active.items (λ a is. is.declared) fits.each) some.0 first c.name_of.result room c.reset_actuators.new.values name
+    (c.reset_actuators.ensures ∙ ap (λ vs. actuators_reset p (valuation_of p vs)) began))
 
 pub invariant_of-self-2 : goal.invariant_of-self-2
 invariant_of-self-2 c =
     let s = c.self.inside in
     let p = c.in-Some.checked in
-    let fits = subst (λ o. IsTenantOf o s.active.items s.ports s.count) c.in-Some.is c.self.invariant.fits in
-    let same = same_names_on s.ports c.end_due.new.ports c.update_due.new.ports c.end_due.ensures.names c.update_due.ensures.names in
+    let shares = map (option_map arc_value) s.shares.items in
+    let fits = subst (λ o. FitsIts o s.mode s.mode_time s.next_due s.active.items s.values.items shares s.count) c.in-Some.is c.self.invariant.fits in
+    let written = whole_slice s.values.len c.update_due.new.values s.values.items (omega (arith, c.as_mut_slice-values.ensures.len, c.end_due.auto.values, c.update_due.auto.values)) in
+    let began = ap length c.as_mut_slice-values.ensures.value in
+    let different : all_different_releases (map (active_of p) c.drop_due.new.active.items) ≡ true =
+    subst (λ acts. all_different_releases (map (active_of p) acts) ≡ true) (sym c.drop_due.ensures.items)
+    (different_filter p _ s.active.items (subst (λ o. all_different_releases (tasks_in o s.active.items) ≡ true) c.in-Some.is c.self.invariant.different)) in
+    let fits_now : FitsProgram p s.mode s.mode_time s.next_due c.drop_due.new.active.items c.update_due.new.values shares s.count = record {
+      long = c.update_due.auto.values ∙ c.end_due.auto.values ∙ began ∙ fits.long;
+      mode_there = fits.mode_there;
+      quiet = fits.quiet;
+      each = subst (AllByRecursion (IsActiveIn p s.count)) (sym c.drop_due.ensures.items) (all_filter (IsActiveIn p s.count) _ s.active.items fits.each);
+      share_each = fits.share_each;
+    } in
     record {
       short_time = c.self.invariant.short_time;
       no_switches = c.self.invariant.no_switches;
-      different = subst (λ acts. all_different_releases acts ≡ true) (sym c.drop_due.ensures) (different_filter _ s.active.items c.self.invariant.different);
-      fits = subst (λ o. IsTenantOf o c.drop_due.new.active.items c.update_due.new.ports s.count) (sym c.in-Some.is)
-          (ports_of_on p s.ports c.update_due.new.ports fits.0 same, subst (AllByRecursion (IsActiveIn p s.count)) (sym c.drop_due.ensures) (all_filter (IsActiveIn p s.count) _ s.active.items fits.1));
+      different = subst (λ o. all_different_releases (tasks_in o c.drop_due.new.active.items) ≡ true) (sym c.in-Some.is) different;
+      fits = subst (λ o. FitsIts o s.mode s.mode_time s.next_due c.drop_due.new.active.items
+          (take s.values.len (c.update_due.new.values ++ drop (length c.update_due.new.values) s.values.items)) shares s.count) (sym c.in-Some.is)
+          (subst (λ vs. FitsProgram p s.mode s.mode_time s.next_due c.drop_due.new.active.items vs shares s.count) (sym written) fits_now);
     }
 
 pub returns-clause-step : goal.returns-clause-step
-returns-clause-step c =
+returns-clause-step c = λ row completed st.
     let s = c.self.inside in
     let p = c.in-Some.checked in
-    let md = c.in-Some-find_mode.mode.now in
-    let found : mode_of p s.mode ≡ Some (tree.mode_of md) = ap (λ (q : GiottoProgram). mode_of q s.mode) (sym c.program.ensures.tree) ∙ c.in-Some-find_mode.ensures.found in
-    let was : c.args.self.now ≡ standing_of states.Running (Some p) s.mode s.mode_time s.active.items s.ports s.count =
-    sym c.self.view_is ∙ ap (λ x. standing_of x s.program s.mode s.mode_time s.active.items s.ports s.count) c.in-Running.is
-    ∙ ap (λ o. standing_of states.Running o s.mode s.mode_time s.active.items s.ports s.count) c.in-Some.is in
-    let none = subst (λ acts. find (is_open (λ (i : Invocation). is_due_at s.mode_time (tree.mode_of md) i.frequency) acts) md.invocations ≡ None) c.deref.ensures.value
-    (map_none (λ (i : Invocation). i.task) _ c.in_default-first_unfinished.ensures) in
-    let ended = subst (λ acts. all_ports c.end_due.new.ports ≡ all_ended p (flat_map (λ (i : TaskInvocation). filter (λ (a : ActiveTask). same_name a.task i.task
-    && is_due_at s.mode_time (tree.mode_of md) i.frequency) (map active_of acts)) (map tree.invocation_of md.invocations)) (all_ports s.ports)) c.deref-2.ensures.value c.end_due.ensures.value in
-    let after = c.update_due.new.ports in
-    let is = ap (λ x. standing_of x s.program s.mode s.mode_time c.drop_due.new.active.items after s.count) c.in-Running.is
-    ∙ ap (λ o. standing_of states.Running o s.mode s.mode_time c.drop_due.new.active.items after s.count) c.in-Some.is
-    ∙ ap (λ acts. standing_of states.Running (Some p) s.mode s.mode_time acts after s.count) c.drop_due.ensures in
-    λ row completed st. subst (λ t. StandsFor t (first_half_of (unfinished_tasks completed row) row) completed) (sym is)
-    (finished md p s.mode s.mode_time s.active.items s.ports c.end_due.new.ports after s.count found none ended c.update_due.ensures.value row completed (subst (λ t. StandsFor t row completed) was st))
+    let shares = map (option_map arc_value) s.shares.items in
+    let places = vec_capacity s.active - vec_len s.active in
+    let fits = subst (λ o. FitsIts o s.mode s.mode_time s.next_due s.active.items s.values.items shares s.count) c.in-Some.is c.self.invariant.fits in
+    let m = its_mode p s.mode fits.mode_there in
+    let was : c.args.self.now ≡ standing_of states.Running (Some p) s.mode s.mode_time s.active.items places s.values.items shares s.count =
+    sym c.self.view_is ∙ (λ k. standing_of (c.in-Running.is k) (c.in-Some.is k) s.mode s.mode_time s.active.items places s.values.items shares s.count) in
+    let es = c.invocations-invocations.result.now in
+    let none = subst (λ acts. find (opens s.mode_time acts) es ≡ None) c.deref-2.ensures.value (map_none (λ (i : SlotInvocation). i.task) _ c.in_default-first_unfinished.ensures) in
+    let written = whole_slice s.values.len c.update_due.new.values s.values.items (omega (arith, c.as_mut_slice-values.ensures.len, c.end_due.auto.values, c.update_due.auto.values)) in
+    let each = c.invocations-invocations.ensures.there m.0 m.1 in
+    let room = vec_capacity c.drop_due.new.active - vec_len c.drop_due.new.active in
+    let after = with_items s.values c.update_due.new.values in
+    let ended : valuation_of p c.end_due.new.values ≡ all_ended p (flat_map (group m.0 s.mode_time (map (active_of p) s.active.items)) m.0.invocations) (valuation_of p s.values.items) =
+    c.end_due.ensures m.0 each ∙ (λ k. all_ended p (flat_map (group m.0 s.mode_time (map (active_of p) (c.deref-3.ensures.value k))) m.0.invocations) (valuation_of p (c.as_mut_slice-values.ensures.value k))) in
+    let is : standing_of s.state s.program s.mode s.mode_time c.drop_due.new.active.items room after.items shares s.count
+    ≡ standing_of states.Running (Some p) s.mode s.mode_time (kept s.mode_time es s.active.items) room c.update_due.new.values shares s.count =
+    λ k. standing_of (c.in-Running.is k) (c.in-Some.is k) s.mode s.mode_time (c.drop_due.ensures.items k) room (written k) shares s.count in
+    subst (λ t. StandsFor t (first_half_of (unfinished_tasks completed row) row) completed) (sym is)
+    (finished p c.program-program.ensures.fits m.0 s.mode s.mode_time s.active.items places s.values.items shares s.count m.1 row completed (subst (λ t. StandsFor t row completed) was st)
+    es each (all_map (IsActiveIn p s.count) (IsActiveOf p) s.active.items (λ a is. is.declared) fits.each) none room c.end_due.new.values c.update_due.new.values ended (c.update_due.ensures m.0 m.1))
+
+pub returns-clause-places : goal.returns-clause-places
+returns-clause-places c =
+    let s = c.self.inside in
+    let was : c.args.self.now.places ≡ vec_capacity s.active - vec_len s.active = sym (ap (λ (t : Standing). t.places) c.self.view_is) in
+    let fewer : length c.drop_due.new.active.items ≤ length s.active.items = subst (λ xs. length xs ≤ length s.active.items) (sym c.drop_due.ensures.items) (filter_shorter _ s.active.items) in
+    omega (arith, was, fewer, c.drop_due.ensures.capacity)
 
 pub returns-clause-fewer : goal.returns-clause-fewer
-returns-clause-fewer c =
-    let s = c.self.inside in
-    let md = c.in-Some-find_mode.mode.now in
-    let stays : Active → Bool = λ (a : Active). not (ends (λ (i : Invocation). is_due_at s.mode_time (tree.mode_of md) i.frequency) md.invocations a.task) in
-    subst (λ acts. length acts ≤ length c.args.self.now.row.active) (ap (map active_of) (sym c.drop_due.ensures))
-    (subst (λ acts. length (map active_of (filter stays s.active.items)) ≤ length acts) (ap (λ (t : Standing). t.row.active) c.self.view_is) (fewer_filter stays s.active.items))
+returns-clause-fewer c = let same = ap (λ (t : Standing). most_released t.row) c.self.view_is in omega (arith, same)

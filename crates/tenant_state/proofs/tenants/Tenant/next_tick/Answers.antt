@@ -1,5 +1,5 @@
-use Rattle.tenant_state.proofs.TenantFacts.{early_of}
+use Rattle.tenant_state.proofs.TenantFacts.{known_of}
 use Rattle.tenant_state.proofs.tenants.Tenant.next_tick.Goals as goal
 
-pub returns-clause-early : goal.returns-clause-early
-returns-clause-early c = rw (← c.self.view_is) (early_of _ _ _ _ c.self.invariant.fits)
+pub returns-clause-known : goal.returns-clause-known
+returns-clause-known c = rw (← c.self.view_is) (known_of _ _ _ _ _ _ _ _ _ c.self.invariant)

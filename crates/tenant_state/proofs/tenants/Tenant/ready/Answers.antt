@@ -1,16 +1,34 @@
-use Rattle.std.proofs.Common.{length, ap, sym, ◌∙◌, arith}
+use Rattle.std.proofs.Common.{is_some, ap, ◌∙◌, arith}
 use Rattle.std.specs.Arc.{arc_value}
-use Rattle.std.proofs.lemmas.List.{length-map}
-use Rattle.tenant_state.specs.Standing.{Standing}
-use Rattle.tenant_state.specs.Tenants.{active_of}
+use Rattle.std.specs.List.{list_all}
+use Rattle.std.specs.Vec.{with_items}
+use Rattle.std.proofs.lemmas.List.{with_items_is}
+use Rattle.tenant_state.specs.Standing.{Standing, most_released}
+use Rattle.tenant_state.proofs.Shares.{shared_map, most_due, none_due}
 use Rattle.tenant_state.proofs.tenants.Tenant.ready.Goals as goal
 
-pub returns : goal.returns
-returns c =
-    let old = c.self.inside.active in
-    let bodies = c.in_ok-bodies.bodies in
-    let active = ap (λ (s : Standing). length s.row.active) (sym c.self.view_is) ∙ length-map old.items active_of in
-    record {
-      enough = omega (arith, active, length-map bodies.items arc_value, c.in_ok-active.ensures.exact, c.len.ensures, c.len-2.ensures, old.ok, bodies.ok);
-      same_bodies = c.in_ok-bodies.ensures;
-    }
+pub returns-then-self-clause-most : goal.returns-then-self-clause-most
+returns-then-self-clause-most c =
+    none_due _ _ _ _ _ _ _ _ _ 0 _ c.self.invariant c.in-Running.is c.in-Some.is c.program-program.ensures.fits c.if-self.true ∙ ap (λ (s : Standing). most_released s.row) c.self.view_is
+
+pub returns-then-self-clause-places : goal.returns-then-self-clause-places
+returns-then-self-clause-places c = omega (arith, returns-then-self-clause-most c)
+
+pub returns-then-self-clause-shares : goal.returns-then-self-clause-shares
+returns-then-self-clause-shares c some = absurd (omega (arith, returns-then-self-clause-most c, some))
+
+pub returns-clause-most : goal.returns-clause-most
+returns-clause-most c =
+    most_due _ _ _ _ _ _ _ _ _ 0 _ c.self.invariant c.in-Running.is c.in-Some.is c.program-program.ensures.fits c.count_due-most.result c.count_due-most.ensures
+    ∙ ap (λ (s : Standing). most_released s.row) c.self.view_is
+
+pub returns-clause-places : goal.returns-clause-places
+returns-clause-places c = omega (
+  arith,
+  most_due _ _ _ _ _ _ _ _ _ 0 _ c.self.invariant c.in-Running.is c.in-Some.is c.program-program.ensures.fits c.count_due-most.result c.count_due-most.ensures,
+  c.in_ok-reserve.ensures.ok,
+)
+
+pub returns-clause-shares : goal.returns-clause-shares
+returns-clause-shares c some =
+    shared_map arc_value (with_items c.self.inside.shares c.share_bodies.new.shares).items ∙ ap (list_all is_some) (with_items_is c.self.inside.shares c.share_bodies.new.shares (c.share_bodies.auto.shares ∙ c.as_mut_slice.ensures.len)) ∙ c.in_ok-share_bodies.ensures.shared

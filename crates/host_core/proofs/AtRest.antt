@@ -1,0 +1,73 @@
+-- Tenants that are the same at rest: they differ only in what they have ready for the next instant.
+use Rattle.std.proofs.Common.{◌≡◌, ℕ, false, ◌+◌, ◌<◌, List, [], ◌∷◌, ◌++◌, length, map, get_or, set, Some, refl, sym, ap, ◌∙◌, subst, arith}
+use Rattle.std.specs.Prelude.{slice_get}
+use Rattle.std.specs.Option.{option_and_then, option_map}
+use Rattle.std.specs.List.{All, flat_map, enumerate_from}
+use Rattle.std.proofs.Math.ListN as lists
+use Rattle.std.proofs.Math.Seq.{map-set_same}
+use Rattle.std.proofs.lemmas.List.{length-map}
+use Rattle.std.proofs.lemmas.Option.{slice_get-get_or, slice_get-map}
+use Rattle.tenant_state.specs.declared.jobs.JobId.{JobId}
+use Rattle.host_core.specs.HostStanding.{HostStanding, IsAt, Stands, outstanding_from}
+use Rattle.host_core.specs.HostState.{HostState}
+use Rattle.host_core.specs.Setting.{Setting}
+use Rattle.tenant_state.specs.Standing.{Standing, at_rest, empty_standing, awaited_job}
+
+pub same_at_rest : (xs ys : List Standing) (k : ℕ) (d : Standing) → map at_rest ys ≡ map at_rest xs → at_rest (get_or ys k d) ≡ at_rest (get_or xs k d)
+same_at_rest xs ys k d same = sym (lists.get_or-map at_rest ys k d) ∙ ap (λ zs. get_or zs k (at_rest d)) same ∙ lists.get_or-map at_rest xs k d
+
+pub same_length : (xs ys : List Standing) → map at_rest ys ≡ map at_rest xs → length ys ≡ length xs
+same_length xs ys same = sym (length-map ys at_rest) ∙ ap length same ∙ length-map xs at_rest
+
+pub rest_twice : (xs : List Standing) → map at_rest (map at_rest xs) ≡ map at_rest xs
+rest_twice [] = refl
+rest_twice (x ∷ xs) = ap (λ ys. at_rest x ∷ ys) (rest_twice xs)
+
+pub all_at_rest : (n : ℕ) (xs ys : List Standing) → map at_rest ys ≡ map at_rest xs → All (IsAt n) xs → All (IsAt n) ys
+all_at_rest n xs ys same all k d lt = subst (IsAt n) (sym (same_at_rest xs ys k d same)) (all k d (omega (arith, same_length xs ys same)))
+
+pub stands_at_rest : (setting : Setting) (host : HostStanding) (state : HostState) (ys : List Standing) → map at_rest ys ≡ map at_rest host.tenants
+    → Stands setting host state → Stands setting (record host { tenants = ys }) state
+stands_at_rest setting host state ys same stands = record {
+  same_config = stands.same_config;
+  same_clock = stands.same_clock;
+  as_many = same_length host.tenants ys same ∙ stands.as_many;
+  all_rows = stands.all_rows;
+  each = λ t lt.
+      let here = same_at_rest host.tenants ys t (empty_standing 0) same in
+      let one = stands.each t lt in
+      record { same_row = ap (λ (s : Standing). s.row) here ∙ one.same_row; same_marks = ap (λ (s : Standing). s.completed) here ∙ one.same_marks };
+  counts = stands.counts;
+  early = stands.early;
+}
+
+-- what a host's fields stand for, and what its view does
+pub stands_inside : (setting : Setting) (host : HostStanding) (state : HostState) → Stands setting (record host { tenants = map at_rest host.tenants }) state → Stands setting host state
+stands_inside setting host state stands = stands_at_rest setting (record host { tenants = map at_rest host.tenants }) state host.tenants (sym (rest_twice host.tenants)) stands
+
+pub stands_outside : (setting : Setting) (host : HostStanding) (state : HostState) → Stands setting host state → Stands setting (record host { tenants = map at_rest host.tenants }) state
+stands_outside setting host state stands = stands_at_rest setting host state (map at_rest host.tenants) (rest_twice host.tenants) stands
+
+pub readied : (xs ys : List Standing) (i : ℕ) (x s : Standing) → map at_rest xs ≡ map at_rest ys → x ≡ get_or xs i x → s.row ≡ x.row → s.completed ≡ x.completed
+    → map at_rest (set xs i s) ≡ map at_rest ys
+readied xs ys i x s same here row completed =
+    let as_it_was : at_rest s ≡ at_rest x = λ k. record { row = row k; completed = completed k; places = 0; shared = false } in
+    map-set_same at_rest xs i s x (as_it_was ∙ ap at_rest here) ∙ same
+
+-- what is gathered from rows and marks is the same
+pub gathered_at_rest : {C : Type 0} (f : ℕ × Standing → List C) → ((k : ℕ) (s : Standing) → f (k, at_rest s) ≡ f (k, s)) → (n : ℕ) (xs : List Standing)
+    → flat_map f (enumerate_from n (map at_rest xs)) ≡ flat_map f (enumerate_from n xs)
+gathered_at_rest f same n [] = refl
+gathered_at_rest f same n (x ∷ xs) = ap (λ ys. ys ++ flat_map f (enumerate_from (n + 1) (map at_rest xs))) (same n x) ∙ ap (λ ys. f (n, x) ++ ys) (gathered_at_rest f same (n + 1) xs)
+
+pub outstanding_at_rest : (xs : List Standing) → outstanding_from 0 (map at_rest xs) ≡ outstanding_from 0 xs
+outstanding_at_rest xs = gathered_at_rest _ (λ k s. refl) 0 xs
+
+pub kept_at_rest : (n long : ℕ) (xs ys : List Standing) → map at_rest ys ≡ map at_rest xs → (length xs ≡ long) × All (IsAt n) xs → (length ys ≡ long) × All (IsAt n) ys
+kept_at_rest n long xs ys same whole = (same_length xs ys same ∙ whole.0, all_at_rest n xs ys same whole.1)
+
+-- a tenant's answer to a job's name is the host's
+pub awaited_here : (xs : List Standing) (j : JobId) (x : Standing) → j.tenant < length xs → x ≡ get_or xs j.tenant x
+    → option_and_then (λ s. awaited_job s j) (slice_get (map at_rest xs) j.tenant) ≡ awaited_job x j
+awaited_here xs j x lt here =
+    ap (λ o. option_and_then (λ s. awaited_job s j) o) (slice_get-map at_rest xs j.tenant ∙ ap (option_map at_rest) (slice_get-get_or xs j.tenant x lt ∙ ap Some (sym here)))

@@ -1,3 +1,0 @@
-pub mod PortLemmas
-pub mod PortNames
-pub mod PortRows

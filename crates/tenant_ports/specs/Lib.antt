@@ -1,3 +1,0 @@
-pub mod GuardSources
-pub mod PortTables
-pub mod Ports

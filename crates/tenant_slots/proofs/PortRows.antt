@@ -1,0 +1,18 @@
+-- The ports with which the adder begins, computed from the definitions.
+use Rattle.std.proofs.Common.{◌≡◌, pos, [], ◌∷◌, Some, None, refl}
+use Rattle.std.specs.Prelude.{codes}
+use Rattle.giotto_tasks.specs.Names.{value_at}
+use Rattle.giotto_text.proofs.Adder.{adder}
+use Rattle.tenant_slots.specs.Ports.{initial_ports}
+
+pub ports_of_adder : initial_ports adder ≡ (codes "s", pos 0) ∷ (codes "a", pos 0) ∷ (codes "o", pos 0) ∷ (codes "T.i", pos 0) ∷ []
+ports_of_adder = refl
+
+pub own_port_by_its_task : value_at (initial_ports adder) (codes "T.i") ≡ Some (pos 0)
+own_port_by_its_task = refl
+
+pub no_port_by_its_own_name : value_at (initial_ports adder) (codes "i") ≡ None
+no_port_by_its_own_name = refl
+
+pub task_is_no_port : value_at (initial_ports adder) (codes "T") ≡ None
+task_is_no_port = refl

@@ -1,0 +1,114 @@
+//! A task's inputs, states and outputs: what a release takes and writes, and what an end writes.
+
+ghost use Rattle.std.specs.Prelude.{◌≡◌, ◌<◌, ◌≤◌, ◌+◌, ℕ, List, [], Some, drop, length, map, slice_get, take};
+ghost use Rattle.std.specs.List.{AllByRecursion, range_with_len};
+ghost use Rattle.giotto_tasks.specs.Meaning.{value_of};
+ghost use Rattle.giotto_tasks.specs.Names.{values_of};
+ghost use Rattle.giotto_tasks.specs.Syntax.{Expression};
+ghost use Rattle.giotto_text.specs.PortNames.{own_ports, with_values};
+ghost use Rattle.giotto_text.specs.Program.{GiottoProgram, TaskDeclaration, names_of};
+ghost use Rattle.giotto_check.specs.Facts.{ProgramFits};
+ghost use Rattle.giotto_check.specs.Slots.{slots_of, valuation_of, with_slots};
+ghost use Rattle.giotto_check.specs.Timetables.{AreEach, AreTaskSlots, IsExpression};
+
+use giotto_check::Checked;
+use giotto_check::timetables::{SlotExpr, TaskSlots, slot_value};
+use giotto_tasks::values::Values;
+
+/// Puts the values of an invocation's arguments, at most 16, into an empty list, in their order. Takes no memory.
+pub fn argument_values(arguments: &[SlotExpr], values: &[i64], given: &mut Values)
+    requires few { length arguments.now ≤ 16 }
+    requires empty { given.old ≡ [] }
+    ensures { (p : GiottoProgram) (es : List Expression) → AreEach (IsExpression p) es arguments.now → length values.now ≡ slots_of p
+        → given.new ≡ map (λ e. value_of e (valuation_of p values.now)) es }
+{
+    for argument in arguments {
+        given.push(slot_value(argument, values));
+    }
+}
+
+/// Puts the values of the states of the task at this place into an empty list, in their order. Takes no memory.
+pub fn state_values(checked: &Checked, task: usize, values: &[i64], taken: &mut Values)
+    requires there { task < length checked.now.tasks }
+    requires values { length values.now ≡ slots_of checked.now }
+    requires empty { taken.old ≡ [] }
+    ensures { (t : TaskDeclaration) → slice_get checked.now.tasks task ≡ Some t
+        → taken.new ≡ values_of (valuation_of checked.now values.now) (own_ports t.name (names_of t.states)) }
+{
+    let states = checked.program().tasks()[task].states.as_slice().len();
+    read_range(slots_at(checked, task).states, states, values, taken);
+}
+
+/// Gives the inputs of the task at this place these values, one for each. Takes no memory.
+pub fn write_inputs(checked: &Checked, task: usize, inputs: &Values, values: &mut [i64])
+    requires there { task < length checked.now.tasks }
+    requires values { length values.old ≡ slots_of checked.now }
+    requires inputs { (t : TaskDeclaration) → slice_get checked.now.tasks task ≡ Some t → length inputs.now ≡ length t.inputs }
+    ensures { (t : TaskDeclaration) → slice_get checked.now.tasks task ≡ Some t
+        → valuation_of checked.now values.new ≡ with_values (valuation_of checked.now values.old) (own_ports t.name t.inputs) inputs.now }
+{
+    write_range(slots_at(checked, task).inputs, inputs.as_slice(), values);
+}
+
+/// Gives the outputs and the states of the task at this place these values, one for each. Takes no memory.
+pub fn write_results(
+    checked: &Checked,
+    task: usize,
+    outputs: &Values,
+    states: &Values,
+    values: &mut [i64],
+)
+    requires there { task < length checked.now.tasks }
+    requires values { length values.old ≡ slots_of checked.now }
+    requires states { (t : TaskDeclaration) → slice_get checked.now.tasks task ≡ Some t → length states.now ≡ length t.states }
+    ensures { (t : TaskDeclaration) → slice_get checked.now.tasks task ≡ Some t
+        → valuation_of checked.now values.new
+        ≡ with_values (with_values (valuation_of checked.now values.old) t.outputs outputs.now) (own_ports t.name (names_of t.states)) states.now }
+{
+    let slots = slots_at(checked, task);
+    write_each(slots.outputs.as_slice(), outputs.as_slice(), values);
+    write_range(slots.states, states.as_slice(), values);
+}
+
+// The slots of the task at this place.
+fn slots_at(checked: &Checked, task: usize) -> &TaskSlots
+    requires { task < length checked.now.tasks }
+    ensures fits { ProgramFits checked.now }
+    ensures slots { (t : TaskDeclaration) × (slice_get checked.now.tasks task ≡ Some t) × AreTaskSlots checked.now t result.now }
+{
+    // It is well-formed.
+    let _program = checked.program();
+    &checked.tasks()[task]
+}
+
+// Puts the numbers from a slot on, at most 16, into an empty list.
+fn read_range(first: usize, count: usize, values: &[i64], taken: &mut Values)
+    requires few { count ≤ 16 }
+    requires there { (i : ℕ) → i < count → first + i < length values.now }
+    requires empty { taken.old ≡ [] }
+    ensures { taken.new ≡ take count (drop first values.now) }
+{
+    for i in 0..count {
+        taken.push(values[first + i]);
+    }
+}
+
+// Writes these numbers from a slot on.
+fn write_range(first: usize, numbers: &[i64], values: &mut [i64])
+    requires { (i : ℕ) → i < length numbers.now → first + i < length values.old }
+    ensures { values.new ≡ with_slots values.old (range_with_len first (length numbers.now)) numbers.now }
+{
+    for (i, number) in numbers.iter().enumerate() {
+        values[first + i] = *number;
+    }
+}
+
+// Writes these numbers at these slots, each at its own.
+fn write_each(slots: &[usize], numbers: &[i64], values: &mut [i64])
+    requires { AllByRecursion (λ k. k < length values.old) slots.now }
+    ensures { values.new ≡ with_slots values.old slots.now numbers.now }
+{
+    for (slot, number) in slots.iter().zip(numbers) {
+        values[*slot] = *number;
+    }
+}

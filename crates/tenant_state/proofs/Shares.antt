@@ -1,0 +1,91 @@
+-- Shares of tasks' bodies, and how many invocations are due.
+use Rattle.std.proofs.Common.{◌≡◌, ℕ, zero, suc, ◌+◌, ◌<◌, Bool, true, false, cond, ℤ, List, [], ◌∷◌, length, map, filter, take, set, get_or, ⊎_elim, Option, Some, refl, sym, ap, subst, ◌∙◌, arith}
+use Rattle.std.specs.Prelude.{is_some, slice_get}
+use Rattle.std.specs.Arc.{arc_value}
+use Rattle.std.specs.List.{AllByRecursion, list_all}
+use Rattle.std.specs.Option.{option_map, option_map_or}
+use Rattle.std.proofs.lemmas.Bool.{and_from}
+use Rattle.std.proofs.lemmas.List.{take_more_set}
+use Rattle.std.proofs.lemmas.List.Folds.{list_all-append, list_all-map}
+use Rattle.std.proofs.lemmas.Option.{slice_get-map, slice_get-get_or, slice_get_cases}
+use Rattle.std.proofs.lemmas.Slice.Zip.{firsts-zip}
+use Rattle.giotto_tasks.specs.Syntax.{TaskBody}
+use Rattle.giotto_text.specs.declared.programs.Task.{Task}
+use Rattle.giotto_text.specs.Program.{TaskDeclaration, TaskInvocation, ModeDeclaration, GiottoProgram, body_of}
+use Rattle.giotto_text.specs.ProgramTrees as trees
+use Rattle.giotto_tasks.proofs.ListLemmas.{all_same, some_same, is_some-option_map}
+use Rattle.giotto_check.specs.Timetables.{AreEach}
+use Rattle.giotto_check.specs.Facts.{ProgramFits}
+use Rattle.tenant_slots.specs.Due.{is_due_at}
+use Rattle.tenant_slots.proofs.Numbered.{mode_here}
+use Rattle.tenant_state.specs.declared.tenants.Active.{Active}
+use Rattle.tenant_state.specs.declared.tenants.State as code
+use Rattle.tenant_state.specs.declared.tenants.State.TheVariants.{Running}
+use Rattle.tenant_state.specs.Standing.{most_released}
+use Rattle.tenant_state.specs.Tenants.{standing_of, IsShareOf, FitsProgram, FitsIts, IsTenant}
+
+-- a task's body is that of its declaration
+pub body_of_task : (t : Task) → body_of (trees.task_of t) ≡ arc_value t.body
+body_of_task t =
+    let b = arc_value t.body in
+    λ k. record { inputs = b.inputs; outputs = b.outputs; states = firsts-zip b.states t.states t.each_state k; block = b.block }
+
+-- the declaration at a place is that of the task there
+pub task_at : (tasks : List Task) (declared : List TaskDeclaration) (k : ℕ) (t : Task) → map trees.task_of tasks ≡ declared → k < length tasks → slice_get declared k ≡ Some (trees.task_of (get_or tasks k t))
+task_at tasks declared k t same lt = ap (λ ts. slice_get ts k) (sym same) ∙ slice_get-map trees.task_of tasks k ∙ ap (option_map trees.task_of) (slice_get-get_or tasks k t lt)
+
+-- a share at a place gives way to one of the same task
+pub share_set : {S : Type 0} (f : S → Option TaskBody) (tasks : List TaskDeclaration) (shares : List S) (k : ℕ) (s : S)
+    → ((t : TaskDeclaration) → slice_get tasks k ≡ Some t → IsShareOf t (f s)) → AreEach IsShareOf tasks (map f shares) → AreEach IsShareOf tasks (map f (set shares k s))
+share_set f [] [] k s is all = all
+share_set f [] (x ∷ shares) k s is all = absurd all
+share_set f (t ∷ tasks) [] k s is all = absurd all
+share_set f (t ∷ tasks) (x ∷ shares) zero s is all = (is t refl, all.1)
+share_set f (t ∷ tasks) (x ∷ shares) (suc k) s is all = (all.0, share_set f tasks shares k s is all.1)
+
+-- a share made behind those at hand
+pub share_made : {A : Type 0} (v : A → TaskBody) (tasks : List Task) (shares new : List (Option A)) (k : ℕ) (t : Task) (share : A) → k < length shares → k < length tasks
+    → v share ≡ arc_value (get_or tasks k t).body → new ≡ set shares k (Some share) → AreEach IsShareOf (map trees.task_of tasks) (map (option_map v) shares) → list_all is_some (take k shares) ≡ true
+    → AreEach IsShareOf (map trees.task_of tasks) (map (option_map v) new) × (list_all is_some (take (k + 1) new) ≡ true)
+share_made v tasks shares new k t share lt within same e each all = rw e (
+  share_set (option_map v) (map trees.task_of tasks) shares k (Some share) is each,
+  ap (list_all is_some) (take_more_set shares k (Some share) lt) ∙ list_all-append is_some (take k shares) (Some share ∷ []) ∙ and_from _ _ all refl,
+)
+  where
+    is : (d : TaskDeclaration) → slice_get (map trees.task_of tasks) k ≡ Some d → v share ≡ body_of d
+    is d at = same ∙ sym (body_of_task (get_or tasks k t)) ∙ ap body_of (some_same _ d (sym (task_at tasks _ k t refl within) ∙ at))
+
+pub shared_map : {X Y : Type 0} (f : X → Y) (os : List (Option X)) → list_all is_some (map (option_map f) os) ≡ list_all is_some os
+shared_map f os = list_all-map is_some (option_map f) os ∙ all_same (λ o. is_some (option_map f o)) is_some (is_some-option_map f) os
+
+-- as many lines of a mode are due as entries of its timetable
+pub due_each : {L E : Type 0} (R : L → E → Type 0) (due : L → Bool) (test : E → Bool) → ((x : L) (e : E) → R x e → test e ≡ due x) → (xs : List L) (es : List E) → AreEach R xs es
+    → length (filter test es) ≡ length (filter due xs)
+due_each R due test same [] [] each = refl
+due_each R due test same [] (e ∷ es) each = absurd each
+due_each R due test same (x ∷ xs) [] each = absurd each
+due_each R due test same (x ∷ xs) (e ∷ es) each = ap (λ b. length (cond b (e ∷ filter test es) (filter test es))) (same x e each.0) ∙ by (due x) (due_each R due test same xs es each.1)
+  where
+    by : (b : Bool) → length (filter test es) ≡ length (filter due xs) → length (cond b (e ∷ filter test es) (filter test es)) ≡ length (cond b (x ∷ filter due xs) (filter due xs))
+    by true rest = ap suc rest
+    by false rest = rest
+
+none_pass : {X : Type 0} (test : X → Bool) (xs : List X) → AllByRecursion (λ x. test x ≡ false) xs → filter test xs ≡ []
+none_pass test [] all = refl
+none_pass test (x ∷ xs) all = ap (λ b. cond b (x ∷ filter test xs) (filter test xs)) all.0 ∙ none_pass test xs all.1
+
+-- how many tasks a running tenant's next instant can release
+module _ (state : code.State) (program : Option GiottoProgram) (mode time next : ℕ) (active : List Active) (values : List ℤ) (shares : List (Option TaskBody)) (count places : ℕ) (p : GiottoProgram)
+    (known : IsTenant program mode time next active values shares count) (runs : state ≡ Running) (has : program ≡ Some p) (fits : ProgramFits p) where
+  its : FitsProgram p mode time next active values shares count
+  its = subst (λ o. FitsIts o mode time next active values shares count) has known.fits
+
+  pub most_due : (n : ℕ) → ((m : ModeDeclaration) → slice_get p.modes mode ≡ Some m → n ≡ length (filter (λ (i : TaskInvocation). is_due_at time m i.frequency) m.invocations))
+      → n ≡ most_released (standing_of state program mode time active places values shares count).row
+  most_due n counted = rw (runs, has) (⊎_elim
+      (λ found. counted found.0 found.2
+      ∙ ap (λ o. length (option_map_or (λ (m : ModeDeclaration). filter (λ (i : TaskInvocation). is_due_at time m i.frequency) m.invocations) o [])) (sym (mode_here p fits mode found.0 found.2)))
+      (λ past. absurd (omega (arith, past.0, its.mode_there))) (slice_get_cases p.modes mode).1)
+
+  pub none_due : time < next → 0 ≡ most_released (standing_of state program mode time active places values shares count).row
+  none_due lt = most_due 0 (λ m at. sym (ap length (none_pass (λ (i : TaskInvocation). is_due_at time m i.frequency) m.invocations (its.quiet m at time (omega arith) lt).no_invocation)))

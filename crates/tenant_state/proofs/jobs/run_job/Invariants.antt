@@ -1,4 +1,0 @@
-use Rattle.tenant_state.proofs.jobs.run_job.Given as goal
-
-abbrev pub ghosts-uncounted : goal.ghosts-uncounted
-ghosts-uncounted a = record { name = a.blank.name; parts = a.blank.parts }

@@ -1,0 +1,20 @@
+use Rattle.std.proofs.Common.{length, None, sym, ap, subst, ◌∙◌, arith}
+use Rattle.std.specs.Prelude.{IsSomeAnd}
+use Rattle.std.proofs.lemmas.List.{length-map}
+use Rattle.giotto_text.specs.Program.{names_of}
+use Rattle.giotto_text.specs.PortNames.{own_ports}
+use Rattle.giotto_check.specs.Timetables.{AreEach, IsExpression}
+use Rattle.tenant_state.specs.Tenants.{IsActiveAs}
+use Rattle.tenant_state.specs.declared.tenants.Active.{Active}
+use Rattle.tenant_state.proofs.tenants.releases.activate.Goals as goal
+
+pub returns-clause-fits : goal.returns-clause-fits
+returns-clause-fits c =
+    let p = c.args.checked.now in
+    let its = c.requires.its in
+    let t = its.2 in
+    let given = subst (λ es. AreEach (IsExpression p) its.1.arguments es) (sym c.as_slice.ensures.value) its.3.arguments in
+    let inputs = ap length (c.argument_values.ensures p its.1.arguments given c.requires.values) ∙ length-map its.1.arguments _ ∙ its.5 in
+    let states = ap length (c.state_values.ensures t its.4) ∙ length-map (own_ports t.name (names_of t.states)) _ ∙ length-map (names_of t.states) _ ∙ length-map t.states _ in
+    let a : Active = record { task = c.args.invocation.now.task; release = c.args.release; inputs = c.argument_values.new.given; states = c.state_values.new.taken; result = None } in
+    rw (c.requires.empty) (record { early = omega arith; declared = subst (λ o. IsSomeAnd o (IsActiveAs a)) (sym its.4) (record { inputs_fit = inputs; states_fit = states; result_fits = tt }) })

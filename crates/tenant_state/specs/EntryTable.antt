@@ -1,0 +1,18 @@
+-- The active entries, and what is due, by the places of the tasks.
+use Rattle.std.specs.Prelude.{◌≡◌, ◌<◌, ◌≤◌, ◌-◌, ◌%◌, ◌==◌, ◌&&◌, ℕ, nat_eq, Bool, false, List, filter, get_or, take, drop}
+use Rattle.std.specs.List.{list_any}
+use Rattle.giotto_check.specs.declared.timetables.SlotInvocation.{SlotInvocation}
+use Rattle.tenant_state.specs.declared.tenants.Active.{Active}
+
+-- of the first entries each task has at most one: the table has its number from 1, or 0 where there is none
+abbrev pub IsTableOf : ℕ → List Active → List ℕ → Type 0
+IsTableOf count active table =
+    (t : ℕ) → t < 64 → (get_or table t 0 ≤ count) × (filter (λ (a : Active). nat_eq a.task t) (take count active) ≡ take (get_or table t 0 - (get_or table t 0 - 1)) (drop (get_or table t 0 - 1) active))
+
+-- whether the task at a place is due
+abbrev pub is_among_due : ℕ → ℕ → List SlotInvocation → Bool
+is_among_due time task invocations = list_any (λ (i : SlotInvocation). nat_eq task i.task && (time % i.interval == 0)) invocations
+
+-- each mark says whether its task is due
+abbrev pub MarksDue : List SlotInvocation → ℕ → List Bool → Type 0
+MarksDue invocations time marks = (t : ℕ) → t < 64 → get_or marks t false ≡ is_among_due time t invocations

@@ -1,0 +1,80 @@
+//! What an instant needs, made before it begins.
+
+ghost use Rattle.std.specs.Prelude.{◌≡◌, length, map, filter, is_some, true, IfOk, OnOk, Some, slice_get};
+ghost use Rattle.std.specs.Arc.{arc_value};
+ghost use Rattle.std.specs.List.{list_all};
+ghost use Rattle.std.specs.Option.{option_map};
+ghost use Rattle.giotto_check.specs.Timetables.{AreEach};
+ghost use Rattle.giotto_text.specs.Program.{ModeDeclaration, TaskInvocation};
+ghost use Rattle.giotto_text.specs.ProgramTrees.{task_of};
+ghost use Rattle.tenant_slots.specs.Due.{is_due_at};
+ghost use Rattle.tenant_state.specs.Standing.{HasRoom, HasShares, most_released};
+ghost use Rattle.tenant_state.specs.Tenants.{IsShareOf};
+
+use crate::tenants::{State, Tenant};
+use giotto_check::Checked;
+use giotto_tasks::bodies::Body;
+use giotto_text::programs::Task;
+use std::alloc::{AllocError, Global};
+use std::sync::Arc;
+use tenant_slots::due::Due;
+
+impl Tenant {
+    /// Makes what the next instant needs: places for the tasks that become active, and shares of their bodies. How many jobs
+    /// it can release at most. The row stays as it was.
+    ///
+    /// # Errors
+    /// Want of memory, or a share of a task's body is refused.
+    pub fn ready(&mut self) -> Result<usize, AllocError>
+        ensures most { IfOk result (λ n. n ≡ most_released self.old.row) }
+        ensures places { OnOk result (HasRoom self.new) }
+        ensures shares { OnOk result (HasShares self.new) }
+        ensures row { self.new.row ≡ self.old.row }
+        ensures completed { self.new.completed ≡ self.old.completed }
+    {
+        let State::Running = &self.state else {
+            return Ok(0);
+        };
+        let Some(checked) = &self.program else {
+            return Ok(0);
+        };
+        let program = checked.program();
+        if self.mode_time < self.next_due {
+            return Ok(0);
+        }
+        let most = count_due(checked, self.mode, self.mode_time);
+        self.active.reserve(most)?;
+        share_bodies(program.tasks(), self.shares.as_mut_slice())?;
+        Ok(most)
+    }
+}
+
+// How many invocations of the mode at this place are due.
+fn count_due(checked: &Checked, mode: usize, time: u64) -> usize
+    ensures { (m : ModeDeclaration) → slice_get checked.now.modes mode ≡ Some m
+        → result ≡ length (filter (λ (i : TaskInvocation). is_due_at time m i.frequency) m.invocations) }
+{
+    let _program = checked.program();
+    let mut due = Due::at(time);
+    let mut count = 0;
+    for invocation in checked.invocations(mode) {
+        if due.is_due(invocation.interval) {
+            count += 1;
+        }
+    }
+    count
+}
+
+// Makes each share that isn't at hand.
+fn share_bodies(tasks: &[Task], shares: &mut [Option<Arc<Body, Global>>]) -> Result<(), AllocError>
+    requires { AreEach IsShareOf (map task_of tasks.now) (map (option_map arc_value) shares.old) }
+    ensures shared { OnOk result (list_all is_some shares.new ≡ true) }
+    ensures shares { AreEach IsShareOf (map task_of tasks.now) (map (option_map arc_value) shares.new) }
+{
+    for k in 0..shares.len() {
+        if shares[k].is_none() {
+            shares[k] = Some(Arc::try_clone(&tasks[k].body)?);
+        }
+    }
+    Ok(())
+}
