@@ -1,6 +1,6 @@
 -- The jobs of tasks that are released, with the shares that they take.
-use Rattle.std.proofs.Common.{◌≡◌, ◌≢◌, ℕ, ◌<◌, true, false, not, List, [], ◌∷◌, ℤ, length, map, set, get_or, Option, Some, None, refl, sym, ap, subst, ◌∙◌, arith}
-use Rattle.std.specs.Prelude.{IsSomeAnd, is_some, slice_get}
+use Rattle.std.proofs.Common.{◌≡◌, ◌≢◌, ℕ, ◌<◌, true, false, not, List, [], ◌∷◌, ℤ, length, map, set, get_or, Option, Some, None, sym, ap, subst, ◌∙◌, arith}
+use Rattle.std.specs.Prelude.{is_some, slice_get}
 use Rattle.std.specs.List.{AllByRecursion, list_all}
 use Rattle.std.specs.Option.{option_map, option_map_or}
 use Rattle.std.proofs.lemmas.Bool.{and_parts, or_parts, false≢true, not-true}
@@ -18,6 +18,7 @@ use Rattle.giotto_check.proofs.EachLemmas.{each_at, each_long}
 use Rattle.giotto_check.specs.Facts.{ProgramFits}
 use Rattle.tenant_slots.specs.Places.{name_of_task}
 use Rattle.tenant_slots.proofs.Numbered.{task_here, task_fits_at}
+use Rattle.tenant_state.proofs.EndedTasks.{some_of}
 use Rattle.tenant_state.specs.declared.tenants.Active.{Active}
 use Rattle.tenant_state.specs.Jobs.{IsComputable, job_in, body_in}
 use Rattle.tenant_state.specs.Tenants.{active_of, IsActiveAs, IsActiveOf, IsShareOf}
@@ -25,10 +26,6 @@ use Rattle.tenant_state.specs.Tenants.{active_of, IsActiveAs, IsActiveOf, IsShar
 -- the body of the task at a place
 pub body_here : (p : GiottoProgram) → ProgramFits p → (k : ℕ) (t : TaskDeclaration) → slice_get p.tasks k ≡ Some t → body_in p (name_of_task p k) ≡ body_of t
 body_here p fits k t at = ap (λ o. option_map_or body_of o (body_in (record p { tasks = [] }) (name_of_task p k))) (task_here p fits k t at)
-
-pub some_and : {X : Type 0} (P : X → Type 0) (o : Option X) → IsSomeAnd o P → (x : X) × (o ≡ Some x) × P x
-some_and P None h = absurd h
-some_and P (Some x) h = (x, refl, h)
 
 module _ (p : GiottoProgram) {S : Type 0} (v : S → TaskBody) where
   abbrev named : Active → Name
@@ -52,7 +49,7 @@ module _ (p : GiottoProgram) {S : Type 0} (v : S → TaskBody) where
     where
       here : (a : Active) → IsActiveOf p a → IsThere shares a
       here a h =
-          let its = some_and (IsActiveAs a) (slice_get p.tasks a.task) h in
+          let its = some_of {P = IsActiveAs a} (slice_get p.tasks a.task) h in
           all_at (λ o. is_some o ≡ true) shares a.task None (omega (arith, slice_get_within p.tasks a.task its.0 its.1, shares_long shares each)) (all_pass (λ o. is_some o ≡ true) is_some (λ o e. e) shares (shared (omega arith)))
 
   still_there : (shares : List (Option S)) (k : ℕ) (rest : List Active) → is_among (map named rest) (name_of_task p k) ≡ false → AllByRecursion (IsThere shares) rest → AllByRecursion (IsThere (set shares k None)) rest
@@ -73,7 +70,7 @@ module _ (p : GiottoProgram) {S : Type 0} (v : S → TaskBody) where
       → AreEach IsShareOf p.tasks (map (option_map v) shares) → Some share ≡ get_or shares a.task d
       → (a.task < length q.tasks) × IsComputable (job_in q tenant (active_of q a)) × (v share ≡ body_in q (name_of_task q a.task))
   job_ready q tenant shares a share d same fits h each is =
-      let its = some_and (IsActiveAs a) (slice_get p.tasks a.task) h in
+      let its = some_of {P = IsActiveAs a} (slice_get p.tasks a.task) h in
       let t = its.0 in
       let body : body_in p (named a) ≡ body_of t = body_here p fits a.task t its.1 in
       let there : a.task < length p.tasks = slice_get_within p.tasks a.task t its.1 in

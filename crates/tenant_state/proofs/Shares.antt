@@ -8,7 +8,6 @@ use Rattle.std.proofs.lemmas.Bool.{and_from}
 use Rattle.std.proofs.lemmas.List.{take_more_set}
 use Rattle.std.proofs.lemmas.List.Folds.{list_all-append, list_all-map}
 use Rattle.std.proofs.lemmas.Option.{slice_get-map, slice_get-get_or, slice_get_cases}
-use Rattle.std.proofs.lemmas.Slice.Zip.{firsts-zip}
 use Rattle.giotto_tasks.specs.Syntax.{TaskBody}
 use Rattle.giotto_text.specs.declared.programs.Task.{Task}
 use Rattle.giotto_text.specs.Program.{TaskDeclaration, TaskInvocation, ModeDeclaration, GiottoProgram, body_of}
@@ -18,17 +17,12 @@ use Rattle.giotto_check.specs.Timetables.{AreEach}
 use Rattle.giotto_check.specs.Facts.{ProgramFits}
 use Rattle.tenant_slots.specs.Due.{is_due_at}
 use Rattle.tenant_slots.proofs.Numbered.{mode_here}
+use Rattle.tenant_state.proofs.TenantFacts.{body_of_task}
 use Rattle.tenant_state.specs.declared.tenants.Active.{Active}
 use Rattle.tenant_state.specs.declared.tenants.State as code
 use Rattle.tenant_state.specs.declared.tenants.State.TheVariants.{Running}
 use Rattle.tenant_state.specs.Standing.{most_released}
 use Rattle.tenant_state.specs.Tenants.{standing_of, IsShareOf, FitsProgram, FitsIts, IsTenant}
-
--- a task's body is that of its declaration
-pub body_of_task : (t : Task) → body_of (trees.task_of t) ≡ arc_value t.body
-body_of_task t =
-    let b = arc_value t.body in
-    λ k. record { inputs = b.inputs; outputs = b.outputs; states = firsts-zip b.states t.states t.each_state k; block = b.block }
 
 -- the declaration at a place is that of the task there
 pub task_at : (tasks : List Task) (declared : List TaskDeclaration) (k : ℕ) (t : Task) → map trees.task_of tasks ≡ declared → k < length tasks → slice_get declared k ≡ Some (trees.task_of (get_or tasks k t))

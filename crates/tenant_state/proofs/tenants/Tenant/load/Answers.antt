@@ -1,4 +1,4 @@
-use Rattle.std.proofs.Common.{◌≡◌, true, None, map, sym, ap, ◌∙◌, subst, refl, arith}
+use Rattle.std.proofs.Common.{None, map, sym, ap, ◌∙◌, subst, arith}
 use Rattle.std.specs.List.{AllByRecursion}
 use Rattle.std.proofs.lemmas.Option.{slice_get_within}
 use Rattle.giotto_text.specs.Program.{GiottoProgram}

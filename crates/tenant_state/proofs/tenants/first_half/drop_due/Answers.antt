@@ -1,4 +1,4 @@
-use Rattle.std.proofs.Common.{◌≡◌, sym, rules, ◌∙◌}
+use Rattle.std.proofs.Common.{sym, rules, ◌∙◌}
 use Rattle.std.proofs.lemmas.Fn.{filter_same}
 use Rattle.tenant_state.proofs.EndedTasks.{none_stay}
 use Rattle.tenant_state.proofs.tenants.first_half.drop_due.Goals as goal
