@@ -17,7 +17,8 @@ use Rattle.rig_config.specs.Roster.{is_tenant, place_of, name_at}
 use Rattle.tenant_state.specs.Jobs.{job_of, same_job, is_active}
 use Rattle.tenant_state.specs.Row.{ActiveTask, Row, empty_row}
 use Rattle.tenant_state.specs.FirstHalf.{unfinished_tasks, due_tasks, first_half_of}
-use Rattle.host_core.specs.Grants.{offers, actuator_value, to_sensor, granted_by, granted_along, granted_to}
+use Rattle.tenant_state.specs.Readers.{actuator_value}
+use Rattle.host_core.specs.Grants.{offers, to_sensor, granted_by, granted_along, granted_to}
 use Rattle.host_core.specs.Base.{IsBase}
 use Rattle.host_core.specs.Completions.{has_completion}
 use Rattle.host_core.specs.Host.{instant_of, after_event, host_after}

@@ -8,10 +8,11 @@ use Rattle.std.proofs.Math.Seq.{map-set_same}
 use Rattle.std.proofs.lemmas.List.{length-map}
 use Rattle.std.proofs.lemmas.Option.{slice_get-get_or, slice_get-map}
 use Rattle.tenant_state.specs.declared.jobs.JobId.{JobId}
-use Rattle.host_core.specs.HostStanding.{HostStanding, IsAt, Stands, outstanding_from}
+use Rattle.host_core.specs.HostStanding.{HostStanding, IsAt, Stands, outstanding_from, outstanding_of}
 use Rattle.host_core.specs.HostState.{HostState}
 use Rattle.host_core.specs.Setting.{Setting}
-use Rattle.tenant_state.specs.Standing.{Standing, at_rest, empty_standing, awaited_job}
+use Rattle.tenant_state.specs.Jobs.{job_of}
+use Rattle.tenant_state.specs.Standing.{Standing, at_rest, empty_standing, outstanding_tasks, awaited_job}
 
 pub same_at_rest : (xs ys : List Standing) (k : ℕ) (d : Standing) → map at_rest ys ≡ map at_rest xs → at_rest (get_or ys k d) ≡ at_rest (get_or xs k d)
 same_at_rest xs ys k d same = sym (lists.get_or-map at_rest ys k d) ∙ ap (λ zs. get_or zs k (at_rest d)) same ∙ lists.get_or-map at_rest xs k d
@@ -34,7 +35,7 @@ stands_at_rest setting host state ys same stands = record {
   as_many = same_length host.tenants ys same ∙ stands.as_many;
   all_rows = stands.all_rows;
   each = λ t lt.
-      let here = same_at_rest host.tenants ys t (empty_standing 0) same in
+      let here = same_at_rest host.tenants ys t (empty_standing 0 0) same in
       let one = stands.each t lt in
       record { same_row = ap (λ (s : Standing). s.row) here ∙ one.same_row; same_marks = ap (λ (s : Standing). s.completed) here ∙ one.same_marks };
   counts = stands.counts;
@@ -48,10 +49,10 @@ stands_inside setting host state stands = stands_at_rest setting (record host { 
 pub stands_outside : (setting : Setting) (host : HostStanding) (state : HostState) → Stands setting host state → Stands setting (record host { tenants = map at_rest host.tenants }) state
 stands_outside setting host state stands = stands_at_rest setting host state (map at_rest host.tenants) (rest_twice host.tenants) stands
 
-pub readied : (xs ys : List Standing) (i : ℕ) (x s : Standing) → map at_rest xs ≡ map at_rest ys → x ≡ get_or xs i x → s.row ≡ x.row → s.completed ≡ x.completed
+pub readied : (xs ys : List Standing) (i : ℕ) (x s : Standing) → map at_rest xs ≡ map at_rest ys → x ≡ get_or xs i x → s.own ≡ x.own → s.row ≡ x.row → s.completed ≡ x.completed
     → map at_rest (set xs i s) ≡ map at_rest ys
-readied xs ys i x s same here row completed =
-    let as_it_was : at_rest s ≡ at_rest x = λ k. record { row = row k; completed = completed k; places = 0; shared = false } in
+readied xs ys i x s same here own row completed =
+    let as_it_was : at_rest s ≡ at_rest x = λ k. record { own = own k; row = row k; completed = completed k; places = 0; shared = false } in
     map-set_same at_rest xs i s x (as_it_was ∙ ap at_rest here) ∙ same
 
 -- what is gathered from rows and marks is the same
@@ -63,8 +64,8 @@ gathered_at_rest f same n (x ∷ xs) = ap (λ ys. ys ++ flat_map f (enumerate_fr
 pub outstanding_at_rest : (xs : List Standing) → outstanding_from 0 (map at_rest xs) ≡ outstanding_from 0 xs
 outstanding_at_rest xs = gathered_at_rest _ (λ k s. refl) 0 xs
 
-pub kept_at_rest : (n long : ℕ) (xs ys : List Standing) → map at_rest ys ≡ map at_rest xs → (length xs ≡ long) × All (IsAt n) xs → (length ys ≡ long) × All (IsAt n) ys
-kept_at_rest n long xs ys same whole = (same_length xs ys same ∙ whole.0, all_at_rest n xs ys same whole.1)
+pub outstanding_at_rest_of : (host : HostStanding) (t : ℕ) → outstanding_of (record host { tenants = map at_rest host.tenants }) t ≡ outstanding_of host t
+outstanding_at_rest_of host t = ap (λ (s : Standing). map (job_of t) (outstanding_tasks s)) (same_at_rest host.tenants (map at_rest host.tenants) t (empty_standing 0 0) (rest_twice host.tenants))
 
 -- a tenant's answer to a job's name is the host's
 pub awaited_here : (xs : List Standing) (j : JobId) (x : Standing) → j.tenant < length xs → x ≡ get_or xs j.tenant x

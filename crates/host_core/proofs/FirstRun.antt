@@ -1,5 +1,5 @@
 -- The adder's runs: what alpha is answered, computed from the definitions.
-use Rattle.std.proofs.Common.{◌≡◌, ℕ, pos, List, [], ◌∷◌, ◌++◌, refl, true, reverse}
+use Rattle.std.proofs.Common.{◌≡◌, ℕ, pos, List, [], ◌∷◌, ◌++◌, refl, true, reverse, None}
 use Rattle.std.specs.Prelude.{codes}
 use Rattle.std.specs.Fmt.{digits}
 use Rattle.std.specs.List.{flat_map}
@@ -23,8 +23,9 @@ tick v = Tick (pos v ∷ [])
 abbrev pub completed : ℕ → ℕ → Event
 completed t release = Done (record { tenant = t; tick = release; task = codes "T" })
 
+-- `show port`, of a port of its own name
 abbrev pub shown : ℕ → List ℕ → Event
-shown t port = Own t (ShowPort port)
+shown t port = Own t (ShowPort (record { task = None; name = port }))
 
 abbrev pub loaded_and_started : ℕ → List Event
 loaded_and_started t = Own t (Load adder_text) ∷ Own t Start ∷ []

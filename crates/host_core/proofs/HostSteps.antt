@@ -14,7 +14,7 @@ use Rattle.rig_config.specs.declared.Config.{Config}
 use Rattle.rig_config.specs.declared.TenantConfig.{TenantConfig}
 use Rattle.tenant_lines.specs.declared.commands.Command.{Command}
 use Rattle.tenant_state.specs.declared.jobs.JobId.{JobId}
-use Rattle.host_core.specs.Halves.{IsFirstHalf, IsSecondHalf, AreFirstHalves, AreSecondHalves}
+use Rattle.host_core.specs.Halves.{AreStepped, IsFirstHalf, IsSecondHalf}
 use Rattle.host_core.specs.Host.{instant_of, with_rows, after_event}
 use Rattle.host_core.specs.HostState.{HostState, is_counted, row_at, awaits}
 use Rattle.host_core.specs.HostStanding.{HostStanding, IsAt, tenant_at, Stands, awaited_in}
@@ -57,7 +57,7 @@ module _ (setting : Setting) where
       → Stands setting host state
       → length tenants ≡ length setting.config.tenants → length rows ≡ length setting.config.tenants → state.clock ≤ clock
       → ((t : ℕ) → t < length setting.config.tenants
-      → StandsFor (get_or tenants t (empty_standing 0)) (get_or rows t (empty_row clock)) (λ a. is_counted state (job_of t a)))
+      → StandsFor (get_or tenants t (empty_standing 0 0)) (get_or rows t (empty_row clock)) (λ a. is_counted state (job_of t a)))
       → ((t : ℕ) → t < length setting.config.tenants → (get_or rows t (empty_row clock)).count ≡ clock)
       → Stands setting (record { config = host.config; tenants = tenants; clock = clock }) (with_rows (record state { clock = clock }) rows)
   stands_with_rows host state tenants rows clock stands as_many all_rows later each counts = record {
@@ -66,7 +66,7 @@ module _ (setting : Setting) where
     as_many = as_many;
     all_rows = all_rows;
     each = λ t lt.
-        stands_by (get_or tenants t (empty_standing 0)) (get_or rows t (empty_row clock)) (λ a. is_counted state (job_of t a))
+        stands_by (get_or tenants t (empty_standing 0 0)) (get_or rows t (empty_row clock)) (λ a. is_counted state (job_of t a))
         (λ a. is_counted (with_rows (record state { clock = clock }) rows) (job_of t a))
         (all_map _ _ _ (λ a active. sym (counted_of_active (record state { clock = clock }) rows (job_of t a) active)) (own_jobs_active t (get_or rows t (empty_row clock))))
         (each t lt);
@@ -86,26 +86,26 @@ module _ (setting : Setting) where
     rows = set state.rows u new
 
     module _ (within : u < length setting.config.tenants) (own : StandsFor s new (λ a. is_counted state (job_of u a))) (count : s.row.count ≡ host.clock) where
-      here_tenant : (t : ℕ) → u ≡ t → get_or tenants t (empty_standing 0) ≡ s
-      here_tenant t e = ap (λ k. get_or tenants k (empty_standing 0)) (sym e) ∙ get_or-set_same host.tenants u s (empty_standing 0) (omega (arith, stands.as_many))
+      here_tenant : (t : ℕ) → u ≡ t → get_or tenants t (empty_standing 0 0) ≡ s
+      here_tenant t e = ap (λ k. get_or tenants k (empty_standing 0 0)) (sym e) ∙ get_or-set_same host.tenants u s (empty_standing 0 0) (omega (arith, stands.as_many))
 
       here_row : (t : ℕ) → u ≡ t → get_or rows t (empty_row state.clock) ≡ new
       here_row t e = ap (λ k. get_or rows k (empty_row state.clock)) (sym e) ∙ get_or-set_same state.rows u new (empty_row state.clock) (omega (arith, stands.all_rows))
 
-      there_tenant : (t : ℕ) → u ≢ t → get_or tenants t (empty_standing 0) ≡ tenant_at host.tenants t
-      there_tenant t differ = get_or-set_other host.tenants u t s (empty_standing 0) (λ e. differ (sym e))
+      there_tenant : (t : ℕ) → u ≢ t → get_or tenants t (empty_standing 0 0) ≡ tenant_at host.tenants t
+      there_tenant t differ = get_or-set_other host.tenants u t s (empty_standing 0 0) (λ e. differ (sym e))
 
       there_row : (t : ℕ) → u ≢ t → get_or rows t (empty_row state.clock) ≡ row_at state t
       there_row t differ = get_or-set_other state.rows u t new (empty_row state.clock) (λ e. differ (sym e))
 
-      command_each : (t : ℕ) → t < length setting.config.tenants → StandsFor (get_or tenants t (empty_standing 0)) (get_or rows t (empty_row state.clock)) (λ a. is_counted state (job_of t a))
+      command_each : (t : ℕ) → t < length setting.config.tenants → StandsFor (get_or tenants t (empty_standing 0 0)) (get_or rows t (empty_row state.clock)) (λ a. is_counted state (job_of t a))
       command_each t lt = ⊎_elim
           (λ (same : u ≡ t).
-          subst (λ r. StandsFor (get_or tenants t (empty_standing 0)) r (λ a. is_counted state (job_of t a))) (sym (here_row t same))
+          subst (λ r. StandsFor (get_or tenants t (empty_standing 0 0)) r (λ a. is_counted state (job_of t a))) (sym (here_row t same))
           (subst (λ x. StandsFor x new (λ a. is_counted state (job_of t a))) (sym (here_tenant t same))
           (subst (λ k. StandsFor s new (λ a. is_counted state (job_of k a))) same own)))
           (λ (differ : u ≢ t).
-          subst (λ r. StandsFor (get_or tenants t (empty_standing 0)) r (λ a. is_counted state (job_of t a))) (sym (there_row t differ))
+          subst (λ r. StandsFor (get_or tenants t (empty_standing 0 0)) r (λ a. is_counted state (job_of t a))) (sym (there_row t differ))
           (subst (λ x. StandsFor x (row_at state t) (λ a. is_counted state (job_of t a))) (sym (there_tenant t differ))
           (stands.each t lt)))
           (cases_eq u t)
@@ -138,8 +138,8 @@ module _ (setting : Setting) where
   module _ (host : HostStanding) (state : HostState) (frame : List ℤ) (middle after : List Standing)
       (stands : Stands setting host state)
       (known : All (IsAt host.clock) host.tenants)
-      (first : AreFirstHalves (length host.tenants) host.tenants middle)
-      (second : AreSecondHalves host.config frame (length middle) middle after) where
+      (first : AreStepped (λ t. IsFirstHalf) host.tenants middle)
+      (second : AreStepped (λ t. IsSecondHalf (budgets_at host.config t).reads frame) middle after) where
     abbrev rows_behind : List Row
     rows_behind = map (λ (place : ℕ × Row). after_instant (instant_of setting state frame place.0) place.1) (enumerate_from 0 state.rows)
 
@@ -154,10 +154,10 @@ module _ (setting : Setting) where
       half = first_half_of (unfinished_tasks completed row) row
 
       one : IsFirstHalf (tenant_at host.tenants t) (tenant_at middle t)
-      one = first.stepped t (omega (arith, stands.as_many))
+      one = first.each t (omega (arith, stands.as_many))
 
       two : IsSecondHalf (budgets_at host.config t).reads frame (tenant_at middle t) (tenant_at after t)
-      two = second.stepped t (omega (arith, stands.as_many, first.as_many))
+      two = second.each t (omega (arith, stands.as_many, first.as_many))
 
       half_stands : StandsFor (tenant_at middle t) half completed
       half_stands = one.step row completed (stands.each t lt)
@@ -169,7 +169,7 @@ module _ (setting : Setting) where
       fresh a e = false_from_ne_true (completed a) (λ h. let before = stands.early (job_of t a) h in absurd (omega (arith, half_count)))
 
       no_binds : row.binds ≡ []
-      no_binds = sym (ap (λ (r : Row). r.binds) (stands.each t lt).same_row) ∙ (known t (empty_standing 0) (omega (arith, stands.as_many))).1.no_binds
+      no_binds = sym (ap (λ (r : Row). r.binds) (stands.each t lt).same_row) ∙ (known t (empty_standing 0 0) (omega (arith, stands.as_many))).1.no_binds
 
       same_step : second_half_of (readings_within (budgets_at host.config t).reads frame) [] half ≡ after_instant (instant_of setting state frame t) row
       same_step =
@@ -179,7 +179,7 @@ module _ (setting : Setting) where
       new_row : second_half_of (readings_within (budgets_at host.config t).reads frame) [] half ≡ get_or rows_behind t (empty_row (state.clock + 1))
       new_row = same_step ∙ sym (row_behind state frame t (omega (arith, stands.all_rows)))
 
-      tick_each : StandsFor (get_or after t (empty_standing 0)) (get_or rows_behind t (empty_row (state.clock + 1))) completed
+      tick_each : StandsFor (get_or after t (empty_standing 0 0)) (get_or rows_behind t (empty_row (state.clock + 1))) completed
       tick_each = subst (λ r. StandsFor (tenant_at after t) r completed) new_row (two.step half completed half_stands fresh)
 
       tick_counts : (get_or rows_behind t (empty_row (state.clock + 1))).count ≡ state.clock + 1
@@ -202,7 +202,7 @@ module _ (setting : Setting) where
       → reply ≢ Refused Memory → IsOutcome (after_command setting t c (row_at state t)) reply after (λ a. is_counted state (job_of t a))
   own_outcome host state t c config d before after reply stands within here here_config step given =
       let lt : t < length setting.config.tenants = subst (λ (k : Config). t < length k.tenants) stands.same_config within in
-      let same : before ≡ tenant_at host.tenants t = here ∙ get_or_default host.tenants t before (empty_standing 0) (omega (arith, stands.as_many)) in
+      let same : before ≡ tenant_at host.tenants t = here ∙ get_or_default host.tenants t before (empty_standing 0 0) (omega (arith, stands.as_many)) in
       let budgets : config.budgets ≡ budgets_at setting.config t =
       sym (budgets_here host.config t d within ∙ ap (λ (k : TenantConfig). k.budgets) (sym here_config)) ∙ ap (λ (k : Config). budgets_at k t) stands.same_config in
       subst (λ b. IsOutcome (commanded b c (row_at state t)) reply after (λ a. is_counted state (job_of t a))) budgets
@@ -260,7 +260,7 @@ module _ (setting : Setting) where
   pub awaits_here : (host : HostStanding) (state : HostState) (j : JobId) → j.tenant < length setting.config.tenants → Stands setting host state
       → IsKnown (tenant_at host.tenants j.tenant).row → awaits state j ≡ is_some (awaited_in host j)
   awaits_here host state j lt stands known =
-      sym (ap (λ o. is_some (option_and_then (λ s. awaited_job s j) o)) (slice_get-get_or host.tenants j.tenant (empty_standing 0) (omega (arith, stands.as_many)))
+      sym (ap (λ o. is_some (option_and_then (λ s. awaited_job s j) o)) (slice_get-get_or host.tenants j.tenant (empty_standing 0 0) (omega (arith, stands.as_many)))
       ∙ awaited_is (tenant_at host.tenants j.tenant) (row_at state j.tenant) j (is_counted state) (λ i k e. ap (is_counted state) e) known (stands.each j.tenant lt))
 
   -- a completion
@@ -272,17 +272,17 @@ module _ (setting : Setting) where
         (own : (row : Row) (completed : ActiveTask → Bool) → StandsFor (tenant_at host.tenants j.tenant) row completed → StandsFor s row (λ a. same_job j (job_of j.tenant a) || completed a))
         (early : j.tick < host.clock) where
       done_here : (t : ℕ) → j.tenant ≡ t → t < length setting.config.tenants
-          → StandsFor (get_or (set host.tenants j.tenant s) t (empty_standing 0)) (row_at state t) (λ a. is_counted counting (job_of t a))
-      done_here t e lt = subst (λ k. StandsFor (get_or (set host.tenants j.tenant s) k (empty_standing 0)) (row_at state k) (λ a. is_counted counting (job_of k a))) e
-          (subst (λ x. StandsFor x (row_at state j.tenant) (λ a. is_counted counting (job_of j.tenant a))) (sym (get_or-set_same host.tenants j.tenant s (empty_standing 0) (omega (arith, stands.as_many))))
+          → StandsFor (get_or (set host.tenants j.tenant s) t (empty_standing 0 0)) (row_at state t) (λ a. is_counted counting (job_of t a))
+      done_here t e lt = subst (λ k. StandsFor (get_or (set host.tenants j.tenant s) k (empty_standing 0 0)) (row_at state k) (λ a. is_counted counting (job_of k a))) e
+          (subst (λ x. StandsFor x (row_at state j.tenant) (λ a. is_counted counting (job_of j.tenant a))) (sym (get_or-set_same host.tenants j.tenant s (empty_standing 0 0) (omega (arith, stands.as_many))))
           (own (row_at state j.tenant) (λ a. is_counted state (job_of j.tenant a)) (stands.each j.tenant within)))
 
       other_tenant : (t : ℕ) → j.tenant ≢ t → (a : ActiveTask) → is_counted state (job_of t a) ≡ is_counted counting (job_of t a)
       other_tenant t differ a = sym (ap (λ b. b || is_counted state (job_of t a)) (false_from_ne_true (same_job j (job_of t a)) (λ e. differ (ap (λ (k : JobId). k.tenant) (same_job_is j (job_of t a) e)))))
 
       done_there : (t : ℕ) → j.tenant ≢ t → t < length setting.config.tenants
-          → StandsFor (get_or (set host.tenants j.tenant s) t (empty_standing 0)) (row_at state t) (λ a. is_counted counting (job_of t a))
-      done_there t differ lt = subst (λ x. StandsFor x (row_at state t) (λ a. is_counted counting (job_of t a))) (sym (get_or-set_other host.tenants j.tenant t s (empty_standing 0) (λ e. differ (sym e))))
+          → StandsFor (get_or (set host.tenants j.tenant s) t (empty_standing 0 0)) (row_at state t) (λ a. is_counted counting (job_of t a))
+      done_there t differ lt = subst (λ x. StandsFor x (row_at state t) (λ a. is_counted counting (job_of t a))) (sym (get_or-set_other host.tenants j.tenant t s (empty_standing 0 0) (λ e. differ (sym e))))
           (stands_by (tenant_at host.tenants t) (row_at state t) (λ a. is_counted state (job_of t a)) (λ a. is_counted counting (job_of t a))
           (all_of (other_tenant t differ) (row_at state t).active) (stands.each t lt))
 
@@ -316,8 +316,8 @@ module _ (setting : Setting) where
       → Stands setting (record host { tenants = set host.tenants place after }) (record state { counted = j ∷ state.counted })
   done_counts host state j place before after e stands within here all awaited own =
       let lt : j.tenant < length setting.config.tenants = omega (arith, stands.as_many) in
-      let same : before ≡ tenant_at host.tenants j.tenant = here ∙ (get_or_default host.tenants place before (empty_standing 0) within ∙ ap (λ k. get_or host.tenants k (empty_standing 0)) e) in
-      let known : IsAt host.clock (tenant_at host.tenants j.tenant) = all j.tenant (empty_standing 0) (omega (arith, stands.as_many)) in
+      let same : before ≡ tenant_at host.tenants j.tenant = here ∙ (get_or_default host.tenants place before (empty_standing 0 0) within ∙ ap (λ k. get_or host.tenants k (empty_standing 0 0)) e) in
+      let known : IsAt host.clock (tenant_at host.tenants j.tenant) = all j.tenant (empty_standing 0 0) (omega (arith, stands.as_many)) in
       let tick = awaited_is_early host state j lt stands known.1 (subst (λ s. is_some (awaited_job s j) ≡ true) same awaited) in
       subst (λ k. Stands setting (record host { tenants = set host.tenants k after }) (record state { counted = j ∷ state.counted })) (sym e)
       (stands_after_done host state j after stands lt (λ row completed st. own row completed (subst (λ s. StandsFor s row completed) (sym same) st)) (omega (arith, known.0, tick)))
@@ -357,8 +357,8 @@ pub job_awaits : {E : Type 0} (host : HostStanding) (j : JobId) (before : Standi
 job_awaits host j before (Err e) within here known is = tt
 job_awaits host j before (Ok job) within here known is = λ setting state view.
     let stands : Stands setting host state = stands_inside setting host state view in
-    let same : before ≡ tenant_at host.tenants j.tenant = here ∙ get_or_default host.tenants j.tenant before (empty_standing 0) within in
+    let same : before ≡ tenant_at host.tenants j.tenant = here ∙ get_or_default host.tenants j.tenant before (empty_standing 0 0) within in
     ap is_some is
     ∙ (ap (λ s. is_some (awaited_job s j)) same
-    ∙ (sym (ap (λ o. is_some (option_and_then (λ s. awaited_job s j) o)) (slice_get-get_or host.tenants j.tenant (empty_standing 0) within))
-    ∙ sym (awaits_here setting host state j (omega (arith, stands.as_many)) stands (known j.tenant (empty_standing 0) within).1)))
+    ∙ (sym (ap (λ o. is_some (option_and_then (λ s. awaited_job s j) o)) (slice_get-get_or host.tenants j.tenant (empty_standing 0 0) within))
+    ∙ sym (awaits_here setting host state j (omega (arith, stands.as_many)) stands (known j.tenant (empty_standing 0 0) within).1)))

@@ -2,7 +2,6 @@ pub mod Alone
 pub mod AloneAlong
 pub mod AtRest
 pub mod Completed
-pub mod EqualTenants
 pub mod FirstRun
 pub mod FromABase
 pub mod Histories
@@ -10,9 +9,12 @@ pub mod HostLoops
 pub mod HostSteps
 pub mod LaterBase
 pub mod NewHost
+pub mod NewTenants
 pub mod Outstanding
 pub mod Overrun
+pub mod Placed
 pub mod Played
+pub mod ReleasedNames
 pub mod Rig
 pub mod Switch
 pub mod WholeHost

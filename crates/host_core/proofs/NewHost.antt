@@ -1,6 +1,8 @@
 -- A new host stands for the empty row of each tenant.
-use Rattle.std.proofs.Common.{◌≡◌, ℕ, ◌<◌, Bool, [], length, refl, sym, ap, subst}
+use Rattle.std.proofs.Common.{◌≡◌, ℕ, ◌<◌, Bool, List, [], length, map, get_or, zero-add, refl, sym, ap, ◌∙◌, subst, arith}
+use Rattle.std.specs.List.{enumerate_from}
 use Rattle.std.proofs.lemmas.List.{length-map, get_or-map}
+use Rattle.std.proofs.lemmas.List.FromFn.{length-enumerate_from, get_or-enumerate_from}
 use Rattle.rig_config.specs.declared.TenantConfig.{TenantConfig}
 use Rattle.host_core.specs.Base.{new_base}
 use Rattle.host_core.specs.HostState.{row_at, is_counted}
@@ -15,25 +17,37 @@ use Rattle.tenant_state.specs.Standing.{Standing, StandsFor, at_rest, empty_stan
 abbrev pub no_tenant : TenantConfig
 no_tenant = record { name = []; key = []; budgets = no_budgets }
 
+-- what is made for each place of a roster
+pub at_place : {B : Type 0} (f : ℕ × TenantConfig → B) (tenants : List TenantConfig) (t : ℕ) (d : B) → t < length tenants
+    → get_or (map f (enumerate_from 0 tenants)) t d ≡ f (t, get_or tenants t no_tenant)
+at_place f tenants t d lt =
+    get_or-map f (enumerate_from 0 tenants) t (0, no_tenant) d (omega (arith, length-enumerate_from 0 tenants))
+    ∙ ap f (get_or-enumerate_from 0 tenants t (0, no_tenant) lt)
+    ∙ ap (λ k. f (k, get_or tenants t no_tenant)) (zero-add t)
+
+pub as_many_places : {B : Type 0} (f : ℕ × TenantConfig → B) (tenants : List TenantConfig) → length (map f (enumerate_from 0 tenants)) ≡ length tenants
+as_many_places f tenants = length-map (enumerate_from 0 tenants) f ∙ length-enumerate_from 0 tenants
+
 module _ (setting : Setting) (n : ℕ) where
-  standing_empty : (t : ℕ) → t < length setting.config.tenants → tenant_at (new_host setting.config n).tenants t ≡ at_rest (empty_standing n)
-  standing_empty t lt = get_or-map (λ (x : TenantConfig). at_rest (empty_standing n)) setting.config.tenants t no_tenant (empty_standing 0) lt
+  standing_empty : (t : ℕ) → t < length setting.config.tenants → tenant_at (new_host setting.config n).tenants t ≡ at_rest (empty_standing t n)
+  standing_empty t lt = at_place (λ place. at_rest (empty_standing place.0 n)) setting.config.tenants t (empty_standing 0 0) lt
 
   row_empty : (t : ℕ) → t < length setting.config.tenants → row_at (new_base setting.config n) t ≡ empty_row n
   row_empty t lt = get_or-map (λ (x : TenantConfig). empty_row n) setting.config.tenants t no_tenant (empty_row n) lt
 
-  stands_empty : (completed : ActiveTask → Bool) → StandsFor (at_rest (empty_standing n)) (empty_row n) completed
-  stands_empty completed = record { same_row = refl; same_marks = refl }
+  stands_empty : (t : ℕ) (completed : ActiveTask → Bool) → StandsFor (at_rest (empty_standing t n)) (empty_row n) completed
+  stands_empty t completed = record { same_row = refl; same_marks = refl }
 
   pub new_stands : Stands setting (new_host setting.config n) (new_base setting.config n)
   new_stands = record {
     same_config = refl;
     same_clock = refl;
-    as_many = length-map setting.config.tenants _;
+    as_many = as_many_places (λ place. at_rest (empty_standing place.0 n)) setting.config.tenants;
     all_rows = length-map setting.config.tenants _;
     each = λ t lt.
         subst (λ (s : Standing). StandsFor s (row_at (new_base setting.config n) t) (λ a. is_counted (new_base setting.config n) (job_of t a))) (sym (standing_empty t lt))
-        (subst (λ (r : Row). StandsFor (at_rest (empty_standing n)) r (λ a. is_counted (new_base setting.config n) (job_of t a))) (sym (row_empty t lt)) (stands_empty (λ a. is_counted (new_base setting.config n) (job_of t a))));
+        (subst (λ (r : Row). StandsFor (at_rest (empty_standing t n)) r (λ a. is_counted (new_base setting.config n) (job_of t a))) (sym (row_empty t lt))
+        (stands_empty t (λ a. is_counted (new_base setting.config n) (job_of t a))));
     counts = λ t lt. ap (λ (r : Row). r.count) (row_empty t lt);
     early = λ j e. absurd (cc);
   }

@@ -17,28 +17,28 @@ use Rattle.host_core.proofs.HostSteps.{outstanding_are}
 use Rattle.host_core.proofs.NewHost.{no_tenant}
 
 -- how many a tenant has
-abbrev pub outstanding_of : Standing → ℕ
-outstanding_of s = length (outstanding_tasks s)
+abbrev pub number_outstanding : Standing → ℕ
+number_outstanding s = length (outstanding_tasks s)
 
-counted_from : (n : ℕ) (xs : List Standing) → sum_by outstanding_of xs ≡ length (outstanding_from n xs)
+counted_from : (n : ℕ) (xs : List Standing) → sum_by number_outstanding xs ≡ length (outstanding_from n xs)
 counted_from n [] = refl
 counted_from n (x ∷ xs) =
-    sum_by-cons outstanding_of x xs ∙ ap (λ k. outstanding_of x + k) (counted_from (n + 1) xs)
+    sum_by-cons number_outstanding x xs ∙ ap (λ k. number_outstanding x + k) (counted_from (n + 1) xs)
     ∙ ap (λ k. k + length (outstanding_from (n + 1) xs)) (sym (length-map (outstanding_tasks x) (job_of n))) ∙ sym (length-append (map (job_of n) (outstanding_tasks x)) (outstanding_from (n + 1) xs))
 
 -- the tenants' numbers make up that of all
-pub counted_in_all : (xs : List Standing) → sum (map outstanding_of xs) ≡ length (outstanding_from 0 xs)
-counted_in_all xs = sum-map outstanding_of xs ∙ counted_from 0 xs
+pub counted_in_all : (xs : List Standing) → sum (map number_outstanding xs) ≡ length (outstanding_from 0 xs)
+counted_in_all xs = sum-map number_outstanding xs ∙ counted_from 0 xs
 
-fewer_from : (xs : List Standing) (i : ℕ) (x y : Standing) → i < length xs → x ≡ get_or xs i x → outstanding_of x ≡ outstanding_of y + 1 → sum_by outstanding_of xs ≡ sum_by outstanding_of (set xs i y) + 1
+fewer_from : (xs : List Standing) (i : ℕ) (x y : Standing) → i < length xs → x ≡ get_or xs i x → number_outstanding x ≡ number_outstanding y + 1 → sum_by number_outstanding xs ≡ sum_by number_outstanding (set xs i y) + 1
 fewer_from [] i x y lt at e = absurd (omega (arith, lt))
-fewer_from (s ∷ ss) zero x y lt at e = omega (arith, sum_by-cons outstanding_of s ss, sum_by-cons outstanding_of y ss, ap outstanding_of at, e)
+fewer_from (s ∷ ss) zero x y lt at e = omega (arith, sum_by-cons number_outstanding s ss, sum_by-cons number_outstanding y ss, ap number_outstanding at, e)
 fewer_from (s ∷ ss) (suc i) x y lt at e =
     let rest = fewer_from ss i x y (omega (arith, lt)) at e in
-    omega (arith, sum_by-cons outstanding_of s ss, sum_by-cons outstanding_of s (set ss i y), rest)
+    omega (arith, sum_by-cons number_outstanding s ss, sum_by-cons number_outstanding s (set ss i y), rest)
 
 -- one completion of one tenant
-pub one_fewer_in : (xs : List Standing) (i : ℕ) (x y : Standing) → i < length xs → x ≡ get_or xs i x → outstanding_of x ≡ outstanding_of y + 1
+pub one_fewer_in : (xs : List Standing) (i : ℕ) (x y : Standing) → i < length xs → x ≡ get_or xs i x → number_outstanding x ≡ number_outstanding y + 1
     → length (outstanding_from 0 xs) ≡ length (outstanding_from 0 (set xs i y)) + 1
 one_fewer_in xs i x y lt at e = sym (counted_from 0 xs) ∙ (fewer_from xs i x y lt at e ∙ ap (λ n. n + 1) (counted_from 0 (set xs i y)))
 
@@ -50,14 +50,15 @@ behind_all from (x ∷ xs) s =
     ∙ ap (λ k. (map (job_of from) (outstanding_tasks x) ++ outstanding_from (from + 1) xs) ++ map (job_of k) (outstanding_tasks s)) (omega arith))
 
 -- the jobs of the next tenant stand behind those of the tenants before
-pub jobs_more : (i : ℕ) (xs : List Standing) (x : Standing) (old new : List JobId) → i < length xs → x ≡ get_or xs i x
-    → new ≡ old ++ map (job_of i) (outstanding_tasks x) → old ≡ outstanding_from 0 (take i xs) → new ≡ outstanding_from 0 (take (i + 1) xs)
-jobs_more i xs x old new lt at more before =
+pub jobs_more : (i : ℕ) (xs : List Standing) (x : Standing) (old new : List JobId) → i < length xs → x ≡ get_or xs i x → x.own ≡ i
+    → new ≡ old ++ map (job_of x.own) (outstanding_tasks x) → old ≡ outstanding_from 0 (take i xs) → new ≡ outstanding_from 0 (take (i + 1) xs)
+jobs_more i xs x old new lt at own more before =
     let place : 0 + length (take i xs) ≡ i = omega (arith, length-take i xs) in
-    more ∙ (ap (λ js. js ++ map (job_of i) (outstanding_tasks x)) before
+    more ∙ (ap (λ k. old ++ map (job_of k) (outstanding_tasks x)) own
+    ∙ (ap (λ js. js ++ map (job_of i) (outstanding_tasks x)) before
     ∙ sym (ap (outstanding_from 0) (take_more xs i x lt) ∙ (behind_all 0 (take i xs) (get_or xs i x)
     ∙ (ap (λ k. outstanding_from 0 (take i xs) ++ map (job_of k) (outstanding_tasks (get_or xs i x))) place
-    ∙ ap (λ y. outstanding_from 0 (take i xs) ++ map (job_of i) (outstanding_tasks y)) (sym at)))))
+    ∙ ap (λ y. outstanding_from 0 (take i xs) ++ map (job_of i) (outstanding_tasks y)) (sym at))))))
 
 -- what is found at the same places of two lists of one length
 places : {A B C : Type 0} (f : ℕ × A → List C) (g : ℕ × B → List C) (a : A) (b : B) (n : ℕ) (xs : List A) (ys : List B) → length xs ≡ length ys
@@ -85,12 +86,14 @@ module _ (setting : Setting) where
   abbrev pub all_jobs : HostState → List JobId
   all_jobs state = flat_map (λ (place : ℕ × TenantConfig). jobs_at state place.0) (enumerate_from 0 setting.config.tenants)
 
-  awaited_at : (s : Standing) (t : ℕ) (row : Row) (c : JobId → Bool) → StandsFor s row (λ a. c (job_of t a)) → map (job_of t) (outstanding_tasks s) ≡ filter (λ j. not (c j)) (map (job_of t) row.active)
+  -- what a tenant has outstanding is what its row lacks
+  pub awaited_at : (s : Standing) (t : ℕ) (row : Row) (c : JobId → Bool) → StandsFor s row (λ a. c (job_of t a)) → map (job_of t) (outstanding_tasks s) ≡ filter (λ j. not (c j)) (map (job_of t) row.active)
   awaited_at s t row c h =
       ap (map (job_of t)) (outstanding_are s row (λ a. c (job_of t a)) h) ∙ sym (filter-map (job_of t) (λ j. not (c j)) (λ a. not (c (job_of t a))) row.active (all_of (λ a. refl) row.active))
 
   -- what the code awaits is what its state's active tasks lack
   pub code_awaits : (host : HostStanding) (state : HostState) → Stands setting host state → outstanding_jobs host ≡ all_jobs state
   code_awaits host state h =
-      places_from_start (λ (place : ℕ × Standing). map (job_of place.0) (outstanding_tasks place.1)) (λ (place : ℕ × TenantConfig). jobs_at state place.0) (empty_standing 0) no_tenant host.tenants setting.config.tenants h.as_many
+      places_from_start (λ (place : ℕ × Standing). map (job_of place.0) (outstanding_tasks place.1)) (λ (place : ℕ × TenantConfig). jobs_at state place.0)
+      (empty_standing 0 0) no_tenant host.tenants setting.config.tenants h.as_many
       (λ i lt. awaited_at (tenant_at host.tenants i) i (row_at state i) (is_counted state) (h.each i lt))

@@ -39,7 +39,7 @@ use Rattle.host_core.proofs.LaterBase.{new_is_base, new_row}
 use Rattle.host_core.proofs.NewHost.{new_stands}
 use Rattle.tenant_state.proofs.JobNames.{same_job_is}
 use Rattle.giotto_tasks.proofs.TestLemmas.{absorbed, either, or_true, same_answers}
-use Rattle.giotto_tasks.proofs.ListLemmas.{all_if_any, any_if_all, any_map}
+use Rattle.giotto_tasks.proofs.ListLemmas.{all_if_any, any_if_all}
 
 -- the jobs of one name among those that an instant released
 module _ (j : JobId) where
@@ -114,7 +114,7 @@ module _ (j : JobId) where
       by (Some p) is = complete_along n p row.active tick e
 
   -- all tenants', from a place on
-  found_from : (C : Type 0) (n from : ℕ) (xs : List Standing) → ((k : ℕ) → k < length xs → list_any is_it (released_at (from + k) n (get_or xs k (empty_standing 0)).row) ≡ true → C)
+  found_from : (C : Type 0) (n from : ℕ) (xs : List Standing) → ((k : ℕ) → k < length xs → list_any is_it (released_at (from + k) n (get_or xs k (empty_standing 0 0)).row) ≡ true → C)
       → list_any is_it (released_from n from xs) ≡ true → C
   found_from C n from [] each e = absurd (cc)
   found_from C n from (x ∷ xs) each e =
@@ -122,9 +122,9 @@ module _ (j : JobId) where
       (sym (list_any-append is_it (released_at from n x.row) (released_from n (from + 1) xs)) ∙ e)
       (λ h. each 0 (omega arith) (ap (λ k. list_any is_it (released_at k n x.row)) (let zero_more : from + 0 ≡ from = omega arith in zero_more) ∙ h))
       (found_from C n (from + 1) xs (λ k lt h. each (suc k) (omega arith)
-      (ap (λ i. list_any is_it (released_at i n (get_or xs k (empty_standing 0)).row)) (let one_more : from + suc k ≡ from + 1 + k = omega arith in one_more) ∙ h)))
+      (ap (λ i. list_any is_it (released_at i n (get_or xs k (empty_standing 0 0)).row)) (let one_more : from + suc k ≡ from + 1 + k = omega arith in one_more) ∙ h)))
 
-  found_at : (n from : ℕ) (xs : List Standing) (k : ℕ) → k < length xs → list_any is_it (released_at (from + k) n (get_or xs k (empty_standing 0)).row) ≡ true
+  found_at : (n from : ℕ) (xs : List Standing) (k : ℕ) → k < length xs → list_any is_it (released_at (from + k) n (get_or xs k (empty_standing 0 0)).row) ≡ true
       → list_any is_it (released_from n from xs) ≡ true
   found_at n from [] k lt e = absurd (omega arith)
   found_at n from (x ∷ xs) zero lt e =
@@ -133,7 +133,7 @@ module _ (j : JobId) where
   found_at n from (x ∷ xs) (suc k) lt e =
       list_any-append is_it (released_at from n x.row) (released_from n (from + 1) xs)
       ∙ (ap (λ b. list_any is_it (released_at from n x.row) || b)
-      (found_at n (from + 1) xs k (omega arith) (ap (λ i. list_any is_it (released_at i n (get_or xs k (empty_standing 0)).row)) (let one_more : from + 1 + k ≡ from + suc k = omega arith in one_more) ∙ e))
+      (found_at n (from + 1) xs k (omega arith) (ap (λ i. list_any is_it (released_at i n (get_or xs k (empty_standing 0 0)).row)) (let one_more : from + 1 + k ≡ from + suc k = omega arith in one_more) ∙ e))
       ∙ or_true (list_any is_it (released_at from n x.row)))
 
 module _ (setting : Setting) (base : IsBase setting.config setting.base) where
@@ -222,7 +222,7 @@ module _ (setting : Setting) (base : IsBase setting.config setting.base) where
 
       active_if_among : among ≡ true → active ≡ true
       active_if_among = found_from j (active ≡ true) (next_tick setting past) 0 host.tenants (λ k lt h.
-          let found = sound_at j (0 + k) (next_tick setting past) (get_or host.tenants k (empty_standing 0)).row h in
+          let found = sound_at j (0 + k) (next_tick setting past) (get_or host.tenants k (empty_standing 0 0)).row h in
           let place : k ≡ j.tenant = omega (arith, found.0) in
           sym (same_active (Tick frame ∷ past) host j.tenant j legal stands (omega (arith, stands.as_many)))
           ∙ (ap (λ i. is_active (tenant_at host.tenants i).row j) (sym place) ∙ found.1))
@@ -232,7 +232,7 @@ module _ (setting : Setting) (base : IsBase setting.config setting.base) where
           let inside : j.tenant < length host.tenants = omega (arith, stands.as_many) in
           found_at j (next_tick setting past) 0 host.tenants j.tenant inside
           (ap (λ k. list_any (is_it j) (released_at k (next_tick setting past) (tenant_at host.tenants j.tenant).row)) (zero-add j.tenant)
-          ∙ complete_at j (next_tick setting past) (tenant_at host.tenants j.tenant).row (has j.tenant (empty_standing 0) inside).tasks tick
+          ∙ complete_at j (next_tick setting past) (tenant_at host.tenants j.tenant).row (has j.tenant (empty_standing 0 0) inside).tasks tick
           (same_active (Tick frame ∷ past) host j.tenant j legal stands lt ∙ e))
       new tick e (inr le) =
           let bad : true ≡ false = sym e ∙ ap (λ row. is_active row j) (row_outside (Tick frame ∷ past) j.tenant legal le) in
@@ -258,7 +258,7 @@ module _ (setting : Setting) (base : IsBase setting.config setting.base) where
 
   pub step_tick : (past : List Event) (frame : List ℤ) (host host_new : HostStanding) (texts : List (List ℕ)) (released released_new : List JobId) (jobs : List JobValue)
       → may_follow setting past (Tick frame) ≡ true → Stands setting host_new (host_after setting (Tick frame ∷ past)) → All (λ (s : Standing). IsKnown s.row) host_new.tenants
-      → jobs ≡ released_from host.clock 0 host_new.tenants → released_new ≡ released ++ map (λ (k : JobValue). k.id) jobs
+      → jobs ≡ released_from host.clock 0 host_new.tenants → ((j : JobId) → list_any (λ r. same_job r j) released_new ≡ (list_any (λ r. same_job r j) released || list_any (is_it j) jobs))
       → IsPlayed setting past host texts released → IsPlayed setting (Tick frame ∷ past) host_new texts released_new
   step_tick past frame host host_new texts released released_new jobs may stands has are more played =
       let legal : is_legal setting (Tick frame ∷ past) ≡ true = and_from (may_follow setting past (Tick frame)) (is_legal setting past) may played.legal in
@@ -270,11 +270,10 @@ module _ (setting : Setting) (base : IsBase setting.config setting.base) where
         as_many = played.as_many;
         each = played.each;
         names = λ j.
-            ap (list_any (λ r. same_job r j)) more
-            ∙ (list_any-append (λ r. same_job r j) released (map (λ (k : JobValue). k.id) jobs)
-            ∙ (ap (λ b. b || list_any (λ r. same_job r j) (map (λ (k : JobValue). k.id) jobs)) (played.names j)
-            ∙ (ap (λ b. was_released setting past j || b) (any_map (λ r. same_job r j) (λ (k : JobValue). k.id) jobs ∙ ap (list_any (is_it j)) (are ∙ ap (λ n. released_from n 0 host_new.tenants) clock))
-            ∙ released_tick past frame host_new j legal stands has)));
+            more j
+            ∙ (ap (λ b. b || list_any (is_it j) jobs) (played.names j)
+            ∙ (ap (λ b. was_released setting past j || b) (ap (list_any (is_it j)) (are ∙ ap (λ n. released_from n 0 host_new.tenants) clock))
+            ∙ released_tick past frame host_new j legal stands has));
       }
 
   pub step_own : (past : List Event) (u : ℕ) (c : Command) (host host_new : HostStanding) (texts : List (List ℕ)) (released : List JobId) (reply : Reply) (text : List ℕ)

@@ -1,43 +1,45 @@
--- Switches, installation and grants, computed from the definitions; no command of today reaches them.
+-- Switches, installation and grants, computed from the definitions; no command of today reaches the last two.
 use Rattle.std.proofs.Common.{◌≡◌, ℕ, pos, List, [], ◌∷◌, ◌++◌, refl, reverse, Some}
 use Rattle.std.specs.Prelude.{codes, if◌then◌else◌, nat_eq}
+use Rattle.std.specs.Fmt.{digits}
 use Rattle.host_core.specs.declared.events.Event.{Event}
 use Rattle.host_core.specs.declared.events.Event.TheVariants.{Own}
-use Rattle.tenant_lines.specs.declared.commands.Command.TheVariants.{Start}
+use Rattle.tenant_lines.specs.declared.commands.Command.TheVariants.{Load, Start, Stop, ShowMode, ShowAll}
 use Rattle.tenant_state.specs.declared.trace.Happening.TheVariants as happening
+use Rattle.host_core.specs.Answers.{answers_of}
 use Rattle.host_core.specs.Grants.{granted_to}
 use Rattle.rig_config.specs.BuiltIn.{built_in_config}
 use Rattle.host_core.specs.Views.{row_of}
 use Rattle.tenant_state.specs.FirstHalf.{first_half_of}
-use Rattle.tenant_state.specs.Commands.{at_beginning}
-use Rattle.tenant_state.specs.Row.{Row, loaded, empty_row}
-use Rattle.host_core.specs.Setting.{Setting}
+use Rattle.tenant_state.specs.Row.{Row, empty_row}
 use Rattle.tenant_state.specs.SecondHalf.{second_half_of}
-use Rattle.host_core.proofs.FirstRun.{tick, completed, first_run}
+use Rattle.host_core.proofs.FirstRun.{answered, tick, completed, first_run}
 use Rattle.host_core.proofs.Rig.{rig}
-use Rattle.giotto_rules.proofs.ExamplePrograms.{switcher, two_constants}
-
--- the rig where alpha has the switcher, which no `load` of today takes
-abbrev switching : Setting
-switching = record rig { base = record rig.base { rows = at_beginning loaded switcher (empty_row 0) ∷ empty_row 0 ∷ [] } }
+use Rattle.giotto_rules.proofs.ExamplePrograms.{switcher_text, two_constants}
 
 -- T of period 3 is released at instant 0. The switch at mode time 2 finds it unfinished, one tick before its deadline, and so enters mode n, of
 -- period 9, at mode time 8, one tick before its end.
 abbrev switched_run : List Event
-switched_run = Own 0 Start ∷ tick 1 ∷ tick 2 ∷ tick 5 ∷ []
+switched_run = Own 0 (Load switcher_text) ∷ Own 0 Start ∷ tick 1 ∷ tick 2 ∷ tick 5 ∷ []
 
-pub switched_mode : (row_of switching (reverse switched_run) 0).mode ≡ codes "n"
+pub switched_mode : (row_of rig (reverse switched_run) 0).mode ≡ codes "n"
 switched_mode = refl
 
-pub switched_time : (row_of switching (reverse switched_run) 0).mode_time ≡ 0
+pub switched_time : (row_of rig (reverse switched_run) 0).mode_time ≡ 0
 switched_time = refl
 
-pub switched_records : (row_of switching (reverse switched_run) 0).records
+pub switched_records : (row_of rig (reverse switched_run) 0).records
     ≡ record { tick = 2; happening = happening.Mode (codes "n") } ∷ record { tick = 0; happening = happening.Start (codes "m") } ∷ []
 switched_records = refl
 
+-- what alpha is shown there, and behind a stop
+pub switched_answers : answers_of rig (reverse (switched_run ++ Own 0 ShowMode ∷ Own 0 ShowAll ∷ Own 0 Stop ∷ Own 0 ShowMode ∷ [])) 0
+    ≡ answered (codes "ok load" ∷ codes "ok start" ∷ codes "ok mode running n 0" ∷ codes "ok all s=5 o=0 T.i=1" ∷ codes "ok stop" ∷ codes "ok mode stopped asked" ∷ [])
+unfolding digits
+switched_answers = refl
+
 -- T goes on in n and ends there, with what it read at its release.
-pub switched_output : (row_of switching (reverse (switched_run ++ completed 0 0 ∷ tick 3 ∷ [])) 0).ports
+pub switched_output : (row_of rig (reverse (switched_run ++ completed 0 0 ∷ tick 3 ∷ [])) 0).ports
     ≡ (codes "s", pos 3) ∷ (codes "o", pos 2) ∷ (codes "T.i", pos 3) ∷ []
 switched_output = refl
 

@@ -1,23 +1,19 @@
 -- The values that tenants grant each other, taken between the two halves of an instant.
 use Rattle.std.specs.Prelude.{ℕ, Bool, ◌&&◌, if◌then◌else◌, ℤ, Option, None}
 use Rattle.std.specs.List.{filter_map, list_any}
-use Rattle.std.specs.Option.{option_and_then, option_map, option_map_or}
+use Rattle.std.specs.Option.{option_and_then, option_map}
 use Rattle.giotto_tasks.specs.declared.names.Name.{Name}
-use Rattle.giotto_tasks.specs.Names.{Valuation, same_name, value_at, is_among}
+use Rattle.giotto_tasks.specs.Names.{Valuation, same_name}
 use Rattle.rig_config.specs.declared.Config.{Config}
 use Rattle.tenant_state.specs.declared.grants.Offer.{Offer}
 use Rattle.tenant_state.specs.declared.grants.Bind.{Bind}
-use Rattle.giotto_rules.specs.Declarations.{actuator_names}
 use Rattle.rig_config.specs.Roster.{place_of, name_at}
+use Rattle.tenant_state.specs.Readers.{actuator_value}
 use Rattle.tenant_state.specs.Row.{Row}
 
 -- the row offers this actuator to the tenant of this name
 abbrev pub offers : Row → Name → Name → Bool
 offers row actuator tenant = list_any (λ (o : Offer). same_name o.actuator actuator && same_name o.tenant tenant) row.offers
-
--- the value of an actuator of the row's program, if it has one of this name
-abbrev pub actuator_value : Row → Name → Option ℤ
-actuator_value row x = option_map_or (λ p. if is_among (actuator_names p) x then value_at row.ports x else None) row.program None
 
 abbrev pub to_sensor : Bind → ℤ → Name × ℤ
 to_sensor b z = (b.sensor, z)

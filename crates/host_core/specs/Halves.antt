@@ -1,8 +1,6 @@
 -- What is done for all tenants in turn: the two halves of an instant, and the completion of all jobs.
-use Rattle.std.specs.Prelude.{◌≡◌, ◌<◌, ◌≤◌, ◌+◌, ℕ, Bool, true, false, ℤ, List, [], map, length}
+use Rattle.std.specs.Prelude.{◌≡◌, ◌<◌, ◌+◌, ℕ, Bool, true, false, ℤ, List, [], map, length}
 use Rattle.std.specs.List.{sum_by}
-use Rattle.rig_config.specs.declared.Config.{Config}
-use Rattle.rig_config.specs.Roster.{budgets_at}
 use Rattle.tenant_state.specs.FirstHalf.{unfinished_tasks, first_half_of}
 use Rattle.host_core.specs.HostStanding.{tenant_at}
 use Rattle.tenant_state.specs.Row.{ActiveTask, Row}
@@ -23,6 +21,7 @@ most_of tenants = sum_by (λ (s : Standing). most_released s.row) tenants
 pub record IsFirstHalf (before after : Standing) : Type 0 where
   pub step : (row : Row) (completed : ActiveTask → Bool) → StandsFor before row completed → StandsFor after (first_half_of (unfinished_tasks completed row) row) completed
   pub count : after.row.count ≡ before.row.count
+  pub own : after.own ≡ before.own
 
 -- a tenant that may read these lines, before and behind its second half
 pub record IsSecondHalf (reads : List ℕ) (frame : List ℤ) (before after : Standing) : Type 0 where
@@ -30,21 +29,16 @@ pub record IsSecondHalf (reads : List ℕ) (frame : List ℤ) (before after : St
       → ((a : ActiveTask) → a.release ≡ row.count → completed a ≡ false)
       → StandsFor after (second_half_of (readings_within reads frame) [] row) completed
   pub count : after.row.count ≡ before.row.count + 1
+  pub own : after.own ≡ before.own
   pub known : IsKnown after.row
 
 -- a tenant before and behind the completion of its outstanding jobs
 pub record IsCompleted (before after : Standing) : Type 0 where
   pub row : after.row ≡ before.row
+  pub own : after.own ≡ before.own
   pub completed : after.completed ≡ map (λ b. true) before.completed
 
--- all tenants, by their places, the first `n` of which have gone through the step
-pub record AreStepped (step : ℕ → Standing → Standing → Type 0) (n : ℕ) (before after : List Standing) : Type 0 where
+-- all tenants, each of which has taken the step, by its place
+pub record AreStepped (step : ℕ → Standing → Standing → Type 0) (before after : List Standing) : Type 0 where
   pub as_many : length after ≡ length before
-  pub stepped : (t : ℕ) → t < n → step t (tenant_at before t) (tenant_at after t)
-  pub others : (t : ℕ) → n ≤ t → tenant_at after t ≡ tenant_at before t
-
-abbrev pub AreFirstHalves : ℕ → List Standing → List Standing → Type 0
-AreFirstHalves = AreStepped (λ t. IsFirstHalf)
-
-abbrev pub AreSecondHalves : Config → List ℤ → ℕ → List Standing → List Standing → Type 0
-AreSecondHalves config frame = AreStepped (λ t. IsSecondHalf (budgets_at config t).reads frame)
+  pub each : (t : ℕ) → t < length before → step t (tenant_at before t) (tenant_at after t)

@@ -20,11 +20,11 @@ pub record HostStanding : Type 0 where
 
 -- a new host, whose first instant has this number
 abbrev pub new_host : Config → ℕ → HostStanding
-new_host config first_tick = record { config = config; tenants = map (λ (t : TenantConfig). at_rest (empty_standing first_tick)) config.tenants; clock = first_tick }
+new_host config first_tick = record { config = config; tenants = map (λ (place : ℕ × TenantConfig). at_rest (empty_standing place.0 first_tick)) (enumerate_from 0 config.tenants); clock = first_tick }
 
 -- the tenant at place t
 abbrev pub tenant_at : List Standing → ℕ → Standing
-tenant_at tenants t = slice_index_or tenants t (empty_standing 0)
+tenant_at tenants t = slice_index_or tenants t (empty_standing 0 0)
 
 -- The host stands for a row for each tenant, and holds the jobs that were completed and are still active.
 pub record Stands (setting : Setting) (host : HostStanding) (state : HostState) : Type 0 where
@@ -41,6 +41,10 @@ pub record Stands (setting : Setting) (host : HostStanding) (state : HostState) 
 abbrev pub IsAt : ℕ → Standing → Type 0
 IsAt n s = (s.row.count ≡ n) × IsKnown s.row
 
+-- each tenant knows its place
+abbrev pub ArePlaced : List Standing → Type 0
+ArePlaced tenants = (t : ℕ) → t < length tenants → (tenant_at tenants t).own ≡ t
+
 -- the job of this name, if its completion is awaited
 abbrev pub awaited_in : HostStanding → JobId → Option JobValue
 awaited_in host j = option_and_then (λ s. awaited_job s j) (slice_get host.tenants j.tenant)
@@ -56,3 +60,7 @@ outstanding_from from tenants = flat_map (λ (place : ℕ × Standing). map (job
 -- those of the whole host
 abbrev pub outstanding_jobs : HostStanding → List JobId
 outstanding_jobs host = outstanding_from 0 host.tenants
+
+-- those of the tenant at place t
+abbrev pub outstanding_of : HostStanding → ℕ → List JobId
+outstanding_of host t = map (job_of t) (outstanding_tasks (tenant_at host.tenants t))

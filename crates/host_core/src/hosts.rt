@@ -1,12 +1,14 @@
 //! The host of a rig: all its tenants, on one clock.
 
-ghost use Rattle.std.specs.Prelude.{◌≡◌, ◌≢◌, ◌<◌, ◌≤◌, ◌+◌, ◌-◌, ◌^◌, ◌↔◌, ℕ, ◌∷◌, ◌++◌, List, length, map, reverse, is_some, IfOk, IfSome, OnOk, OnErr, OnSome, Ok, Err, Some, None};
+ghost use Rattle.std.specs.Prelude.{◌≡◌, ◌≢◌, ◌<◌, ◌≤◌, ◌+◌, ◌-◌, ◌^◌, ◌↔◌, ℕ, ◌∷◌, ◌++◌, List, length, map, reverse, is_some, false, IfOk, IfSome, OnOk, OnErr, OnSome, Ok, Err, Some, None};
 ghost use Rattle.std.specs.List.{All};
-ghost use Rattle.host_core.specs.Halves.{AreStepped, AreFirstHalves, AreSecondHalves, IsReady, IsCompleted, most_of};
+ghost use Rattle.host_core.specs.Halves.{AreStepped, IsFirstHalf, IsSecondHalf, IsReady, IsCompleted, most_of};
 ghost use Rattle.host_core.specs.Host.{after_event, host_after};
 ghost use Rattle.host_core.specs.HostState.{HostState, row_at, awaits};
-ghost use Rattle.host_core.specs.HostStanding.{Stands, new_host, awaited_in, released_from, outstanding_jobs};
+ghost use Rattle.host_core.specs.HostStanding.{Stands, ArePlaced, new_host, awaited_in, released_from, outstanding_from, outstanding_jobs, outstanding_of};
 ghost use Rattle.host_core.specs.Setting.{Setting};
+ghost use Rattle.rig_config.specs.Roster.{budgets_at};
+ghost use Rattle.tenant_state.specs.Commands.{takes_memory};
 ghost use Rattle.tenant_state.specs.Standing.{Standing, at_rest, IsKnown};
 ghost use Rattle.host_core.specs.Views.{after_command};
 ghost use Rattle.host_core.specs.declared.events.Event.{Event};
@@ -61,7 +63,7 @@ impl Model for Host {
     ghost use Rattle.std.specs.List.{All};
     ghost use Rattle.std.specs.Coded.{codes};
     ghost use Rattle.giotto_text.specs.ProgramCodes.{program_code};
-    ghost use Rattle.host_core.specs.HostStanding.{HostStanding, IsAt};
+    ghost use Rattle.host_core.specs.HostStanding.{HostStanding, ArePlaced, IsAt};
     ghost use Rattle.tenant_state.specs.Standing.{at_rest};
 
     ghost Value = { HostStanding };
@@ -70,7 +72,7 @@ impl Model for Host {
 
     ghost view = { λ h. record { config = h.config; tenants = map at_rest h.tenants.items; clock = h.clock } };
 
-    ghost invariant = { λ h. (length h.tenants.items ≡ length h.config.tenants) × All (IsAt h.clock) h.tenants.items };
+    ghost invariant = { λ h. (length h.tenants.items ≡ length h.config.tenants) × All (IsAt h.clock) h.tenants.items × ArePlaced h.tenants.items };
 }
 
 impl Host {
@@ -83,8 +85,8 @@ impl Host {
     {
         let copy = config.copy(alloc)?;
         let mut tenants = Vec::new(alloc);
-        for _place in 0..copy.tenants.as_slice().len() {
-            tenants.push(Tenant::new(alloc, first_tick))?;
+        for place in 0..copy.tenants.as_slice().len() {
+            tenants.push(Tenant::new(alloc, place, first_tick))?;
         }
         Ok(Host {
             alloc,
@@ -98,6 +100,7 @@ impl Host {
     pub fn command(&mut self, tenant: TenantId, command: Command) -> Reply
         requires { tenant < length self.old.config.tenants }
         ensures memory { result ≡ Reply.Refused Refusal.Memory → self.new ≡ self.old }
+        ensures room { takes_memory command ≡ false → result ≢ Reply.Refused Refusal.Memory }
         ensures config { self.new.config ≡ self.old.config }
         ensures reply { (setting : Setting) (state : HostState) → Stands setting self.old state
             → result ≢ Reply.Refused Refusal.Memory → result ≡ (after_command setting tenant command (row_at state tenant)).reply }
@@ -199,9 +202,18 @@ impl Host {
         ensures step { (setting : Setting) (past : List Event) → Stands setting self.old (host_after setting past)
             → Stands setting self.new (host_after setting (reverse (map Event.Done (outstanding_jobs self.old)) ++ past)) }
     {
-        let number = self.outstanding();
-        complete_each(&mut self.tenants);
-        number
+        complete_each(&mut self.tenants)
+    }
+
+    /// Computes and counts one tenant's outstanding jobs, and says how many they were. Takes no memory.
+    pub fn complete_tenant(&mut self, tenant: TenantId) -> usize
+        requires { tenant < length self.old.config.tenants }
+        ensures number { result ≡ length (outstanding_of self.old tenant) }
+        ensures step { (setting : Setting) (past : List Event) → Stands setting self.old (host_after setting past)
+            → Stands setting self.new (host_after setting (reverse (map Event.Done (outstanding_of self.old tenant)) ++ past)) }
+    {
+        let tenant = &mut self.tenants[tenant];
+        tenant.complete_all()
     }
 
     /// The job of this name, where its completion is awaited.
@@ -251,8 +263,8 @@ impl Host {
         ensures { IfOk result (λ names. names.items ≡ outstanding_jobs self.now) }
     {
         let mut names = Vec::new(self.alloc);
-        for (place, tenant) in self.tenants.as_slice().iter().enumerate() {
-            tenant.add_outstanding(place, &mut names)?;
+        for tenant in &self.tenants {
+            tenant.add_outstanding(&mut names)?;
         }
         Ok(names)
     }
@@ -293,28 +305,29 @@ fn all_ready(tenants: &mut Vec<Tenant>) -> Option<usize>
 
 // The first half of each tenant.
 fn first_halves(tenants: &mut Vec<Tenant>)
-    ensures halves { AreFirstHalves (length tenants.old.items) tenants.old.items tenants.new.items }
+    ensures halves { AreStepped (λ t. IsFirstHalf) tenants.old.items tenants.new.items }
     ensures ready { All IsReady tenants.old.items → All IsReady tenants.new.items }
     ensures fewer { most_of tenants.new.items ≤ most_of tenants.old.items }
 {
     for i in 0..tenants.len() {
-        tenants[i].first_half();
+        tenants[i].phase_one();
     }
 }
 
-// The second half of each tenant, with its place and its budgets.
+// The second half of each tenant, with its budgets.
 fn second_halves(tenants: &mut Vec<Tenant>, config: &Config, frame: &[i64], jobs: &mut Jobs)
     requires tenants { length tenants.old.items ≡ length config.now.tenants }
     requires counts { All (λ (s : Standing). s.row.count < 2 ^ 64 - 1) tenants.old.items }
+    requires placed { ArePlaced tenants.old.items }
     requires ready { All IsReady tenants.old.items }
     requires jobs { most_of tenants.old.items ≤ jobs.old.room }
-    ensures halves { AreSecondHalves config.now frame.now (length tenants.old.items) tenants.old.items tenants.new.items }
+    ensures halves { AreStepped (λ t. IsSecondHalf (budgets_at config.now t).reads frame.now) tenants.old.items tenants.new.items }
     ensures jobs { (n : ℕ) → All (λ (s : Standing). s.row.count ≡ n) tenants.old.items → jobs.new.jobs ≡ jobs.old.jobs ++ released_from n 0 tenants.new.items }
 {
     for i in 0..tenants.len() {
         let budgets = &config.tenants.as_slice()[i].budgets;
         let tenant = &mut tenants[i];
-        tenant.second_half(i, budgets, frame, jobs);
+        tenant.phase_two(budgets, frame, jobs);
         let _ = tenant.next_tick();
     }
 }
@@ -324,21 +337,24 @@ fn second_halves_without_jobs(tenants: &mut Vec<Tenant>, config: &Config, frame:
     requires tenants { length tenants.old.items ≡ length config.now.tenants }
     requires counts { All (λ (s : Standing). s.row.count < 2 ^ 64 - 1) tenants.old.items }
     requires ready { All IsReady tenants.old.items }
-    ensures { AreSecondHalves config.now frame.now (length tenants.old.items) tenants.old.items tenants.new.items }
+    ensures { AreStepped (λ t. IsSecondHalf (budgets_at config.now t).reads frame.now) tenants.old.items tenants.new.items }
 {
     for i in 0..tenants.len() {
         let budgets = &config.tenants.as_slice()[i].budgets;
         let tenant = &mut tenants[i];
-        tenant.second_half_without_jobs(budgets, frame);
+        tenant.phase_two_without_jobs(budgets, frame);
         let _ = tenant.next_tick();
     }
 }
 
-// Computes and counts each tenant's outstanding jobs.
-fn complete_each(tenants: &mut Vec<Tenant>)
-    ensures { AreStepped (λ t. IsCompleted) (length tenants.old.items) tenants.old.items tenants.new.items }
+// Computes and counts each tenant's outstanding jobs. How many they were.
+fn complete_each(tenants: &mut Vec<Tenant>) -> u128
+    ensures completed { AreStepped (λ t. IsCompleted) tenants.old.items tenants.new.items }
+    ensures number { result ≡ length (outstanding_from 0 tenants.old.items) }
 {
+    let mut number: u128 = 0;
     for i in 0..tenants.len() {
-        tenants[i].complete_all();
+        number += tenants[i].complete_all() as u128;
     }
+    number
 }

@@ -1,12 +1,13 @@
 //! Playing a list of events on a new host.
 
-ghost use Rattle.std.specs.Prelude.{◌≡◌, ◌<◌, ◌↔◌, ◌++◌, ◌∷◌, ℕ, List, [], map, length, IfOk, OnOk, IsTrue, Err};
+ghost use Rattle.std.specs.Prelude.{◌≡◌, ◌<◌, ◌↔◌, ◌++◌, ◌∷◌, ◌||◌, ℕ, List, [], length, IfOk, OnOk, IsTrue, Err};
 ghost use Rattle.std.specs.List.{list_any};
 ghost use Rattle.host_core.specs.Legal.{may_follow};
 ghost use Rattle.host_core.specs.Playing.{IsPlayed, IsPlayedOn, HasPlace};
 ghost use Rattle.host_core.specs.Plays.{IsSettingOf, AreAnswers, IsLeastIllegal};
 ghost use Rattle.host_core.specs.Setting.{Setting};
 ghost use Rattle.tenant_state.specs.Jobs.{JobValue, same_job};
+ghost use Rattle.tenant_state.specs.declared.jobs.JobId.{JobId};
 ghost use Rattle.tenant_lines.specs.Replies.{text_of_reply};
 ghost use Rattle.host_core.specs.declared.events.Event.{Event};
 ghost use Rattle.host_core.specs.declared.plays.PlayFault.{PlayFault};
@@ -17,6 +18,7 @@ use crate::events::Event;
 use crate::hosts::{Host, complete};
 use rig_config::{Config, TenantId};
 use std::alloc::{AllocError, Global};
+use std::collections::BTreeSet;
 use tenant_lines::commands::Command;
 use tenant_lines::replies::{Refusal, Reply, print_reply};
 use tenant_lines::texts::Text;
@@ -39,7 +41,7 @@ pub enum PlayFault {
 struct Stage {
     host: Host,
     texts: Vec<Text>,
-    released: Vec<JobId>,
+    released: BTreeSet<JobId>,
 }
 
 /// Plays a list of events, the oldest first, on a new host from instant 0. Each tenant's printed replies, each followed by LF, by
@@ -70,7 +72,7 @@ pub fn play(alloc: Global, config: &Config, events: &[Event]) -> Result<Vec<Text
 impl Stage {
     // Before any event.
     fn new(alloc: Global, config: &Config) -> Result<Stage, AllocError>
-        ensures { IfOk result (λ stage. (setting : Setting) → IsSettingOf config.now setting → IsPlayed setting [] stage.host stage.texts.items stage.released.items) }
+        ensures { IfOk result (λ stage. (setting : Setting) → IsSettingOf config.now setting → IsPlayed setting [] stage.host stage.texts.items stage.released.keys) }
     {
         let host = Host::new(alloc, config, 0)?;
         let mut texts = Vec::new(alloc);
@@ -80,13 +82,13 @@ impl Stage {
         Ok(Stage {
             host,
             texts,
-            released: Vec::new(alloc),
+            released: BTreeSet::new(alloc),
         })
     }
 
     // Whether the event may come next.
     fn may_follow(&self, event: &Event) -> bool
-        ensures legal { (setting : Setting) (past : List Event) → IsPlayed setting past self.now.host self.now.texts.items self.now.released.items → result ≡ may_follow setting past event.now }
+        ensures legal { (setting : Setting) (past : List Event) → IsPlayed setting past self.now.host self.now.texts.items self.now.released.keys → result ≡ may_follow setting past event.now }
         ensures place { IsTrue result → HasPlace event.now self.now.host.config self.now.texts.items }
     {
         match event {
@@ -96,14 +98,14 @@ impl Stage {
             Event::Tick(frame) => {
                 frame.as_slice().len() == self.host.config().lines && self.host.clock() < u64::MAX
             }
-            Event::Done(id) => is_released(self.released.as_slice(), id),
+            Event::Done(id) => self.released.contains(id),
         }
     }
 
     // Plays one event more.
     fn play(&mut self, alloc: Global, event: &Event) -> Result<(), AllocError>
         requires { HasPlace event.now self.old.host.config self.old.texts.items }
-        ensures { OnOk result (IsPlayedOn event.now self.old.host self.old.texts.items self.old.released.items self.new.host self.new.texts.items self.new.released.items) }
+        ensures { OnOk result (IsPlayedOn event.now self.old.host self.old.texts.items self.old.released.keys self.new.host self.new.texts.items self.new.released.keys) }
     {
         match event {
             Event::Own(tenant, command) => self.own(alloc, *tenant, command),
@@ -119,7 +121,7 @@ impl Stage {
     fn own(&mut self, alloc: Global, tenant: TenantId, command: &Command) -> Result<(), AllocError>
         requires host { tenant < length self.old.host.config.tenants }
         requires text { tenant < length self.old.texts.items }
-        ensures { OnOk result (IsPlayedOn (Event.Own tenant command.now) self.old.host self.old.texts.items self.old.released.items self.new.host self.new.texts.items self.new.released.items) }
+        ensures { OnOk result (IsPlayedOn (Event.Own tenant command.now) self.old.host self.old.texts.items self.old.released.keys self.new.host self.new.texts.items self.new.released.keys) }
     {
         let reply = self.host.command(tenant, command.copy(alloc)?);
         if is_memory(&reply) {
@@ -129,9 +131,9 @@ impl Stage {
         Ok(())
     }
 
-    // An instant, and the names of its jobs behind those of the others.
+    // An instant, and the names of its jobs among those of the others.
     fn tick(&mut self, frame: &[i64]) -> Result<(), AllocError>
-        ensures { OnOk result (IsPlayedOn (Event.Tick frame.now) self.old.host self.old.texts.items self.old.released.items self.new.host self.new.texts.items self.new.released.items) }
+        ensures { OnOk result (IsPlayedOn (Event.Tick frame.now) self.old.host self.old.texts.items self.old.released.keys self.new.host self.new.texts.items self.new.released.keys) }
     {
         let Ok(jobs) = self.host.tick(frame) else {
             return Err(AllocError);
@@ -158,21 +160,15 @@ fn add_line(alloc: Global, text: &mut Text, reply: &Reply) -> Result<(), AllocEr
 }
 
 // Adds the names of these jobs.
-fn add_names(names: &mut Vec<JobId>, jobs: Jobs) -> Result<(), AllocError>
-    ensures { OnOk result (names.new.items ≡ names.old.items ++ map (λ (j : JobValue). j.id) jobs.jobs) }
+fn add_names(names: &mut BTreeSet<JobId>, jobs: Jobs) -> Result<(), AllocError>
+    ensures { OnOk result ((j : JobId) → list_any (λ r. same_job r j) names.new.keys
+        ≡ (list_any (λ r. same_job r j) names.old.keys || list_any (λ (k : JobValue). same_job k.id j) jobs.jobs)) }
 {
     let mut jobs = jobs;
     while let Some(job) = jobs.take() {
-        names.push(job.id().copy())?;
+        let Ok(_) = names.insert(job.id().copy()) else {
+            return Err(AllocError);
+        };
     }
     Ok(())
-}
-
-// The job's name is among these.
-fn is_released(released: &[JobId], id: &JobId) -> bool
-    ensures { result ≡ list_any (λ r. same_job r id.now) released.now }
-{
-    released.iter().any(|job| {
-        job.tenant == id.tenant && job.tick == id.tick && job.task == id.task
-    })
 }

@@ -1,4 +1,4 @@
-//! Instants of a host whose first tenant runs a program.
+//! Instants of a host of which some tenants run a program.
 
 use giotto_tasks::lists::List;
 use giotto_tasks::names::Name;
@@ -9,29 +9,40 @@ use std::io::Read;
 use tenant_lines::commands::Command;
 use tenant_lines::texts::Text;
 
-/// Runs the program of a reader's text in the first of so many tenants, for so many instants, and computes all jobs behind
-/// each, if jobs are computed at all. How many jobs were computed; -1 where there is no tenant or an instant is refused.
+/// Which instants are run.
+#[derive(Drop)]
+pub(crate) struct Work {
+    /// How many tenants the host has, and how many of them run the program, from the first on.
+    pub(crate) tenants: usize,
+    pub(crate) running: usize,
+    /// Whether all jobs are computed behind each instant.
+    pub(crate) computes: bool,
+}
+
+/// Runs the program of a reader's text for so many instants. How many jobs were computed; -1 where the host has fewer tenants than
+/// are to run, or an instant is refused.
 pub(crate) fn instants<R: Read + Drop>(
     alloc: Global,
     mut reader: R,
-    tenants: usize,
-    computes: bool,
+    work: &Work,
     times: u64,
 ) -> anyhow::Result<i64> {
     let mut text = String::new(alloc);
     reader.read_to_string(&mut text)?;
-    let mut host = Host::new(alloc, &roster(alloc, tenants)?, 0)?;
-    if tenants == 0 || host.config().tenants.as_slice().is_empty() {
-        return Ok(-1);
+    let mut host = Host::new(alloc, &roster(alloc, work.tenants)?, 0)?;
+    for tenant in 0..work.running {
+        if tenant >= host.config().tenants.as_slice().len() {
+            return Ok(-1);
+        }
+        let _ = host.command(tenant, Command::Load(Text::from_str(alloc, text.as_str())?));
+        let _ = host.command(tenant, Command::Start);
     }
-    let _ = host.command(0, Command::Load(Text::from_string(text)));
-    let _ = host.command(0, Command::Start);
     let mut computed = 0i64;
     for _time in 0..times {
         if host.instant(&[3]).is_err() {
             return Ok(-1);
         }
-        if !computes {
+        if !work.computes {
             continue;
         }
         let count = i64::try_from(host.complete_all()).unwrap_or(i64::MAX);
@@ -41,7 +52,7 @@ pub(crate) fn instants<R: Read + Drop>(
 }
 
 // So many tenants, which may read and drive the one line.
-fn roster(alloc: Global, tenants: usize) -> anyhow::Result<Config> {
+pub(crate) fn roster(alloc: Global, tenants: usize) -> anyhow::Result<Config> {
     let mut roster = Vec::new(alloc);
     for _tenant in 0..tenants {
         roster.push(TenantConfig {

@@ -3,8 +3,10 @@
 
 mod drivers;
 mod instants;
+mod plays;
 mod turns;
 
+use crate::instants::Work;
 use giotto_check::check;
 use giotto_read::printing::print;
 use giotto_read::reading::read;
@@ -18,7 +20,7 @@ fn main(rt: HostRuntime) -> anyhow::Result<ExitCode> {
     let words: Vec<String> = std::env::args(&rt)?.collect(rt.alloc())?;
     let [_, work, times] = words.as_slice() else {
         eprintln!(rt;
-            "usage: measure tokens|read|check|print|drive|alone|crowded|quiet TIMES < TEXT, or measure evaluate|jobs|operate|loop TIMES"
+            "usage: measure tokens|read|check|print|drive|alone|crowded|all|quiet TIMES < TEXT, or measure evaluate|jobs|operate|loop|play TIMES"
         )?;
         return Ok(ExitCode::from(2));
     };
@@ -29,9 +31,10 @@ fn main(rt: HostRuntime) -> anyhow::Result<ExitCode> {
         "check" => check_many_times(rt.alloc(), rt.reader(), times)?,
         "print" => print_many_times(rt.alloc(), rt.reader(), times)?,
         "drive" => drive_many_times(rt.alloc(), rt.reader(), times)?,
-        "alone" => instants::instants(rt.alloc(), rt.reader(), 1, true, times)?,
-        "quiet" => instants::instants(rt.alloc(), rt.reader(), 1, false, times)?,
-        "crowded" => instants::instants(rt.alloc(), rt.reader(), 16, true, times)?,
+        "alone" | "crowded" | "all" | "quiet" => {
+            instants::instants(rt.alloc(), rt.reader(), &work_of(work.as_str()), times)?
+        }
+        "play" => plays::played(rt.alloc(), times)?,
         "jobs" => turns::jobs(rt.alloc(), times)?,
         "evaluate" => turns::evaluated(rt.alloc(), times)?,
         "operate" => drivers::plain(times),
@@ -43,6 +46,20 @@ fn main(rt: HostRuntime) -> anyhow::Result<ExitCode> {
     };
     println!(rt; "{done}")?;
     Ok(ExitCode::SUCCESS)
+}
+
+// Which instants are run: of a tenant alone, beside 15 idle ones, of 16 tenants, or of one whose jobs nobody computes.
+fn work_of(name: &str) -> Work {
+    let (tenants, running) = match name {
+        "crowded" => (16, 1),
+        "all" => (16, 16),
+        _ => (1, 1),
+    };
+    Work {
+        tenants,
+        running,
+        computes: name != "quiet",
+    }
 }
 
 // How many tokens the text of a reader has, counted anew each time; -1 where it has a fault.

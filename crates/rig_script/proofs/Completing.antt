@@ -1,5 +1,5 @@
--- Completing all outstanding jobs.
-use Rattle.std.proofs.Common.{◌≡◌, ℕ, true, ◌||◌, not, List, [], ◌∷◌, ◌++◌, map, reverse, ap, ◌∙◌, subst}
+-- Completing outstanding jobs, of all tenants and of one.
+use Rattle.std.proofs.Common.{◌≡◌, ℕ, ◌<◌, true, ◌||◌, not, List, [], ◌∷◌, ◌++◌, length, map, reverse, ap, ◌∙◌, subst}
 use Rattle.std.specs.List.{enumerate_from, AllByRecursion}
 use Rattle.std.proofs.lemmas.Bool.{and_from}
 use Rattle.host_core.specs.declared.events.Event.{Event}
@@ -8,7 +8,8 @@ use Rattle.rig_config.specs.declared.TenantConfig.{TenantConfig}
 use Rattle.tenant_state.specs.declared.jobs.JobId.{JobId}
 use Rattle.host_core.specs.Completions.{has_completion}
 use Rattle.host_core.specs.Host.{host_after}
-use Rattle.host_core.specs.HostStanding.{HostStanding, Stands, outstanding_jobs}
+use Rattle.host_core.specs.HostState.{row_at, is_counted}
+use Rattle.host_core.specs.HostStanding.{HostStanding, Stands, tenant_at, outstanding_jobs, outstanding_of}
 use Rattle.host_core.specs.Legal.{was_released, is_legal}
 use Rattle.host_core.specs.Setting.{Setting}
 use Rattle.host_core.specs.Views.{row_of}
@@ -19,19 +20,23 @@ use Rattle.tenant_state.proofs.JobNames.{own_jobs_active}
 use Rattle.rig_script.specs.HostAnswers.{IsHostAfter}
 use Rattle.rig_script.specs.Script.{outstanding_at, outstanding_after}
 use Rattle.host_core.proofs.Completed.{first_done}
-use Rattle.host_core.proofs.Outstanding.{code_awaits}
-use Rattle.rig_script.proofs.Outstanding.{same_outstanding}
+use Rattle.host_core.proofs.Outstanding.{awaited_at, code_awaits}
+use Rattle.rig_script.proofs.Outstanding.{same_outstanding, same_outstanding_at}
 
 module _ (setting : Setting) where
   released : (past : List Event) (j : JobId) → is_active (row_of setting past j.tenant) j ≡ true → was_released setting past j ≡ true
   released [] j e = e
   released (e ∷ past) j h = ap (λ b. b || was_released setting past j) h
 
-  -- each outstanding job is active
+  -- each outstanding job is active: a tenant's, and so all
+  active_at : (past : List Event) (t : ℕ) → AllByRecursion (λ j. is_active (row_of setting past j.tenant) j ≡ true) (outstanding_at setting past t)
+  active_at past t =
+      all_filtered (λ j. is_active (row_of setting past j.tenant) j ≡ true) (job_of t) (λ j. not (has_completion setting past j)) (row_of setting past t).active (own_jobs_active t (row_of setting past t))
+
   outstanding_active : (past : List Event) → AllByRecursion (λ j. is_active (row_of setting past j.tenant) j ≡ true) (outstanding_after setting past)
   outstanding_active past =
       all_flat (λ j. is_active (row_of setting past j.tenant) j ≡ true) (λ (place : ℕ × TenantConfig). outstanding_at setting past place.0) (enumerate_from 0 setting.config.tenants)
-      (λ place. all_filtered (λ j. is_active (row_of setting past j.tenant) j ≡ true) (job_of place.0) (λ j. not (has_completion setting past j)) (row_of setting past place.0).active (own_jobs_active place.0 (row_of setting past place.0)))
+      (λ place. active_at past place.0)
 
   -- completions of released jobs are legal
   all_legal : (js : List JobId) (past : List Event) → AllByRecursion (λ j. was_released setting past j ≡ true) js → is_legal setting past ≡ true → is_legal setting (reverse (map Done js) ++ past) ≡ true
@@ -45,13 +50,30 @@ module _ (setting : Setting) where
   pub names_are : (past : List Event) (host : HostStanding) → IsHostAfter setting host past → outstanding_jobs host ≡ outstanding_after setting past
   names_are past host h = code_awaits setting host (host_after setting past) h.stands ∙ same_outstanding setting h.base past h.legal
 
+  pub names_at : (past : List Event) (host : HostStanding) (t : ℕ) → t < length setting.config.tenants → IsHostAfter setting host past → outstanding_of host t ≡ outstanding_at setting past t
+  names_at past host t lt h =
+      let state = host_after setting past in
+      awaited_at setting (tenant_at host.tenants t) t (row_at state t) (is_counted state) (h.stands.each t lt) ∙ same_outstanding_at setting h.base past h.legal t lt
+
+  -- these jobs are completed
+  completed : (past : List Event) (host later : HostStanding) (jobs : List JobId) → AllByRecursion (λ j. is_active (row_of setting past j.tenant) j ≡ true) jobs → IsHostAfter setting host past
+      → Stands setting later (host_after setting (reverse (map Done jobs) ++ past)) → IsHostAfter setting later (reverse (map Done jobs) ++ past)
+  completed past host later jobs active h stands = record {
+    base = h.base;
+    legal = all_legal jobs past (all_map (λ j. is_active (row_of setting past j.tenant) j ≡ true) (λ j. was_released setting past j ≡ true) jobs (released past) active) h.legal;
+    stands = stands;
+  }
+
   -- all of them are completed
   pub all_completed : (past : List Event) (host later : HostStanding) → IsHostAfter setting host past → Stands setting later (host_after setting (reverse (map Done (outstanding_jobs host)) ++ past))
       → IsHostAfter setting later (reverse (map Done (outstanding_after setting past)) ++ past)
   all_completed past host later h stands =
-      let jobs = outstanding_after setting past in
-      record {
-        base = h.base;
-        legal = all_legal jobs past (all_map (λ j. is_active (row_of setting past j.tenant) j ≡ true) (λ j. was_released setting past j ≡ true) jobs (released past) (outstanding_active past)) h.legal;
-        stands = subst (λ js. Stands setting later (host_after setting (reverse (map Done js) ++ past))) (names_are past host h) stands;
-      }
+      completed past host later (outstanding_after setting past) (outstanding_active past) h
+      (subst (λ js. Stands setting later (host_after setting (reverse (map Done js) ++ past))) (names_are past host h) stands)
+
+  -- one tenant's are completed
+  pub completed_at : (past : List Event) (host later : HostStanding) (t : ℕ) → t < length setting.config.tenants → IsHostAfter setting host past
+      → Stands setting later (host_after setting (reverse (map Done (outstanding_of host t)) ++ past)) → IsHostAfter setting later (reverse (map Done (outstanding_at setting past t)) ++ past)
+  completed_at past host later t lt h stands =
+      completed past host later (outstanding_at setting past t) (active_at past t) h
+      (subst (λ js. Stands setting later (host_after setting (reverse (map Done js) ++ past))) (names_at past host t lt h) stands)

@@ -24,6 +24,15 @@ bad_frame : script_text_of rig (lines (codes "op tick" ∷ codes "op tick 5" ∷
 unfolding digits is_utf8 chars encode_utf8
 bad_frame = refl
 
+-- The operator works for one tenant, by its name, or for all.
+work_of_one : script_text_of rig (lines (
+    (codes "alpha load " ++ adder_text) ∷ codes "alpha start" ∷ (codes "beta load " ++ adder_text) ∷ codes "beta start" ∷ codes "op tick 5"
+    ∷ codes "op work alpha" ∷ codes "op work alpha" ∷ codes "op work nobody" ∷ codes "op work alpha beta" ∷ codes "op work" ∷ codes "op work beta" ∷ []))
+    ≡ lines (codes "alpha ok load" ∷ codes "alpha ok start" ∷ codes "beta ok load" ∷ codes "beta ok start" ∷ codes "op ok tick 0"
+    ∷ codes "op ok work 1" ∷ codes "op ok work 0" ∷ codes "op err who" ∷ codes "op err bad-command" ∷ codes "op ok work 1" ∷ codes "op ok work 0" ∷ [])
+unfolding digits is_utf8 chars encode_utf8
+work_of_one = refl
+
 -- Who speaks comes before what is said; blank lines have no reply; a CR before LF and a missing last LF don't matter.
 speakers : script_text_of rig (lines (codes "nobody fly" ∷ codes "alpha" ∷ codes "op" ∷ codes "  " ∷ codes "alpha fly" ∷ codes "op work 9x" ∷ []) ++ (13 ∷ 10 ∷ codes "alpha start" ++ 13 ∷ []))
     ≡ lines (codes "host err who" ∷ codes "alpha err bad-command" ∷ codes "op err bad-command" ∷ codes "alpha err bad-command" ∷ codes "op err bad-command" ∷ codes "alpha err not-loaded" ∷ [])

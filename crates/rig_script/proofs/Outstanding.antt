@@ -7,7 +7,7 @@ use Rattle.rig_config.specs.Roster.{is_tenant}
 use Rattle.host_core.specs.Base.{IsBase}
 use Rattle.host_core.specs.Completions.{has_completion}
 use Rattle.host_core.specs.Host.{host_after}
-use Rattle.host_core.specs.HostState.{HostState, row_at, is_counted}
+use Rattle.host_core.specs.HostState.{row_at, is_counted}
 use Rattle.host_core.specs.Legal.{is_legal}
 use Rattle.host_core.specs.Setting.{Setting}
 use Rattle.host_core.specs.Views.{row_of}
@@ -29,22 +29,23 @@ module _ (setting : Setting) where
   where_active false b c d e f h = absurd (cc)
   where_active true false c d e f h = absurd (cc)
 
+  -- one tenant's
+  pub same_outstanding_at : IsBase setting.config setting.base → (past : List Event) → is_legal setting past ≡ true → (t : ℕ) → t < length setting.config.tenants
+      → jobs_at setting (host_after setting past) t ≡ outstanding_at setting past t
+  same_outstanding_at base past legal t lt =
+      let state = host_after setting past in
+      let is = tenant_is t lt in
+      let rows = same_rows setting base past t legal is in
+      let row = row_of setting past t in
+      ap (λ (r : Row). filter (λ j. not (is_counted state j)) (map (job_of t) r.active)) rows
+      ∙ same_filter (λ j. not (is_counted state j)) (λ j. not (has_completion setting past j)) (map (job_of t) row.active)
+      (all_mapped (λ j. not (is_counted state j) ≡ not (has_completion setting past j)) (job_of t) row.active
+      (all_map (λ a. is_active row (job_of t a) ≡ true) (λ a. not (is_counted state (job_of t a)) ≡ not (has_completion setting past (job_of t a))) row.active
+      (λ a active. where_active (is_active (row_at state t) (job_of t a)) (is_active row (job_of t a)) (not (is_counted state (job_of t a))) (not (has_completion setting past (job_of t a)))
+      (ap (λ r. is_active r (job_of t a)) rows ∙ active) active (same_awaits setting base past (job_of t a) legal is))
+      (own_jobs_active t row)))
+
   pub same_outstanding : IsBase setting.config setting.base → (past : List Event) → is_legal setting past ≡ true → all_jobs setting (host_after setting past) ≡ outstanding_after setting past
   same_outstanding base past legal =
-      places_from_start (λ (place : ℕ × TenantConfig). jobs_at setting state place.0) (λ (place : ℕ × TenantConfig). outstanding_at setting past place.0) no_tenant no_tenant setting.config.tenants setting.config.tenants refl at
-    where
-      state : HostState
-      state = host_after setting past
-
-      at : (t : ℕ) → t < length setting.config.tenants → jobs_at setting state t ≡ outstanding_at setting past t
-      at t lt =
-          let is = tenant_is t lt in
-          let rows = same_rows setting base past t legal is in
-          let row = row_of setting past t in
-          ap (λ (r : Row). filter (λ j. not (is_counted state j)) (map (job_of t) r.active)) rows
-          ∙ same_filter (λ j. not (is_counted state j)) (λ j. not (has_completion setting past j)) (map (job_of t) row.active)
-          (all_mapped (λ j. not (is_counted state j) ≡ not (has_completion setting past j)) (job_of t) row.active
-          (all_map (λ a. is_active row (job_of t a) ≡ true) (λ a. not (is_counted state (job_of t a)) ≡ not (has_completion setting past (job_of t a))) row.active
-          (λ a active. where_active (is_active (row_at state t) (job_of t a)) (is_active row (job_of t a)) (not (is_counted state (job_of t a))) (not (has_completion setting past (job_of t a)))
-          (ap (λ r. is_active r (job_of t a)) rows ∙ active) active (same_awaits setting base past (job_of t a) legal is))
-          (own_jobs_active t row)))
+      places_from_start (λ (place : ℕ × TenantConfig). jobs_at setting (host_after setting past) place.0) (λ (place : ℕ × TenantConfig). outstanding_at setting past place.0) no_tenant no_tenant setting.config.tenants
+      setting.config.tenants refl (same_outstanding_at base past legal)

@@ -11,7 +11,8 @@ use Rattle.tenant_lines.specs.Words.{first_word_of}
 use Rattle.rig_script.specs.declared.speakers.Speaker.TheVariants.{Nobody, Operator, Tenant, Unknown}
 use Rattle.rig_script.specs.Script.{operator, speaker_of}
 
-place_within : (config : Config) (x : Name) (u : ℕ) → place_of config x ≡ Some u → u < length config.tenants
+-- a place that was found is one of the roster
+pub place_within : (config : Config) (x : Name) (u : ℕ) → place_of config x ≡ Some u → u < length config.tenants
 place_within config x u e = by (nat_lt k (length config.tenants)) refl
   where
     k : ℕ

@@ -1,11 +1,12 @@
 -- What a step answers, and the host behind it.
-use Rattle.std.proofs.Common.{◌≡◌, ℕ, ◌-◌, ◌^◌, ◌<◌, ◌==◌, nat_lt, Bool, true, false, ℤ, List, [], ◌∷◌, ◌++◌, length, Some, None, Result, Ok, Err, IfOk, String, Global, string_bytes, codes, refl, sym, ap, ◌∙◌, subst, arith}
+use Rattle.std.proofs.Common.{◌≡◌, ℕ, ◌-◌, ◌^◌, ◌<◌, ◌==◌, nat_lt, Bool, true, false, if◌then◌else◌, ℤ, List, [], ◌∷◌, ◌++◌, length, Some, None, Result, Ok, Err, IfOk, String, Global, string_bytes, codes, refl, sym, ap, ◌∙◌, subst, arith}
 use Rattle.std.proofs.lemmas.Bool.Decides.{nat_tests}
 use Rattle.std.proofs.lemmas.Bool.{eqb-true, and_from}
 use Rattle.std.specs.Cmp.Lexicographic.{same_text}
 use Rattle.std.specs.Fmt.{decimal}
 use Rattle.std.specs.declared.alloc.AllocError.{AllocError}
 use Rattle.giotto_tasks.specs.Names.{same_name}
+use Rattle.giotto_text.specs.Bytes.{is_name}
 use Rattle.host_core.specs.declared.events.Event.{Event}
 use Rattle.host_core.specs.declared.events.Event.TheVariants.{Own, Tick}
 use Rattle.rig_config.specs.declared.Config.{Config}
@@ -17,7 +18,7 @@ use Rattle.host_core.specs.HostStanding.{HostStanding, Stands}
 use Rattle.host_core.specs.Legal.{next_tick, may_follow, is_legal}
 use Rattle.host_core.specs.Setting.{Setting}
 use Rattle.host_core.specs.Views.{after_command, row_of}
-use Rattle.rig_config.specs.Roster.{is_tenant}
+use Rattle.rig_config.specs.Roster.{is_tenant, place_of}
 use Rattle.tenant_lines.specs.CommandLine.{command_of_line}
 use Rattle.tenant_lines.specs.Replies.{text_of_reply}
 use Rattle.tenant_lines.specs.Words.{words_of, first_word_of, behind_first_word, values_of_words}
@@ -25,7 +26,7 @@ use Rattle.host_core.proofs.AloneAlong.{same_rows, same_clock}
 use Rattle.tenant_lines.proofs.WordLemmas.{words_first, words_none}
 use Rattle.rig_script.specs.Answered.{reply_line}
 use Rattle.rig_script.specs.HostAnswers.{IsHostAfter}
-use Rattle.rig_script.specs.Script.{Step, IsStep, operator, operator_line_of, operator_step, tenant_step, only_answered}
+use Rattle.rig_script.specs.Script.{Step, IsStep, work_of, operator, operator_line_of, operator_step, work_step, work_step_of, outstanding_at, tenant_step, only_answered}
 
 -- this text was answered, and the events have happened
 pub step_done : (step : Step) (past : List Event) (r : Result (String Global) AllocError) (After : List Event → Type 0) (text : List ℕ)
@@ -52,8 +53,7 @@ other_words w ws no_tick no_work = by (same_name w (codes "tick")) refl (same_na
     by : (a : Bool) → same_name w (codes "tick") ≡ a → (b : Bool) → same_name w (codes "work") ≡ b → (vs : List (List ℕ)) → operator_line_of (w ∷ vs) ≡ None
     by true e b f vs = absurd (no_tick (same_text w (codes "tick") (sym e)))
     by false e true f vs = absurd (no_work (same_text w (codes "work") (sym f)))
-    by false e false f [] = rw (e, f) refl
-    by false e false f (v ∷ vs) = rw e refl
+    by false e false f vs = rw (e, f) refl
 
 pub other_line : (line first : List ℕ) → first ≡ first_word_of line → (first ≡ codes "tick" → ⊥) → (first ≡ codes "work" → ⊥) → operator_line_of (words_of line) ≡ None
 other_line line first f no_tick no_work = by (first_word_of line) refl
@@ -65,9 +65,28 @@ other_line line first f no_tick no_work = by (first_word_of line) refl
         ap operator_line_of (words_first line some)
         ∙ other_words (first_word_of line) (words_of (behind_first_word line)) (λ e. no_tick (f ∙ e)) (λ e. no_work (f ∙ e))
 
--- `work` with words behind it
-pub more_than_work : (line : List ℕ) → 0 < length (first_word_of line) → operator_line_of (codes "work" ∷ words_of line) ≡ None
-more_than_work line some = ap (λ ws. operator_line_of (codes "work" ∷ ws)) (words_first line some)
+-- `work` with a tenant's name behind it
+pub work_with_name : (line : List ℕ) → 0 < length (first_word_of line) → is_name (first_word_of line) ≡ true → length (first_word_of (behind_first_word line)) ≡ 0
+    → operator_line_of (codes "work" ∷ words_of line) ≡ Some (work_of (first_word_of line))
+work_with_name line some name short =
+    ap (λ ws. operator_line_of (codes "work" ∷ ws)) (words_first line some ∙ ap (λ ws. first_word_of line ∷ ws) (words_none (behind_first_word line) short)) ∙ by (is_name (first_word_of line)) name
+  where
+    by : (b : Bool) → b ≡ true → (if b then Some (work_of (first_word_of line)) else None) ≡ Some (work_of (first_word_of line))
+    by true e = refl
+    by false e = absurd (cc)
+
+-- `work` with a word of another shape behind it
+pub work_with_no_name : (line : List ℕ) → 0 < length (first_word_of line) → is_name (first_word_of line) ≡ false → operator_line_of (codes "work" ∷ words_of line) ≡ None
+work_with_no_name line some name = ap (λ ws. operator_line_of (codes "work" ∷ ws)) (words_first line some) ∙ by (words_of (behind_first_word line))
+  where
+    by : (ws : List (List ℕ)) → operator_line_of (codes "work" ∷ first_word_of line ∷ ws) ≡ None
+    by [] = rw name refl
+    by (x ∷ xs) = refl
+
+-- `work` with two words behind it
+pub work_with_more : (line : List ℕ) → 0 < length (first_word_of line) → 0 < length (first_word_of (behind_first_word line)) → operator_line_of (codes "work" ∷ words_of line) ≡ None
+work_with_more line some more =
+    ap (λ ws. operator_line_of (codes "work" ∷ ws)) (words_first line some ∙ ap (λ ws. first_word_of line ∷ ws) (words_first (behind_first_word line) more))
 
 module _ (setting : Setting) (past : List Event) (host later : HostStanding) (h : IsHostAfter setting host past) (r : Result (String Global) AllocError) where
   -- a command was carried out
@@ -94,6 +113,20 @@ module _ (setting : Setting) (past : List Event) (host later : HostStanding) (h 
       let steps : operator_step setting past words ≡ step = rw none refl in
       subst (λ (s : Step). IsStep s past r (IsHostAfter setting later)) (sym steps)
       (step_done step past r (IsHostAfter setting later) (reply_line operator (codes "err bad-command")) given refl (subst (λ s. IsHostAfter setting s past) (sym kept) h))
+
+  -- `work` of one tenant
+  pub tenant_worked : (words : List (List ℕ)) (x : List ℕ) → operator_line_of words ≡ Some (work_of x) → IsStep (work_step_of setting past x) past r (IsHostAfter setting later)
+      → IsStep (operator_step setting past words) past r (IsHostAfter setting later)
+  tenant_worked words x is given =
+      let steps : operator_step setting past words ≡ work_step_of setting past x = rw is refl in
+      subst (λ (s : Step). IsStep s past r (IsHostAfter setting later)) (sym steps) given
+
+  -- of a tenant of the roster
+  pub tenant_found : (x : List ℕ) (t : ℕ) → place_of setting.config x ≡ Some t → IsStep (work_step (outstanding_at setting past t)) past r (IsHostAfter setting later)
+      → IsStep (work_step_of setting past x) past r (IsHostAfter setting later)
+  tenant_found x t is given =
+      let steps : work_step_of setting past x ≡ work_step (outstanding_at setting past t) = rw is refl in
+      subst (λ (s : Step). IsStep s past r (IsHostAfter setting later)) (sym steps) given
 
   module _ (words : List (List ℕ)) (frame : List ℤ) (values : values_of_words words ≡ Some frame) where
     -- an instant happened

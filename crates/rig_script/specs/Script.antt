@@ -6,6 +6,7 @@ use Rattle.std.specs.List.{flat_map, enumerate_from}
 use Rattle.std.specs.Fmt.{decimal}
 use Rattle.giotto_tasks.specs.declared.names.Name.{Name}
 use Rattle.giotto_tasks.specs.Names.{same_name}
+use Rattle.giotto_text.specs.Bytes.{is_name}
 use Rattle.host_core.specs.declared.events.Event.{Event}
 use Rattle.host_core.specs.declared.events.Event.TheVariants.{Own, Tick, Done}
 use Rattle.tenant_state.specs.declared.jobs.JobId.{JobId}
@@ -56,19 +57,22 @@ pub data OperatorLine : Type 0 where
   -- the input value of each line of the rig
   tick : List ℤ → OperatorLine
   work : OperatorLine
+  -- by the tenant's name
+  work_of : Name → OperatorLine
 
--- "tick V .." or "work"
+-- "tick V ..", "work" or "work TENANT"
 abbrev pub operator_line_of : List (List ℕ) → Option OperatorLine
 operator_line_of [] = None
-operator_line_of (w ∷ ws) = if same_name w (codes "tick") then ticks (values_of_words ws) else works ws
+operator_line_of (w ∷ ws) = if same_name w (codes "tick") then ticks (values_of_words ws) else (if same_name w (codes "work") then works ws else None)
   where
     ticks : Option (List ℤ) → Option OperatorLine
     ticks None = None
     ticks (Some zs) = Some (tick zs)
 
     works : List (List ℕ) → Option OperatorLine
-    works [] = if same_name w (codes "work") then Some work else None
-    works (v ∷ vs) = None
+    works [] = Some work
+    works (x ∷ []) = if is_name x then Some (work_of x) else None
+    works (x ∷ y ∷ ys) = None
 
 -- what a line does: the events that it adds, the newest first, and its reply
 pub record Step : Type 0 where
@@ -96,6 +100,14 @@ module _ (setting : Setting) where
   abbrev pub outstanding_after : List Event → List JobId
   outstanding_after past = flat_map (λ (place : ℕ × TenantConfig). outstanding_at past place.0) (enumerate_from 0 setting.config.tenants)
 
+  -- `work` of one tenant, by its name
+  abbrev pub work_step_of : List Event → Name → Step
+  work_step_of past x = by (place_of setting.config x)
+    where
+      by : Option ℕ → Step
+      by None = only_answered (operator_refusal (codes "who"))
+      by (Some t) = work_step (outstanding_at past t)
+
   abbrev pub tick_step : List Event → List ℤ → Step
   tick_step past frame =
       if not (length frame == setting.config.lines) then only_answered (operator_refusal (codes "bad-frame"))
@@ -109,6 +121,7 @@ module _ (setting : Setting) where
       by None = only_answered (operator_refusal (text_of_refusal BadCommand))
       by (Some (tick frame)) = tick_step past frame
       by (Some work) = work_step (outstanding_after past)
+      by (Some (work_of x)) = work_step_of past x
 
   -- a tenant's line: its command, answered as the one-tenant machine answers it
   abbrev pub tenant_step : List Event → ℕ → Name → List ℕ → Step

@@ -11,12 +11,13 @@ ghost use Rattle.tenant_lines.specs.Words.{words_of};
 ghost use Rattle.rig_script.specs.Answered.{reply_line, IsText};
 ghost use Rattle.rig_script.specs.Lines.{cut};
 ghost use Rattle.rig_script.specs.HostAnswers.{IsHostAfter};
-ghost use Rattle.rig_script.specs.Script.{IsStep, tenant_step, operator_step, work_step, outstanding_after, script_text_of, IsScriptBrokenOff};
+ghost use Rattle.rig_script.specs.Script.{IsStep, tenant_step, operator_step, work_step, work_step_of, outstanding_after, script_text_of, IsScriptBrokenOff};
 
 use crate::answers::{Answers, answer_lines};
 use crate::faults::ScriptFault;
 use crate::lines::Lines;
 use crate::speakers::{Speaker, who_speaks};
+use giotto_text::name_bytes::is_name;
 use host_core::hosts::{Host, TickFault};
 use rig_config::{Config, TenantId};
 use std::alloc::{AllocError, Global};
@@ -42,7 +43,7 @@ impl Answers for Host {
 }
 
 /// Answers the lines of a reader, in their order, until the input or the script ends: a tenant's by
-/// its command, and the operator's by `tick` and `work`. The host is new, and its first tick is 0.
+/// its command, and the operator's by `tick`, `work` and `work TENANT`. The host is new, and its first tick is 0.
 /// Nothing is left unread where each line is text of at most 16,384 bytes; another line ends the script.
 ///
 /// # Errors
@@ -134,8 +135,12 @@ fn work(alloc: Global, host: &mut Host, line: &str) -> Result<String, AllocError
     ensures { (setting : Setting) (past : List Event) → IsHostAfter setting host.old past
         → IsStep (operator_step setting past (codes "work" ∷ words_of line.now)) past result (IsHostAfter setting host.new) }
 {
-    if words::first_word(line).is_empty() {
+    let name = words::first_word(line);
+    if name.is_empty() {
         return complete_all(alloc, host);
+    }
+    if is_name(name.as_bytes()) && words::first_word(words::behind_first_word(line)).is_empty() {
+        return complete_tenant(alloc, host, name);
     }
     reply_line(alloc, "op", "err bad-command")
 }
@@ -146,6 +151,18 @@ fn complete_all(alloc: Global, host: &mut Host) -> Result<String, AllocError>
         → IsStep (work_step (outstanding_after setting past)) past result (IsHostAfter setting host.new) }
 {
     let number = host.complete_all();
+    format!(in alloc; "op ok work {number}\n")
+}
+
+// Runs and completes the outstanding jobs of the tenant of this name, and says how many they were.
+fn complete_tenant(alloc: Global, host: &mut Host, name: &str) -> Result<String, AllocError>
+    ensures { (setting : Setting) (past : List Event) → IsHostAfter setting host.old past
+        → IsStep (work_step_of setting past name.now) past result (IsHostAfter setting host.new) }
+{
+    let Some(tenant) = host.config().place_of(name) else {
+        return reply_line(alloc, "op", "err who");
+    };
+    let number = host.complete_tenant(tenant);
     format!(in alloc; "op ok work {number}\n")
 }
 

@@ -80,6 +80,20 @@ fn completion_of_another_host_is_late(rt: HostRuntime) -> Result<(), Fail> {
 }
 
 #[test]
+fn jobs_of_one_tenant(rt: HostRuntime) -> Result<(), Fail> {
+    let mut host = adding(rt.alloc())?;
+    run_adder(rt.alloc(), &mut host, 1)?;
+    assert_eq!(rt; host.tick(&[5]).is_ok(), true);
+    if host.config().tenants.as_slice().len() < 2 {
+        return Err(Fail::from("two tenants"));
+    }
+    assert_eq!(rt; host.complete_tenant(1), 1);
+    assert_eq!(rt; host.outstanding(), 1);
+    assert_eq!(rt; host.complete_all(), 1);
+    Ok(())
+}
+
+#[test]
 fn last_instant(rt: HostRuntime) -> Result<(), Fail> {
     let config = built_in(rt.alloc())?;
     let mut host = Host::new(rt.alloc(), &config, u64::MAX - 1)?;

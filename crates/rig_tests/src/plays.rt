@@ -9,6 +9,7 @@ use rig_config::built_in;
 use std::alloc::{AllocError, Global};
 use std::test::Fail;
 use tenant_lines::commands::Command;
+use tenant_lines::ports::PortName;
 use tenant_lines::texts::Text;
 use tenant_state::jobs::JobId;
 
@@ -19,6 +20,10 @@ fn load(alloc: Global) -> Result<Event, AllocError> {
 
 fn tick(alloc: Global, value: i64) -> Result<Event, AllocError> {
     Ok(Event::Tick(List::from_vec(Vec::from_slice(alloc, &[value])?)))
+}
+
+fn show_port(name: Name) -> Event {
+    Event::Own(0, Command::ShowPort(PortName { task: None, name }))
 }
 
 // An overrun at instant 2, a new start, a release at instant 3 and the completion of the release at this instant.
@@ -41,7 +46,7 @@ fn overrun_and_completion(alloc: Global, release: u64) -> Result<Vec<Event>, Fai
     }))?;
     events.push(tick(alloc, 1)?)?;
     events.push(tick(alloc, 1)?)?;
-    events.push(Event::Own(0, Command::ShowPort(port)))?;
+    events.push(show_port(port))?;
     Ok(events)
 }
 
@@ -61,7 +66,7 @@ fn release_has_its_inputs(rt: HostRuntime) -> Result<(), Fail> {
         task,
     }))?;
     events.push(tick(rt.alloc(), 9)?)?;
-    events.push(Event::Own(0, Command::ShowPort(port)))?;
+    events.push(show_port(port))?;
     let Ok(texts) = play(rt.alloc(), &config, events.as_slice()) else {
         return Err(Fail::from("a legal list"));
     };

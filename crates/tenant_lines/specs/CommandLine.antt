@@ -1,18 +1,54 @@
 -- The command that a line spells.
-use Rattle.std.specs.Prelude.{ℕ, if◌then◌else◌, List, [], ◌∷◌, drop, Option, Some, None, codes, ◌&&◌}
+use Rattle.std.specs.Prelude.{ℕ, Bool, ◌&&◌, ◌==◌, if◌then◌else◌, List, [], ◌∷◌, drop, Option, Some, None, codes}
+use Rattle.std.specs.List.{before_first, after_first}
+use Rattle.std.specs.Option.{option_and_then}
 use Rattle.giotto_tasks.specs.Names.{same_name}
 use Rattle.giotto_text.specs.Bytes.{is_name}
 use Rattle.tenant_lines.specs.declared.commands.Command.{Command}
-use Rattle.tenant_lines.specs.declared.commands.Command.TheVariants.{Load, Start, ShowPort}
+use Rattle.tenant_lines.specs.declared.commands.Command.TheVariants.{Load, Start, Stop, ShowMode, ShowPort, ShowAll}
+use Rattle.tenant_lines.specs.declared.ports.PortName.{PortName}
 use Rattle.tenant_lines.specs.Words.{words_of, first_word_of, behind_first_word}
 
--- "start" or "show port NAME"
+abbrev pub is_dot : ℕ → Bool
+is_dot c = c == 46
+
+-- TASK and NAME, as the name of a port
+abbrev pub own_port_of : List ℕ → List ℕ → Option PortName
+own_port_of t x = if is_name t && is_name x then Some (record { task = Some t; name = x }) else None
+
+-- a word as the name of a port: NAME, or TASK.NAME, cut at its first dot
+abbrev pub port_of_word : List ℕ → Option PortName
+port_of_word w =
+    if is_name w then Some (record { task = None; name = w })
+    else own_port_of (before_first is_dot w) (after_first is_dot w)
+
+-- the command, where no word stands behind it
+abbrev pub alone : Command → List (List ℕ) → Option Command
+alone c [] = Some c
+alone c (w ∷ ws) = None
+
+-- behind "show port": the name of a port
+abbrev pub port_shown_by : List (List ℕ) → Option Command
+port_shown_by [] = None
+port_shown_by (w ∷ ws) = option_and_then (λ x. alone (ShowPort x) ws) (port_of_word w)
+
+-- behind "show": "mode", "all", or "port" and the name of a port
+abbrev pub shown_by : List (List ℕ) → Option Command
+shown_by [] = None
+shown_by (w ∷ ws) =
+    if same_name w (codes "mode") then alone ShowMode ws
+    else if same_name w (codes "all") then alone ShowAll ws
+    else if same_name w (codes "port") then port_shown_by ws
+    else None
+
+-- "start", "stop", "show mode", "show all", "show port NAME" or "show port TASK.NAME"
 abbrev pub command_of_words : List (List ℕ) → Option Command
 command_of_words [] = None
-command_of_words (w ∷ []) = if same_name w (codes "start") then Some Start else None
-command_of_words (v ∷ w ∷ []) = None
-command_of_words (v ∷ w ∷ x ∷ []) = if same_name v (codes "show") && same_name w (codes "port") && is_name x then Some (ShowPort x) else None
-command_of_words (v ∷ w ∷ x ∷ y ∷ ws) = None
+command_of_words (w ∷ ws) =
+    if same_name w (codes "start") then alone Start ws
+    else if same_name w (codes "stop") then alone Stop ws
+    else if same_name w (codes "show") then shown_by ws
+    else None
 
 -- "load TEXT", where the text is all that follows the one blank behind the word; or the other commands by their words
 abbrev pub command_of_line : List ℕ → Option Command

@@ -1,12 +1,19 @@
 -- The text of each reply.
 use Rattle.std.specs.Prelude.{ℕ, List, ◌++◌, codes}
 use Rattle.std.specs.Fmt.{decimal, signed_decimal}
+use Rattle.std.specs.List.{flat_map}
+use Rattle.std.specs.Option.{option_map_or}
+use Rattle.giotto_text.specs.PortNames.{own_port}
+use Rattle.tenant_lines.specs.declared.ports.PortName.{PortName}
+use Rattle.tenant_lines.specs.declared.ports.PortValue.{PortValue}
 use Rattle.tenant_lines.specs.declared.replies.Budget.{Budget}
 use Rattle.tenant_lines.specs.declared.replies.Budget.TheVariants.{Bytes, Ports, Tasks, Modes, Steps, Lines, Offers, Binds}
 use Rattle.tenant_lines.specs.declared.replies.Refusal.{Refusal}
-use Rattle.tenant_lines.specs.declared.replies.Refusal.TheVariants.{BadCommand, Syntax, TooDeep, TooMany, Rule, Running, NotLoaded, NoPort, OverBudget, Memory}
+use Rattle.tenant_lines.specs.declared.replies.Refusal.TheVariants.{BadCommand, Syntax, TooDeep, TooMany, Rule, Running, NotRunning, NotLoaded, NoPort, OverBudget, Memory}
 use Rattle.tenant_lines.specs.declared.replies.Reply.{Reply}
-use Rattle.tenant_lines.specs.declared.replies.Reply.TheVariants.{Loaded, Started, Port, Refused}
+use Rattle.tenant_lines.specs.declared.replies.Reply.TheVariants.{Loaded, Started, Stopped, Mode, Port, All, Refused}
+use Rattle.tenant_lines.specs.declared.replies.Status.{Status}
+use Rattle.tenant_lines.specs.declared.replies.Status.TheVariants as status
 
 -- the word of a budget in a reply
 abbrev pub word_of_budget : Budget → List ℕ
@@ -27,14 +34,34 @@ text_of_refusal TooDeep = codes "syntax deep"
 text_of_refusal TooMany = codes "syntax many"
 text_of_refusal (Rule n) = codes "rule " ++ decimal n
 text_of_refusal Running = codes "running"
+text_of_refusal NotRunning = codes "not-running"
 text_of_refusal NotLoaded = codes "not-loaded"
 text_of_refusal NoPort = codes "no-port"
 text_of_refusal (OverBudget b) = codes "budget " ++ word_of_budget b
 text_of_refusal Memory = codes "memory"
 
+-- the name of a port as it is shown: NAME, or TASK.NAME
+abbrev pub text_of_port : PortName → List ℕ
+text_of_port x = option_map_or (λ t. own_port t x.name) x.task x.name
+
+-- " P=V"
+abbrev pub text_of_value : PortValue → List ℕ
+text_of_value v = codes " " ++ (text_of_port v.port ++ (codes "=" ++ signed_decimal v.value))
+
+-- what stands behind "ok mode "
+abbrev pub text_of_status : Status → List ℕ
+text_of_status status.Empty = codes "empty"
+text_of_status (status.Loaded m) = codes "loaded " ++ m
+text_of_status (status.Running m x) = codes "running " ++ (m ++ (codes " " ++ decimal x))
+text_of_status status.StoppedAsked = codes "stopped asked"
+text_of_status (status.StoppedOverrun t) = codes "stopped overrun " ++ t
+
 -- the text of a reply: "ok ..", or "err " and why
 abbrev pub text_of_reply : Reply → List ℕ
 text_of_reply Loaded = codes "ok load"
 text_of_reply Started = codes "ok start"
-text_of_reply (Port x z) = codes "ok port " ++ (x ++ (codes " " ++ signed_decimal z))
+text_of_reply Stopped = codes "ok stop"
+text_of_reply (Mode s) = codes "ok mode " ++ text_of_status s
+text_of_reply (Port v) = codes "ok port " ++ (text_of_port v.port ++ (codes " " ++ signed_decimal v.value))
+text_of_reply (All vs) = codes "ok all" ++ flat_map text_of_value vs
 text_of_reply (Refused r) = codes "err " ++ text_of_refusal r

@@ -1,10 +1,12 @@
 //! From the text of a line to a command.
 
-ghost use Rattle.std.specs.Prelude.{◌≡◌, ◌∷◌, drop, codes, IfOk};
-ghost use Rattle.tenant_lines.specs.CommandLine.{command_of_words, command_of_line};
+ghost use Rattle.std.specs.Prelude.{◌≡◌, drop, IfOk, if◌then◌else◌, Some, None};
+ghost use Rattle.giotto_text.specs.Bytes.{is_name};
+ghost use Rattle.tenant_lines.specs.CommandLine.{alone, command_of_words, command_of_line, own_port_of, port_of_word, port_shown_by, shown_by};
 ghost use Rattle.tenant_lines.specs.Words.{words_of, behind_first_word};
 
 use crate::commands::Command;
+use crate::ports::PortName;
 use crate::texts::Text;
 use crate::words::{behind_first_word, first_word};
 use giotto_tasks::names::Name;
@@ -23,7 +25,8 @@ pub enum LineFault {
     Memory,
 }
 
-/// The command of a line, without the tenant's name: `load TEXT`, `start` or `show port NAME`.
+/// The command of a line, without the tenant's name: `load TEXT`, `start`, `stop`, `show mode`, `show all`, `show port NAME` or
+/// `show port TASK.NAME`.
 ///
 /// The text of `load` is all that follows the one blank behind the word; it alone takes memory. Words of the others are
 /// separated by one or more blanks.
@@ -50,39 +53,76 @@ fn text_behind(line: &str) -> &str
     if rest.is_empty() { rest } else { &rest[1..] }
 }
 
-// `start` or `show port NAME`
+// A command of words alone.
 fn command_of_words(line: &str) -> Option<Command>
     ensures { result ≡ command_of_words (words_of line.now) }
 {
     let rest = behind_first_word(line);
     match first_word(line) {
-        "start" => start(rest),
+        "start" => alone(Command::Start, rest),
+        "stop" => alone(Command::Stop, rest),
         "show" => show(rest),
         _ => None,
     }
 }
 
-// `start`, where no word stands behind it.
-fn start(rest: &str) -> Option<Command>
-    ensures { result ≡ command_of_words (codes "start" ∷ words_of rest.now) }
+// The command, where no word stands behind it.
+fn alone(command: Command, rest: &str) -> Option<Command>
+    ensures { result ≡ alone command (words_of rest.now) }
 {
-    first_word(rest).is_empty().then_some(Command::Start)
+    first_word(rest).is_empty().then_some(command)
 }
 
-// `show`, where `port NAME` stands behind it.
+// What stands behind `show`.
 fn show(rest: &str) -> Option<Command>
-    ensures { result ≡ command_of_words (codes "show" ∷ words_of rest.now) }
+    ensures { result ≡ shown_by (words_of rest.now) }
 {
-    if first_word(rest) != "port" {
-        return None;
+    let behind = behind_first_word(rest);
+    match first_word(rest) {
+        "mode" => alone(Command::ShowMode, behind),
+        "all" => alone(Command::ShowAll, behind),
+        "port" => show_port(behind),
+        _ => None,
     }
-    let rest = behind_first_word(rest);
-    let word = first_word(rest);
+}
+
+// What stands behind `show port`.
+fn show_port(rest: &str) -> Option<Command>
+    ensures { result ≡ port_shown_by (words_of rest.now) }
+{
+    let port = port_of_word(first_word(rest))?;
+    alone(Command::ShowPort(port), behind_first_word(rest))
+}
+
+// A port's name: NAME, or TASK.NAME.
+fn port_of_word(word: &str) -> Option<PortName>
+    ensures { result ≡ port_of_word word.now }
+{
+    match word.split_once('.') {
+        Some((task, name)) => own_port_of(task, name),
+        None => Some(PortName {
+            task: None,
+            name: name_of_word(word)?,
+        }),
+    }
+}
+
+// The name of a task's port.
+fn own_port_of(task: &str, name: &str) -> Option<PortName>
+    ensures { result ≡ own_port_of task.now name.now }
+{
+    Some(PortName {
+        task: Some(name_of_word(task)?),
+        name: name_of_word(name)?,
+    })
+}
+
+// The name that a word is, if it has the shape of one.
+fn name_of_word(word: &str) -> Option<Name>
+    ensures { result ≡ (if is_name word.now then Some word.now else None) }
+{
     if !is_name(word.as_bytes()) {
         return None;
     }
-    if !first_word(behind_first_word(rest)).is_empty() {
-        return None;
-    }
-    Some(Command::ShowPort(Name::new(word)?))
+    Name::new(word)
 }

@@ -2,8 +2,8 @@
 
 ghost use Rattle.std.specs.Prelude.{◌≡◌, IfOk};
 
+use crate::ports::PortName;
 use crate::texts::Text;
-use giotto_tasks::names::Name;
 use std::alloc::{AllocError, Global};
 
 /// A command, one variant for each form.
@@ -13,8 +13,14 @@ pub enum Command {
     Load(Text),
     /// `start`: runs the program from its beginning.
     Start,
-    /// `show port NAME`: the value of a sensor, an actuator or an output.
-    ShowPort(Name),
+    /// `stop`: stops the running program.
+    Stop,
+    /// `show mode`: what the tenant is doing.
+    ShowMode,
+    /// `show port NAME` or `show port TASK.NAME`: the value of a port.
+    ShowPort(PortName),
+    /// `show all`: the value of every port.
+    ShowAll,
 }
 
 impl Command {
@@ -28,7 +34,10 @@ impl Command {
         Ok(match self {
             Command::Load(text) => Command::Load(text.copy(alloc)?),
             Command::Start => Command::Start,
-            Command::ShowPort(name) => Command::ShowPort(name.copy()),
+            Command::Stop => Command::Stop,
+            Command::ShowMode => Command::ShowMode,
+            Command::ShowPort(port) => Command::ShowPort(port.copy()),
+            Command::ShowAll => Command::ShowAll,
         })
     }
 }

@@ -6,11 +6,13 @@
 //! ```
 //!
 //! [`words`] cuts a line at its blanks, [`command_lines`] tells which command it spells, [`commands`] and [`replies`] have
-//! the commands and their replies, each with its text. `specs/Words.antt`, `CommandLine.antt` and `Replies.antt` define them.
+//! the commands and their replies, each with its text, and [`ports`] the ports in both. `specs/Words.antt`,
+//! `CommandLine.antt` and `Replies.antt` define them.
 #![tactic(auto)]
 
 pub mod command_lines;
 pub mod commands;
+pub mod ports;
 pub mod replies;
 pub mod texts;
 pub mod words;

@@ -1,8 +1,12 @@
 //! The replies to a tenant's commands.
 
-ghost use Rattle.std.specs.Prelude.{◌≡◌, IfOk, string_bytes};
-ghost use Rattle.tenant_lines.specs.Replies.{word_of_budget, text_of_refusal, text_of_reply};
+ghost use Rattle.std.specs.Prelude.{◌≡◌, ◌++◌, codes, IfOk, string_bytes};
+ghost use Rattle.std.specs.Fmt.{signed_decimal};
+ghost use Rattle.std.specs.List.{flat_map};
+ghost use Rattle.tenant_lines.specs.Replies.{word_of_budget, text_of_port, text_of_refusal, text_of_reply, text_of_status, text_of_value};
 
+use crate::ports::PortValue;
+use giotto_tasks::lists::List;
 use giotto_tasks::names::Name;
 use std::alloc::{AllocError, Global};
 
@@ -34,6 +38,8 @@ pub enum Refusal {
     Rule(usize),
     /// `err running`: the tenant is running.
     Running,
+    /// `err not-running`: the tenant isn't running.
+    NotRunning,
     /// `err not-loaded`: the tenant has no program.
     NotLoaded,
     /// `err no-port`: the program has no such port.
@@ -44,6 +50,21 @@ pub enum Refusal {
     Memory,
 }
 
+/// What a tenant is doing, as `show mode` tells it.
+#[derive(Drop)]
+pub enum Status {
+    /// `empty`: it has no program.
+    Empty,
+    /// `loaded M`: its program hasn't been started, and will start in this mode.
+    Loaded(Name),
+    /// `running M X`: it is in this mode, and this is the mode time of its next instant, in ticks.
+    Running(Name, u64),
+    /// `stopped asked`: it was stopped by its own command.
+    StoppedAsked,
+    /// `stopped overrun T`: it was stopped since this task was due and not completed.
+    StoppedOverrun(Name),
+}
+
 /// The reply to a command.
 #[derive(Drop)]
 pub enum Reply {
@@ -51,24 +72,61 @@ pub enum Reply {
     Loaded,
     /// `ok start`
     Started,
-    /// `ok port NAME V`
-    Port(Name, i64),
+    /// `ok stop`
+    Stopped,
+    /// `ok mode ..`
+    Mode(Status),
+    /// `ok port P V`
+    Port(PortValue),
+    /// `ok all`, and for each port ` P=V`
+    All(List<PortValue>),
     /// `err ..`: nothing has changed.
     Refused(Refusal),
 }
 
-impl Reply {
-    /// An equal reply. Takes no memory.
-    pub fn copy(&self) -> Reply
+impl Status {
+    /// An equal status.
+    pub fn copy(&self) -> Status
         ensures { result ≡ self.now }
     {
         match self {
-            Reply::Loaded => Reply::Loaded,
-            Reply::Started => Reply::Started,
-            Reply::Port(name, value) => Reply::Port(name.copy(), *value),
-            Reply::Refused(refusal) => Reply::Refused(*refusal),
+            Status::Empty => Status::Empty,
+            Status::Loaded(mode) => Status::Loaded(mode.copy()),
+            Status::Running(mode, time) => Status::Running(mode.copy(), *time),
+            Status::StoppedAsked => Status::StoppedAsked,
+            Status::StoppedOverrun(task) => Status::StoppedOverrun(task.copy()),
         }
     }
+}
+
+impl Reply {
+    /// An equal reply. Takes memory for the ports of `show all` alone.
+    ///
+    /// # Errors
+    /// Want of memory.
+    pub fn copy(&self, alloc: Global) -> Result<Reply, AllocError>
+        ensures { IfOk result (λ r. r ≡ self.now) }
+    {
+        Ok(match self {
+            Reply::Loaded => Reply::Loaded,
+            Reply::Started => Reply::Started,
+            Reply::Stopped => Reply::Stopped,
+            Reply::Mode(status) => Reply::Mode(status.copy()),
+            Reply::Port(port) => Reply::Port(port.copy()),
+            Reply::All(ports) => Reply::All(copy_of(alloc, ports.as_slice())?),
+            Reply::Refused(refusal) => Reply::Refused(*refusal),
+        })
+    }
+}
+
+fn copy_of(alloc: Global, ports: &[PortValue]) -> Result<List<PortValue>, AllocError>
+    ensures { IfOk result (λ copy. copy ≡ ports.now) }
+{
+    let mut copy = Vec::new(alloc);
+    for port in ports {
+        copy.push(port.copy())?;
+    }
+    Ok(List::from_vec(copy))
 }
 
 impl Budget {
@@ -99,12 +157,55 @@ pub fn print_reply(alloc: Global, reply: &Reply) -> Result<String, AllocError>
     match reply {
         Reply::Loaded => String::from_str(alloc, "ok load"),
         Reply::Started => String::from_str(alloc, "ok start"),
-        Reply::Port(name, value) => format!(in alloc; "ok port {} {}", name.as_str(), value),
+        Reply::Stopped => String::from_str(alloc, "ok stop"),
+        Reply::Mode(status) => print_status(alloc, status),
+        Reply::Port(port) => print_port(alloc, port),
+        Reply::All(ports) => print_all(alloc, ports.as_slice()),
         Reply::Refused(refusal) => {
             let why = print_refusal(alloc, *refusal)?;
             format!(in alloc; "err {}", why.as_str())
         }
     }
+}
+
+// The text of the reply to `show mode`.
+fn print_status(alloc: Global, status: &Status) -> Result<String, AllocError>
+    ensures { IfOk result (λ text. string_bytes text ≡ codes "ok mode " ++ text_of_status status.now) }
+{
+    match status {
+        Status::Empty => String::from_str(alloc, "ok mode empty"),
+        Status::Loaded(mode) => format!(in alloc; "ok mode loaded {}", mode.as_str()),
+        Status::Running(mode, time) => format!(in alloc;
+            "ok mode running {} {}",
+            mode.as_str(),
+            time
+        ),
+        Status::StoppedAsked => String::from_str(alloc, "ok mode stopped asked"),
+        Status::StoppedOverrun(task) => {
+            format!(in alloc; "ok mode stopped overrun {}", task.as_str())
+        }
+    }
+}
+
+// The text of the reply to `show port`.
+fn print_port(alloc: Global, port: &PortValue) -> Result<String, AllocError>
+    ensures { IfOk result (λ text. string_bytes text ≡ codes "ok port " ++ (text_of_port port.now.port ++ (codes " " ++ signed_decimal port.now.value))) }
+{
+    let name = port.port.as_text(alloc)?;
+    format!(in alloc; "ok port {} {}", name.as_str(), port.value)
+}
+
+// The text of the reply to `show all`.
+fn print_all(alloc: Global, ports: &[PortValue]) -> Result<String, AllocError>
+    ensures { IfOk result (λ text. string_bytes text ≡ codes "ok all" ++ flat_map text_of_value ports.now) }
+{
+    let mut text = String::from_str(alloc, "ok all")?;
+    for port in ports {
+        let name = port.port.as_text(alloc)?;
+        let one = format!(in alloc; " {}={}", name.as_str(), port.value)?;
+        text.push_str(one.as_str())?;
+    }
+    Ok(text)
 }
 
 /// The text of a refusal, without the word `err`.
@@ -121,6 +222,7 @@ pub fn print_refusal(alloc: Global, refusal: Refusal) -> Result<String, AllocErr
         Refusal::TooMany => String::from_str(alloc, "syntax many"),
         Refusal::Rule(number) => format!(in alloc; "rule {number}"),
         Refusal::Running => String::from_str(alloc, "running"),
+        Refusal::NotRunning => String::from_str(alloc, "not-running"),
         Refusal::NotLoaded => String::from_str(alloc, "not-loaded"),
         Refusal::NoPort => String::from_str(alloc, "no-port"),
         Refusal::OverBudget(budget) => format!(in alloc; "budget {}", budget.as_str()),

@@ -1,7 +1,8 @@
 -- The values with which a program's ports begin, in the order of their slots.
-use Rattle.std.proofs.Common.{◌≡◌, List, [], ◌∷◌, ◌++◌, map, length, ℤ, pos, refl, sym, ap, ◌∙◌, arith, append_assoc}
+use Rattle.std.proofs.Common.{◌≡◌, ℕ, ◌+◌, ◌<◌, List, [], ◌∷◌, ◌++◌, map, length, take, drop, get_or, ℤ, pos, refl, sym, ap, ◌∙◌, arith, append_assoc, append-nil}
 use Rattle.std.specs.List.{flat_map, zip}
-use Rattle.std.proofs.lemmas.List.{map-append, length-map}
+use Rattle.std.proofs.lemmas.List.{map-append, length-map, length-append, take_more, drop_more}
+use Rattle.std.proofs.lemmas.List.Concat.{flat_map-append}
 use Rattle.giotto_tasks.specs.declared.names.Name.{Name}
 use Rattle.giotto_tasks.specs.Names.{Valuation, names_in}
 use Rattle.giotto_text.specs.PortNames.{own_port, own_ports}
@@ -52,6 +53,19 @@ zipped_values [] (z ∷ zs) e = absurd (omega (arith, e))
 zipped_values (x ∷ xs) [] e = absurd (omega (arith, e))
 zipped_values (x ∷ xs) (z ∷ zs) e = ap (λ ws. z ∷ ws) (zipped_values xs zs (omega (arith, e)))
 
+abbrev pub values_of_task : Task → List ℤ
+values_of_task t = values_in (initial_of_task (task_of t))
+
+-- those of a task of the code, and how many they are
+pub task_values : (t : Task) → values_of_task t ≡ map (λ (x : Name). pos 0) (task_of t).inputs ++ t.states
+task_values t = own_values (task_of t) ∙ ap (λ zs. map (λ (x : Name). pos 0) (task_of t).inputs ++ zs) (zipped_values _ t.states t.each_state)
+
+pub task_long : (t : Task) → length (initial_of_task (task_of t)) ≡ length (task_of t).inputs + length t.states
+task_long t =
+    let zeros = map (λ (x : Name). pos 0) (task_of t).inputs in
+    let long = length-append zeros t.states in
+    omega (arith, length-map (initial_of_task (task_of t)) (λ (v : Name × ℤ). v.1), ap length (task_values t), long, length-map (task_of t).inputs (λ (x : Name). pos 0))
+
 -- the map for which the values of all ports stand
 pub names_are : (p : GiottoProgram) → port_names p ≡ names_in (initial_ports p)
 names_are p =
@@ -89,9 +103,6 @@ values_long p values e =
     let names = ap length (names_are p) in
     omega (arith, ap length e, length-map (initial_ports p) (λ (v : Name × ℤ). v.1), names, length-map (initial_ports p) (λ (v : Name × ℤ). v.0), length-map (ports_of p) shown_name)
 
-abbrev pub values_of_task : Task → List ℤ
-values_of_task t = values_in (initial_of_task (task_of t))
-
 -- the values of all ports, by the lists that the code has
 pub all_values : (p : GiottoProgram) (ss : List Sensor) (us : List Actuator) (os : List Output) (ts : List Task) → map sensor_of ss ≡ p.sensors → map actuator_of us ≡ p.actuators → map output_of os ≡ p.outputs
     → map task_of ts ≡ p.tasks
@@ -125,3 +136,26 @@ all_values p ss us os ts s a o t =
         ∙ (λ k. valued (λ (s : SensorDeclaration). s.name) (λ (s : SensorDeclaration). s.initial) p.sensors k
         ++ (valued-append (map (λ (a : ActuatorDeclaration). (a.name, a.initial)) p.actuators) (map (λ (o : OutputDeclaration). (o.name, o.initial)) p.outputs)
         ∙ (λ j. valued (λ (a : ActuatorDeclaration). a.name) (λ (a : ActuatorDeclaration). a.initial) p.actuators j ++ valued (λ (o : OutputDeclaration). o.name) (λ (o : OutputDeclaration). o.initial) p.outputs j)) k)
+
+-- and how many they are
+pub all_counted : (p : GiottoProgram) (ss : List Sensor) (us : List Actuator) (os : List Output) (ts : List Task) → map sensor_of ss ≡ p.sensors → map actuator_of us ≡ p.actuators → map output_of os ≡ p.outputs
+    → map task_of ts ≡ p.tasks → length ss + length us + length os + length (flat_map values_of_task ts) ≡ slots_of p
+all_counted p ss us os ts s a o t =
+    let sensors = map (λ (s : Sensor). s.initial) ss in
+    let actuators = map (λ (a : Actuator). a.initial) us in
+    let outputs = map (λ (o : Output). o.initial) os in
+    let all = values_long p _ (all_values p ss us os ts s a o t) in
+    let first = length-append sensors actuators in
+    let second = length-append (sensors ++ actuators) outputs in
+    let third = length-append ((sensors ++ actuators) ++ outputs) (flat_map values_of_task ts) in
+    omega (arith, all, first, second, third, length-map ss (λ (s : Sensor). s.initial), length-map us (λ (a : Actuator). a.initial), length-map os (λ (o : Output). o.initial))
+
+-- the next task's are behind those of the tasks before it, and before those of the tasks after it
+pub next_task : (ts : List Task) (i : ℕ) (t : Task) → i < length ts → t ≡ get_or ts i t
+    → (flat_map values_of_task (take (i + 1) ts) ≡ flat_map values_of_task (take i ts) ++ values_of_task t)
+    × (flat_map values_of_task (drop i ts) ≡ values_of_task t ++ flat_map values_of_task (drop (i + 1) ts))
+next_task ts i t lt is = (
+  ap (flat_map values_of_task) (take_more ts i t lt ∙ ap (λ u. take i ts ++ u ∷ []) (sym is)) ∙ flat_map-append values_of_task (take i ts) (t ∷ [])
+      ∙ ap (λ zs. flat_map values_of_task (take i ts) ++ zs) (append-nil (values_of_task t)),
+  ap (flat_map values_of_task) (drop_more ts i t lt ∙ ap (λ u. u ∷ drop (i + 1) ts) (sym is)),
+)

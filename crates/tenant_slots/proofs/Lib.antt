@@ -5,7 +5,9 @@ pub mod PortRows
 pub mod Quiet
 pub mod Readings
 pub mod SensedSlots
-pub mod Shown
+pub mod SwitchRows
+pub mod TakenSwitches
 pub mod TaskValues
 pub mod Updates
+pub mod WrittenRanges
 pub mod WrittenSlots

@@ -11,12 +11,13 @@ use Rattle.giotto_tasks.specs.Sound.{all_different}
 use Rattle.giotto_tasks.proofs.ListLemmas.{found_has, some_same}
 use Rattle.giotto_tasks.proofs.NameLemmas.{same_name_is, same_name_self, all_different-append}
 use Rattle.giotto_tasks.proofs.TestLemmas.{same_answers}
-use Rattle.giotto_text.specs.Program.{TaskDeclaration, ActuatorUpdate, TaskInvocation, ModeDeclaration, GiottoProgram}
+use Rattle.giotto_text.specs.Program.{TaskDeclaration, ActuatorUpdate, ModeSwitch, TaskInvocation, ModeDeclaration, GiottoProgram}
 use Rattle.giotto_rules.specs.Declarations.{sensor_names, actuator_names, output_names, task_names, mode_names, task_of, mode_of}
-use Rattle.giotto_check.specs.Facts.{UpdateFits, InvocationFits, ModeFits, TaskFits, ProgramFits}
+use Rattle.giotto_check.specs.Facts.{UpdateFits, SwitchFits, InvocationFits, ModeFits, TaskFits, ProgramFits}
 use Rattle.giotto_check.specs.Slots.{is_port, ports_of, slot_of, slots_of}
-use Rattle.giotto_check.specs.Timetables.{AreEach, IsUpdate, IsInvocation, AreTaskSlots, place_of_task}
+use Rattle.giotto_check.specs.Timetables.{AreEach, IsUpdate, IsExit, IsInvocation, AreTaskSlots, place_of_task}
 use Rattle.giotto_check.specs.declared.timetables.SlotUpdate.{SlotUpdate}
+use Rattle.giotto_check.specs.declared.timetables.SlotExit.{SlotExit}
 use Rattle.giotto_check.specs.declared.timetables.SlotInvocation.{SlotInvocation}
 use Rattle.giotto_check.specs.declared.timetables.TaskSlots.{TaskSlots}
 use Rattle.giotto_check.proofs.EachLemmas.{each_at, each_long}
@@ -113,11 +114,17 @@ module _ (p : GiottoProgram) (fits : ProgramFits p) where
   pub update_interval : (m : ModeDeclaration) (u : ActuatorUpdate) (e : SlotUpdate) → UpdateFits p m u → IsUpdate p m u e → 0 < e.interval
   update_interval m u e f is = subst (λ n. 0 < n) (sym is.interval) f.frequency.interval
 
+  pub exit_interval : (m : ModeDeclaration) (s : ModeSwitch) (e : SlotExit) → SwitchFits p m s → IsExit p m s e → 0 < e.interval
+  exit_interval m s e f is = subst (λ n. 0 < n) (sym is.interval) f.frequency.interval
+
   pub invocation_interval : (m : ModeDeclaration) (i : TaskInvocation) (e : SlotInvocation) → InvocationFits p m i → IsInvocation p m i e → 0 < e.interval
   invocation_interval m i e f is = subst (λ n. 0 < n) (sym is.interval) f.frequency.interval
 
   pub update_due : (time : ℕ) (m : ModeDeclaration) (u : ActuatorUpdate) (e : SlotUpdate) → IsUpdate p m u e → (time % e.interval == 0) ≡ is_due_at time m u.frequency
   update_due time m u e is = ap (λ n. time % n == 0) is.interval
+
+  pub exit_due : (time : ℕ) (m : ModeDeclaration) (s : ModeSwitch) (e : SlotExit) → IsExit p m s e → (time % e.interval == 0) ≡ is_due_at time m s.frequency
+  exit_due time m s e is = ap (λ n. time % n == 0) is.interval
 
   pub invocation_due : (time : ℕ) (m : ModeDeclaration) (i : TaskInvocation) (e : SlotInvocation) → IsInvocation p m i e → (time % e.interval == 0) ≡ is_due_at time m i.frequency
   invocation_due time m i e is = ap (λ n. time % n == 0) is.interval
@@ -130,6 +137,15 @@ module _ (p : GiottoProgram) (fits : ProgramFits p) where
       along [] (e ∷ es) all each = absurd each
       along (u ∷ us) [] all each = absurd each
       along (u ∷ us) (e ∷ es) all each = (update_interval m u e all.0 each.0, along us es all.1 each.1)
+
+  pub exit_intervals : (m : ModeDeclaration) → ModeFits p m → (es : List SlotExit) → AreEach (IsExit p m) m.switches es → AllByRecursion (λ (e : SlotExit). 0 < e.interval) es
+  exit_intervals m f es each = along m.switches es f.switches each
+    where
+      along : (ss : List ModeSwitch) (es : List SlotExit) → AllByRecursion (SwitchFits p m) ss → AreEach (IsExit p m) ss es → AllByRecursion (λ (e : SlotExit). 0 < e.interval) es
+      along [] [] all each = tt
+      along [] (e ∷ es) all each = absurd each
+      along (s ∷ ss) [] all each = absurd each
+      along (s ∷ ss) (e ∷ es) all each = (exit_interval m s e all.0 each.0, along ss es all.1 each.1)
 
   pub invocation_intervals : (m : ModeDeclaration) → ModeFits p m → (es : List SlotInvocation) → AreEach (IsInvocation p m) m.invocations es → AllByRecursion (λ (e : SlotInvocation). 0 < e.interval) es
   invocation_intervals m f es each = along m.invocations es f.invocations each

@@ -5,15 +5,16 @@ use Rattle.std.specs.List.{AllByRecursion}
 use Rattle.std.proofs.Math.Nat.{min-le_left, min-le_right}
 use Rattle.std.proofs.lemmas.List.{take_more}
 use Rattle.std.proofs.lemmas.Option.{slice_get_cases}
-use Rattle.giotto_text.specs.Program.{ActuatorUpdate, TaskInvocation, ModeDeclaration, GiottoProgram}
+use Rattle.giotto_text.specs.Program.{ActuatorUpdate, ModeSwitch, TaskInvocation, ModeDeclaration, GiottoProgram}
 use Rattle.giotto_check.specs.Facts.{ProgramFits}
-use Rattle.giotto_check.specs.Timetables.{AreEach, IsUpdate, IsInvocation}
+use Rattle.giotto_check.specs.Timetables.{AreEach, IsUpdate, IsExit, IsInvocation}
 use Rattle.giotto_check.specs.declared.timetables.SlotUpdate.{SlotUpdate}
+use Rattle.giotto_check.specs.declared.timetables.SlotExit.{SlotExit}
 use Rattle.giotto_check.specs.declared.timetables.SlotInvocation.{SlotInvocation}
 use Rattle.giotto_tasks.proofs.ListLemmas.{all_and_one}
 use Rattle.tenant_slots.specs.Due.{is_due_at}
 use Rattle.tenant_slots.specs.Due.{IsQuietUntil}
-use Rattle.tenant_slots.proofs.Numbered.{mode_fits_at, update_due, invocation_due, update_intervals, invocation_intervals}
+use Rattle.tenant_slots.proofs.Numbered.{mode_fits_at, update_due, exit_due, invocation_due, update_intervals, exit_intervals, invocation_intervals}
 
 -- from this time on and before the next
 abbrev pub AreQuiet : {E : Type 0} → (E → ℕ) → List E → ℕ → ℕ → Type 0
@@ -35,10 +36,13 @@ quiet_each R interval due t same (x ∷ xs) [] each quiet = absurd each
 quiet_each R interval due t same (x ∷ xs) (e ∷ es) each quiet = (sym (same x e each.0) ∙ quiet.0, quiet_each R interval due t same xs es each.1 quiet.1)
 
 module _ (p : GiottoProgram) (fits : ProgramFits p) (mode : ℕ) where
-  pub quiet_until : (m : ModeDeclaration) (us : List SlotUpdate) (is : List SlotInvocation) (time next after : ℕ) → AreEach (IsUpdate p m) m.updates us → AreEach (IsInvocation p m) m.invocations is
-      → AreQuiet (λ (e : SlotUpdate). e.interval) us time next → AreQuiet (λ (e : SlotInvocation). e.interval) is time after → after ≤ next → IsQuietUntil m time after
-  quiet_until m us is time next after each_u each_i quiet_u quiet_i le t from before = record {
-    no_update = quiet_each (IsUpdate p m) (λ (e : SlotUpdate). e.interval) (λ (u : ActuatorUpdate). is_due_at t m u.frequency) t (update_due p fits t m) m.updates us each_u (quiet_u t from (omega (arith, before, le)));
+  pub quiet_until : (m : ModeDeclaration) (us : List SlotUpdate) (ss : List SlotExit) (is : List SlotInvocation) (time first second next : ℕ) → AreEach (IsUpdate p m) m.updates us
+      → AreEach (IsExit p m) m.switches ss → AreEach (IsInvocation p m) m.invocations is → AreQuiet (λ (e : SlotUpdate). e.interval) us time first → AreQuiet (λ (e : SlotExit). e.interval) ss time second
+      → AreQuiet (λ (e : SlotInvocation). e.interval) is time next → second ≤ first → next ≤ second → IsQuietUntil m time next
+  quiet_until m us ss is time first second next each_u each_s each_i quiet_u quiet_s quiet_i less least t from before = record {
+    no_update = quiet_each (IsUpdate p m) (λ (e : SlotUpdate). e.interval) (λ (u : ActuatorUpdate). is_due_at t m u.frequency) t (update_due p fits t m) m.updates us each_u
+        (quiet_u t from (omega (arith, before, less, least)));
+    no_switch = quiet_each (IsExit p m) (λ (e : SlotExit). e.interval) (λ (s : ModeSwitch). is_due_at t m s.frequency) t (exit_due p fits t m) m.switches ss each_s (quiet_s t from (omega (arith, before, least)));
     no_invocation = quiet_each (IsInvocation p m) (λ (e : SlotInvocation). e.interval) (λ (i : TaskInvocation). is_due_at t m i.frequency) t (invocation_due p fits t m) m.invocations is each_i (quiet_i t from before);
   }
 
@@ -48,6 +52,12 @@ module _ (p : GiottoProgram) (fits : ProgramFits p) (mode : ℕ) where
   updates_positive es there none = ⊎_elim
       (λ found. update_intervals p fits found.0 (mode_fits_at p fits mode found.0 found.2) es (there found.0 found.2))
       (λ past. subst (AllByRecursion (λ (e : SlotUpdate). 0 < e.interval)) (sym (none past.0)) tt) (slice_get_cases p.modes mode).1
+
+  pub exits_positive : (es : List SlotExit) → ((m : ModeDeclaration) → slice_get p.modes mode ≡ Some m → AreEach (IsExit p m) m.switches es) → (length p.modes ≤ mode → es ≡ [])
+      → AllByRecursion (λ (e : SlotExit). 0 < e.interval) es
+  exits_positive es there none = ⊎_elim
+      (λ found. exit_intervals p fits found.0 (mode_fits_at p fits mode found.0 found.2) es (there found.0 found.2))
+      (λ past. subst (AllByRecursion (λ (e : SlotExit). 0 < e.interval)) (sym (none past.0)) tt) (slice_get_cases p.modes mode).1
 
   pub invocations_positive : (es : List SlotInvocation) → ((m : ModeDeclaration) → slice_get p.modes mode ≡ Some m → AreEach (IsInvocation p m) m.invocations es) → (length p.modes ≤ mode → es ≡ [])
       → AllByRecursion (λ (e : SlotInvocation). 0 < e.interval) es

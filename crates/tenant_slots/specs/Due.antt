@@ -1,7 +1,7 @@
 -- What is due at a mode time.
 use Rattle.std.specs.Prelude.{◌≡◌, ℕ, ◌/◌, ◌%◌, ◌==◌, ◌<◌, ◌≤◌, Bool, false}
 use Rattle.std.specs.List.{AllByRecursion}
-use Rattle.giotto_text.specs.Program.{ActuatorUpdate, TaskInvocation, ModeDeclaration}
+use Rattle.giotto_text.specs.Program.{ActuatorUpdate, ModeSwitch, TaskInvocation, ModeDeclaration}
 
 -- what has frequency w in a mode happens at the mode times that are multiples of P / w
 abbrev pub is_due_at : ℕ → ModeDeclaration → ℕ → Bool
@@ -10,6 +10,7 @@ is_due_at time m w = time % (m.period / w) == 0
 -- nothing of the mode is due at this mode time
 pub record IsQuietAt (m : ModeDeclaration) (time : ℕ) : Type 0 where
   pub no_update : AllByRecursion (λ (u : ActuatorUpdate). is_due_at time m u.frequency ≡ false) m.updates
+  pub no_switch : AllByRecursion (λ (s : ModeSwitch). is_due_at time m s.frequency ≡ false) m.switches
   pub no_invocation : AllByRecursion (λ (i : TaskInvocation). is_due_at time m i.frequency ≡ false) m.invocations
 
 -- nothing of the mode is due from this mode time on, before the next

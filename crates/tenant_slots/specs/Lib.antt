@@ -2,4 +2,5 @@ pub mod Due
 pub mod Places
 pub mod Ports
 pub mod Readings
+pub mod Switches
 pub mod Updates

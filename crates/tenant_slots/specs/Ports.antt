@@ -1,11 +1,13 @@
 -- The ports of a program and their values.
 use Rattle.std.specs.Prelude.{Bool, ℤ, pos, ◌++◌, map, Option, Some, None}
 use Rattle.std.specs.List.{flat_map}
+use Rattle.std.specs.Option.{option_and_then}
 use Rattle.giotto_tasks.specs.declared.names.Name.{Name}
 use Rattle.giotto_tasks.specs.Arithmetic.{is_true}
-use Rattle.giotto_tasks.specs.Names.{Valuation}
+use Rattle.giotto_tasks.specs.Names.{Valuation, value_at}
 use Rattle.giotto_tasks.specs.Syntax.{Expression}
 use Rattle.giotto_tasks.specs.Meaning.{value_of}
+use Rattle.giotto_check.specs.Slots.{shown_name, slot_of}
 use Rattle.giotto_text.specs.PortNames.{own_port, with_values}
 use Rattle.giotto_text.specs.Program.{SensorDeclaration, ActuatorDeclaration, OutputDeclaration, TaskDeclaration, GiottoProgram}
 
@@ -36,3 +38,7 @@ actuators_reset p ports = with_values ports (map (λ (a : ActuatorDeclaration). 
 abbrev pub holds : Option Expression → Valuation → Bool
 holds None ports = Bool.true
 holds (Some e) ports = is_true (value_of e ports)
+
+-- the value of a port, an input or a state of a task where one is named, if the program has the port
+abbrev pub value_of_port : GiottoProgram → Valuation → Option Name → Name → Option ℤ
+value_of_port p ports task x = option_and_then (λ slot. value_at ports (shown_name (record { task = task; name = x }))) (slot_of p task x)

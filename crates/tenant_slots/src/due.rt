@@ -61,6 +61,9 @@ pub fn next_due(checked: &Checked, mode: usize, time: u64) -> u64
     for update in checked.updates(mode) {
         next = next.min(next_multiple(time, update.interval));
     }
+    for exit in checked.exits(mode) {
+        next = next.min(next_multiple(time, exit.interval));
+    }
     for invocation in checked.invocations(mode) {
         next = next.min(next_multiple(time, invocation.interval));
     }

@@ -1,7 +1,7 @@
 //! The values with which a program begins.
 
-ghost use Rattle.std.specs.Prelude.{◌≡◌, ◌++◌, length, map, IfOk, OnOk};
-ghost use Rattle.giotto_check.specs.Slots.{slots_of, valuation_of};
+ghost use Rattle.std.specs.Prelude.{◌≡◌, ◌+◌, ◌≤◌, length, map, IfOk};
+ghost use Rattle.giotto_check.specs.Slots.{slots_of, valuation_of, with_range};
 ghost use Rattle.giotto_text.specs.ProgramTrees.{task_of};
 ghost use Rattle.tenant_slots.specs.Ports.{initial_of_task, initial_ports};
 
@@ -9,6 +9,30 @@ use giotto_check::Checked;
 use giotto_tasks::bodies::Body;
 use giotto_text::programs::Task;
 use std::alloc::{AllocError, Global};
+
+/// Gives each port its initial value. Takes no memory.
+pub fn reset_ports(checked: &Checked, values: &mut [i64])
+    requires { length values.old ≡ slots_of checked.now }
+    ensures { valuation_of checked.now values.new ≡ initial_ports checked.now }
+{
+    let program = checked.program();
+    let mut slot = 0;
+    for sensor in program.sensors() {
+        values[slot] = sensor.initial;
+        slot += 1;
+    }
+    for actuator in program.actuators() {
+        values[slot] = actuator.initial;
+        slot += 1;
+    }
+    for output in program.outputs() {
+        values[slot] = output.initial;
+        slot += 1;
+    }
+    for task in program.tasks() {
+        slot = reset_own(task, slot, values);
+    }
+}
 
 /// The initial value of each port, by its slot.
 ///
@@ -18,33 +42,21 @@ pub fn initial_values(alloc: Global, checked: &Checked) -> Result<Vec<i64>, Allo
     ensures long { IfOk result (λ values. length values.items ≡ slots_of checked.now) }
     ensures ports { IfOk result (λ values. valuation_of checked.now values.items ≡ initial_ports checked.now) }
 {
-    let program = checked.program();
-    let mut values = Vec::new(alloc);
-    for sensor in program.sensors() {
-        values.push(sensor.initial)?;
-    }
-    for actuator in program.actuators() {
-        values.push(actuator.initial)?;
-    }
-    for output in program.outputs() {
-        values.push(output.initial)?;
-    }
-    for task in program.tasks() {
-        add_own(&mut values, task)?;
-    }
+    let mut values = vec![in alloc; 0; checked.slots()]?;
+    reset_ports(checked, values.as_mut_slice());
     Ok(values)
 }
 
-// Adds the initial values of a task's inputs and states.
-fn add_own(values: &mut Vec<i64>, task: &Task) -> Result<(), AllocError>
-    ensures { OnOk result (values.new.items ≡ values.old.items ++ map (λ v. v.1) (initial_of_task (task_of task.now))) }
+// Gives a task's inputs and states their initial values, from a slot on, and tells the slot behind them.
+fn reset_own(task: &Task, first: usize, values: &mut [i64]) -> usize
+    requires { first + length (initial_of_task (task_of task.now)) ≤ length values.old }
+    ensures end { result ≡ first + length (initial_of_task (task_of task.now)) }
+    ensures values { values.new ≡ with_range values.old first (map (λ v. v.1) (initial_of_task (task_of task.now))) }
 {
     let body: &Body = &task.body;
-    for _input in body.inputs.as_slice() {
-        values.push(0)?;
-    }
-    for state in task.states.as_slice() {
-        values.push(*state)?;
-    }
-    Ok(())
+    let states = first + body.inputs.as_slice().len();
+    let end = states + task.states.as_slice().len();
+    values[first..states].fill(0);
+    values[states..end].copy_from_slice(task.states.as_slice());
+    end
 }

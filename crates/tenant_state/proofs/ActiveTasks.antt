@@ -9,17 +9,20 @@ use Rattle.giotto_text.specs.declared.faults.ReadFault.{ReadFault}
 use Rattle.giotto_text.specs.Program.{TaskDeclaration, TaskInvocation, ModeDeclaration, GiottoProgram}
 use Rattle.rig_config.specs.declared.Budgets.{Budgets}
 use Rattle.tenant_lines.specs.declared.commands.Command.{Command}
-use Rattle.tenant_lines.specs.declared.commands.Command.TheVariants.{Load, Start, ShowPort}
+use Rattle.tenant_lines.specs.declared.commands.Command.TheVariants.{Load, Start, Stop, ShowMode, ShowPort, ShowAll}
+use Rattle.tenant_lines.specs.declared.ports.PortName.{PortName}
 use Rattle.tenant_lines.specs.declared.replies.Budget.{Budget}
 use Rattle.giotto_rules.specs.Declarations.{task_of, mode_of}
 use Rattle.giotto_rules.specs.Rules.{first_broken_rule}
-use Rattle.tenant_lines.specs.declared.replies.Refusal.TheVariants.{Rule}
-use Rattle.tenant_state.specs.Row.{ActiveTask, Row, StopReason, overrun, is_running, where_some, in_program, in_mode}
+use Rattle.tenant_lines.specs.declared.replies.Refusal.TheVariants.{NotRunning}
+use Rattle.tenant_lines.specs.declared.replies.Reply.TheVariants.{Stopped}
+use Rattle.tenant_state.specs.Row.{ActiveTask, Row, StopReason, asked, overrun, is_running, where_some, in_program, in_mode}
 use Rattle.giotto_text.specs.Parsing.{parsed}
-use Rattle.tenant_state.specs.Commands.{Outcome, has_no_switches, refused, load_within, load_checked, load_read, broken_budget, start_program, show_value, show_port, commanded}
+use Rattle.tenant_state.specs.Commands.{Outcome, refused, load_within, load_checked, load_read, broken_budget, start_program, stop_program, show_value, show_port, show_all, commanded}
 use Rattle.tenant_state.specs.FirstHalf.{stopped_with, completed_in_mode, first_half_with, first_half_of}
-use Rattle.tenant_state.specs.SecondHalf.{installed, replaced_if_due, sensed, entered, switch_taken, switched, is_invoked, released, invoked, all_released, invoked_in_mode, second_half_running}
+use Rattle.tenant_state.specs.SecondHalf.{installed, replaced_if_due, sensed, entered, switched, is_invoked, released, invoked, all_released, invoked_in_mode, second_half_running}
 use Rattle.tenant_slots.specs.Readings.{Readings}
+use Rattle.tenant_slots.specs.Switches.{switch_taken}
 use Rattle.tenant_state.specs.Instants.{LocalInstant, after_instant}
 use Rattle.giotto_tasks.proofs.ListLemmas.{all_filter, all_append}
 
@@ -68,7 +71,8 @@ module _ (P : ActiveTask → Type 0) (n : ℕ) where
 
   keeps_switched : (readings : Readings) (granted : Valuation) (p : GiottoProgram) (m : ModeDeclaration) (row : Row) → Keeps row → Keeps (switched p m (sensed readings granted p row))
   keeps_switched readings granted p m row k =
-      keeps_where_some _ (switch_taken m (sensed readings granted p row)) _ (λ s r kr. keeps_where_some (entered m s) (mode_of p s.target) r (λ target q kq. record { each = kq.each; at = kq.at }) kr)
+      let sensed_row = sensed readings granted p row in
+      keeps_where_some _ (switch_taken m sensed_row.mode_time sensed_row.ports) _ (λ s r kr. keeps_where_some (entered m s) (mode_of p s.target) r (λ target q kq. record { each = kq.each; at = kq.at }) kr)
       (record { each = k.each; at = k.at })
 
   module _ (fresh : (a : ActiveTask) → a.release ≡ n → P a) where
@@ -109,8 +113,7 @@ module _ (P : ActiveTask → Type 0) (n : ℕ) where
 
   keeps_checked : (budgets : Budgets) (p : GiottoProgram) (row : Row) (o : Option ℕ) → Keeps row → Keeps (load_checked budgets p row o).row
   keeps_checked budgets p row (Some r) k = k
-  keeps_checked budgets p row None k =
-      keeps_outcome_if (has_no_switches p) _ (refused row (Rule 0)) (keeps_outcome_if _ _ (load_within p row (broken_budget budgets p)) k (keeps_within p row _ k)) k
+  keeps_checked budgets p row None k = keeps_outcome_if _ _ (load_within p row (broken_budget budgets p)) k (keeps_within p row _ k)
 
   keeps_read : (budgets : Budgets) (row : Row) (r : Result GiottoProgram ReadFault) → Keeps row → Keeps (load_read budgets row r).row
   keeps_read budgets row (Err fault) k = k
@@ -120,15 +123,25 @@ module _ (P : ActiveTask → Type 0) (n : ℕ) where
   keeps_started row None k = k
   keeps_started row (Some p) k = record { each = tt; at = k.at }
 
-  keeps_shown : (x : Name) (row : Row) (o : Option _) → Keeps row → Keeps (show_value x row o).row
+  keeps_asked : (row : Row) → Keeps row → Keeps (stop_program row).row
+  keeps_asked row k = keeps_outcome_if (is_running row) (record { row = stopped_with asked row; reply = Stopped }) (refused row NotRunning) (keeps_stopped asked row k) k
+
+  keeps_shown : (x : PortName) (row : Row) (o : Option _) → Keeps row → Keeps (show_value x row o).row
   keeps_shown x row None k = k
   keeps_shown x row (Some z) k = k
 
-  keeps_show : (x : Name) (row : Row) (o : Option GiottoProgram) → Keeps row → Keeps (show_port x row o).row
+  keeps_show : (x : PortName) (row : Row) (o : Option GiottoProgram) → Keeps row → Keeps (show_port x row o).row
   keeps_show x row None k = k
   keeps_show x row (Some p) k = keeps_shown x row _ k
+
+  keeps_all_shown : (row : Row) (o : Option GiottoProgram) → Keeps row → Keeps (show_all row o).row
+  keeps_all_shown row None k = k
+  keeps_all_shown row (Some p) k = k
 
   pub kept_by_command : (budgets : Budgets) (c : Command) (row : Row) → Keeps row → Keeps (commanded budgets c row).row
   kept_by_command budgets (Load text) row k = keeps_read budgets row (parsed text) k
   kept_by_command budgets Start row k = keeps_outcome_if _ _ (start_program row row.program) k (keeps_started row row.program k)
+  kept_by_command budgets Stop row k = keeps_asked row k
+  kept_by_command budgets ShowMode row k = k
   kept_by_command budgets (ShowPort x) row k = keeps_show x row row.program k
+  kept_by_command budgets ShowAll row k = keeps_all_shown row row.program k

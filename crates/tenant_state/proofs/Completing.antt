@@ -1,13 +1,13 @@
 -- What a result leaves, over what a tenant's code keeps.
-use Rattle.std.proofs.Common.{◌≡◌, ℕ, zero, suc, ◌+◌, ◌<◌, ◌↔◌, ℤ, Bool, true, not, List, [], ◌∷◌, map, find, length, take, get_or, set, slice_get, option_map, IsSomeAnd, Option, Some, None, refl, sym, ap, ◌∙◌, subst, add-one, arith}
+use Rattle.std.proofs.Common.{◌≡◌, ℕ, zero, suc, ◌+◌, ◌<◌, ◌≤◌, ◌↔◌, ℤ, Bool, true, false, not, List, [], ◌∷◌, map, find, length, take, get_or, set, slice_get, option_map, IsSomeAnd, Option, Some, None, refl, sym, ap, ◌∙◌, subst, add-one, arith}
 use Rattle.std.specs.Arc.{arc_value}
 use Rattle.std.specs.List.{AllByRecursion}
 use Rattle.std.specs.Option.{option_map_or}
 use Rattle.std.proofs.lemmas.Bool.{and_parts}
-use Rattle.std.proofs.lemmas.List.{map-set, length-map, get_or_read}
+use Rattle.std.proofs.lemmas.List.{map-set, length-map, length-take, get_or_read, get_or-take, take_all}
 use Rattle.std.proofs.lemmas.Option.{slice_get_read}
 use Rattle.std.proofs.Math.ListN.{get_or-map}
-use Rattle.std.proofs.Math.Seq.{map-set_same}
+use Rattle.std.proofs.Math.Seq.{map-set_same, take-set-lt}
 use Rattle.giotto_tasks.specs.Meaning.{outputs_of, states_of}
 use Rattle.giotto_tasks.specs.Sound.{IsSound}
 use Rattle.giotto_tasks.specs.Syntax.{TaskBody, finished}
@@ -18,7 +18,6 @@ use Rattle.giotto_check.specs.Facts.{ProgramFits}
 use Rattle.tenant_slots.proofs.Numbered.{task_here, task_fits_at}
 use Rattle.tenant_state.specs.declared.jobs.JobId.{JobId}
 use Rattle.tenant_state.specs.declared.tenants.Active.{Active}
-use Rattle.tenant_state.specs.declared.tenants.Computed.{Computed}
 use Rattle.tenant_state.specs.Jobs.{JobValue, body_in, job_in, job_of, same_job}
 use Rattle.tenant_state.specs.Row.{ActiveTask, Row}
 use Rattle.tenant_state.specs.Standing.{Standing, StandsFor}
@@ -27,12 +26,13 @@ use Rattle.tenant_state.proofs.AwaitedTasks.{awaited_of, is_named, is_awaited, o
 use Rattle.giotto_tasks.proofs.ListLemmas.{filter_set, find_passes, all_at, all_set, some_same}
 use Rattle.tenant_state.proofs.TenantFacts.{body_of_task}
 
--- the result of an active task of the program
-abbrev pub IsResultIn : GiottoProgram → Active → Computed → Type 0
-IsResultIn p a r = IsSomeAnd (slice_get p.tasks a.task) (λ t. IsResultOf a t r)
+-- an active task with these outputs and states as its result
+abbrev pub with_result : Active → List ℤ → List ℤ → Active
+with_result a outputs states = record a { completed = true; outputs = outputs; new_states = states }
 
-abbrev pub with_result : Active → Computed → Active
-with_result a r = record a { result = Some r }
+-- the result of an active task of the program
+abbrev pub IsResultIn : GiottoProgram → Active → Type 0
+IsResultIn p a = IsSomeAnd (slice_get p.tasks a.task) (IsResultOf a)
 
 -- the task of an active task
 module _ (p : GiottoProgram) (a : Active) where
@@ -45,26 +45,25 @@ module _ (p : GiottoProgram) (a : Active) where
     pub sound_body : ProgramFits p → IsSound (arc_value t.body)
     sound_body fits = subst IsSound (body_of_task t) (task_fits_at p fits a.task (trees.task_of t) task).sound
 
-    pub result_of : (r : Computed) → r.outputs ≡ outputs_of (arc_value t.body) a.inputs a.states → r.states ≡ states_of (arc_value t.body) a.inputs a.states → IsResultIn p a r
-    result_of r outputs states = subst (λ o. IsSomeAnd o (λ t. IsResultOf a t r)) (sym task) (record {
+    pub result_of : (os ss : List ℤ) → os ≡ outputs_of (arc_value t.body) a.inputs a.states → ss ≡ states_of (arc_value t.body) a.inputs a.states → IsResultIn p (with_result a os ss)
+    result_of os ss outputs states = subst (λ o. IsSomeAnd o (IsResultOf (with_result a os ss))) (sym task) (record {
       outputs = outputs ∙ ap (λ b. outputs_of b a.inputs a.states) (sym (body_of_task t));
       states = states ∙ ap (λ b. states_of b a.inputs a.states) (sym (body_of_task t));
     })
 
 -- with its result it is active as before
-pub active_with : (p : GiottoProgram) (a : Active) (r : Computed) → IsResultIn p a r → IsActiveOf p a → IsActiveOf p (with_result a r)
-active_with p a r is fits = by (slice_get p.tasks a.task) fits is
+pub active_with : (p : GiottoProgram) (a : Active) (os ss : List ℤ) → IsResultIn p (with_result a os ss) → IsActiveOf p a → IsActiveOf p (with_result a os ss)
+active_with p a os ss is fits = by (slice_get p.tasks a.task) fits is
   where
-    by : (o : Option TaskDeclaration) → IsSomeAnd o (IsActiveAs a) → IsSomeAnd o (λ t. IsResultOf a t r) → IsSomeAnd o (IsActiveAs (with_result a r))
+    by : (o : Option TaskDeclaration) → IsSomeAnd o (IsActiveAs a) → IsSomeAnd o (IsResultOf (with_result a os ss)) → IsSomeAnd o (IsActiveAs (with_result a os ss))
     by None fits is = fits
-    by (Some t) fits is = record { inputs_fit = fits.inputs_fit; states_fit = fits.states_fit; result_fits = record { outputs = is.outputs; states = is.states } }
+    by (Some t) fits is = record { inputs_fit = fits.inputs_fit; states_fit = fits.states_fit; result_fits = λ _. is }
 
 -- the tenant fits its program with other active tasks that stand for the same
 pub still_tenant : {p : GiottoProgram} {mode time next count : ℕ} {active : List Active} {values : List ℤ} {shares : List (Option TaskBody)} (new : List Active)
     → map (active_of p) new ≡ map (active_of p) active → AllByRecursion (IsActiveIn p count) new → IsTenant (Some p) mode time next active values shares count → IsTenant (Some p) mode time next new values shares count
 still_tenant new same each known = record {
   short_time = known.short_time;
-  no_switches = known.no_switches;
   different = ap all_different_releases same ∙ known.different;
   fits = record {
     long = known.fits.long;
@@ -119,25 +118,25 @@ module _ (p : GiottoProgram) (tasks : List Active) (i : ℕ) (a : Active) (lt : 
       )
 
     -- its result
-    module _ (r : Computed) where
+    module _ (os ss : List ℤ) where
       -- one completion fewer is awaited
-      pub one_fewer : length (outstanding_in p tasks) ≡ length (outstanding_in p (set tasks i (with_result a r))) + 1
+      pub one_fewer : length (outstanding_in p tasks) ≡ length (outstanding_in p (set tasks i (with_result a os ss))) + 1
       one_fewer =
-          let awaited = subst (λ b. not (is_completed b) ≡ true) (get_or_read tasks i a lt at (with_result a r)) parts.0 in
+          let awaited = subst (λ b. not (is_completed b) ≡ true) (get_or_read tasks i a lt at (with_result a os ss)) parts.0 in
           ap length (outstanding_are p tasks) ∙ length-map (awaited_of tasks) (active_of p)
-          ∙ filter_set (λ b. not (is_completed b)) tasks i (with_result a r) lt awaited refl
-          ∙ ap (λ n. n + 1) (sym (ap length (outstanding_are p (set tasks i (with_result a r))) ∙ length-map (awaited_of (set tasks i (with_result a r))) (active_of p)))
+          ∙ filter_set (λ b. not (is_completed b)) tasks i (with_result a os ss) lt awaited refl
+          ∙ ap (λ n. n + 1) (sym (ap length (outstanding_are p (set tasks i (with_result a os ss))) ∙ length-map (awaited_of (set tasks i (with_result a os ss))) (active_of p)))
 
       pub stands_after : {s new : Standing} {row : Row} {completed : ActiveTask → Bool} → StandsFor s row completed → s.row.active ≡ map (active_of p) tasks → s.completed ≡ map is_completed tasks
-          → all_different_releases (map (active_of p) tasks) ≡ true → new.row ≡ record s.row { active = map (active_of p) (set tasks i (with_result a r)) } → new.completed ≡ map is_completed (set tasks i (with_result a r)) → StandsFor new row (marks_with j completed)
+          → all_different_releases (map (active_of p) tasks) ≡ true → new.row ≡ record s.row { active = map (active_of p) (set tasks i (with_result a os ss)) } → new.completed ≡ map is_completed (set tasks i (with_result a os ss)) → StandsFor new row (marks_with j completed)
       stands_after {s = s} {completed = completed} stands of marks different same_row same_marks =
           let same = sym (ap (λ (r : Row). r.active) stands.same_row) ∙ of in
           let within = subst (λ n. i < n) (sym (length-map tasks (active_of p))) lt in
           let there = ap (active_of p) at ∙ sym (get_or-map (active_of p) tasks i a) in
           record {
-            same_row = same_row ∙ (λ k. record s.row { active = (same_tasks (with_result a r) refl ∙ sym of) k }) ∙ stands.same_row;
+            same_row = same_row ∙ (λ k. record s.row { active = (same_tasks (with_result a os ss) refl ∙ sym of) k }) ∙ stands.same_row;
             same_marks =
-                same_marks ∙ map-set is_completed tasks i (with_result a r) ∙ ap (λ bs. set bs i true) (sym marks ∙ stands.same_marks ∙ ap (map completed) same)
+                same_marks ∙ map-set is_completed tasks i (with_result a os ss) ∙ ap (λ bs. set bs i true) (sym marks ∙ stands.same_marks ∙ ap (map completed) same)
                 ∙ marked j completed (map (active_of p) tasks) i (active_of p a) within there (sym (named_is p j a parts.1)) different ∙ ap (map (marks_with j completed)) (sym same);
           }
 
@@ -168,3 +167,41 @@ computed_more p old tasks i a b lt at same of done is = record {
   completed = rw add-one
       (done_more tasks i b (map is_completed old) lt (sym (length-map tasks (active_of p)) ∙ ap length is.releases ∙ length-map old (active_of p) ∙ sym (length-map old is_completed)) done is.completed);
 }
+
+-- the same where these are the first of the entries
+module _ (p : GiottoProgram) (items : List Active) (n i : ℕ) (a : Active) (lt : i < n) (few : n ≤ length items) (at : a ≡ get_or items i a) where
+  there : a ≡ get_or (take n items) i a
+  there = at ∙ sym (get_or-take n items i a lt)
+
+  within : i < length (take n items)
+  within = omega (arith, length-take n items)
+
+  pub declared_there : {k : ℕ} (old : List Active) → AreComputedTo p k old (take n items) → IsActiveOf p a
+  declared_there old is = so_there (take n items) i a within there (IsActiveOf p) is.declared
+
+  pub first_computed : (b : Active) (old : List Active) → active_of p b ≡ active_of p a → IsActiveOf p b → is_completed b ≡ true → AreComputedTo p i old (take n items) → AreComputedTo p (i + 1) old (take n (set items i b))
+  first_computed b old same of done is = subst (AreComputedTo p (i + 1) old) (sym (take-set-lt n items i b lt)) (computed_more p old (take n items) i a b within there same of done is)
+
+  -- one fewer is awaited
+  pub awaited_fewer : (b : Active) → is_completed a ≡ false → is_completed b ≡ true → length (awaited_of (take n items)) ≡ length (awaited_of (take n (set items i b))) + 1
+  awaited_fewer b before after =
+      let awaited = subst (λ c. not (is_completed c) ≡ true) (get_or_read (take n items) i a within there b) (ap not before) in
+      filter_set (λ c. not (is_completed c)) (take n items) i b within awaited (ap not after) ∙ ap (λ ts. length (awaited_of ts) + 1) (sym (take-set-lt n items i b lt))
+
+none_awaited : (tasks : List Active) (marks : List Bool) → map is_completed tasks ≡ map (λ b. true) marks → length (awaited_of tasks) ≡ zero
+none_awaited [] marks e = refl
+none_awaited (a ∷ tasks) [] e = absurd (omega (arith, ap length e))
+none_awaited (a ∷ tasks) (m ∷ marks) e =
+    let first : is_completed a ≡ true = cc in
+    let rest : map is_completed tasks ≡ map (λ b. true) marks = cc in
+    let none = none_awaited tasks marks rest in
+    grind arith
+
+pub all_computed : (p : GiottoProgram) (k : ℕ) (old new : List Active) → AreComputedTo p k old new → length old ≤ k → map is_completed new ≡ map (λ b. true) (map is_completed old)
+all_computed p k old new is few =
+    let as_long : length new ≡ length old = sym (length-map new (active_of p)) ∙ ap length is.releases ∙ length-map old (active_of p) in
+    sym (take_all k (map is_completed new) (omega (arith, length-map new is_completed, as_long))) ∙ is.completed
+    ∙ ap (map (λ b. true)) (take_all k (map is_completed old) (omega (arith, length-map old is_completed)))
+
+pub all_counted : (p : GiottoProgram) (k number : ℕ) (old new : List Active) → AreComputedTo p k old new → length old ≤ k → number + length (awaited_of new) ≡ length (awaited_of old) → number ≡ length (awaited_of old)
+all_counted p k number old new is few counted = omega (arith, counted, none_awaited new (map is_completed old) (all_computed p k old new is few))

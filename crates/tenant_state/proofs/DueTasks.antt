@@ -68,7 +68,7 @@ module _ (m : ModeDeclaration) (time : ℕ) (active : List ActiveTask) where
 
   module _ (test : ActiveTask → Bool) where
     -- the names of those of the due tasks that pass a test
-    names_due : (is : List TaskInvocation) (x : Name)
+    pub names_due : (is : List TaskInvocation) (x : Name)
         → is_among (names_of_tasks (filter test (flat_map group is))) x ≡ (ends is x && list_any (λ (a : ActiveTask). same_name a.task x && test a) active)
     names_due [] x = refl
     names_due (i ∷ is) x =

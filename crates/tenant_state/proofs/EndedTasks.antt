@@ -22,14 +22,12 @@ use Rattle.giotto_check.specs.declared.timetables.SlotInvocation.{SlotInvocation
 use Rattle.giotto_check.proofs.PlaceLemmas.{passes_there, place_within}
 use Rattle.tenant_slots.specs.Due.{is_due_at, IsQuietAt}
 use Rattle.tenant_slots.specs.Places.{name_of_task}
-use Rattle.tenant_slots.specs.Ports.{actuators_reset}
 use Rattle.tenant_slots.specs.Updates.{all_updated}
 use Rattle.tenant_slots.proofs.Numbered.{invocation_due, mode_here, same_task}
 use Rattle.tenant_state.specs.declared.tenants.Active.{Active}
-use Rattle.tenant_state.specs.declared.tenants.Reason.TheVariants.{Overrun}
 use Rattle.tenant_state.specs.declared.tenants.State.TheVariants as states
-use Rattle.tenant_state.specs.FirstHalf.{all_ended, due_tasks, names_due, still_active, unfinished_tasks, first_half_of}
-use Rattle.tenant_state.specs.Row.{stopped, overrun, ActiveTask, Row}
+use Rattle.tenant_state.specs.FirstHalf.{all_ended, due_tasks, names_due, still_active, unfinished_tasks, first_half_of, stopped_with}
+use Rattle.tenant_state.specs.Row.{overrun, ActiveTask, Row}
 use Rattle.tenant_state.specs.Standing.{StandsFor}
 use Rattle.tenant_state.specs.Tenants.{active_of, is_completed, is_another, all_different_releases, standing_of, IsActiveOf}
 use Rattle.tenant_state.proofs.DueTasks.{group, ends, is_open, is_unfinished, names_of_tasks, none_passes, stay}
@@ -69,13 +67,6 @@ found_from test xs k x b lt is e = ap (find test) (drop_more xs k x lt ∙ ap (�
 -- the active entries whose tasks aren't due
 abbrev pub kept : ℕ → List SlotInvocation → List Active → List Active
 kept time es items = filter (λ a. not (list_any (λ (e : SlotInvocation). nat_eq a.task e.task && (time % e.interval == 0)) es)) items
-
--- where all end none stays
-pub none_stay : {X : Type 0} (test : X → Bool) (xs : List X) → list_all test xs ≡ true → filter (λ x. not (test x)) xs ≡ []
-none_stay test [] h = refl
-none_stay test (x ∷ xs) h =
-    let both = and_parts (test x) (list_all test xs) h in
-    ap (λ b. cond (not b) (x ∷ filter (λ x. not (test x)) xs) (filter (λ x. not (test x)) xs)) both.0 ∙ none_stay test xs both.1
 
 -- nothing is found among those that are left, one step on
 pub left_none : {X : Type 0} (test : X → Bool) (xs : List X) (k : ℕ) (x : X) → k < length xs → find test (drop k xs) ≡ None → find test (drop (k + 1) xs) ≡ None
@@ -225,8 +216,8 @@ marks_filtered p completed test (x ∷ xs) e =
     by false first rest = rest
 
 -- a running tenant, and a row for which it stands
-module _ (p : GiottoProgram) (fits : ProgramFits p) (m : ModeDeclaration) (mode time : ℕ) (items : List Active) (places : ℕ) (values : List ℤ) (shares : List (Option TaskBody)) (count : ℕ)
-    (at : slice_get p.modes mode ≡ Some m) (row : Row) (completed : ActiveTask → Bool) (st : StandsFor (standing_of states.Running (Some p) mode time items places values shares count) row completed) where
+module _ {own : ℕ} (p : GiottoProgram) (fits : ProgramFits p) (m : ModeDeclaration) (mode time : ℕ) (items : List Active) (places : ℕ) (values : List ℤ) (shares : List (Option TaskBody)) (count : ℕ)
+    (at : slice_get p.modes mode ≡ Some m) (row : Row) (completed : ActiveTask → Bool) (st : StandsFor (standing_of own states.Running (Some p) mode time items places values shares count) row completed) where
   runs : Runs row p m
   runs = record {
     state = sym (ap (λ (r : Row). r.state) st.same_row);
@@ -247,7 +238,7 @@ module _ (p : GiottoProgram) (fits : ProgramFits p) (m : ModeDeclaration) (mode 
   marks = st.same_marks ∙ ap (map completed) (sym same_active)
 
   -- nothing is due
-  pub quiet_stands : IsQuietAt m time → StandsFor (standing_of states.Running (Some p) mode time items places values shares count) (first_half_of (unfinished_tasks completed row) row) completed
+  pub quiet_stands : IsQuietAt m time → StandsFor (standing_of own states.Running (Some p) mode time items places values shares count) (first_half_of (unfinished_tasks completed row) row) completed
   quiet_stands quiet =
       let same = unchanged row p m runs completed (subst (IsQuietAt m) same_time quiet) in
       record { same_row = st.same_row ∙ sym same; same_marks = st.same_marks ∙ ap (λ (r : Row). map completed r.active) (sym same) }
@@ -261,7 +252,7 @@ module _ (p : GiottoProgram) (fits : ProgramFits p) (m : ModeDeclaration) (mode 
     pub finished : find (opens time items) es ≡ None → (room : ℕ) (ended after : List ℤ)
         → valuation_of p ended ≡ all_ended p (flat_map (group m time (map (active_of p) items)) m.invocations) (valuation_of p values)
         → valuation_of p after ≡ all_updated m time m.updates (valuation_of p ended)
-        → StandsFor (standing_of states.Running (Some p) mode time (kept time es items) room after shares count) (first_half_of (unfinished_tasks completed row) row) completed
+        → StandsFor (standing_of own states.Running (Some p) mode time (kept time es items) room after shares count) (first_half_of (unfinished_tasks completed row) row) completed
     finished none room ended after end_value update_value =
         let steps = goes_on row p m runs completed (by_none _ (subst (FoundAlike (IsInvocation p m) _) none found)) in
         let remaining : map (active_of p) (kept time es items) ≡ still_active (names_due row) row.active =
@@ -272,7 +263,7 @@ module _ (p : GiottoProgram) (fits : ProgramFits p) (m : ModeDeclaration) (mode 
         update_value ∙ ap (all_updated m time m.updates) end_value
         ∙ (λ k. all_updated m (same_time k) m.updates (all_ended p (flat_map (group m (same_time k) (same_active k)) m.invocations) (same_ports k)))
         ∙ ap (λ ts. all_updated m row.mode_time m.updates (all_ended p ts row.ports)) (sym (due_are row p m runs completed)) in
-        subst (λ r. StandsFor (standing_of states.Running (Some p) mode time (kept time es items) room after shares count) r completed) (sym steps) (record {
+        subst (λ r. StandsFor (standing_of own states.Running (Some p) mode time (kept time es items) room after shares count) r completed) (sym steps) (record {
           same_row = ap (λ (r : Row). record r { active = map (active_of p) (kept time es items); ports = valuation_of p after }) st.same_row
               ∙ (λ k. record row { active = remaining k; ports = new_ports k; records = [] });
           same_marks = marks_filtered p completed _ items marks ∙ ap (map completed) remaining;
@@ -283,18 +274,10 @@ module _ (p : GiottoProgram) (fits : ProgramFits p) (m : ModeDeclaration) (mode 
         by_none (Some i) h = absurd h
 
     -- the first task that is left open stops the tenant
-    pub halted : (e : SlotInvocation) → find (opens time items) es ≡ Some e → (x : Name) (room : ℕ) (after : List ℤ) → x ≡ name_of_task p e.task → valuation_of p after ≡ actuators_reset p (valuation_of p values)
-        → StandsFor (standing_of (states.Stopped (Overrun x)) (Some p) mode time [] room after shares count) (first_half_of (unfinished_tasks completed row) row) completed
-    halted e first x room after named reset = by _ refl (subst (FoundAlike (IsInvocation p m) _) first found)
+    pub halted : (e : SlotInvocation) → find (opens time items) es ≡ Some e → (x : Name) → x ≡ name_of_task p e.task → first_half_of (unfinished_tasks completed row) row ≡ stopped_with (overrun x) row
+    halted e first x named = by _ refl (subst (FoundAlike (IsInvocation p m) _) first found)
       where
         by : (o : Option TaskInvocation) → find (is_open m row.mode_time row.active completed) m.invocations ≡ o → FoundAlike (IsInvocation p m) o (Some e)
-            → StandsFor (standing_of (states.Stopped (Overrun x)) (Some p) mode time [] room after shares count) (first_half_of (unfinished_tasks completed row) row) completed
+            → first_half_of (unfinished_tasks completed row) row ≡ stopped_with (overrun x) row
         by None f h = absurd h
-        by (Some i) f entry =
-            let same : x ≡ i.task = named ∙ name_of_place p i.task e.task entry.task in
-            let new_ports : valuation_of p after ≡ actuators_reset p row.ports = reset ∙ ap (actuators_reset p) same_ports in
-            subst (λ r. StandsFor (standing_of (states.Stopped (Overrun x)) (Some p) mode time [] room after shares count) r completed) (sym (stops row p m runs completed i f)) (record {
-              same_row = ap (λ (r : Row). record r { state = stopped (overrun x); active = []; ports = valuation_of p after; waiting = None }) st.same_row
-                  ∙ (λ k. record row { state = stopped (overrun (same k)); active = []; ports = new_ports k; waiting = None; records = [] });
-              same_marks = refl;
-            })
+        by (Some i) f entry = stops row p m runs completed i f ∙ sym (ap (λ y. stopped_with (overrun y) row) (named ∙ name_of_place p i.task e.task entry.task))

@@ -9,10 +9,10 @@ use Rattle.giotto_tasks.proofs.TestLemmas.{and_false}
 use Rattle.giotto_text.specs.Program.{ActuatorUpdate, TaskInvocation, ModeDeclaration, GiottoProgram}
 use Rattle.giotto_rules.specs.Declarations.{mode_of}
 use Rattle.tenant_slots.specs.Due.{is_due_at, IsQuietAt}
-use Rattle.tenant_slots.specs.Ports.{actuators_reset, holds}
+use Rattle.tenant_slots.specs.Ports.{holds}
 use Rattle.tenant_slots.specs.Updates.{all_updated}
-use Rattle.tenant_state.specs.FirstHalf.{all_ended, still_active, unfinished_tasks, due_in_mode, due_tasks, names_due, first_half_with, completed_in_mode, first_half_of, happening_of}
-use Rattle.tenant_state.specs.Row.{running, stopped, overrun, ActiveTask, Row, is_running_state, where_some, in_mode, recorded}
+use Rattle.tenant_state.specs.FirstHalf.{all_ended, still_active, unfinished_tasks, due_in_mode, due_tasks, names_due, first_half_with, completed_in_mode, first_half_of, stopped_with}
+use Rattle.tenant_state.specs.Row.{running, overrun, ActiveTask, Row, is_running_state, where_some, in_mode}
 use Rattle.tenant_state.specs.Standing.{without_records}
 use Rattle.tenant_state.proofs.DueTasks.{group, is_open, is_unfinished, names_of_tasks, open_names, none_open, none_passes, first_open}
 
@@ -38,16 +38,9 @@ module _ (row : Row) (p : GiottoProgram) (m : ModeDeclaration) (h : Runs row p m
       ∙ ap (λ s. cond (is_running_state s) (in_mode completed_in_mode row) row) h.state
       ∙ ap (λ o. where_some (λ p. where_some (completed_in_mode p) (mode_of p row.mode)) o row) h.program ∙ ap (λ o. where_some (completed_in_mode p) o row) h.mode
 
-  abbrev pub row_stopped : TaskInvocation → Row
-  row_stopped i = record row { state = stopped (overrun i.task); active = []; waiting = None; ports = actuators_reset p row.ports }
-
   -- the first that is left open stops the tenant
-  pub stops : (i : TaskInvocation) → find (is_open m row.mode_time row.active completed) m.invocations ≡ Some i
-      → first_half_of (unfinished_tasks completed row) row ≡ recorded (happening_of (overrun i.task)) (row_stopped i)
-  stops i e =
-      let stopping : GiottoProgram → Row → Row = λ p row. record row { ports = actuators_reset p row.ports } in
-      ap by_tasks due_are ∙ ap (λ names. first_half_with names row) (first_open m row.mode_time row.active completed m.invocations i e).1
-      ∙ ap (λ o. recorded (happening_of (overrun i.task)) (where_some stopping o (record row { state = stopped (overrun i.task); active = []; waiting = None }))) h.program
+  pub stops : (i : TaskInvocation) → find (is_open m row.mode_time row.active completed) m.invocations ≡ Some i → first_half_of (unfinished_tasks completed row) row ≡ stopped_with (overrun i.task) row
+  stops i e = ap by_tasks due_are ∙ ap (λ names. first_half_with names row) (first_open m row.mode_time row.active completed m.invocations i e).1
 
   -- where nothing is due nothing happens
   module _ (quiet : IsQuietAt m row.mode_time) where

@@ -1,28 +1,31 @@
 -- What a tenant stands for behind its second half, and the tasks that it released.
-use Rattle.std.proofs.Common.{◌≡◌, ℕ, ◌+◌, ◌-◌, ◌%◌, ◌≤◌, Bool, true, false, cond, ℤ, List, [], ◌∷◌, ◌++◌, length, map, filter, take, drop, Option, Some, None, refl, ap, sym, subst, ◌∙◌, arith}
-use Rattle.std.specs.Prelude.{option_to_list}
+use Rattle.std.proofs.Common.{◌≡◌, ℕ, ◌+◌, ◌%◌, ◌≤◌, Bool, true, false, cond, ℤ, List, [], ◌∷◌, ◌++◌, length, map, filter, take, drop, Option, Some, None, refl, ap, sym, subst, ◌∙◌, arith}
+use Rattle.std.specs.Prelude.{option_to_list, slice_get}
 use Rattle.std.specs.List.{AllByRecursion}
 use Rattle.std.specs.Option.{option_map, option_map_or}
 use Rattle.std.proofs.Math.Seq.{take-append_seam, drop-append_seam}
 use Rattle.std.proofs.lemmas.Bool.{and_parts}
 use Rattle.std.proofs.lemmas.List.{map-append, length-append}
 use Rattle.giotto_tasks.specs.Names.{Valuation}
+use Rattle.giotto_tasks.proofs.ListLemmas.{some_same}
 use Rattle.giotto_tasks.specs.Syntax.{TaskBody}
 use Rattle.giotto_text.specs.PortNames.{with_values}
 use Rattle.giotto_text.specs.Program.{TaskDeclaration, TaskInvocation, ModeDeclaration, GiottoProgram}
-use Rattle.giotto_rules.specs.Declarations.{task_of, mode_of, sensor_names}
+use Rattle.giotto_rules.specs.Declarations.{task_of, sensor_names}
+use Rattle.giotto_check.specs.Facts.{ProgramFits}
 use Rattle.giotto_check.specs.Slots.{valuation_of}
 use Rattle.tenant_slots.specs.Due.{is_due_at}
 use Rattle.tenant_slots.specs.Places.{name_of_mode}
 use Rattle.tenant_slots.specs.Readings.{Readings, reading_taken}
+use Rattle.tenant_slots.proofs.Numbered.{mode_here}
 use Rattle.tenant_state.specs.declared.tenants.Active.{Active}
 use Rattle.tenant_state.specs.declared.tenants.State.TheVariants.{Running}
 use Rattle.tenant_state.specs.declared.trace.Record.{Record}
-use Rattle.tenant_state.specs.Row.{ActiveTask, Row}
-use Rattle.tenant_state.specs.SecondHalf.{is_invoked, released, invoked, all_invoked, all_released, second_half_of}
-use Rattle.tenant_state.specs.Standing.{Standing, StandsFor, AreReleased, most_released, without_records}
+use Rattle.tenant_state.specs.Row.{ActiveTask, Row, in_mode}
+use Rattle.tenant_state.specs.SecondHalf.{is_invoked, released, invoked, all_invoked, all_released, invoked_in_mode, moved_on, counted, second_half_of}
+use Rattle.tenant_state.specs.Standing.{Standing, StandsFor, AreReleased, most_at, most_released, without_records}
 use Rattle.tenant_state.specs.Tenants.{active_of, is_completed, standing_of, AreInvoked}
-use Rattle.tenant_state.proofs.SecondHalfSteps.{running_half}
+use Rattle.tenant_state.proofs.SecondHalfSteps.{in_its_mode, running_half, placed, IsBehindSwitch}
 
 module _ (p : GiottoProgram) (m : ModeDeclaration) (time n : ℕ) where
   -- what each invocation keeps, whether it releases its task or not, holds of all that are released
@@ -77,47 +80,58 @@ stands_behind readings old new behind row completed marks stands =
 abbrev pub sensed_ports : GiottoProgram → List ℤ → Readings → Valuation
 sensed_ports p values readings = with_values (valuation_of p values) (sensor_names p) (map (reading_taken readings []) p.sensors)
 
-module _ (p : GiottoProgram) (m : ModeDeclaration) (mode time n places : ℕ) (old : List Active) (values : List ℤ) (shares : List (Option TaskBody)) where
+module _ (own : ℕ) (p : GiottoProgram) (kept : ProgramFits p) (m : ModeDeclaration) (mode time n places : ℕ) (old : List Active) (values : List ℤ) (shares : List (Option TaskBody)) where
   abbrev before : Standing
-  before = standing_of Running (Some p) mode time old places values shares n
+  before = standing_of own Running (Some p) mode time old places values shares n
 
-  abbrev after : ℕ → List Active → List ℤ → Standing
-  after room new written = standing_of Running (Some p) mode ((time + 1) % m.period) new room written shares (n + 1)
+  abbrev after : ℕ → ℕ → ℕ → List Active → List ℤ → Standing
+  after to later room new written = standing_of own Running (Some p) to later new room written shares (n + 1)
 
-  module _ (found : mode_of p (name_of_mode p mode) ≡ Some m) where
+  module _ (at_mode : slice_get p.modes mode ≡ Some m) where
     -- the most that the instant can release
-    most_due : most_released before.row ≡ length (filter (λ (i : TaskInvocation). is_due_at time m i.frequency) m.invocations)
-    most_due = ap (λ o. length (option_map_or (λ (m : ModeDeclaration). filter (λ (i : TaskInvocation). is_due_at time m i.frequency) m.invocations) o [])) found
+    most_due : most_released before.row ≡ most_at p m time
+    most_due = ap (λ o. option_map_or (λ (m : ModeDeclaration). most_at p m time) o 0) (mode_here p kept mode m at_mode)
 
-    pub room_due : (len capacity : ℕ) → len ≤ capacity → most_released before.row ≤ capacity - len
-        → len + length (filter (λ (i : TaskInvocation). is_due_at time m i.frequency) m.invocations) ≤ capacity
-    room_due len capacity le room = omega (arith, le, room, most_due)
+    module _ (to at next : ℕ) (readings : Readings) (given : List ℤ) (is : IsBehindSwitch p m mode time (map (active_of p) old) (sensed_ports p values readings) to at next given) where
+      pub room_due : most_released before.row ≤ places → (m : ModeDeclaration) → slice_get p.modes to ≡ Some m
+          → length (filter (λ (i : TaskInvocation). is_due_at at m i.frequency) m.invocations) ≤ places
+      room_due room m there =
+          subst (λ (m : ModeDeclaration). length (filter (λ (i : TaskInvocation). is_due_at at m i.frequency) m.invocations) ≤ places) (some_same is.new m (sym is.there ∙ there)) (omega (arith, room, most_due, is.few))
 
-    module _ (room : ℕ) (new : List Active) (written : List ℤ) (readings : Readings) (happened : AreInvoked p m time n (sensed_ports p values readings) old new written) where
-      abbrev news : List ActiveTask
-      news = all_released p m time n m.invocations (sensed_ports p values readings)
+      module _ (period room : ℕ) (lasts : period ≡ is.new.period) (new : List Active) (written : List ℤ) (happened : AreInvoked p is.new at n (valuation_of p given) old new written) where
+        abbrev news : List ActiveTask
+        news = all_released p is.new at n is.new.invocations (valuation_of p given)
 
-      fresh : AllByRecursion (λ (a : ActiveTask). a.release ≡ n) news
-      fresh = new_releases p m time n m.invocations (sensed_ports p values readings)
+        fresh : AllByRecursion (λ (a : ActiveTask). a.release ≡ n) news
+        fresh = new_releases p is.new at n is.new.invocations (valuation_of p given)
 
-      -- the step of a running tenant
-      pub half_stands : m.switches ≡ [] → (row : Row) (completed : ActiveTask → Bool) → StandsFor before row completed → ((a : ActiveTask) → a.release ≡ row.count → completed a ≡ false)
-          → StandsFor (after room new written) (second_half_of readings [] row) completed
-      half_stands no_switches row completed stands not_yet =
-          let at : row.count ≡ n = sym (ap (λ (r : Row). r.count) stands.same_row) in
-          let olds : map is_completed old ≡ map completed (map (active_of p) old) = stands.same_marks ∙ sym (ap (λ (r : Row). map completed r.active) stands.same_row) in
-          stands_behind readings before (after room new written)
-          (λ rs. ap without_records (running_half readings (record before.row { records = rs }) p m refl refl found no_switches refl)
-          ∙ (λ k. record (after room new written).row { active = sym happened.tasks k; ports = sym happened.ports k }))
-          row completed
-          (ap (map completed) happened.tasks ∙ map-append completed (map (active_of p) old) news
-          ∙ (λ k. sym olds k ++ sym (none_completed p m time n completed (λ a e. not_yet a (e ∙ sym at)) m.invocations (sensed_ports p values readings)) k) ∙ sym happened.marks)
-          stands
+        -- the row behind the step, where it had these records
+        row_behind : (rs : List Record)
+            → without_records (second_half_of readings [] (record before.row { records = rs })) ≡ (after to ((at + 1) % period) room new written).row
+        row_behind rs =
+            let switch = is.step before.row rs in
+            let steps : Row → Row = in_mode (λ p m row. moved_on m (invoked_in_mode p m row)) in
+            ap without_records
+            (running_half readings (record before.row { records = rs }) p m refl refl (mode_here p kept mode m at_mode) refl
+            ∙ ap (λ row. counted (steps row)) switch.1
+            ∙ ap counted (in_its_mode (λ p m row. moved_on m (invoked_in_mode p m row)) (placed before.row (name_of_mode p to) at (map (active_of p) old) (valuation_of p given) switch.0) p is.new refl (mode_here p kept to is.new is.there)))
+            ∙ (λ k. record (after to ((at + 1) % sym lasts k) room new written).row { active = sym happened.tasks k; ports = sym happened.ports k })
 
-      -- what it released
-      pub half_released : AreReleased before.row (after room new written).row
-      half_released = let olds : List ActiveTask = map (active_of p) old in record {
-        older = ap (take (length olds)) happened.tasks ∙ take-append_seam olds news;
-        newer = subst (AllByRecursion (λ (a : ActiveTask). a.release ≡ n)) (sym (ap (drop (length olds)) happened.tasks ∙ drop-append_seam olds news)) fresh;
-        few = omega (arith, ap length happened.tasks ∙ length-append olds news, few_released p m time n m.invocations (sensed_ports p values readings), most_due);
-      }
+        -- the step of a running tenant
+        pub half_stands : (row : Row) (completed : ActiveTask → Bool) → StandsFor before row completed → ((a : ActiveTask) → a.release ≡ row.count → completed a ≡ false)
+            → StandsFor (after to ((at + 1) % period) room new written) (second_half_of readings [] row) completed
+        half_stands row completed stands not_yet =
+            let counts : row.count ≡ n = sym (ap (λ (r : Row). r.count) stands.same_row) in
+            let olds : map is_completed old ≡ map completed (map (active_of p) old) = stands.same_marks ∙ sym (ap (λ (r : Row). map completed r.active) stands.same_row) in
+            stands_behind readings before (after to ((at + 1) % period) room new written) row_behind row completed
+            (ap (map completed) happened.tasks ∙ map-append completed (map (active_of p) old) news
+            ∙ (λ k. sym olds k ++ sym (none_completed p is.new at n completed (λ a e. not_yet a (e ∙ sym counts)) is.new.invocations (valuation_of p given)) k) ∙ sym happened.marks)
+            stands
+
+        -- what it released
+        pub half_released : AreReleased before.row (after to ((at + 1) % period) room new written).row
+        half_released = let olds : List ActiveTask = map (active_of p) old in record {
+          older = ap (take (length olds)) happened.tasks ∙ take-append_seam olds news;
+          newer = subst (AllByRecursion (λ (a : ActiveTask). a.release ≡ n)) (sym (ap (drop (length olds)) happened.tasks ∙ drop-append_seam olds news)) fresh;
+          few = omega (arith, ap length happened.tasks ∙ length-append olds news, few_released p is.new at n is.new.invocations (valuation_of p given), most_due, is.few);
+        }

@@ -1,11 +1,9 @@
 -- What a mode's invocations release, by the entries of its timetable.
-use Rattle.std.proofs.Common.{◌≡◌, ℕ, ◌+◌, ◌<◌, ◌≤◌, Bool, true, false, cond, List, [], ◌∷◌, ◌++◌, map, filter, length, take, drop, get_or, Option, Some, None, Vec, Global, ⊎_elim, refl, sym, ap, subst, ◌∙◌, arith}
-use Rattle.std.specs.Prelude.{IsSomeAnd, is_some, slice_get, slice_set}
+use Rattle.std.proofs.Common.{◌≡◌, ℕ, ◌+◌, ◌<◌, ◌≤◌, Bool, true, false, cond, List, [], ◌∷◌, ◌++◌, map, filter, length, take, drop, get_or, Option, Some, None, ⊎_elim, refl, sym, ap, subst, ◌∙◌, arith}
+use Rattle.std.specs.Prelude.{IsSomeAnd, slice_get}
 use Rattle.std.specs.List.{AllByRecursion}
-use Rattle.std.specs.Vec.{vec_capacity, vec_len}
-use Rattle.std.proofs.Math.Seq.{set-append_seam}
 use Rattle.std.proofs.lemmas.Bool.{and_parts}
-use Rattle.std.proofs.lemmas.List.{length_push, map-append, take-append-drop}
+use Rattle.std.proofs.lemmas.List.{take-append-drop}
 use Rattle.std.proofs.lemmas.Option.{slice_get_cases}
 use Rattle.giotto_tasks.specs.Names.{Valuation}
 use Rattle.giotto_text.specs.Program.{TaskDeclaration, TaskInvocation, ModeDeclaration, GiottoProgram, body_of}
@@ -19,6 +17,7 @@ use Rattle.giotto_check.proofs.EachLemmas.{each_long}
 use Rattle.tenant_slots.specs.Due.{is_due_at}
 use Rattle.tenant_slots.proofs.Numbered.{mode_fits_at, task_fits_at, task_of_place, invocation_interval}
 use Rattle.tenant_slots.proofs.Updates.{each_item}
+use Rattle.tenant_state.specs.ActiveTasks.{TaskList}
 use Rattle.tenant_state.specs.SecondHalf.{is_invoked, released, with_inputs, all_invoked, all_released}
 use Rattle.tenant_state.specs.Tenants.{active_of, is_completed}
 use Rattle.tenant_state.specs.declared.tenants.Active.{Active}
@@ -60,30 +59,24 @@ module _ (p : GiottoProgram) (fits : ProgramFits p) (mode k : ℕ) (es : List Sl
 abbrev due_of : ModeDeclaration → ℕ → List TaskInvocation → List TaskInvocation
 due_of m time is = filter (λ (i : TaskInvocation). is_due_at time m i.frequency) is
 
--- what the rest of a mode's invocations release and write, behind what was, is what all do, and there are places for the rest
-pub record IsInvokedTo (p : GiottoProgram) (m : ModeDeclaration) (time n : ℕ) (old : List Active) (before : Valuation) (rest : List TaskInvocation) (active : Vec Active Global) (now : Valuation) : Type 0 where
+-- what the rest of a mode's invocations release and write, behind what was, is what all do, and there is room for the rest
+pub record IsInvokedTo (p : GiottoProgram) (m : ModeDeclaration) (time n : ℕ) (old : List Active) (before : Valuation) (rest : List TaskInvocation) (active : TaskList) (now : Valuation) : Type 0 where
   pub tasks : map (active_of p) active.items ++ all_released p m time n rest now ≡ map (active_of p) old ++ all_released p m time n m.invocations before
   pub marks : map is_completed active.items ++ map (λ a. false) (all_released p m time n rest now) ≡ map is_completed old ++ map (λ a. false) (all_released p m time n m.invocations before)
   pub ports : all_invoked p m time rest now ≡ all_invoked p m time m.invocations before
-  pub places : vec_len active + length (due_of m time rest) ≤ vec_capacity active
+  pub room : length (due_of m time rest) ≤ active.room
 
--- the last entry, filled where it lies
-pub filled : (old new : Vec Active Global) (x y : Active) (place : ℕ) → place ≡ vec_len old → new.items ≡ old.items ++ x ∷ [] → slice_set new.items place y ≡ old.items ++ y ∷ []
-filled old new x y place at items =
-    let last : place ≡ length old.items = omega (arith, at) in
-    rw (items, last) (set-append_seam old.items x [] y)
-
-module _ {p : GiottoProgram} {m : ModeDeclaration} {time n : ℕ} {old : List Active} {before ports : Valuation} {active : Vec Active Global} where
+module _ {p : GiottoProgram} {m : ModeDeclaration} {time n : ℕ} {old : List Active} {before ports : Valuation} {active : TaskList} where
   pub left_as : {left rest : List TaskInvocation} → left ≡ rest → IsInvokedTo p m time n old before left active ports → IsInvokedTo p m time n old before rest active ports
   left_as same to = subst (λ is. IsInvokedTo p m time n old before is active ports) same to
 
-module _ {p : GiottoProgram} {m : ModeDeclaration} {time n : ℕ} {old : List Active} {before ports : Valuation} {rest : List TaskInvocation} {i : TaskInvocation} {active : Vec Active Global}
+module _ {p : GiottoProgram} {m : ModeDeclaration} {time n : ℕ} {old : List Active} {before ports : Valuation} {rest : List TaskInvocation} {i : TaskInvocation} {active : TaskList}
     (to : IsInvokedTo p m time n old before (i ∷ rest) active ports) where
-  places_by : (due : Bool) → is_due_at time m i.frequency ≡ due → vec_len active + length (cond due (i ∷ due_of m time rest) (due_of m time rest)) ≤ vec_capacity active
-  places_by due e = subst (λ b. vec_len active + length (cond b (i ∷ due_of m time rest) (due_of m time rest)) ≤ vec_capacity active) e to.places
+  room_by : (due : Bool) → is_due_at time m i.frequency ≡ due → length (cond due (i ∷ due_of m time rest) (due_of m time rest)) ≤ active.room
+  room_by due e = subst (λ b. length (cond b (i ∷ due_of m time rest) (due_of m time rest)) ≤ active.room) e to.room
 
-  pub its_place : is_due_at time m i.frequency ≡ true → vec_len active < vec_capacity active
-  its_place due = let more = places_by true due in omega (arith, more)
+  pub its_room : is_due_at time m i.frequency ≡ true → 0 < active.room
+  its_room due = let more = room_by true due in omega (arith, more)
 
   pub waits : is_invoked m time i ports ≡ false → IsInvokedTo p m time n old before rest active ports
   waits h =
@@ -92,23 +85,21 @@ module _ {p : GiottoProgram} {m : ModeDeclaration} {time n : ℕ} {old : List Ac
         tasks = ap (λ r. map (active_of p) active.items ++ r) (sym same) ∙ to.tasks;
         marks = ap (λ r. map is_completed active.items ++ map (λ a. false) r) (sym same) ∙ to.marks;
         ports = ap (all_invoked p m time rest) (rw (h) refl) ∙ to.ports;
-        places = by (is_due_at time m i.frequency) refl;
+        room = by (is_due_at time m i.frequency) refl;
       }
     where
-      by : (due : Bool) → is_due_at time m i.frequency ≡ due → vec_len active + length (due_of m time rest) ≤ vec_capacity active
-      by true e = let more = places_by true e in omega (arith, more)
-      by false e = places_by false e
+      by : (due : Bool) → is_due_at time m i.frequency ≡ due → length (due_of m time rest) ≤ active.room
+      by true e = let more = room_by true e in omega (arith, more)
+      by false e = room_by false e
 
-  pub happens : (t : TaskDeclaration) (a : Active) {after : Valuation} {new : Vec Active Global} → is_invoked m time i ports ≡ true → task_of p i.task ≡ Some t → active_of p a ≡ released n i ports t
-      → a.result ≡ None → after ≡ with_inputs i ports t → new.items ≡ active.items ++ a ∷ [] → vec_capacity new ≡ vec_capacity active → IsInvokedTo p m time n old before rest new after
-  happens t a {after} {new} h found same none written items capacity =
-      let first : all_released p m time n (i ∷ rest) ports ≡ active_of p a ∷ all_released p m time n rest after = rw (h, found, same, written) refl in
-      let awaited : false ≡ is_completed a = ap is_some (sym none) in
-      let more = places_by true (and_parts _ _ h).0 in
+  pub happens : (t : TaskDeclaration) {after : Valuation} {new : TaskList} → is_invoked m time i ports ≡ true → task_of p i.task ≡ Some t → map (active_of p) new.items ≡ map (active_of p) active.items ++ released n i ports t ∷ []
+      → map is_completed new.items ≡ map is_completed active.items ++ false ∷ [] → after ≡ with_inputs i ports t → new.room + 1 ≡ active.room → IsInvokedTo p m time n old before rest new after
+  happens t {after} {new} h found tasks marks written less =
+      let first : all_released p m time n (i ∷ rest) ports ≡ released n i ports t ∷ all_released p m time n rest after = rw (h, found, written) refl in
+      let more = room_by true (and_parts _ _ h).0 in
       record {
-        tasks = stepped _ _ (active_of p a ∷ []) _ _ (ap (map (active_of p)) items ∙ map-append (active_of p) active.items (a ∷ [])) first ∙ to.tasks;
-        marks = stepped _ _ (is_completed a ∷ []) _ _ (ap (map is_completed) items ∙ map-append is_completed active.items (a ∷ []))
-            (ap (map (λ a. false)) first ∙ ap (λ b. b ∷ map (λ a. false) (all_released p m time n rest after)) awaited) ∙ to.marks;
+        tasks = stepped _ _ (released n i ports t ∷ []) _ _ tasks first ∙ to.tasks;
+        marks = stepped _ _ (false ∷ []) _ _ marks (ap (map (λ a. false)) first) ∙ to.marks;
         ports = ap (all_invoked p m time rest) (rw (h, found, written) refl) ∙ to.ports;
-        places = omega (arith, more, capacity, length_push active.items a, ap length items);
+        room = omega (arith, more, less);
       }

@@ -1,38 +1,136 @@
--- The second half of a running tenant whose mode has no switches, and for whom no program waits.
-use Rattle.std.proofs.Common.{◌≡◌, ℕ, ◌<◌, cond, List, [], ◌∷◌, ◌++◌, filter, Some, None, refl, ap, ◌∙◌, arith}
-use Rattle.std.specs.Prelude.{◌==◌, ◌&&◌}
-use Rattle.std.specs.List.{find, AllByRecursion}
+-- The second half of a running tenant for whom no program waits, and the mode that stands behind its switch.
+use Rattle.std.proofs.Common.{◌≡◌, ℕ, ◌<◌, ◌≤◌, ◌^◌, Bool, true, false, cond, ℤ, List, [], ◌∷◌, ◌++◌, length, map, max, filter, Some, None, refl, ap, sym, subst, ◌∙◌, arith}
+use Rattle.std.specs.Prelude.{◌==◌, ◌&&◌, slice_get}
+use Rattle.std.specs.List.{find, filter_map, AllByRecursion}
+use Rattle.std.specs.Option.{option_map_or}
+use Rattle.std.proofs.Math.Nat.{le-max_left, le-max_right}
 use Rattle.std.proofs.lemmas.Bool.{eq-eqb, ne_eqb}
-use Rattle.giotto_text.specs.Program.{ModeSwitch, ModeDeclaration, GiottoProgram}
-use Rattle.giotto_rules.specs.Declarations.{mode_of}
-use Rattle.tenant_slots.specs.Due.{is_due_at}
+use Rattle.giotto_tasks.specs.declared.names.Name.{Name}
+use Rattle.giotto_tasks.specs.Names.{Valuation, same_name}
+use Rattle.giotto_text.specs.Program.{ModeSwitch, TaskInvocation, ModeDeclaration, GiottoProgram}
+use Rattle.giotto_rules.specs.Declarations.{mode_of, period_of_task}
+use Rattle.giotto_check.specs.Facts.{ProgramFits}
+use Rattle.giotto_check.specs.Slots.{valuation_of}
+use Rattle.tenant_slots.specs.Due.{is_due_at, IsQuietUntil}
+use Rattle.tenant_slots.specs.Places.{name_of_mode}
 use Rattle.tenant_slots.specs.Ports.{holds}
-use Rattle.tenant_state.specs.Row.{running, ActiveTask, Row, is_running_state, where_some, in_mode}
-use Rattle.tenant_state.specs.SecondHalf.{installed, replaced_if_due, sensed, entered, switched, invoked_in_mode, moved_on, counted, second_half_running, second_half_of}
 use Rattle.tenant_slots.specs.Readings.{Readings}
+use Rattle.tenant_slots.proofs.Numbered.{mode_fits_at}
+use Rattle.tenant_state.specs.declared.tenants.switches.Entry.{Entry}
+use Rattle.tenant_state.specs.declared.trace.Happening.TheVariants as happening
+use Rattle.tenant_state.specs.declared.trace.Record.{Record}
+use Rattle.tenant_state.specs.Row.{running, ActiveTask, Row, is_running_state, where_some, in_mode}
+use Rattle.tenant_state.specs.SecondHalf.{installed, replaced_if_due, sensed, time_before_end, entry_time, entered, switched, invoked_in_mode, moved_on, counted, second_half_running, second_half_of}
+use Rattle.tenant_state.specs.Standing.{greatest, invoked_in, most_at}
+use Rattle.tenant_state.specs.Tenants.{IsEntered, IsSwitched}
+use Rattle.giotto_tasks.proofs.ListLemmas.{find_passes, some_same}
+use Rattle.giotto_tasks.proofs.NameLemmas.{same_name_is}
 use Rattle.giotto_tasks.proofs.TestLemmas.{cond-same}
 
-in_its_mode : (step : GiottoProgram → ModeDeclaration → Row → Row) (row : Row) (p : GiottoProgram) (m : ModeDeclaration) → row.program ≡ Some p → mode_of p row.mode ≡ Some m
+pub in_its_mode : (step : GiottoProgram → ModeDeclaration → Row → Row) (row : Row) (p : GiottoProgram) (m : ModeDeclaration) → row.program ≡ Some p → mode_of p row.mode ≡ Some m
     → in_mode step row ≡ step p m row
 in_its_mode step row p m e f = ap (λ o. where_some (λ p. where_some (step p) (mode_of p row.mode)) o row) e ∙ ap (λ o. where_some (step p) o row) f
 
 none_waits : (row : Row) → row.waiting ≡ None → replaced_if_due row ≡ row
 none_waits row e = ap (λ o. cond (row.mode_time == 0) (where_some installed o row) row) e ∙ cond-same (row.mode_time == 0) row
 
-not_switched : (p : GiottoProgram) (m : ModeDeclaration) (row : Row) → m.switches ≡ [] → switched p m row ≡ row
-not_switched p m row e =
-    ap (λ ss. where_some (λ (s : ModeSwitch). where_some (entered m s) (mode_of p s.target)) (find (λ (s : ModeSwitch). is_due_at row.mode_time m s.frequency && holds s.guard row.ports) ss) row) e
-
-pub running_half : (readings : Readings) (row : Row) (p : GiottoProgram) (m : ModeDeclaration)
-    → row.state ≡ running → row.program ≡ Some p → mode_of p row.mode ≡ Some m → m.switches ≡ [] → row.waiting ≡ None
-    → second_half_of readings [] row ≡ counted (moved_on m (invoked_in_mode p m (sensed readings [] p row)))
-running_half readings row p m runs program mode switches waits =
+-- up to the switch
+pub running_half : (readings : Readings) (row : Row) (p : GiottoProgram) (m : ModeDeclaration) → row.state ≡ running → row.program ≡ Some p → mode_of p row.mode ≡ Some m → row.waiting ≡ None
+    → second_half_of readings [] row ≡ counted (in_mode (λ p m row. moved_on m (invoked_in_mode p m row)) (switched p m (sensed readings [] p row)))
+running_half readings row p m runs program mode waits =
     let first : Row → Row = in_mode (λ p m row. switched p m (sensed readings [] p row)) in
     let second : Row → Row = in_mode (λ p m row. moved_on m (invoked_in_mode p m row)) in
     ap (λ b. counted (cond b (second_half_running readings [] row) row)) (ap is_running_state runs)
     ∙ ap (λ r. counted (second (first r))) (none_waits row waits)
-    ∙ ap (λ r. counted (second r)) (in_its_mode (λ p m row. switched p m (sensed readings [] p row)) row p m program mode ∙ not_switched p m (sensed readings [] p row) switches)
-    ∙ ap counted (in_its_mode (λ p m row. moved_on m (invoked_in_mode p m row)) (sensed readings [] p row) p m program mode)
+    ∙ ap (λ r. counted (second r)) (in_its_mode (λ p m row. switched p m (sensed readings [] p row)) row p m program mode)
+
+-- a row in this mode, with these active tasks, ports and records
+abbrev pub placed : Row → Name → ℕ → List ActiveTask → Valuation → List Record → Row
+placed row x time active ports records = record row { mode = x; mode_time = time; active = active; ports = ports; records = records }
+
+-- the mode at place `to` stands behind the switch of mode m: it was entered, or it is m, and no switch was taken
+pub record IsBehindSwitch (p : GiottoProgram) (m : ModeDeclaration) (mode time : ℕ) (active : List ActiveTask) (ports : Valuation) (to at next : ℕ) (values : List ℤ) : Type 0 where
+  pub new : ModeDeclaration
+  pub there : slice_get p.modes to ≡ Some new
+  pub quiet : (m : ModeDeclaration) → slice_get p.modes to ≡ Some m → IsQuietUntil m at next
+  pub short : at < 2 ^ 32
+  pub few : length (filter (λ (i : TaskInvocation). is_due_at at new i.frequency) new.invocations) ≤ most_at p m time
+  pub step : (row : Row) (rs : List Record)
+      → (more : List Record) × (switched p m (placed row (name_of_mode p mode) time active ports rs) ≡ placed row (name_of_mode p to) at active (valuation_of p values) more)
+
+-- what passes both tests first is no more than the greatest of what passes one
+found_within : {X : Type 0} (f : X → ℕ) (one other : X → Bool) (xs : List X) (x : X) → find (λ y. one y && other y) xs ≡ Some x → f x ≤ greatest (map f (filter one xs))
+found_within f one other [] x e = absurd (cc)
+found_within f one other (y ∷ ys) x e = at_head (one y) (other y) e (found_within f one other ys x)
+  where
+    at_head : (a b : Bool) → cond (a && b) (Some y) (find (λ y. one y && other y) ys) ≡ Some x → (find (λ y. one y && other y) ys ≡ Some x → f x ≤ greatest (map f (filter one ys)))
+        → f x ≤ greatest (map f (cond a (y ∷ filter one ys) (filter one ys)))
+    at_head true true e on = subst (λ z. f z ≤ max (f y) (greatest (map f (filter one ys)))) (some_same y x e) (le-max_left (f y) (greatest (map f (filter one ys))))
+    at_head true false e on = omega (arith, on e, le-max_right (f y) (greatest (map f (filter one ys))))
+    at_head false b e on = on e
+
+no_more : {X : Type 0} (test : X → Bool) (xs : List X) → length (filter test xs) ≤ length xs
+no_more test [] = omega arith
+no_more test (x ∷ xs) = at_head (test x) (no_more test xs)
+  where
+    at_head : (b : Bool) → length (filter test xs) ≤ length xs → length (cond b (x ∷ filter test xs) (filter test xs)) ≤ length (x ∷ xs)
+    at_head true le = omega arith
+    at_head false le = omega arith
+
+before_end : (from target : ModeDeclaration) (time : ℕ) (ks : List ℕ) → time_before_end from target time ks ≤ target.period
+before_end from target time [] = omega arith
+before_end from target time (k ∷ ks) = omega arith
+
+entry_within : (from target : ModeDeclaration) (time : ℕ) (active : List ActiveTask) → entry_time from target time active ≤ target.period
+entry_within from target time active = before_end from target time (filter_map (λ (a : ActiveTask). period_of_task from a.task) active)
+
+module _ (p : GiottoProgram) (kept : ProgramFits p) (m : ModeDeclaration) (mode time next : ℕ) (active : List ActiveTask) (ports : Valuation) (values : List ℤ) where
+  -- no switch is taken
+  pub none_taken : (to at later : ℕ) → to ≡ mode → at ≡ time → later ≡ next → slice_get p.modes mode ≡ Some m → ((m : ModeDeclaration) → slice_get p.modes mode ≡ Some m → IsQuietUntil m time next) → time < 2 ^ 32 → IsSwitched p m time active ports None values
+      → IsBehindSwitch p m mode time active ports to at later values
+  none_taken to at later same_mode same_time same_next here quiet short none = rw (same_mode, same_time, same_next) (record {
+    new = m;
+    there = here;
+    quiet = quiet;
+    short = short;
+    few = le-max_left _ _;
+    step = λ row rs. (
+      rs,
+      ap (λ o. where_some (λ s. where_some (entered m s) (mode_of p s.target)) o (placed row (name_of_mode p mode) time active ports rs)) none.0
+          ∙ (λ k. placed row (name_of_mode p mode) time active (sym none.1 k) rs),
+    );
+  })
+
+  -- the target of a switch is found by its name
+  target_named : (entry : Entry) (is : IsEntered p m time active ports entry values) → name_of_mode p entry.mode ≡ is.switch.target
+  target_named entry is =
+      ap (λ o. option_map_or (λ (m : ModeDeclaration). m.name) o []) is.there
+      ∙ same_name_is is.target.name is.switch.target (find_passes (λ (m : ModeDeclaration). same_name m.name is.switch.target) p.modes is.target is.named)
+
+  -- the target has no more due than it invokes, and its switch is one of those that are due
+  few_there : (entry : Entry) (is : IsEntered p m time active ports entry values)
+      → length (filter (λ (i : TaskInvocation). is_due_at entry.time is.target i.frequency) is.target.invocations) ≤ most_at p m time
+  few_there entry is =
+      let mine : invoked_in p is.switch.target ≡ length is.target.invocations = ap (λ o. option_map_or (λ (m : ModeDeclaration). length m.invocations) o 0) is.named in
+      let among = found_within (λ (s : ModeSwitch). invoked_in p s.target) (λ (s : ModeSwitch). is_due_at time m s.frequency) (λ (s : ModeSwitch). holds s.guard ports) m.switches is.switch is.taken in
+      let others = no_more (λ (i : TaskInvocation). is_due_at entry.time is.target i.frequency) is.target.invocations in
+      omega (arith, mine, among, others, le-max_right (length (filter (λ (i : TaskInvocation). is_due_at time m i.frequency) m.invocations)) (greatest (map (λ (s : ModeSwitch). invoked_in p s.target) (filter (λ (s : ModeSwitch). is_due_at time m s.frequency) m.switches))))
+
+  -- a switch is taken
+  pub one_taken : (entry : Entry) (to at later : ℕ) → to ≡ entry.mode → at ≡ entry.time → later ≡ 0 → IsEntered p m time active ports entry values → IsBehindSwitch p m mode time active ports to at later values
+  one_taken entry to at later same_mode same_time same_next is = rw (same_mode, same_time, same_next) (record {
+    new = is.target;
+    there = is.there;
+    quiet = λ m there t from before. absurd (omega (arith, before));
+    short = omega (arith, is.begins, entry_within m is.target time active, (mode_fits_at p kept entry.mode is.target is.there).short);
+    few = few_there entry is;
+    step = λ row rs. let more : List Record = record { tick = row.count; happening = happening.Mode is.switch.target } ∷ rs in (
+      more,
+      ap (λ o. where_some (λ s. where_some (entered m s) (mode_of p s.target)) o (placed row (name_of_mode p mode) time active ports rs)) is.taken
+          ∙ ap (λ o. where_some (entered m is.switch) o (placed row (name_of_mode p mode) time active ports rs)) is.named
+          ∙ (λ k. placed row (sym (target_named entry is) k) (sym is.begins k) active (sym is.given k) more),
+    );
+  })
 
 -- the entries of an instant: those of older instants are of other numbers
 all_of_new : (n : ℕ) (new : List ActiveTask) → AllByRecursion (λ (a : ActiveTask). a.release ≡ n) new → filter (λ (a : ActiveTask). a.release == n) new ≡ new

@@ -1,27 +1,33 @@
--- Shares of tasks' bodies, and how many invocations are due.
-use Rattle.std.proofs.Common.{◌≡◌, ℕ, zero, suc, ◌+◌, ◌<◌, Bool, true, false, cond, ℤ, List, [], ◌∷◌, length, map, filter, take, set, get_or, ⊎_elim, Option, Some, refl, sym, ap, subst, ◌∙◌, arith}
+-- Shares of tasks' bodies, and the most tasks that an instant can release.
+use Rattle.std.proofs.Common.{◌≡◌, ℕ, zero, suc, ◌+◌, ◌<◌, Bool, true, false, cond, ℤ, List, [], ◌∷◌, length, max, map, filter, take, set, get_or, ⊎_elim, Option, Some, None, refl, sym, ap, subst, ◌∙◌, arith}
 use Rattle.std.specs.Prelude.{is_some, slice_get}
 use Rattle.std.specs.Arc.{arc_value}
 use Rattle.std.specs.List.{AllByRecursion, list_all}
 use Rattle.std.specs.Option.{option_map, option_map_or}
-use Rattle.std.proofs.lemmas.Bool.{and_from}
+use Rattle.std.proofs.lemmas.Bool.{and_from, false≢true}
 use Rattle.std.proofs.lemmas.List.{take_more_set}
 use Rattle.std.proofs.lemmas.List.Folds.{list_all-append, list_all-map}
 use Rattle.std.proofs.lemmas.Option.{slice_get-map, slice_get-get_or, slice_get_cases}
+use Rattle.giotto_tasks.specs.declared.names.Name.{Name}
+use Rattle.giotto_tasks.specs.Names.{same_name}
 use Rattle.giotto_tasks.specs.Syntax.{TaskBody}
 use Rattle.giotto_text.specs.declared.programs.Task.{Task}
-use Rattle.giotto_text.specs.Program.{TaskDeclaration, TaskInvocation, ModeDeclaration, GiottoProgram, body_of}
+use Rattle.giotto_text.specs.Program.{TaskDeclaration, ModeSwitch, TaskInvocation, ModeDeclaration, GiottoProgram, body_of}
 use Rattle.giotto_text.specs.ProgramTrees as trees
 use Rattle.giotto_tasks.proofs.ListLemmas.{all_same, some_same, is_some-option_map}
-use Rattle.giotto_check.specs.Timetables.{AreEach}
+use Rattle.giotto_rules.specs.Declarations.{mode_of}
+use Rattle.giotto_check.specs.Timetables.{AreEach, IsInvocation, place_of_mode}
 use Rattle.giotto_check.specs.Facts.{ProgramFits}
+use Rattle.giotto_check.specs.declared.timetables.SlotInvocation.{SlotInvocation}
+use Rattle.giotto_check.proofs.EachLemmas.{each_long}
+use Rattle.giotto_check.proofs.PlaceLemmas.{found_there, place_if_found}
 use Rattle.tenant_slots.specs.Due.{is_due_at}
 use Rattle.tenant_slots.proofs.Numbered.{mode_here}
 use Rattle.tenant_state.proofs.TenantFacts.{body_of_task}
 use Rattle.tenant_state.specs.declared.tenants.Active.{Active}
 use Rattle.tenant_state.specs.declared.tenants.State as code
 use Rattle.tenant_state.specs.declared.tenants.State.TheVariants.{Running}
-use Rattle.tenant_state.specs.Standing.{most_released}
+use Rattle.tenant_state.specs.Standing.{greatest, invoked_in, most_at, most_released}
 use Rattle.tenant_state.specs.Tenants.{standing_of, IsShareOf, FitsProgram, FitsIts, IsTenant}
 
 -- the declaration at a place is that of the task there
@@ -64,6 +70,44 @@ due_each R due test same (x ∷ xs) (e ∷ es) each = ap (λ b. length (cond b (
     by true rest = ap suc rest
     by false rest = rest
 
+-- as many tasks are invoked in the mode of a name as its place has entries
+pub invoked_there : (p : GiottoProgram) (x : Name) (k : ℕ) (es : List SlotInvocation) → place_of_mode p x ≡ Some k → ((m : ModeDeclaration) → slice_get p.modes k ≡ Some m → AreEach (IsInvocation p m) m.invocations es)
+    → length es ≡ invoked_in p x
+invoked_there p x k es place there = by (mode_of p x) refl (place_if_found is_named 0 p.modes)
+  where
+    is_named : ModeDeclaration → Bool
+    is_named m = same_name m.name x
+
+    by : (o : Option ModeDeclaration) → mode_of p x ≡ o → is_some (place_of_mode p x) ≡ is_some o → length es ≡ option_map_or (λ (m : ModeDeclaration). length m.invocations) o 0
+    by None found same = absurd (false≢true (sym same ∙ ap is_some place))
+    by (Some m) found same =
+        let at = found_there is_named 0 p.modes k m place found in
+        let here : k ≡ at.0 = omega (arith, at.1) in
+        sym (each_long (IsInvocation p m) m.invocations es (there m (ap (slice_get p.modes) here ∙ at.2)))
+
+-- those of these switches that are due
+abbrev switches_due : ModeDeclaration → ℕ → List ModeSwitch → List ModeSwitch
+switches_due m time ss = filter (λ (s : ModeSwitch). is_due_at time m s.frequency) ss
+
+-- the most tasks that one of their targets invokes
+abbrev most_invoked : GiottoProgram → List ModeSwitch → ℕ
+most_invoked p ss = greatest (map (λ (s : ModeSwitch). invoked_in p s.target) ss)
+
+-- the most tasks of a mode to which one of these switches is due
+abbrev pub most_entered : GiottoProgram → ModeDeclaration → ℕ → List ModeSwitch → ℕ
+most_entered p m time ss = most_invoked p (switches_due m time ss)
+
+-- the first of the switches that are left
+module _ (p : GiottoProgram) (m : ModeDeclaration) (time most : ℕ) (s : ModeSwitch) (ss rest : List ModeSwitch) (here : ss ≡ s ∷ rest) where
+  entered_by : (due : Bool) → is_due_at time m s.frequency ≡ due → most_entered p m time ss ≡ most_invoked p (cond due (s ∷ switches_due m time rest) (switches_due m time rest))
+  entered_by due e = ap (most_entered p m time) here ∙ ap (λ b. most_invoked p (cond b (s ∷ switches_due m time rest) (switches_due m time rest))) e
+
+  pub enters : (n new : ℕ) → is_due_at time m s.frequency ≡ true → n ≡ invoked_in p s.target → new ≡ max most n → max new (most_entered p m time rest) ≡ max most (most_entered p m time ss)
+  enters n new due long greater = omega (arith, entered_by true due, long, greater)
+
+  pub stays : is_due_at time m s.frequency ≡ false → max most (most_entered p m time rest) ≡ max most (most_entered p m time ss)
+  stays due = ap (max most) (sym (entered_by false due))
+
 none_pass : {X : Type 0} (test : X → Bool) (xs : List X) → AllByRecursion (λ x. test x ≡ false) xs → filter test xs ≡ []
 none_pass test [] all = refl
 none_pass test (x ∷ xs) all = ap (λ b. cond b (x ∷ filter test xs) (filter test xs)) all.0 ∙ none_pass test xs all.1
@@ -74,12 +118,13 @@ module _ (state : code.State) (program : Option GiottoProgram) (mode time next :
   its : FitsProgram p mode time next active values shares count
   its = subst (λ o. FitsIts o mode time next active values shares count) has known.fits
 
-  pub most_due : (n : ℕ) → ((m : ModeDeclaration) → slice_get p.modes mode ≡ Some m → n ≡ length (filter (λ (i : TaskInvocation). is_due_at time m i.frequency) m.invocations))
-      → n ≡ most_released (standing_of state program mode time active places values shares count).row
+  pub most_due : (n : ℕ) → ((m : ModeDeclaration) → slice_get p.modes mode ≡ Some m → n ≡ most_at p m time) → n ≡ most_released (standing_of 0 state program mode time active places values shares count).row
   most_due n counted = rw (runs, has) (⊎_elim
-      (λ found. counted found.0 found.2
-      ∙ ap (λ o. length (option_map_or (λ (m : ModeDeclaration). filter (λ (i : TaskInvocation). is_due_at time m i.frequency) m.invocations) o [])) (sym (mode_here p fits mode found.0 found.2)))
+      (λ found. counted found.0 found.2 ∙ ap (λ o. option_map_or (λ (m : ModeDeclaration). most_at p m time) o 0) (sym (mode_here p fits mode found.0 found.2)))
       (λ past. absurd (omega (arith, past.0, its.mode_there))) (slice_get_cases p.modes mode).1)
 
-  pub none_due : time < next → 0 ≡ most_released (standing_of state program mode time active places values shares count).row
-  none_due lt = most_due 0 (λ m at. sym (ap length (none_pass (λ (i : TaskInvocation). is_due_at time m i.frequency) m.invocations (its.quiet m at time (omega arith) lt).no_invocation)))
+  pub none_due : time < next → 0 ≡ most_released (standing_of 0 state program mode time active places values shares count).row
+  none_due lt = most_due 0 (λ m at.
+      let quiet = its.quiet m at time (omega arith) lt in
+      sym (ap (λ is. max (length is) (most_entered p m time m.switches)) (none_pass (λ (i : TaskInvocation). is_due_at time m i.frequency) m.invocations quiet.no_invocation)
+      ∙ ap (λ ss. max 0 (most_invoked p ss)) (none_pass (λ (s : ModeSwitch). is_due_at time m s.frequency) m.switches quiet.no_switch)))

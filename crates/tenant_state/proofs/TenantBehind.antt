@@ -3,11 +3,11 @@ use Rattle.std.proofs.Common.{◌≡◌, ℕ, zero, suc, ◌+◌, ◌-◌, ◌%�
 use Rattle.std.specs.Prelude.{◌==◌, slice_get, slice_index_or}
 use Rattle.std.specs.Option.{option_map, option_map_or}
 use Rattle.std.specs.List.{list_all, AllByRecursion}
-use Rattle.std.proofs.lemmas.Bool.{and_parts, and_from, or_parts, false≢true, ne_eqb, eq-eqb, eqb-true, false_from_ne_true, not-true}
-use Rattle.std.proofs.lemmas.List.{nil_from_length, length-map, length-drop, drop-map, take-append-drop, take_rest}
+use Rattle.std.proofs.lemmas.Bool.{and_parts, and_from, or_parts, false≢true, ne_eqb, eq-eqb, false_from_ne_true, not-true}
+use Rattle.std.proofs.lemmas.List.{length-map, length-drop, drop-map, take-append-drop, take_rest}
 use Rattle.std.proofs.lemmas.Nat.{mod_below}
 use Rattle.std.proofs.lemmas.List.Folds.{list_all-append}
-use Rattle.std.proofs.lemmas.Option.{slice_get-map, slice_get-get_or}
+use Rattle.std.proofs.lemmas.Option.{slice_get-map, slice_get-get_or, slice_get_within}
 use Rattle.giotto_tasks.specs.declared.names.Name.{Name}
 use Rattle.giotto_tasks.specs.Names.{Valuation, same_name, is_among}
 use Rattle.giotto_tasks.specs.Sound.{all_different}
@@ -17,23 +17,22 @@ use Rattle.giotto_text.specs.ProgramTrees as tree
 use Rattle.giotto_text.specs.Program.{TaskDeclaration, TaskInvocation, ModeDeclaration, GiottoProgram}
 use Rattle.giotto_check.specs.Facts.{ProgramFits}
 use Rattle.tenant_slots.specs.Due.{IsQuietUntil}
-use Rattle.tenant_slots.specs.Places.{name_of_task, name_of_mode}
-use Rattle.tenant_slots.proofs.Numbered.{mode_here, mode_fits_at}
+use Rattle.tenant_slots.specs.Places.{name_of_task}
+use Rattle.tenant_slots.proofs.Numbered.{mode_fits_at}
 use Rattle.tenant_state.specs.declared.tenants.Active.{Active}
 use Rattle.tenant_state.specs.declared.tenants.State as code
 use Rattle.tenant_state.specs.declared.tenants.State.TheVariants.{Empty}
 use Rattle.tenant_state.specs.Jobs.{job_in, released_at}
 use Rattle.tenant_state.specs.Row.{ActiveTask, Row}
 use Rattle.tenant_state.specs.SecondHalf.{released, all_released}
-use Rattle.tenant_state.specs.Commands.{has_no_switch}
 use Rattle.tenant_state.specs.Standing.{Standing, AreReleased, most_released}
-use Rattle.tenant_state.specs.Tenants.{active_of, tasks_in, standing_of, is_another, all_different_releases, AreInvoked, HasNoSwitches, IsActiveOf, IsActiveIn, FitsIts, IsTenant}
+use Rattle.tenant_state.specs.Tenants.{active_of, tasks_in, standing_of, is_another, all_different_releases, AreInvoked, IsActiveOf, IsActiveIn, FitsIts, IsTenant}
 use Rattle.tenant_state.proofs.HalfStands.{released_by, new_releases}
 use Rattle.tenant_state.proofs.SecondHalfSteps.{those_released}
 use Rattle.tenant_state.proofs.TenantFacts.{known_of}
 use Rattle.giotto_tasks.proofs.TestLemmas.{and_true, and_false, not_either}
 use Rattle.giotto_tasks.proofs.NameLemmas.{same_name_is, same_name_self}
-use Rattle.giotto_tasks.proofs.ListLemmas.{all_wider, all_map, all_that, find_passes, found_passes}
+use Rattle.giotto_tasks.proofs.ListLemmas.{all_wider, all_map, all_that, find_passes}
 
 other_by_release : (a b : ActiveTask) → (a.release ≡ b.release → ⊥) → is_another a b ≡ true
 other_by_release a b apart = ap not (ap (λ same. same_name a.task b.task && same) (ne_eqb a.release b.release apart) ∙ and_false _)
@@ -86,24 +85,25 @@ module _ (p : GiottoProgram) (kept : ProgramFits p) (mode : ℕ) where
       sym (ap (λ ms. slice_get ms mode) same) ∙ slice_get-map tree.mode_of modes mode ∙ ap (option_map tree.mode_of) (slice_get-get_or modes mode d (omega (arith, lt, ap length (sym same) ∙ length-map modes tree.mode_of)))
 
   module _ (m : ModeDeclaration) (at : slice_get p.modes mode ≡ Some m) where
-    -- a mode of a program without switches
-    pub without_switches : HasNoSwitches p → m.switches ≡ []
-    without_switches none = nil_from_length m.switches (eqb-true _ _ (found_passes has_no_switch (λ (n : ModeDeclaration). same_name n.name (name_of_mode p mode)) p.modes m none (mode_here p kept mode m at)))
-
-    -- an instant at which the mode's tasks are released
-    pub tenant_behind : (time next later n : ℕ) (ports : Valuation) (old new : List Active) (values written : List ℤ) (shares : List (Option TaskBody)) → IsTenant (Some p) mode time next old values shares n
-        → AreInvoked p m time n ports old new written → ((o : ModeDeclaration) → slice_get p.modes mode ≡ Some o → IsQuietUntil o time next → IsQuietUntil o ((time + 1) % m.period) later)
-        → IsTenant (Some p) mode ((time + 1) % m.period) later new written shares (n + 1)
-    tenant_behind time next later n ports old new values written shares is ran quiet =
+    -- an instant at which the mode's tasks are released, whatever mode stood before it
+    pub tenant_behind : (from before time next since later period n : ℕ) (ports : Valuation) (old new : List Active) (values written : List ℤ) (shares : List (Option TaskBody)) → period ≡ m.period → IsTenant (Some p) from before since old values shares n
+        → AreInvoked p m time n ports old new written → ((o : ModeDeclaration) → slice_get p.modes mode ≡ Some o → IsQuietUntil o time next) → ((o : ModeDeclaration) → slice_get p.modes mode ≡ Some o → IsQuietUntil o time next → IsQuietUntil o ((time + 1) % period) later)
+        → IsTenant (Some p) mode ((time + 1) % period) later new written shares (n + 1)
+    tenant_behind from before time next since later period n ports old new values written shares lasts is ran now quiet =
         let fits = mode_fits_at p kept mode m at in
-        let below = mod_below (time + 1) m.period fits.positive in
+        let below = mod_below (time + 1) period (omega (arith, lasts, fits.positive)) in
         record {
-          short_time = omega (arith, below, fits.short);
-          no_switches = is.no_switches;
+          short_time = omega (arith, below, lasts, fits.short);
           different = ap all_different_releases ran.tasks
-              ∙ other_joined n (map (active_of p) old) (all_released p m time n m.invocations ports) (known_of mode time next old values shares n Empty (Some p) is).early (new_releases p m time n m.invocations ports)
+              ∙ other_joined n (map (active_of p) old) (all_released p m time n m.invocations ports) (known_of from before since old values shares n Empty (Some p) is).early (new_releases p m time n m.invocations ports)
               is.different (released_other p m time n m.invocations ports fits.tasks_once);
-          fits = record { long = ran.long; mode_there = is.fits.mode_there; quiet = λ o there. quiet o there (is.fits.quiet o there); each = ran.each; share_each = is.fits.share_each };
+          fits = record {
+            long = ran.long;
+            mode_there = slice_get_within p.modes mode m at;
+            quiet = λ o there. quiet o there (now o there);
+            each = ran.each;
+            share_each = is.fits.share_each;
+          };
         }
 
 all_drop : {X : Type 0} (P : X → Type 0) (k : ℕ) (xs : List X) → AllByRecursion P xs → AllByRecursion P (drop k xs)
@@ -168,10 +168,10 @@ active_long None mode time next active values shares n none = ap length (sym non
 active_long (Some p) mode time next active values shares n fits = length-map active (active_of p)
 
 -- as the code has them
-pub are_new : {o q : Option GiottoProgram} {mode time next places n to at later room m : ℕ} {old items : List Active} {values written : List ℤ} {shares others : List (Option TaskBody)}
+pub are_new : {o q : Option GiottoProgram} {mode time next places n to at later room m : ℕ} {old items : List Active} {values written : List ℤ} {shares others : List (Option TaskBody)} {own own_behind : ℕ}
     (p : GiottoProgram) (tenant : ℕ) (before after : Standing) (s t : code.State)
-    → IsTenant o mode time next old values shares n → standing_of s o mode time old places values shares n ≡ before
-    → IsTenant q to at later items written others m → standing_of t q to at items room written others m ≡ after
+    → IsTenant o mode time next old values shares n → standing_of own s o mode time old places values shares n ≡ before
+    → IsTenant q to at later items written others m → standing_of own_behind t q to at items room written others m ≡ after
     → q ≡ Some p → AreReleased before.row after.row → (k : ℕ) (xs : List Active) → k ≡ length old → xs ≡ items → AreNew p tenant before.row after.row (take (length xs - k) (drop k xs))
 are_new {o} {q} {mode} {time} {next} {places} {n} {to} {at} {later} {room} {m} {old} {items} {values} {written} {shares} {others} p tenant before after s t known view known_after view_after program released k xs long same =
     let is : IsTenant (Some p) to at later items written others m = subst (λ o. IsTenant o to at later items written others m) program known_after in

@@ -11,7 +11,7 @@ use Rattle.tenant_lines.specs.declared.replies.Refusal.TheVariants.{Rule, Runnin
 use Rattle.tenant_state.specs.declared.tenants.Active.{Active}
 use Rattle.tenant_state.specs.declared.tenants.State as code
 use Rattle.giotto_rules.specs.Rules.{first_broken_rule}
-use Rattle.tenant_state.specs.Commands.{refusal_of, refused, has_no_switches, at_beginning, broken_budget, load_within, load_kept, load_checked, load_read}
+use Rattle.tenant_state.specs.Commands.{refusal_of, refused, at_beginning, broken_budget, load_within, load_kept, load_checked, load_read}
 use Rattle.giotto_text.specs.declared.programs.Task.{Task}
 use Rattle.giotto_text.specs.ProgramTrees.{task_of}
 use Rattle.giotto_check.specs.Timetables.{AreEach}
@@ -32,29 +32,20 @@ module _ (text : List ℕ) (budgets : Budgets) (row : Row) where
   kept_if : (p : GiottoProgram) → parsed text ≡ Ok p → first_broken_rule p ≡ None → load_read budgets row (parsed text) ≡ load_kept budgets p row
   kept_if p e kept = ap (load_read budgets row) e ∙ ap (load_checked budgets p row) kept
 
-  pub refused_by_switch : (p : GiottoProgram) → parsed text ≡ Ok p → first_broken_rule p ≡ None → has_no_switches p ≡ false → load_read budgets row (parsed text) ≡ refused row (Rule 0)
-  refused_by_switch p e kept switched =
-      kept_if p e kept ∙ ap (λ b. cond b (cond (is_running row) (refused row Running) (load_within p row (broken_budget budgets p))) (refused row (Rule 0))) switched
-
-  loaded_if : (p : GiottoProgram) → parsed text ≡ Ok p → first_broken_rule p ≡ None → has_no_switches p ≡ true
-      → load_read budgets row (parsed text) ≡ cond (is_running row) (refused row Running) (load_within p row (broken_budget budgets p))
-  loaded_if p e kept plain =
-      kept_if p e kept ∙ ap (λ b. cond b (cond (is_running row) (refused row Running) (load_within p row (broken_budget budgets p))) (refused row (Rule 0))) plain
-
-  pub refused_while_running : (p : GiottoProgram) → parsed text ≡ Ok p → first_broken_rule p ≡ None → has_no_switches p ≡ true → is_running row ≡ true
+  pub refused_while_running : (p : GiottoProgram) → parsed text ≡ Ok p → first_broken_rule p ≡ None → is_running row ≡ true
       → load_read budgets row (parsed text) ≡ refused row Running
-  refused_while_running p e kept plain runs = loaded_if p e kept plain ∙ ap (λ b. cond b (refused row Running) (load_within p row (broken_budget budgets p))) runs
+  refused_while_running p e kept runs = kept_if p e kept ∙ ap (λ b. cond b (refused row Running) (load_within p row (broken_budget budgets p))) runs
 
-  pub loaded_within : (p : GiottoProgram) (b : Option Budget) → parsed text ≡ Ok p → first_broken_rule p ≡ None → has_no_switches p ≡ true → is_running row ≡ false
+  pub loaded_within : (p : GiottoProgram) (b : Option Budget) → parsed text ≡ Ok p → first_broken_rule p ≡ None → is_running row ≡ false
       → broken_budget budgets p ≡ b → load_read budgets row (parsed text) ≡ load_within p row b
-  loaded_within p b e kept plain rests over =
-      loaded_if p e kept plain ∙ ap (λ b. cond b (refused row Running) (load_within p row (broken_budget budgets p))) rests ∙ ap (load_within p row) over
+  loaded_within p b e kept rests over =
+      kept_if p e kept ∙ ap (λ b. cond b (refused row Running) (load_within p row (broken_budget budgets p))) rests ∙ ap (load_within p row) over
 
 -- what stands after a program was put at its beginning
-module _ (state : code.State) (program : Option GiottoProgram) (mode time : ℕ) (active : List Active) (places : ℕ) (values : List ℤ) (shares : List (Option TaskBody)) (count : ℕ) where
+module _ {own : ℕ} (state : code.State) (program : Option GiottoProgram) (mode time : ℕ) (active : List Active) (places : ℕ) (values : List ℤ) (shares : List (Option TaskBody)) (count : ℕ) where
   pub stands_at_beginning : (row : Row) (completed : ActiveTask → Bool) (next : code.State) (p : GiottoProgram) (start room : ℕ) (new : List ℤ) (at_hand : List (Option TaskBody))
-      → StandsFor (standing_of state program mode time active places values shares count) row completed → name_of_mode p start ≡ p.start → valuation_of p new ≡ initial_ports p
-      → StandsFor (standing_of next (Some p) start 0 [] room new at_hand count) (at_beginning (state_of next) p row) completed
+      → StandsFor (standing_of own state program mode time active places values shares count) row completed → name_of_mode p start ≡ p.start → valuation_of p new ≡ initial_ports p
+      → StandsFor (standing_of own next (Some p) start 0 [] room new at_hand count) (at_beginning (state_of next) p row) completed
   stands_at_beginning row completed next p start room new at_hand stands starts initial =
       let e = stands.same_row in
       record {

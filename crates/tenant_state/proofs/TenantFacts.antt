@@ -22,7 +22,7 @@ module _ (mode time next : ℕ) (active : List Active) (values : List ℤ) (shar
   early_of None fits = tt
   early_of (Some p) fits = all_mapped _ (active_of p) active (all_map (IsActiveIn p count) _ active (λ a is. is.early) fits.each)
 
-  pub known_of : (state : code.State) (o : Option GiottoProgram) → IsTenant o mode time next active values shares count → IsKnown (standing_of state o mode time active 0 values shares count).row
+  pub known_of : (state : code.State) (o : Option GiottoProgram) → IsTenant o mode time next active values shares count → IsKnown (standing_of 0 state o mode time active 0 values shares count).row
   known_of state o known = record { no_binds = refl; tasks = λ e. ap (λ o. tasks_in o active) e; early = early_of o known.fits }
 
 -- a task's body is that of its declaration

@@ -1,9 +1,12 @@
+pub mod ActiveTasks
 pub mod Commands
+pub mod CommonPeriods
 pub mod EntryTable
 pub mod FirstHalf
 pub mod Instants
 pub mod JobLists
 pub mod Jobs
+pub mod Readers
 pub mod Row
 pub mod SecondHalf
 pub mod Standing

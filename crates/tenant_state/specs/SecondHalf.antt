@@ -1,10 +1,9 @@
 -- The second half of an instant: a waiting program is installed, sensors are read, a switch may be taken, tasks are invoked, and the mode time moves on.
-use Rattle.std.specs.Prelude.{ℕ, zero, suc, ◌+◌, ◌-◌, ◌%◌, ◌==◌, Bool, ◌&&◌, ◌||◌, if◌then◌else◌, ℤ, List, [], ◌∷◌, ◌++◌, map, Option, Some, None, unwrap_or, option_to_list}
-use Rattle.std.specs.List.{find, filter_map, list_all}
+use Rattle.std.specs.Prelude.{ℕ, zero, suc, ◌+◌, ◌-◌, ◌%◌, ◌==◌, Bool, ◌&&◌, ◌||◌, if◌then◌else◌, ℤ, List, [], ◌∷◌, ◌++◌, map, Some, None, unwrap_or, option_to_list}
+use Rattle.std.specs.List.{filter_map, list_all}
 use Rattle.std.specs.Option.{option_map, option_map_or}
 use Rattle.giotto_tasks.specs.declared.names.Name.{Name}
 use Rattle.giotto_tasks.specs.Names.{Valuation, value_at, values_of, is_among}
-use Rattle.giotto_tasks.specs.Syntax.{Expression}
 use Rattle.giotto_tasks.specs.Meaning.{value_of}
 use Rattle.giotto_text.specs.Program.{TaskDeclaration, ModeSwitch, TaskInvocation, ModeDeclaration, GiottoProgram, names_of}
 use Rattle.tenant_state.specs.declared.trace.Happening.TheVariants as happening
@@ -14,6 +13,7 @@ use Rattle.giotto_text.specs.PortNames.{own_ports, with_values}
 use Rattle.tenant_slots.specs.Ports.{initial_ports, holds}
 use Rattle.tenant_slots.specs.Due.{is_due_at}
 use Rattle.tenant_slots.specs.Readings.{Readings, reading_taken}
+use Rattle.tenant_slots.specs.Switches.{switch_taken, with_destinations}
 
 -- a port of this name stands in both programs, among these names of each
 abbrev pub stands_in_both : (GiottoProgram → List Name) → GiottoProgram → GiottoProgram → Name → Bool
@@ -59,13 +59,9 @@ abbrev pub time_before_end : ModeDeclaration → ModeDeclaration → ℕ → Lis
 time_before_end from target time [] = 0
 time_before_end from target time (k ∷ ks) = let l = least_common_multiple from.period (k ∷ ks) in target.period - (l - time % l)
 
--- The mode time behind a switch: 0 if no task is unfinished.
-abbrev pub entry_time : ModeDeclaration → ModeDeclaration → Row → ℕ
-entry_time from target row = time_before_end from target row.mode_time (filter_map (λ (a : ActiveTask). period_of_task from a.task) row.active)
-
--- the first switch that is due and whose guard holds
-abbrev pub switch_taken : ModeDeclaration → Row → Option ModeSwitch
-switch_taken m row = find (λ (s : ModeSwitch). is_due_at row.mode_time m s.frequency && holds s.guard row.ports) m.switches
+-- The mode time behind a switch, where these tasks are active: 0 if none is.
+abbrev pub entry_time : ModeDeclaration → ModeDeclaration → ℕ → List ActiveTask → ℕ
+entry_time from target time active = time_before_end from target time (filter_map (λ (a : ActiveTask). period_of_task from a.task) active)
 
 -- a switch: its destinations take their values, and the target mode is entered
 abbrev pub entered : ModeDeclaration → ModeSwitch → ModeDeclaration → Row → Row
@@ -73,13 +69,13 @@ entered m s target row =
     recorded (happening.Mode s.target)
     (record row {
       mode = s.target;
-      mode_time = entry_time m target row;
-      ports = with_values row.ports (map (λ (d : Name × Expression). d.0) s.destinations) (map (λ (d : Name × Expression). value_of d.1 row.ports) s.destinations);
+      mode_time = entry_time m target row.mode_time row.active;
+      ports = with_destinations s row.ports;
     })
 
 -- the first switch that is due and whose guard holds is taken, if there is one
 abbrev pub switched : GiottoProgram → ModeDeclaration → Row → Row
-switched p m row = where_some (λ s. where_some (entered m s) (mode_of p s.target)) (switch_taken m row) row
+switched p m row = where_some (λ s. where_some (entered m s) (mode_of p s.target)) (switch_taken m row.mode_time row.ports) row
 
 -- an invocation happens where it is due and its guard holds
 abbrev pub is_invoked : ModeDeclaration → ℕ → TaskInvocation → Valuation → Bool

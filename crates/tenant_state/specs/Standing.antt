@@ -1,8 +1,9 @@
 -- What a tenant's code stands for: all of its row but the records, and which active tasks' computations are completed.
-use Rattle.std.specs.Prelude.{◌≡◌, ◌+◌, ◌≤◌, ◌<◌, ℕ, Bool, true, false, not, if◌then◌else◌, List, [], map, filter, length, take, drop, Option, None}
+use Rattle.std.specs.Prelude.{◌≡◌, ◌+◌, ◌≤◌, ◌<◌, ℕ, Bool, true, false, not, if◌then◌else◌, List, [], ◌∷◌, map, filter, length, max, take, drop, Option, None}
 use Rattle.std.specs.List.{AllByRecursion, find, zip}
 use Rattle.std.specs.Option.{option_and_then, option_map, option_map_or}
-use Rattle.giotto_text.specs.Program.{ModeDeclaration, TaskInvocation}
+use Rattle.giotto_tasks.specs.declared.names.Name.{Name}
+use Rattle.giotto_text.specs.Program.{GiottoProgram, ModeDeclaration, ModeSwitch, TaskInvocation}
 use Rattle.giotto_rules.specs.Declarations.{mode_of}
 use Rattle.tenant_state.specs.declared.jobs.JobId.{JobId}
 use Rattle.tenant_lines.specs.declared.replies.Reply.{Reply}
@@ -11,8 +12,9 @@ use Rattle.tenant_state.specs.Commands.{Outcome}
 use Rattle.tenant_state.specs.Jobs.{JobValue, job_in, job_of, same_job}
 use Rattle.tenant_state.specs.Row.{ActiveTask, Row, empty_row, is_running}
 
--- what a tenant's code keeps: a row without records, and marks; and what it has ready for the next instant
+-- what a tenant's code keeps: its place in the roster, a row without records, and marks; and what it has ready for the next instant
 pub record Standing : Type 0 where
+  pub own : ℕ
   pub row : Row
   -- for each active task, whether its computation is completed
   pub completed : List Bool
@@ -25,9 +27,9 @@ pub record Standing : Type 0 where
 abbrev pub at_rest : Standing → Standing
 at_rest s = record s { places = 0; shared = false }
 
--- that of a tenant without a program, whose first instant has this number
-abbrev pub empty_standing : ℕ → Standing
-empty_standing first_tick = record { row = empty_row first_tick; completed = []; places = 0; shared = true }
+-- that of the tenant at this place, without a program, whose first instant has this number
+abbrev pub empty_standing : ℕ → ℕ → Standing
+empty_standing own first_tick = record { own = own; row = empty_row first_tick; completed = []; places = 0; shared = true }
 
 -- the row but for its records, which the code doesn't keep
 abbrev pub without_records : Row → Row
@@ -38,14 +40,24 @@ pub record StandsFor (standing : Standing) (row : Row) (completed : ActiveTask �
   pub same_row : standing.row ≡ without_records row
   pub same_marks : standing.completed ≡ map completed row.active
 
--- the invocations of the row's mode that are due
-abbrev pub invocations_due : Row → List TaskInvocation
-invocations_due row =
-    option_map_or (λ p. option_map_or (λ (m : ModeDeclaration). filter (λ (i : TaskInvocation). is_due_at row.mode_time m i.frequency) m.invocations) (mode_of p row.mode) []) row.program []
+-- the greatest of these numbers, and 0 of none
+abbrev pub greatest : List ℕ → ℕ
+greatest [] = 0
+greatest (n ∷ ns) = max n (greatest ns)
+
+-- how many tasks the mode of this name invokes
+abbrev pub invoked_in : GiottoProgram → Name → ℕ
+invoked_in p x = option_map_or (λ (m : ModeDeclaration). length m.invocations) (mode_of p x) 0
+
+-- the most tasks that an instant in this mode can release at this mode time: those that are due, or all of a mode to which a switch is due
+abbrev pub most_at : GiottoProgram → ModeDeclaration → ℕ → ℕ
+most_at p m time =
+    max (length (filter (λ (i : TaskInvocation). is_due_at time m i.frequency) m.invocations))
+    (greatest (map (λ (s : ModeSwitch). invoked_in p s.target) (filter (λ (s : ModeSwitch). is_due_at time m s.frequency) m.switches)))
 
 -- the most tasks that the row's next instant can release
 abbrev pub most_released : Row → ℕ
-most_released row = if is_running row then length (invocations_due row) else 0
+most_released row = if is_running row then option_map_or (λ p. option_map_or (λ m. most_at p m row.mode_time) (mode_of p row.mode) 0) row.program 0 else 0
 
 -- a command's outcome: this reply was given, and this is what is left
 pub record IsOutcome (outcome : Outcome) (reply : Reply) (standing : Standing) (completed : ActiveTask → Bool) : Type 0 where

@@ -1,29 +1,31 @@
 -- How a tenant's code stands for its row, and what is known of it at any time.
-use Rattle.std.specs.Prelude.{◌≡◌, ◌<◌, ◌+◌, ◌^◌, ℕ, ℤ, nat_eq, IsTrue, Bool, not, ◌&&◌, true, false, List, [], ◌∷◌, ◌++◌, map, Option, Some, None, is_some, length, IfSome, IsSomeAnd, slice_get}
+use Rattle.std.specs.Prelude.{◌≡◌, ◌<◌, ◌+◌, ◌^◌, ℕ, ℤ, nat_eq, Bool, not, ◌&&◌, true, false, List, [], ◌∷◌, ◌++◌, map, Option, Some, None, is_some, length, IfSome, IsSomeAnd, slice_get}
 use Rattle.std.specs.List.{list_all, AllByRecursion}
 use Rattle.std.specs.Option.{option_map_or}
 use Rattle.giotto_tasks.specs.declared.names.Name.{Name}
 use Rattle.giotto_tasks.specs.Meaning.{outputs_of, states_of}
 use Rattle.giotto_tasks.specs.Names.{Valuation, same_name}
 use Rattle.giotto_tasks.specs.Syntax.{TaskBody}
-use Rattle.giotto_text.specs.Program.{TaskDeclaration, ModeDeclaration, GiottoProgram, body_of}
+use Rattle.giotto_text.specs.Program.{TaskDeclaration, ModeDeclaration, ModeSwitch, GiottoProgram, body_of}
+use Rattle.giotto_rules.specs.Declarations.{mode_of}
 use Rattle.giotto_check.specs.Slots.{slots_of, valuation_of}
 use Rattle.giotto_check.specs.Timetables.{AreEach}
 use Rattle.tenant_slots.specs.Due.{IsQuietUntil}
+use Rattle.tenant_slots.specs.Switches.{switch_taken, with_destinations}
 use Rattle.tenant_slots.specs.Places.{name_of_task, name_of_mode}
 use Rattle.tenant_state.specs.declared.tenants.Active.{Active}
-use Rattle.tenant_state.specs.declared.tenants.Computed.{Computed}
+use Rattle.tenant_state.specs.declared.tenants.switches.Entry.{Entry}
 use Rattle.tenant_state.specs.declared.tenants.Reason.{Reason}
-use Rattle.tenant_state.specs.declared.tenants.Reason.TheVariants.{Overrun}
+use Rattle.tenant_state.specs.declared.tenants.Reason.TheVariants.{Asked, Overrun}
 use Rattle.tenant_state.specs.declared.tenants.State as code
 use Rattle.tenant_state.specs.declared.tenants.State.TheVariants as states
-use Rattle.tenant_state.specs.Row.{StopReason, overrun, State, empty, loaded, running, stopped, ActiveTask}
-use Rattle.tenant_state.specs.SecondHalf.{all_invoked, all_released}
+use Rattle.tenant_state.specs.Row.{StopReason, asked, overrun, State, empty, loaded, running, stopped, ActiveTask}
+use Rattle.tenant_state.specs.SecondHalf.{all_invoked, all_released, entry_time}
 use Rattle.tenant_state.specs.Standing.{Standing}
-use Rattle.tenant_state.specs.Commands.{has_no_switches}
 
 -- why the code's tenant was stopped
 abbrev pub reason_of : Reason → StopReason
+reason_of Asked = asked
 reason_of (Overrun x) = overrun x
 
 -- the state that the code's state stands for
@@ -37,9 +39,9 @@ state_of (states.Stopped r) = stopped (reason_of r)
 abbrev pub active_of : GiottoProgram → Active → ActiveTask
 active_of p a = record { task = name_of_task p a.task; release = a.release; inputs = a.inputs; states = a.states }
 
--- whether its result came
+-- whether its computation is completed
 abbrev pub is_completed : Active → Bool
-is_completed a = is_some a.result
+is_completed a = a.completed
 
 -- the active tasks, the mode and the ports for which places and slots stand; none without a program
 abbrev pub tasks_in : Option GiottoProgram → List Active → List ActiveTask
@@ -51,9 +53,10 @@ mode_in o mode = option_map_or (λ p. name_of_mode p mode) o []
 abbrev pub ports_in : Option GiottoProgram → List ℤ → Valuation
 ports_in o values = option_map_or (λ p. valuation_of p values) o []
 
--- what a tenant's fields stand for: `places` is the room left for active tasks, and `shares` has the shares of bodies that are at hand
-abbrev pub standing_of : code.State → Option GiottoProgram → ℕ → ℕ → List Active → ℕ → List ℤ → List (Option TaskBody) → ℕ → Standing
-standing_of state program mode time active places values shares count = record {
+-- what a tenant's fields stand for: `own` is its place in the roster, `places` is the room left for active tasks, and `shares` has the shares of bodies that are at hand
+abbrev pub standing_of : ℕ → code.State → Option GiottoProgram → ℕ → ℕ → List Active → ℕ → List ℤ → List (Option TaskBody) → ℕ → Standing
+standing_of own state program mode time active places values shares count = record {
+  own = own;
   row = record {
     state = state_of state;
     program = program;
@@ -81,16 +84,16 @@ abbrev pub all_different_releases : List ActiveTask → Bool
 all_different_releases [] = true
 all_different_releases (a ∷ rest) = list_all (is_another a) rest && all_different_releases rest
 
--- the result is that of the release
-pub record IsResultOf (a : Active) (t : TaskDeclaration) (c : Computed) : Type 0 where
-  pub outputs : c.outputs ≡ outputs_of (body_of t) a.inputs a.states
-  pub states : c.states ≡ states_of (body_of t) a.inputs a.states
+-- its result is that of the release
+pub record IsResultOf (a : Active) (t : TaskDeclaration) : Type 0 where
+  pub outputs : a.outputs ≡ outputs_of (body_of t) a.inputs a.states
+  pub states : a.new_states ≡ states_of (body_of t) a.inputs a.states
 
 -- an active task of this declaration
 pub record IsActiveAs (a : Active) (t : TaskDeclaration) : Type 0 where
   pub inputs_fit : length a.inputs ≡ length t.inputs
   pub states_fit : length a.states ≡ length t.states
-  pub result_fits : IfSome a.result (IsResultOf a t)
+  pub result_fits : a.completed ≡ true → IsResultOf a t
 
 -- an active task of the program: it is declared at its place, and as it is declared
 abbrev pub IsActiveOf : GiottoProgram → Active → Type 0
@@ -108,6 +111,21 @@ pub record AreInvoked (p : GiottoProgram) (m : ModeDeclaration) (time n : ℕ) (
   pub ports : valuation_of p values ≡ all_invoked p m time m.invocations sensed
   pub each : AllByRecursion (IsActiveIn p (n + 1)) new
   pub long : length values ≡ slots_of p
+
+-- a switch of the mode is taken: the mode that it enters, the mode time there, and the values behind it
+pub record IsEntered (p : GiottoProgram) (m : ModeDeclaration) (time : ℕ) (active : List ActiveTask) (ports : Valuation) (entry : Entry) (values : List ℤ) : Type 0 where
+  pub switch : ModeSwitch
+  pub target : ModeDeclaration
+  pub taken : switch_taken m time ports ≡ Some switch
+  pub named : mode_of p switch.target ≡ Some target
+  pub there : slice_get p.modes entry.mode ≡ Some target
+  pub begins : entry.time ≡ entry_time m target time active
+  pub given : valuation_of p values ≡ with_destinations switch ports
+
+-- a switch of the mode is taken, or none is
+abbrev pub IsSwitched : GiottoProgram → ModeDeclaration → ℕ → List ActiveTask → Valuation → Option Entry → List ℤ → Type 0
+IsSwitched p m time active ports None values = (switch_taken m time ports ≡ None) × (valuation_of p values ≡ ports)
+IsSwitched p m time active ports (Some entry) values = IsEntered p m time active ports entry values
 
 -- a share of the body of this task, where one is at hand
 abbrev pub IsShareOf : TaskDeclaration → Option TaskBody → Type 0
@@ -127,13 +145,8 @@ abbrev pub FitsIts : Option GiottoProgram → ℕ → ℕ → ℕ → List Activ
 FitsIts None mode time next active values shares count = active ≡ []
 FitsIts (Some p) mode time next active values shares count = FitsProgram p mode time next active values shares count
 
--- the program's modes have no switches: no instant takes one yet
-abbrev pub HasNoSwitches : GiottoProgram → Type 0
-HasNoSwitches p = IsTrue (has_no_switches p)
-
 -- what is known of a tenant at any time: its mode time is small, its releases differ, and the rest fits its program
 pub record IsTenant (program : Option GiottoProgram) (mode time next : ℕ) (active : List Active) (values : List ℤ) (shares : List (Option TaskBody)) (count : ℕ) : Type 0 where
   pub short_time : time < 2 ^ 32
-  pub no_switches : IfSome program HasNoSwitches
   pub different : all_different_releases (tasks_in program active) ≡ true
   pub fits : FitsIts program mode time next active values shares count

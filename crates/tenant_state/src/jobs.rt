@@ -19,7 +19,7 @@ use std::sync::Arc;
 use std::sync::ledger::{Blank, Ledger};
 
 /// The name of a job, never used twice in one host.
-#[derive(Drop)]
+#[derive(PartialEq, Eq, PartialOrd, Ord, Drop)]
 pub struct JobId {
     pub tenant: TenantId,
     /// The number of the instant that released the job.

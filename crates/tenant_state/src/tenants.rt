@@ -3,17 +3,24 @@
 ghost use Rattle.std.specs.Prelude.{◌≡◌};
 ghost use Rattle.tenant_state.specs.Standing.{empty_standing, IsKnown};
 
+pub mod active_tasks;
 pub mod commands;
 pub mod completions;
-pub mod first_half;
+pub mod phase_one;
+pub mod phase_two;
+pub mod readers;
 pub mod readiness;
 pub mod releases;
-pub mod second_half;
+pub mod shown;
+pub mod stops;
+pub mod switches;
 
+use crate::tenants::active_tasks::ActiveTasks;
 use giotto_check::Checked;
 use giotto_tasks::bodies::Body;
 use giotto_tasks::names::Name;
 use giotto_tasks::values::Values;
+use rig_config::TenantId;
 use std::alloc::Global;
 use std::marker::Model;
 use std::sync::Arc;
@@ -21,6 +28,8 @@ use std::sync::Arc;
 /// Why a tenant was stopped.
 #[derive(Drop)]
 pub enum Reason {
+    /// By its own command.
+    Asked,
     /// This task was due, and its computation not completed.
     Overrun(Name),
 }
@@ -44,30 +53,27 @@ pub(crate) struct Active {
     /// What the task was given at its release.
     pub(crate) inputs: Values,
     pub(crate) states: Values,
-    /// Its result, once that came.
-    pub(crate) result: Option<Computed>,
-}
-
-/// The result of a computation.
-#[derive(Drop)]
-pub(crate) struct Computed {
-    /// The new values of the task's outputs and states.
+    /// Whether its computation is completed.
+    pub(crate) completed: bool,
+    /// The new values of the task's outputs and states, where it is.
     pub(crate) outputs: Values,
-    pub(crate) states: Values,
+    pub(crate) new_states: Values,
 }
 
 /// One tenant of a host.
 #[derive(Drop)]
 pub struct Tenant {
     pub(crate) alloc: Global,
+    /// Its place in the roster.
+    pub(crate) own: TenantId,
     pub(crate) state: State,
     pub(crate) program: Option<Checked>,
     /// The place of the mode in the program's text, from 0.
     pub(crate) mode: usize,
     pub(crate) mode_time: u64,
-    /// No task, update or invocation of the mode is due before this mode time.
+    /// No task, update, switch or invocation of the mode is due before this mode time.
     pub(crate) next_due: u64,
-    pub(crate) active: Vec<Active>,
+    pub(crate) active: ActiveTasks,
     /// The value of each port, by its slot.
     pub(crate) values: Vec<i64>,
     /// For each task a share of its body, where one is at hand.
@@ -77,10 +83,9 @@ pub struct Tenant {
 }
 
 impl Model for Tenant {
-    ghost use Rattle.std.specs.Prelude.{◌-◌, map};
+    ghost use Rattle.std.specs.Prelude.{map};
     ghost use Rattle.std.specs.Arc.{arc_value};
     ghost use Rattle.std.specs.Option.{option_map};
-    ghost use Rattle.std.specs.Vec.{vec_capacity, vec_len};
     ghost use Rattle.tenant_state.specs.Standing.{Standing};
     ghost use Rattle.tenant_state.specs.Tenants.{standing_of, IsTenant};
     ghost use Rattle.std.specs.Coded.{codes};
@@ -90,24 +95,25 @@ impl Model for Tenant {
 
     ghost coded = { Prim.hlevel (codes, program_code) };
 
-    ghost view = { λ t. standing_of t.state t.program t.mode t.mode_time t.active.items (vec_capacity t.active - vec_len t.active) t.values.items (map (option_map arc_value) t.shares.items) t.count };
+    ghost view = { λ t. standing_of t.own t.state t.program t.mode t.mode_time t.active.items t.active.room t.values.items (map (option_map arc_value) t.shares.items) t.count };
 
     ghost invariant = { λ t. IsTenant t.program t.mode t.mode_time t.next_due t.active.items t.values.items (map (option_map arc_value) t.shares.items) t.count };
 }
 
 impl Tenant {
-    /// A tenant without a program, whose first instant has this number. Takes no memory.
-    pub fn new(alloc: Global, first_tick: u64) -> Tenant
-        ensures { result ≡ empty_standing first_tick }
+    /// The tenant at this place of the roster, without a program. Its first instant has this number. Takes no memory.
+    pub fn new(alloc: Global, own: TenantId, first_tick: u64) -> Tenant
+        ensures { result ≡ empty_standing own first_tick }
     {
         Tenant {
             alloc,
+            own,
             state: State::Empty,
             program: None,
             mode: 0,
             mode_time: 0,
             next_due: 0,
-            active: Vec::new(alloc),
+            active: ActiveTasks::new(alloc),
             values: Vec::new(alloc),
             shares: Vec::new(alloc),
             count: first_tick,

@@ -1,6 +1,6 @@
 //! What a tenant's commands do.
 
-ghost use Rattle.std.specs.Prelude.{◌≡◌, ◌≢◌, ◌&&◌, Bool, true, Ok, Err, None, IfOk, IfErr, OnOk, OnErr, if◌then◌else◌, Some, map};
+ghost use Rattle.std.specs.Prelude.{◌≡◌, ◌≢◌, ◌&&◌, Bool, true, false, Ok, Err, None, IfOk, IfErr, OnOk, OnErr, if◌then◌else◌, Some, map};
 ghost use Rattle.rig_config.specs.declared.Budgets.{Budgets};
 ghost use Rattle.tenant_lines.specs.declared.replies.Budget.{Budget};
 ghost use Rattle.std.specs.Arc.{arc_value};
@@ -10,33 +10,34 @@ ghost use Rattle.giotto_text.specs.Parsing.{parsed};
 ghost use Rattle.tenant_lines.specs.declared.commands.Command.{Command};
 ghost use Rattle.tenant_lines.specs.declared.replies.Refusal.{Refusal};
 ghost use Rattle.tenant_lines.specs.declared.replies.Reply.{Reply};
-ghost use Rattle.giotto_text.specs.ProgramTrees.{mode_of};
 ghost use Rattle.giotto_rules.specs.Declarations.{lines_read, lines_written};
 ghost use Rattle.giotto_rules.specs.Rules.{first_broken_rule};
 ghost use Rattle.rig_config.specs.Roster.{may_use};
-ghost use Rattle.tenant_state.specs.Commands.{commanded, has_no_switch, has_no_switches, refusal_of, load_read, show_port, refused, broken_budget};
+ghost use Rattle.tenant_state.specs.Commands.{commanded, takes_memory, refusal_of, load_read, refused, broken_budget};
 ghost use Rattle.tenant_state.specs.Row.{ActiveTask, Row, is_running};
 ghost use Rattle.tenant_state.specs.Standing.{StandsFor, IsOutcome, without_records};
 
-use crate::tenants::{State, Tenant};
+use crate::tenants::{Reason, State, Tenant};
 use giotto_check::{self, CheckFault, Checked};
 use giotto_read::reading;
 use giotto_tasks::bodies::Body;
-use giotto_tasks::names::Name;
 use giotto_text::faults::ReadFault;
-use giotto_text::programs::{Actuator, Mode, Program, Sensor, Source, Task};
+use giotto_text::programs::{Actuator, Program, Sensor, Source, Task};
 use rig_config::Budgets;
 use std::alloc::{AllocError, Global};
 use std::sync::Arc;
 use tenant_lines::commands::Command;
+use tenant_lines::ports::PortValue;
 use tenant_lines::replies::{Budget, Refusal, Reply};
-use tenant_slots::initial_values::initial_values;
-use tenant_slots::names::{shown_value, start_place};
+use tenant_slots::initial_values::{initial_values, reset_ports};
+use tenant_slots::names::start_place;
 
 impl Tenant {
     /// Carries out a command. A refusal changes nothing, want of memory included.
     pub fn command(&mut self, budgets: &Budgets, command: Command) -> Reply
         ensures memory { result ≡ Reply.Refused Refusal.Memory → self.new ≡ self.old }
+        ensures room { takes_memory command ≡ false → result ≢ Reply.Refused Refusal.Memory }
+        ensures own { self.new.own ≡ self.old.own }
         ensures count { self.new.row.count ≡ self.old.row.count }
         ensures step { (row : Row) (completed : ActiveTask → Bool) → StandsFor self.old row completed
             → result ≢ Reply.Refused Refusal.Memory → IsOutcome (commanded budgets.now command row) result self.new completed }
@@ -50,8 +51,17 @@ impl Tenant {
                 Ok(()) => Reply::Started,
                 Err(refusal) => Reply::Refused(refusal),
             },
-            Command::ShowPort(name) => match self.port_value(&name) {
-                Ok(value) => Reply::Port(name, value),
+            Command::Stop => match self.stop() {
+                Ok(()) => Reply::Stopped,
+                Err(refusal) => Reply::Refused(refusal),
+            },
+            Command::ShowMode => Reply::Mode(self.status()),
+            Command::ShowPort(port) => match self.port_value(&port) {
+                Ok(value) => Reply::Port(PortValue { port, value }),
+                Err(refusal) => Reply::Refused(refusal),
+            },
+            Command::ShowAll => match self.all_values() {
+                Ok(all) => Reply::All(all),
                 Err(refusal) => Reply::Refused(refusal),
             },
         }
@@ -66,6 +76,7 @@ impl Tenant {
     // Takes the program that the text spells. All that takes memory is made before the first change.
     fn load(&mut self, budgets: &Budgets, text: &str) -> Result<(), Refusal>
         ensures unchanged { OnErr result (self.new ≡ self.old) }
+        ensures own { self.new.own ≡ self.old.own }
         ensures count { self.new.row.count ≡ self.old.row.count }
         ensures refused { IfErr result (λ r. r ≢ Refusal.Memory → (row : Row) → self.old.row ≡ without_records row
             → commanded budgets.now (Command.Load text.now) row ≡ refused row r) }
@@ -89,19 +100,20 @@ impl Tenant {
         self.mode = start_place(&program);
         self.mode_time = 0;
         self.next_due = 0;
-        self.active = Vec::new(self.alloc);
+        self.active.clear();
         self.values = values;
         self.shares = shares;
         self.program = Some(program);
         Ok(())
     }
 
-    // Runs the program from its beginning.
+    // Runs the program from its beginning. Takes no memory.
     fn start(&mut self) -> Result<(), Refusal>
         ensures unchanged { OnErr result (self.new ≡ self.old) }
+        ensures own { self.new.own ≡ self.old.own }
         ensures count { self.new.row.count ≡ self.old.row.count }
-        ensures refused { IfErr result (λ r. r ≢ Refusal.Memory → (budgets : Budgets) (row : Row)
-            → self.old.row ≡ without_records row → commanded budgets Command.Start row ≡ refused row r) }
+        ensures room { result ≢ Err Refusal.Memory }
+        ensures refused { IfErr result (λ r. (budgets : Budgets) (row : Row) → self.old.row ≡ without_records row → commanded budgets Command.Start row ≡ refused row r) }
         ensures started { OnOk result ((budgets : Budgets) (row : Row) (completed : ActiveTask → Bool) → StandsFor self.old row completed
             → IsOutcome (commanded budgets Command.Start row) Reply.Started self.new completed) }
     {
@@ -111,55 +123,48 @@ impl Tenant {
         let Some(program) = &self.program else {
             return Err(Refusal::NotLoaded);
         };
-        let Ok(values) = initial_values(self.alloc, program) else {
-            return Err(Refusal::Memory);
-        };
+        reset_ports(program, self.values.as_mut_slice());
         self.mode = start_place(program);
         self.state = State::Running;
         self.mode_time = 0;
         self.next_due = 0;
         self.active.clear();
-        self.values = values;
         Ok(())
     }
 
-    // The value of a port of the program.
-    fn port_value(&self, name: &Name) -> Result<i64, Refusal>
-        ensures refused { IfErr result (λ r. (row : Row) → self.now.row ≡ without_records row → show_port name.now row row.program ≡ refused row r) }
-        ensures shown { IfOk result (λ z. (row : Row) → self.now.row ≡ without_records row
-            → show_port name.now row row.program ≡ record { row = row; reply = Reply.Port name.now z }) }
+    // Stops the running program, as its tenant asks.
+    fn stop(&mut self) -> Result<(), Refusal>
+        ensures unchanged { OnErr result (self.new ≡ self.old) }
+        ensures own { self.new.own ≡ self.old.own }
+        ensures count { self.new.row.count ≡ self.old.row.count }
+        ensures room { result ≢ Err Refusal.Memory }
+        ensures refused { IfErr result (λ r. (budgets : Budgets) (row : Row) → self.old.row ≡ without_records row → commanded budgets Command.Stop row ≡ refused row r) }
+        ensures stopped { OnOk result ((budgets : Budgets) (row : Row) (completed : ActiveTask → Bool) → StandsFor self.old row completed
+            → IsOutcome (commanded budgets Command.Stop row) Reply.Stopped self.new completed) }
     {
-        let Some(program) = &self.program else {
-            return Err(Refusal::NotLoaded);
-        };
-        match shown_value(program, name.as_str(), self.values.as_slice()) {
-            Some(value) => Ok(value),
-            None => Err(Refusal::NoPort),
+        if !self.is_running() {
+            return Err(Refusal::NotRunning);
         }
+        self.halt(Reason::Asked);
+        Ok(())
     }
 }
 
-// The well-formed program that a text spells. One with a switch is refused like one that breaks a rule: no instant takes
-// switches yet.
+// The well-formed program that a text spells.
 fn read_program(alloc: Global, text: &str) -> Result<Checked, Refusal>
     ensures read { IfOk result (λ p. parsed text.now ≡ Ok p) }
     ensures checked { IfOk result (λ p. first_broken_rule p ≡ None) }
-    ensures switches { IfOk result (λ p. has_no_switches p ≡ true) }
     ensures refused { IfErr result (λ r. r ≢ Refusal.Memory → (budgets : Budgets) (row : Row) → load_read budgets row (parsed text.now) ≡ refused row r) }
 {
     let program = match reading::read(alloc, text) {
         Ok(program) => program,
         Err(fault) => return Err(refusal_of(fault)),
     };
-    let checked = match giotto_check::check(alloc, program) {
-        Ok(checked) => checked,
-        Err((_, CheckFault::Rule(rule))) => return Err(Refusal::Rule(rule)),
-        Err((_, CheckFault::Memory)) => return Err(Refusal::Memory),
-    };
-    if !have_no_switches(checked.program().modes()) {
-        return Err(Refusal::Rule(0));
+    match giotto_check::check(alloc, program) {
+        Ok(checked) => Ok(checked),
+        Err((_, CheckFault::Rule(rule))) => Err(Refusal::Rule(rule)),
+        Err((_, CheckFault::Memory)) => Err(Refusal::Memory),
     }
-    Ok(checked)
 }
 
 // A place for a share of each task's body, with none at hand.
@@ -171,17 +176,6 @@ fn no_shares(alloc: Global, tasks: &[Task]) -> Result<Vec<Option<Arc<Body, Globa
         shares.push(None)?;
     }
     Ok(shares)
-}
-
-fn have_no_switches(modes: &[Mode]) -> bool
-    ensures { result ≡ list_all has_no_switch (map mode_of modes.now) }
-{
-    for mode in modes {
-        if !mode.switches.as_slice().is_empty() {
-            return false;
-        }
-    }
-    true
 }
 
 fn refusal_of(fault: ReadFault) -> Refusal

@@ -15,10 +15,10 @@ ghost use Rattle.tenant_state.specs.Tenants.{IsActiveIn, IsActiveOf, active_of, 
 ghost use Rattle.giotto_check.specs.Facts.{ProgramFits};
 
 use crate::jobs::{Done, Job, JobId, put_results};
-use crate::tenants::{Active, Computed, Tenant};
+use crate::tenants::active_tasks::ActiveTasks;
+use crate::tenants::{Active, Tenant};
 use giotto_check::Checked;
 use giotto_tasks::bodies::Body;
-use giotto_tasks::values::Values;
 use giotto_text::programs::Task;
 use rig_config::TenantId;
 use std::alloc::AllocError;
@@ -35,10 +35,10 @@ impl Tenant {
         let Some(checked) = &self.program else {
             return Ok(None);
         };
-        let Some(place) = place_of(checked, &self.active, id) else {
+        let Some(place) = place_of(checked, self.active.as_slice(), id) else {
             return Ok(None);
         };
-        let active = &self.active[place];
+        let active = &self.active.as_slice()[place];
         let body = Arc::try_clone(&declared(checked, active).body)?;
         let inputs = active.inputs.copy();
         let states = active.states.copy();
@@ -49,6 +49,7 @@ impl Tenant {
     /// are those of the release. Whether it counts; a completion that doesn't changes nothing. Takes no memory.
     pub fn complete(&mut self, done: Done) -> bool
         ensures counted { IsTrue result ↔ (awaited_job self.old done.id ≡ Some done) }
+        ensures own { self.new.own ≡ self.old.own }
         ensures row { self.new.row ≡ self.old.row }
         ensures late { OnFalse result (self.new ≡ self.old) }
         ensures left { OnTrue result (length (outstanding_tasks self.old) ≡ length (outstanding_tasks self.new) + 1) }
@@ -58,69 +59,69 @@ impl Tenant {
         let Some(checked) = &self.program else {
             return false;
         };
-        let Some(place) = place_of(checked, &self.active, done.id()) else {
+        let Some(place) = place_of(checked, self.active.as_slice(), done.id()) else {
             return false;
         };
-        let active = &self.active[place];
+        let active = &self.active.as_slice()[place];
         if !is_of_release(declared(checked, active), active, done.job()) {
             return false;
         }
-        self.active[place].result = Some(Computed {
-            outputs: done.outputs().copy(),
-            states: done.states().copy(),
-        });
+        self.active.put(place, &done);
         true
     }
 
-    /// Computes each outstanding job where its task is active, and counts its completion. Takes no memory.
-    pub fn complete_all(&mut self)
+    /// Computes each outstanding job where its task is active, and counts its completion. How many they were. Takes no memory.
+    pub fn complete_all(&mut self) -> usize
+        ensures number { result ≡ length (outstanding_tasks self.old) }
+        ensures own { self.new.own ≡ self.old.own }
         ensures row { self.new.row ≡ self.old.row }
         ensures completed { self.new.completed ≡ map (λ b. true) self.old.completed }
     {
         let Some(checked) = &self.program else {
-            return;
+            return 0;
         };
-        compute_each(checked, &mut self.active);
+        compute_each(checked, &mut self.active)
     }
 
-    /// Adds the names of the outstanding jobs, in the order of their release, for the tenant at this place of the roster.
+    /// Adds the names of the outstanding jobs, in the order of their release.
     ///
     /// # Errors
     /// Want of memory.
-    pub fn add_outstanding(
-        &self,
-        tenant: TenantId,
-        names: &mut Vec<JobId>,
-    ) -> Result<(), AllocError>
-        ensures { OnOk result (names.new.items ≡ names.old.items ++ map (job_of tenant) (outstanding_tasks self.now)) }
+    pub fn add_outstanding(&self, names: &mut Vec<JobId>) -> Result<(), AllocError>
+        ensures { OnOk result (names.new.items ≡ names.old.items ++ map (job_of self.now.own) (outstanding_tasks self.now)) }
     {
         let Some(checked) = &self.program else {
             return Ok(());
         };
-        add_names(checked, tenant, &self.active, names)
+        add_names(checked, self.own, self.active.as_slice(), names)
     }
 
     /// How many jobs are outstanding: their tasks are active, and not completed.
     pub fn outstanding(&self) -> usize
         ensures { result ≡ length (outstanding_tasks self.now) }
     {
-        count_awaited(&self.active)
+        count_awaited(self.active.as_slice())
     }
 }
 
-// Gives each active task without a result its own.
-fn compute_each(checked: &Checked, active: &mut [Active])
-    requires { AllByRecursion (IsActiveOf checked.now) active.old }
-    ensures releases { map (active_of checked.now) active.new ≡ map (active_of checked.now) active.old }
-    ensures tasks { (count : ℕ) → AllByRecursion (IsActiveIn checked.now count) active.old → AllByRecursion (IsActiveIn checked.now count) active.new }
-    ensures completed { map is_completed active.new ≡ map (λ b. true) (map is_completed active.old) }
+// Gives each active task that isn't completed its result. How many they were.
+fn compute_each(checked: &Checked, active: &mut ActiveTasks) -> usize
+    requires { AllByRecursion (IsActiveOf checked.now) active.old.items }
+    ensures number { result ≡ length (filter (λ a. not (is_completed a)) active.old.items) }
+    ensures releases { map (active_of checked.now) active.new.items ≡ map (active_of checked.now) active.old.items }
+    ensures tasks { (count : ℕ) → AllByRecursion (IsActiveIn checked.now count) active.old.items → AllByRecursion (IsActiveIn checked.now count) active.new.items }
+    ensures completed { map is_completed active.new.items ≡ map (λ b. true) (map is_completed active.old.items) }
+    ensures room { active.new.room ≡ active.old.room }
 {
-    for task in active.iter_mut() {
-        if !is_awaited(task) {
-            continue;
+    let mut number = 0;
+    for place in 0..active.count {
+        let entry = &mut active.entries[place];
+        if !entry.completed {
+            compute(checked, entry);
+            number += 1;
         }
-        compute(checked, task);
     }
+    number
 }
 
 // Gives an active task its result.
@@ -132,19 +133,14 @@ fn compute(checked: &Checked, active: &mut Active)
     ensures completed { is_completed active.new ≡ true }
 {
     let body = &declared(checked, active).body;
-    active.result = Some(Computed {
-        outputs: Values::new(),
-        states: Values::new(),
-    });
-    if let Some(computed) = &mut active.result {
-        put_results(
-            body,
-            &active.inputs,
-            &active.states,
-            &mut computed.outputs,
-            &mut computed.states,
-        );
-    }
+    put_results(
+        body,
+        &active.inputs,
+        &active.states,
+        &mut active.outputs,
+        &mut active.new_states,
+    );
+    active.completed = true;
 }
 
 // Adds the names of the jobs that have no result.
@@ -202,7 +198,7 @@ fn count_awaited(active: &[Active]) -> usize
 fn is_awaited(active: &Active) -> bool
     ensures { result ≡ not (is_completed active.now) }
 {
-    active.result.is_none()
+    !active.completed
 }
 
 // The place of the first release of this name whose completion is awaited.

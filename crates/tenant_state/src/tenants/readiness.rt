@@ -1,14 +1,13 @@
 //! What an instant needs, made before it begins.
 
-ghost use Rattle.std.specs.Prelude.{◌≡◌, length, map, filter, is_some, true, IfOk, OnOk, Some, slice_get};
+ghost use Rattle.std.specs.Prelude.{◌≡◌, map, is_some, true, IfOk, OnOk, Some, slice_get};
 ghost use Rattle.std.specs.Arc.{arc_value};
 ghost use Rattle.std.specs.List.{list_all};
 ghost use Rattle.std.specs.Option.{option_map};
 ghost use Rattle.giotto_check.specs.Timetables.{AreEach};
-ghost use Rattle.giotto_text.specs.Program.{ModeDeclaration, TaskInvocation};
+ghost use Rattle.giotto_text.specs.Program.{ModeDeclaration};
 ghost use Rattle.giotto_text.specs.ProgramTrees.{task_of};
-ghost use Rattle.tenant_slots.specs.Due.{is_due_at};
-ghost use Rattle.tenant_state.specs.Standing.{HasRoom, HasShares, most_released};
+ghost use Rattle.tenant_state.specs.Standing.{HasRoom, HasShares, most_at, most_released};
 ghost use Rattle.tenant_state.specs.Tenants.{IsShareOf};
 
 use crate::tenants::{State, Tenant};
@@ -29,6 +28,7 @@ impl Tenant {
         ensures most { IfOk result (λ n. n ≡ most_released self.old.row) }
         ensures places { OnOk result (HasRoom self.new) }
         ensures shares { OnOk result (HasShares self.new) }
+        ensures own { self.new.own ≡ self.old.own }
         ensures row { self.new.row ≡ self.old.row }
         ensures completed { self.new.completed ≡ self.old.completed }
     {
@@ -42,27 +42,32 @@ impl Tenant {
         if self.mode_time < self.next_due {
             return Ok(0);
         }
-        let most = count_due(checked, self.mode, self.mode_time);
+        let most = most_at(checked, self.mode, self.mode_time);
         self.active.reserve(most)?;
         share_bodies(program.tasks(), self.shares.as_mut_slice())?;
         Ok(most)
     }
 }
 
-// How many invocations of the mode at this place are due.
-fn count_due(checked: &Checked, mode: usize, time: u64) -> usize
-    ensures { (m : ModeDeclaration) → slice_get checked.now.modes mode ≡ Some m
-        → result ≡ length (filter (λ (i : TaskInvocation). is_due_at time m i.frequency) m.invocations) }
+// The most tasks that an instant in the mode at this place can release.
+fn most_at(checked: &Checked, mode: usize, time: u64) -> usize
+    ensures { (m : ModeDeclaration) → slice_get checked.now.modes mode ≡ Some m → result ≡ most_at checked.now m time }
 {
+    // Its frequencies are positive, and its switches go to modes.
     let _program = checked.program();
     let mut due = Due::at(time);
-    let mut count = 0;
+    let mut most: usize = 0;
     for invocation in checked.invocations(mode) {
         if due.is_due(invocation.interval) {
-            count += 1;
+            most += 1;
         }
     }
-    count
+    for exit in checked.exits(mode) {
+        if due.is_due(exit.interval) {
+            most = most.max(checked.invocations(exit.target).len());
+        }
+    }
+    most
 }
 
 // Makes each share that isn't at hand.

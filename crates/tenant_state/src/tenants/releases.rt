@@ -1,19 +1,18 @@
 //! Releases: what an instant makes active.
 
-ghost use Rattle.std.specs.Prelude.{◌≡◌, ◌≤◌, ◌+◌, [], None, Some, length, filter, slice_get};
+ghost use Rattle.std.specs.Prelude.{◌≡◌, ◌≤◌, ◌<◌, ◌+◌, ◌++◌, ◌∷◌, [], false, Some, length, map, filter, slice_get};
 ghost use Rattle.std.specs.List.{AllByRecursion};
-ghost use Rattle.std.specs.Vec.{vec_capacity, vec_len};
 ghost use Rattle.giotto_check.specs.Slots.{slots_of, valuation_of};
 ghost use Rattle.giotto_check.specs.Timetables.{IsInvocation};
 ghost use Rattle.giotto_text.specs.Program.{ModeDeclaration, TaskDeclaration, TaskInvocation};
 ghost use Rattle.tenant_slots.specs.Due.{is_due_at, IsQuietUntil};
 ghost use Rattle.tenant_state.specs.SecondHalf.{released, with_inputs};
-ghost use Rattle.tenant_state.specs.Tenants.{active_of, AreInvoked, IsActiveIn};
+ghost use Rattle.tenant_state.specs.Tenants.{active_of, is_completed, AreInvoked, IsActiveIn};
 
 use crate::tenants::Active;
+use crate::tenants::active_tasks::ActiveTasks;
 use giotto_check::Checked;
 use giotto_check::timetables::SlotInvocation;
-use giotto_tasks::values::Values;
 use tenant_slots::drivers::holds;
 use tenant_slots::due::Due;
 use tenant_slots::tasks::{argument_values, state_values, write_inputs};
@@ -27,12 +26,12 @@ pub(crate) fn invoke_due(
     next: u64,
     release: u64,
     values: &mut [i64],
-    active: &mut Vec<Active>,
+    active: &mut ActiveTasks,
 )
     requires quiet { (m : ModeDeclaration) → slice_get checked.now.modes mode ≡ Some m → IsQuietUntil m time next }
     requires values { length values.old ≡ slots_of checked.now }
     requires places { (m : ModeDeclaration) → slice_get checked.now.modes mode ≡ Some m
-        → vec_len active.old + length (filter (λ (i : TaskInvocation). is_due_at time m i.frequency) m.invocations) ≤ vec_capacity active.old }
+        → length (filter (λ (i : TaskInvocation). is_due_at time m i.frequency) m.invocations) ≤ active.old.room }
     requires each { AllByRecursion (IsActiveIn checked.now (release + 1)) active.old.items }
     ensures { (m : ModeDeclaration) → slice_get checked.now.modes mode ≡ Some m
         → AreInvoked checked.now m time release (valuation_of checked.now values.old) active.old.items active.new.items values.new }
@@ -44,20 +43,46 @@ pub(crate) fn invoke_due(
     let mut due = Due::at(time);
     for invocation in checked.invocations(mode) {
         if due.is_due(invocation.interval) && holds(&invocation.guard, values) {
-            let place = active.len();
-            active.push_reserved(Active {
-                task: invocation.task,
-                release,
-                inputs: Values::new(),
-                states: Values::new(),
-                result: None,
-            });
-            activate(checked, invocation, release, values, &mut active[place]);
+            add_release(checked, invocation, release, values, active);
         }
     }
 }
 
-// Gives a task that becomes active its values. Its inputs take those of the arguments.
+// Makes a task active, in the next entry that waits. Its inputs take the values of the arguments.
+fn add_release(
+    checked: &Checked,
+    invocation: &SlotInvocation,
+    release: u64,
+    values: &mut [i64],
+    active: &mut ActiveTasks,
+)
+    requires values { length values.old ≡ slots_of checked.now }
+    requires its { (m : ModeDeclaration) × (i : TaskInvocation) × (t : TaskDeclaration) × IsInvocation checked.now m i invocation.now
+        × (slice_get checked.now.tasks invocation.now.task ≡ Some t) × (length i.arguments ≡ length t.inputs) × (length invocation.now.arguments.items ≤ 16) }
+    requires room { 0 < active.old.room }
+    requires each { AllByRecursion (IsActiveIn checked.now (release + 1)) active.old.items }
+    ensures tasks { (m : ModeDeclaration) (i : TaskInvocation) (t : TaskDeclaration) → IsInvocation checked.now m i invocation.now
+        → slice_get checked.now.tasks invocation.now.task ≡ Some t
+        → map (active_of checked.now) active.new.items ≡ map (active_of checked.now) active.old.items ++ released release i (valuation_of checked.now values.old) t ∷ [] }
+    ensures marks { map is_completed active.new.items ≡ map is_completed active.old.items ++ false ∷ [] }
+    ensures ports { (m : ModeDeclaration) (i : TaskInvocation) (t : TaskDeclaration) → IsInvocation checked.now m i invocation.now
+        → slice_get checked.now.tasks invocation.now.task ≡ Some t
+        → valuation_of checked.now values.new ≡ with_inputs i (valuation_of checked.now values.old) t }
+    ensures each { AllByRecursion (IsActiveIn checked.now (release + 1)) active.new.items }
+    ensures room { active.new.room + 1 ≡ active.old.room }
+{
+    let place = active.count;
+    activate(
+        checked,
+        invocation,
+        release,
+        values,
+        &mut active.entries[place],
+    );
+    active.count += 1;
+}
+
+// Makes an entry that of a task which becomes active. Its inputs take the values of the arguments.
 #[tactic(auto, using(std::proofs::lemmas::Option::slice_get_within))]
 fn activate(
     checked: &Checked,
@@ -69,16 +94,20 @@ fn activate(
     requires values { length values.old ≡ slots_of checked.now }
     requires its { (m : ModeDeclaration) × (i : TaskInvocation) × (t : TaskDeclaration) × IsInvocation checked.now m i invocation.now
         × (slice_get checked.now.tasks invocation.now.task ≡ Some t) × (length i.arguments ≡ length t.inputs) × (length invocation.now.arguments.items ≤ 16) }
-    requires empty { active.old ≡ record { task = invocation.now.task; release = release; inputs = []; states = []; result = None } }
     ensures active { (m : ModeDeclaration) (i : TaskInvocation) (t : TaskDeclaration) → IsInvocation checked.now m i invocation.now
         → slice_get checked.now.tasks invocation.now.task ≡ Some t → active_of checked.now active.new ≡ released release i (valuation_of checked.now values.old) t }
     ensures ports { (m : ModeDeclaration) (i : TaskInvocation) (t : TaskDeclaration) → IsInvocation checked.now m i invocation.now
         → slice_get checked.now.tasks invocation.now.task ≡ Some t
         → valuation_of checked.now values.new ≡ with_inputs i (valuation_of checked.now values.old) t }
     ensures fits { IsActiveIn checked.now (release + 1) active.new }
-    ensures open { active.new.result ≡ None }
+    ensures open { active.new.completed ≡ false }
 {
+    active.task = invocation.task;
+    active.release = release;
+    active.completed = false;
+    active.inputs.set(&[]);
     argument_values(invocation.arguments.as_slice(), values, &mut active.inputs);
+    active.states.set(&[]);
     state_values(checked, invocation.task, values, &mut active.states);
     write_inputs(checked, invocation.task, &active.inputs, values);
 }

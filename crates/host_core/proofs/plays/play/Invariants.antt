@@ -5,4 +5,4 @@ use Rattle.host_core.specs.Setting.{Setting}
 use Rattle.host_core.proofs.plays.play.Given as goal
 
 abbrev pub invariant-loop-i : goal.invariant-loop-i
-invariant-loop-i l = (setting : Setting) → IsSettingOf l.config setting → IsPlayed setting (reverse (take l.i l.events)) l.stage.host l.stage.texts.items l.stage.released.items
+invariant-loop-i l = (setting : Setting) → IsSettingOf l.config setting → IsPlayed setting (reverse (take l.i l.events)) l.stage.host l.stage.texts.items l.stage.released.keys

@@ -14,7 +14,7 @@ use Rattle.host_core.proofs.plays.Stage.own.Goals as goal
 pub returns : goal.returns
 returns c = λ setting past may played.
     let given : c.command-reply.result ≢ Refused Memory = λ e. let is = c.is_memory.ensures.1 e in absurd (cc) in
-    step_own setting played.base past c.args.tenant c.args.command.now c.args.self.now.host c.command-reply.new.self c.args.self.now.texts.items c.args.self.now.released.items c.command-reply.result c.add_line.new.text may
+    step_own setting played.base past c.args.tenant c.args.command.now c.args.self.now.host c.command-reply.new.self c.args.self.now.texts.items c.args.self.now.released.keys c.command-reply.result c.add_line.new.text may
     (subst (λ d. Stands setting c.command-reply.new.self (after_event setting (host_after setting past) (Own c.args.tenant d))) c.in_ok-copy.ensures
     (c.command-reply.ensures.step setting (host_after setting past) played.stands given))
     (c.command-reply.ensures.reply setting (host_after setting past) played.stands given

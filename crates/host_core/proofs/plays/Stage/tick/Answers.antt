@@ -4,5 +4,5 @@ use Rattle.host_core.proofs.plays.Stage.tick.Goals as goal
 
 pub returns : goal.returns
 returns c = λ setting past may played.
-    step_tick setting played.base past c.args.frame.now c.args.self.now.host c.tick.new.self c.args.self.now.texts.items c.args.self.now.released.items c.add_names.new.names.items c.in-Ok.jobs.jobs may
+    step_tick setting played.base past c.args.frame.now c.args.self.now.host c.tick.new.self c.args.self.now.texts.items c.args.self.now.released.keys c.add_names.new.names.keys c.in-Ok.jobs.jobs may
     (c.in-Ok.ensures.step setting (host_after setting past) played.stands) c.in-Ok.ensures.known c.in-Ok.ensures.jobs c.in_ok-add_names.ensures played

@@ -1,6 +1,4 @@
-use Rattle.std.proofs.Common.{◌≡◌, refl, ap}
-use Rattle.tenant_lines.specs.declared.replies.Refusal.TheVariants.{Memory}
-use Rattle.tenant_lines.specs.declared.replies.Reply.TheVariants.{Refused}
+use Rattle.std.proofs.Common.{refl}
 use Rattle.tenant_state.proofs.tenants.Tenant.command.Goals as goal
 
 pub returns-in-Ok-start-clause-step : goal.returns-in-Ok-start-clause-step
@@ -10,5 +8,13 @@ returns-in-Ok-start-clause-step c = λ row completed stands other.
 pub returns-in-Start-clause-step : goal.returns-in-Start-clause-step
 returns-in-Start-clause-step c = λ row completed stands other.
     let why = c.in-Err-start.ensures in
-    let not_memory : c.in-Err-start.refusal ≡ Memory → ⊥ = λ e. other (ap (λ r. Refused r) e) in
-    rw (c.in-Start.is, why.refused not_memory c.args.budgets.now row stands.same_row, why.unchanged) (record { same_reply = refl; stands = stands })
+    rw (c.in-Start.is, why.refused c.args.budgets.now row stands.same_row, why.unchanged) (record { same_reply = refl; stands = stands })
+
+pub returns-in-Ok-stop-clause-step : goal.returns-in-Ok-stop-clause-step
+returns-in-Ok-stop-clause-step c = λ row completed stands other.
+    rw c.in-Stop.is (c.in-Ok-stop.ensures.stopped c.args.budgets.now row completed stands)
+
+pub returns-in-Stop-clause-step : goal.returns-in-Stop-clause-step
+returns-in-Stop-clause-step c = λ row completed stands other.
+    let why = c.in-Err-stop.ensures in
+    rw (c.in-Stop.is, why.refused c.args.budgets.now row stands.same_row, why.unchanged) (record { same_reply = refl; stands = stands })

@@ -5,26 +5,26 @@ use Rattle.tenant_state.proofs.tenants.Tenant.job.Goals as goal
 
 pub returns-in_default-place_of : goal.returns-in_default-place_of
 returns-in_default-place_of c =
-    let found = rw c.deref.ensures.value at c.in_default-place_of.ensures.found in
+    let found = rw c.as_slice.ensures at c.in_default-place_of.ensures.found in
     rw (← c.self.view_is, c.in-Some.is) (sym (job_found c.in-Some.checked c.args.id.now c.self.inside.active.items ∙ ap (option_map _) found))
 
 pub declared-requires : goal.declared-requires
 declared-requires c =
     let known = rw c.in-Some.is at c.self.invariant in
-    let within = rw c.deref.ensures.value at c.in-Some-place_of.ensures.within in
-    (so_there _ _ _ within c.index-active.ensures _ known.fits.each).declared
+    let within = rw c.as_slice.ensures at c.in-Some-place_of.ensures.within in
+    (so_there _ _ _ within (rw c.as_slice-2.ensures at c.index-as_slice-place.is) _ known.fits.each).declared
 
 pub new-requires : goal.new-requires
 new-requires c =
     let known = rw c.in-Some.is at c.self.invariant in
-    let within = rw c.deref.ensures.value at c.in-Some-place_of.ensures.within in
-    let fits = fits_body c.in-Some.checked _ c.declared.result.now c.declared.ensures.task (so_there _ _ _ within c.index-active.ensures _ known.fits.each).declared in
+    let within = rw c.as_slice.ensures at c.in-Some-place_of.ensures.within in
+    let fits = fits_body c.in-Some.checked _ c.declared.result.now c.declared.ensures.task (so_there _ _ _ within (rw c.as_slice-2.ensures at c.index-as_slice-place.is) _ known.fits.each).declared in
     rw (c.copy.ensures, c.in_ok-body.ensures, c.copy-inputs.ensures, c.copy-states.ensures)
-    (record { inputs = fits.0; states = fits.1; sound = sound_body c.in-Some.checked c.index-active.result.now c.declared.result.now c.declared.ensures.task c.declared.ensures.fits })
+    (record { inputs = fits.0; states = fits.1; sound = sound_body c.in-Some.checked c.index-as_slice-place.result c.declared.result.now c.declared.ensures.task c.declared.ensures.fits })
 
 pub returns : goal.returns
 returns c =
-    let within = rw c.deref.ensures.value at c.in-Some-place_of.ensures.within in
-    let found = rw c.deref.ensures.value at c.in-Some-place_of.ensures.found in
+    let within = rw c.as_slice.ensures at c.in-Some-place_of.ensures.within in
+    let found = rw c.as_slice.ensures at c.in-Some-place_of.ensures.found in
     rw (← c.self.view_is, c.in-Some.is, c.new.ensures, c.copy.ensures, c.in_ok-body.ensures, c.copy-inputs.ensures, c.copy-states.ensures)
-    (sym (job_is c.in-Some.checked _ _ _ within c.index-active.ensures _ found c.declared.ensures.fits c.declared.result.now c.declared.ensures.task))
+    (sym (job_is c.in-Some.checked _ _ _ within (rw c.as_slice-2.ensures at c.index-as_slice-place.is) _ found c.declared.ensures.fits c.declared.result.now c.declared.ensures.task))

@@ -15,13 +15,12 @@ invariant_of-self c =
     let tasks = c.tasks.ensures ∙ ap (λ (q : GiottoProgram). q.tasks) c.program-3.ensures.tree in
     record {
       short_time = omega arith;
-      no_switches = c.in_ok-program.ensures.switches;
-      different = ap (λ xs. all_different_releases (map (active_of p) xs)) c.new.ensures.items;
+      different = ap (λ xs. all_different_releases (map (active_of p) xs)) c.clear.ensures.items;
       fits = record {
         long = c.in-Ok.ensures.long;
         mode_there = slice_get_within p.modes _ start.0 start.1;
         quiet = λ m at t from before. absurd (omega arith);
-        each = subst (AllByRecursion (IsActiveIn p c.self.inside.count)) (sym c.new.ensures.items) tt;
+        each = subst (AllByRecursion (IsActiveIn p c.self.inside.count)) (sym c.clear.ensures.items) tt;
         share_each = subst (AreEach IsShareOf p.tasks) (sym c.in-Ok-no_shares.ensures) (subst (λ ts. AreEach IsShareOf ts (map (λ t. None) c.tasks.result.now)) tasks (none_shared c.tasks.result.now));
       };
     }

@@ -19,14 +19,14 @@ returns-then-self-clause-shares c some = absurd (omega (arith, returns-then-self
 
 pub returns-clause-most : goal.returns-clause-most
 returns-clause-most c =
-    most_due _ _ _ _ _ _ _ _ _ 0 _ c.self.invariant c.in-Running.is c.in-Some.is c.program-program.ensures.fits c.count_due-most.result c.count_due-most.ensures
+    most_due _ _ _ _ _ _ _ _ _ 0 _ c.self.invariant c.in-Running.is c.in-Some.is c.program-program.ensures.fits c.most_at-most.result c.most_at-most.ensures
     ∙ ap (λ (s : Standing). most_released s.row) c.self.view_is
 
 pub returns-clause-places : goal.returns-clause-places
 returns-clause-places c = omega (
   arith,
-  most_due _ _ _ _ _ _ _ _ _ 0 _ c.self.invariant c.in-Running.is c.in-Some.is c.program-program.ensures.fits c.count_due-most.result c.count_due-most.ensures,
-  c.in_ok-reserve.ensures.ok,
+  most_due _ _ _ _ _ _ _ _ _ 0 _ c.self.invariant c.in-Running.is c.in-Some.is c.program-program.ensures.fits c.most_at-most.result c.most_at-most.ensures,
+  c.in_ok-reserve.ensures.room,
 )
 
 pub returns-clause-shares : goal.returns-clause-shares

@@ -1,5 +1,6 @@
-use Rattle.std.proofs.Common.{length, None, sym, ap, subst, ◌∙◌, arith}
+use Rattle.std.proofs.Common.{length, false, sym, ap, subst, ◌∙◌, arith}
 use Rattle.std.specs.Prelude.{IsSomeAnd}
+use Rattle.std.proofs.lemmas.Bool.{false≢true}
 use Rattle.std.proofs.lemmas.List.{length-map}
 use Rattle.giotto_text.specs.Program.{names_of}
 use Rattle.giotto_text.specs.PortNames.{own_ports}
@@ -16,5 +17,9 @@ returns-clause-fits c =
     let given = subst (λ es. AreEach (IsExpression p) its.1.arguments es) (sym c.as_slice.ensures.value) its.3.arguments in
     let inputs = ap length (c.argument_values.ensures p its.1.arguments given c.requires.values) ∙ length-map its.1.arguments _ ∙ its.5 in
     let states = ap length (c.state_values.ensures t its.4) ∙ length-map (own_ports t.name (names_of t.states)) _ ∙ length-map (names_of t.states) _ ∙ length-map t.states _ in
-    let a : Active = record { task = c.args.invocation.now.task; release = c.args.release; inputs = c.argument_values.new.given; states = c.state_values.new.taken; result = None } in
-    rw (c.requires.empty) (record { early = omega arith; declared = subst (λ o. IsSomeAnd o (IsActiveAs a)) (sym its.4) (record { inputs_fit = inputs; states_fit = states; result_fits = tt }) })
+    let old = c.args.active.now in
+    let a : Active = record old { task = c.args.invocation.now.task; release = c.args.release; inputs = c.argument_values.new.given; states = c.state_values.new.taken; completed = false } in
+    record {
+      early = omega arith;
+      declared = subst (λ o. IsSomeAnd o (IsActiveAs a)) (sym its.4) (record { inputs_fit = inputs; states_fit = states; result_fits = λ e. absurd (false≢true e) });
+    }

@@ -4,13 +4,12 @@ use Rattle.std.proofs.lemmas.List.{drop_all}
 use Rattle.giotto_text.specs.Program.{ModeDeclaration}
 use Rattle.giotto_check.specs.Timetables.{IsInvocation}
 use Rattle.giotto_check.proofs.EachLemmas.{each_long}
-use Rattle.giotto_tasks.proofs.ListLemmas.{all_and_one}
 use Rattle.tenant_slots.proofs.Numbered.{invocation_due}
 use Rattle.giotto_check.specs.Slots.{valuation_of}
 use Rattle.tenant_state.specs.Row.{ActiveTask}
 use Rattle.tenant_state.specs.Tenants.{active_of, is_completed}
 use Rattle.tenant_state.proofs.HalfStands.{none_due}
-use Rattle.tenant_state.proofs.Released.{its_entry, some_entry, left_as, its_place, waits, filled, happens}
+use Rattle.tenant_state.proofs.Released.{its_entry, some_entry, left_as, its_room, waits, happens}
 use Rattle.tenant_state.proofs.tenants.releases.invoke_due.Goals as goal
 use Rattle.tenant_state.proofs.tenants.releases.invoke_due.Goals.{then-is_due+then-holds, else-is_due, else-is_due-via-then-is_due+else-holds, else-is_due-via-else-is_due}
 
@@ -18,7 +17,7 @@ pub loop-invocation-init : goal.loop-invocation-init
 loop-invocation-init c = record {
   time = c.at-due.ensures;
   each = c.requires.each;
-  to = λ m at. record { tasks = refl; marks = refl; ports = refl; places = c.requires.places m at };
+  to = λ m at. record { tasks = refl; marks = refl; ports = refl; room = c.requires.places m at };
 }
 
 pub returns-then-time-next : goal.returns-then-time-next
@@ -38,18 +37,18 @@ is_due-requires c =
     (some_entry c.args.checked.now c.program-program.ensures.fits c.args.mode c.loop-invocation.invocation-index _ c.invocation-item.result c.loop-invocation-test.true c.invocation-item.is
     c.invocations-invocation-items.ensures.there c.invocations-invocation-items.ensures.none).2.positive
 
-pub activate-requires-clause-its : goal.activate-requires-clause-its
-activate-requires-clause-its c =
+pub add_release-requires-clause-its : goal.add_release-requires-clause-its
+add_release-requires-clause-its c =
     let its = some_entry c.args.checked.now c.program-program.ensures.fits c.args.mode c.loop-invocation.invocation-index _ c.invocation-item.result c.loop-invocation-test.true c.invocation-item.is
     c.invocations-invocation-items.ensures.there c.invocations-invocation-items.ensures.none in
     (its.0, its.2.invocation, its.2.task, its.2.is, its.2.there, its.2.arguments, its.2.few)
 
-pub push_reserved-requires : goal.push_reserved-requires
-push_reserved-requires c =
+pub add_release-requires-clause-room : goal.add_release-requires-clause-room
+add_release-requires-clause-room c =
     let its = some_entry c.args.checked.now c.program-program.ensures.fits c.args.mode c.loop-invocation.invocation-index _ c.invocation-item.result c.loop-invocation-test.true c.invocation-item.is
     c.invocations-invocation-items.ensures.there c.invocations-invocation-items.ensures.none in
     let now : (c.args.time % c.invocation-item.result.interval == 0) ≡ true = ap (λ (t : ℕ). t % c.invocation-item.result.interval == 0) (sym c.loop-invocation.invariant.time) ∙ sym c.is_due.ensures.due ∙ c.if-is_due.true in
-    its_place (left_as its.2.here (c.loop-invocation.invariant.to its.0 its.1))
+    its_room (left_as its.2.here (c.loop-invocation.invariant.to its.0 its.1))
     (sym (invocation_due c.args.checked.now c.program-program.ensures.fits c.args.time its.0 its.2.invocation c.invocation-item.result its.2.is) ∙ now)
 
 pub loop-invocation-preserved : goal.loop-invocation-preserved
@@ -61,7 +60,7 @@ loop-invocation-preserved c =
     record {
       time = c.is_due.ensures.time ∙ c.loop-invocation.invariant.time;
       each = elim c.if-is_due.branch [
-        | then-is_due+then-holds w ↦ rw (w.active-is, filled c.loop-invocation.active w.push_reserved.new.self _ _ _ w.len-place.ensures w.push_reserved.ensures.items) (all_and_one _ _ _ c.loop-invocation.invariant.each w.activate.ensures.fits)
+        | then-is_due+then-holds w ↦ rw (w.active-is) w.add_release.ensures.each
         | else-is_due w ↦ rw (w.active-is) c.loop-invocation.invariant.each
       ];
       to = λ m at.
@@ -70,9 +69,8 @@ loop-invocation-preserved c =
           let to = left_as its.here (c.loop-invocation.invariant.to m at) in
           elim c.if-is_due.branch [
             | then-is_due+then-holds w ↦ rw (w.active-is, w.values-is)
-                (happens to its.task w.activate.new.active (and_from _ _ (due ∙ w.if-is_due.true) (sym (w.holds.ensures p its.invocation.guard its.is.guard long) ∙ w.if-holds.true)) its.found
-                (w.activate.ensures.active m its.invocation its.task its.is its.there) w.activate.ensures.open (w.activate.ensures.ports m its.invocation its.task its.is its.there)
-                (filled c.loop-invocation.active w.push_reserved.new.self _ _ _ w.len-place.ensures w.push_reserved.ensures.items) w.push_reserved.ensures.capacity)
+                (happens to its.task (and_from _ _ (due ∙ w.if-is_due.true) (sym (w.holds.ensures p its.invocation.guard its.is.guard long) ∙ w.if-holds.true)) its.found
+                (w.add_release.ensures.tasks m its.invocation its.task its.is its.there) w.add_release.ensures.marks (w.add_release.ensures.ports m its.invocation its.task its.is its.there) w.add_release.ensures.room)
             | else-is_due w ↦ rw (w.active-is, w.values-is)
                 (waits to (elim w.else-is_due.branch [
                   | else-is_due-via-then-is_due+else-holds w' ↦ and_right _ _ (sym (w'.holds.ensures p its.invocation.guard its.is.guard long) ∙ w'.if-holds.false)

@@ -1,0 +1,34 @@
+-- Which lines are commands, computed from the definitions.
+use Rattle.std.proofs.Common.{◌≡◌, Some, None, codes, refl}
+use Rattle.tenant_lines.specs.declared.commands.Command.TheVariants.{Stop, ShowMode, ShowPort, ShowAll}
+use Rattle.tenant_lines.specs.CommandLine.{command_of_line}
+
+pub stop_alone : command_of_line (codes " stop\r") ≡ Some Stop
+stop_alone = refl
+
+pub show_mode : command_of_line (codes "show mode") ≡ Some ShowMode
+show_mode = refl
+
+pub show_all : command_of_line (codes "show  all ") ≡ Some ShowAll
+show_all = refl
+
+pub port_of_no_task : command_of_line (codes "show port a") ≡ Some (ShowPort (record { task = None; name = codes "a" }))
+port_of_no_task = refl
+
+pub port_of_task : command_of_line (codes "show port T.i") ≡ Some (ShowPort (record { task = Some (codes "T"); name = codes "i" }))
+port_of_task = refl
+
+pub no_name_behind_dot : command_of_line (codes "show port T.") ≡ None
+no_name_behind_dot = refl
+
+pub no_task_before_dot : command_of_line (codes "show port .i") ≡ None
+no_task_before_dot = refl
+
+pub two_dots : command_of_line (codes "show port T.i.j") ≡ None
+two_dots = refl
+
+pub word_too_many : command_of_line (codes "show mode now") ≡ None
+word_too_many = refl
+
+pub blank_in_port : command_of_line (codes "show port T. i") ≡ None
+blank_in_port = refl

@@ -1,0 +1,64 @@
+//! Switches: which one is taken, and what its destinations get.
+
+ghost use Rattle.std.specs.Prelude.{◌≡◌, ◌<◌, None, Some, IsSomeAnd, IsTrue, MatchOption, length, slice_get};
+ghost use Rattle.std.specs.List.{AllByRecursion};
+ghost use Rattle.std.specs.Option.{option_and_then, option_map_or};
+ghost use Rattle.giotto_text.specs.Program.{GiottoProgram, ModeDeclaration};
+ghost use Rattle.giotto_rules.specs.Names.{all_different_numbers};
+ghost use Rattle.giotto_check.specs.Slots.{slots_of, valuation_of, with_slots};
+ghost use Rattle.giotto_check.specs.Timetables.{AreEach, IsExit, place_of_mode};
+ghost use Rattle.giotto_check.specs.declared.timetables.SlotExit.{SlotExit};
+ghost use Rattle.tenant_slots.specs.Switches.{slots_given, switch_taken, values_given, with_destinations};
+
+use crate::drivers::holds;
+use crate::due::Due;
+use giotto_check::Checked;
+use giotto_check::timetables::{SlotDestination, SlotExit, slot_value};
+
+/// Takes the first switch of the mode at this place that is due at this mode time and whose guard holds, in text order: its
+/// destinations get their values. The place of the mode that it enters, in text order from 0; `None` where no switch is
+/// taken. Takes no memory.
+pub fn take_switch(checked: &Checked, mode: usize, time: u64, values: &mut [i64]) -> Option<usize>
+    requires { length values.old ≡ slots_of checked.now }
+    ensures target { (m : ModeDeclaration) → slice_get checked.now.modes mode ≡ Some m
+        → result ≡ option_and_then (λ s. place_of_mode checked.now s.target) (switch_taken m time (valuation_of checked.now values.old)) }
+    ensures none { (m : ModeDeclaration) → slice_get checked.now.modes mode ≡ Some m → result ≡ None → switch_taken m time (valuation_of checked.now values.old) ≡ None }
+    ensures ports { (m : ModeDeclaration) → slice_get checked.now.modes mode ≡ Some m
+        → valuation_of checked.now values.new
+        ≡ option_map_or (λ s. with_destinations s (valuation_of checked.now values.old)) (switch_taken m time (valuation_of checked.now values.old)) (valuation_of checked.now values.old) }
+{
+    // It is well-formed.
+    let _program = checked.program();
+    let exit = first_open(checked.exits(mode), time, values)?;
+    give(exit.destinations.as_slice(), values);
+    Some(exit.target)
+}
+
+// The first of these switches that is due and whose guard holds.
+fn first_open<'a>(exits: &'a [SlotExit], time: u64, values: &[i64]) -> Option<&'a SlotExit>
+    requires { AllByRecursion (λ (e : SlotExit). 0 < e.interval) exits.now }
+    ensures { (p : GiottoProgram) (m : ModeDeclaration) → AreEach (IsExit p m) m.switches exits.now → length values.now ≡ slots_of p
+        → MatchOption result (switch_taken m time (valuation_of p values.now) ≡ None) (λ exit. IsSomeAnd (switch_taken m time (valuation_of p values.now)) (λ s. IsExit p m s exit.now)) }
+{
+    let mut due = Due::at(time);
+    for exit in exits {
+        if due.is_due(exit.interval) && holds(&exit.guard, values) {
+            return Some(exit);
+        }
+    }
+    None
+}
+
+// Gives these outputs, which are different, their values. All are taken, on the way down, before the first is written.
+fn give(destinations: &[SlotDestination], values: &mut [i64])
+    requires there { AllByRecursion (λ k. k < length values.old) (slots_given destinations.now) }
+    requires once { IsTrue (all_different_numbers (slots_given destinations.now)) }
+    ensures { values.new ≡ with_slots values.old (slots_given destinations.now) (values_given destinations.now values.old) }
+{
+    let [first, rest @ ..] = destinations else {
+        return;
+    };
+    let value = slot_value(&first.value, values);
+    give(rest, values);
+    values[first.output] = value;
+}

@@ -1,0 +1,12 @@
+use Rattle.std.proofs.Common.{◌||◌, false, refl, ap}
+use Rattle.std.proofs.lemmas.List.{get_or-replicate}
+use Rattle.tenant_state.specs.EntryTable.{is_among_due}
+use Rattle.tenant_state.proofs.tenants.phase_one.due_marks.Goals as goal
+
+pub loop-i-init : goal.loop-i-init
+loop-i-init c = record {
+  time = c.at-due.ensures;
+  long = refl;
+  positive = c.requires;
+  left = λ t small. ap (λ b. b || is_among_due c.args.time t c.args.invocations.now) (get_or-replicate 64 t false false small);
+}

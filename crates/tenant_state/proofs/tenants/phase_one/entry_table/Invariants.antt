@@ -1,0 +1,10 @@
+use Rattle.std.proofs.Common.{◌≡◌, length}
+use Rattle.tenant_state.specs.EntryTable.{IsTableOf}
+use Rattle.tenant_state.proofs.tenants.phase_one.entry_table.Given as goal
+
+abbrev pub invariant-loop-i : goal.invariant-loop-i
+invariant-loop-i l =
+    record {
+      long : length l.table ≡ 64;
+      table : IsTableOf l.i l.active l.table;
+    }

@@ -1,0 +1,8 @@
+use Rattle.std.proofs.Common.{arith}
+use Rattle.tenant_state.proofs.tenants.phase_two.due_behind.Goals as goal
+
+pub returns-then-time-next : goal.returns-then-time-next
+returns-then-time-next c m at quiet t from before = quiet t (omega (arith, from, c.if-behind-time.false)) before
+
+pub returns : goal.returns
+returns c m at quiet t from before = c.next_due.ensures m at t from before

@@ -1,0 +1,257 @@
+//! The first half of an instant: due tasks end, and due actuators are updated.
+
+ghost use Rattle.std.specs.Prelude.{◌≡◌, ◌<◌, ◌≤◌, ◌%◌, ◌==◌, ◌&&◌, Bool, not, true, false, ◌∷◌, [], nat_eq, length, map, filter, Some, None, IfSome, ◌⊎◌};
+ghost use Rattle.std.specs.List.{find, flat_map, list_all, list_any, AllByRecursion};
+ghost use Rattle.std.specs.Option.{option_map};
+ghost use Rattle.giotto_tasks.specs.Names.{same_name};
+ghost use Rattle.giotto_text.specs.Program.{ModeDeclaration, TaskInvocation};
+ghost use Rattle.giotto_check.specs.Slots.{slots_of, valuation_of};
+ghost use Rattle.giotto_check.specs.Timetables.{AreEach, IsInvocation};
+ghost use Rattle.giotto_check.specs.declared.timetables.SlotInvocation.{SlotInvocation};
+ghost use Rattle.tenant_slots.specs.Due.{is_due_at};
+ghost use Rattle.tenant_slots.specs.Places.{name_of_task};
+ghost use Rattle.tenant_state.specs.EntryTable.{IsTableOf, MarksDue};
+ghost use Rattle.tenant_state.specs.FirstHalf.{unfinished_tasks, all_ended, first_half_of};
+ghost use Rattle.tenant_state.specs.Row.{ActiveTask, Row};
+ghost use Rattle.tenant_state.specs.Standing.{StandsFor, most_released};
+ghost use Rattle.tenant_state.specs.Tenants.{active_of, is_completed, IsActiveOf};
+
+use crate::tenants::active_tasks::ActiveTasks;
+use crate::tenants::{Active, Reason, State, Tenant};
+use giotto_check::Checked;
+use giotto_check::timetables::SlotInvocation;
+use giotto_tasks::names::Name;
+use giotto_text::programs::Program;
+use tenant_slots::actuators::update_due;
+use tenant_slots::due::Due;
+use tenant_slots::tasks::write_results;
+
+impl Tenant {
+    /// The first half of an instant. The due tasks write their results, and the due actuators are updated; or the tenant is
+    /// stopped where the computation of a due task isn't completed. Takes no memory.
+    pub fn phase_one(&mut self)
+        ensures step { (row : Row) (completed : ActiveTask → Bool) → StandsFor self.old row completed
+            → StandsFor self.new (first_half_of (unfinished_tasks completed row) row) completed }
+        ensures places { self.old.places ≤ self.new.places }
+        ensures shared { self.new.shared ≡ self.old.shared }
+        ensures fewer { most_released self.new.row ≤ most_released self.old.row }
+        ensures own { self.new.own ≡ self.old.own }
+        ensures count { self.new.row.count ≡ self.old.row.count }
+    {
+        let State::Running = &self.state else {
+            return;
+        };
+        let Some(checked) = &self.program else {
+            return;
+        };
+        let _program = checked.program();
+        let time = self.mode_time;
+        if time < self.next_due {
+            return;
+        }
+        let invocations = checked.invocations(self.mode);
+        let active = self.active.as_slice();
+        let table = entry_table(active);
+        if let Some(task) = first_unfinished(invocations, time, active, &table) {
+            let name = name_of(checked.program(), task);
+            self.halt(Reason::Overrun(name));
+            return;
+        }
+        let values = self.values.as_mut_slice();
+        end_due(checked, invocations, time, active, &table, values);
+        drop_due(invocations, time, &mut self.active);
+        update_due(checked, self.mode, time, values);
+    }
+}
+
+// The name of the task at this place.
+fn name_of(program: &Program, task: usize) -> Name
+    requires { task < length program.now.tasks }
+    ensures { result ≡ name_of_task program.now task }
+{
+    program.tasks()[task].name.copy()
+}
+
+// Whether every active task is completed.
+fn all_completed(active: &[Active]) -> bool
+    ensures { result ≡ list_all is_completed active.now }
+{
+    active.iter().all(|a| a.completed)
+}
+
+// Whether an active task at this place of the program isn't completed.
+fn is_unfinished(active: &[Active], task: usize) -> bool
+    ensures { result ≡ list_any (λ a. nat_eq a.task task && not (is_completed a)) active.now }
+{
+    active.iter().any(|a| a.task == task && !a.completed)
+}
+
+// The number of each task's one active entry, from 1, or 0 where it has none. Nothing where a task has two, or there are few, or many.
+fn entry_table(active: &[Active]) -> Option<[u8; 64]>
+    ensures { IfSome result (IsTableOf (length active.now) active.now) }
+{
+    if active.len() < 4 {
+        return None; // A few are looked through at once.
+    }
+    let mut table = [0u8; 64];
+    for i in 0..active.len() {
+        let task = active[i].task;
+        if i >= 64 || task >= 64 || table[task] != 0 {
+            return None;
+        }
+        table[task] = i as u8 + 1;
+    }
+    Some(table)
+}
+
+// Active entries, among which are all of the task at this place. By the table only these.
+fn entries_of<'a>(active: &'a [Active], table: &Option<[u8; 64]>, task: usize) -> &'a [Active]
+    requires { IfSome table.now (IsTableOf (length active.now) active.now) }
+    ensures { (result.now ≡ active.now) ⊎ (result.now ≡ filter (λ a. nat_eq a.task task) active.now) }
+{
+    let Some(table) = table else {
+        return active;
+    };
+    if task >= 64 {
+        return active;
+    }
+    let end = usize::from(table[task]);
+    &active[end.saturating_sub(1)..end]
+}
+
+// The place of the first task in text order that is due and not completed.
+fn first_unfinished(
+    invocations: &[SlotInvocation],
+    time: u64,
+    active: &[Active],
+    table: &Option<[u8; 64]>,
+) -> Option<usize>
+    requires positive { AllByRecursion (λ i. 0 < i.interval) invocations.now }
+    requires table { IfSome table.now (IsTableOf (length active.now) active.now) }
+    ensures { result ≡ option_map (λ i. i.task) (find (λ i. (time % i.interval == 0) && list_any (λ a. nat_eq a.task i.task && not (is_completed a)) active.now) invocations.now) }
+{
+    if all_completed(active) {
+        return None;
+    }
+    let mut due = Due::at(time);
+    for invocation in invocations {
+        let task = invocation.task;
+        if due.is_due(invocation.interval) && is_unfinished(entries_of(active, table, task), task) {
+            return Some(task);
+        }
+    }
+    None
+}
+
+// The due tasks end, in the order of these invocations.
+fn end_due(
+    checked: &Checked,
+    invocations: &[SlotInvocation],
+    time: u64,
+    active: &[Active],
+    table: &Option<[u8; 64]>,
+    values: &mut [i64],
+)
+    requires values { length values.old ≡ slots_of checked.now }
+    requires active { AllByRecursion (IsActiveOf checked.now) active.now }
+    requires positive { AllByRecursion (λ i. 0 < i.interval) invocations.now }
+    requires there { AllByRecursion (λ i. i.task < length checked.now.tasks) invocations.now }
+    requires table { IfSome table.now (IsTableOf (length active.now) active.now) }
+    requires completed { find (λ i. (time % i.interval == 0) && list_any (λ a. nat_eq a.task i.task && not (is_completed a)) active.now) invocations.now ≡ None }
+    ensures { (m : ModeDeclaration) → AreEach (IsInvocation checked.now m) m.invocations invocations.now
+        → valuation_of checked.now values.new ≡ all_ended checked.now (flat_map (λ (i : TaskInvocation). filter (λ (a : ActiveTask). same_name a.task i.task
+        && is_due_at time m i.frequency) (map (active_of checked.now) active.now)) m.invocations) (valuation_of checked.now values.old) }
+{
+    let _program = checked.program();
+    let mut due = Due::at(time);
+    for invocation in invocations {
+        if due.is_due(invocation.interval) {
+            let task = invocation.task;
+            end_each(checked, entries_of(active, table, task), task, values);
+        }
+    }
+}
+
+// Each active task at this place of the program ends.
+fn end_each(checked: &Checked, active: &[Active], task: usize, values: &mut [i64])
+    requires there { task < length checked.now.tasks }
+    requires values { length values.old ≡ slots_of checked.now }
+    requires active { AllByRecursion (IsActiveOf checked.now) active.now }
+    requires completed { list_any (λ a. nat_eq a.task task && not (is_completed a)) active.now ≡ false }
+    ensures { valuation_of checked.now values.new
+        ≡ all_ended checked.now (map (active_of checked.now) (filter (λ a. nat_eq a.task task) active.now)) (valuation_of checked.now values.old) }
+{
+    for a in active {
+        if a.task == task {
+            end(checked, a, values);
+        }
+    }
+}
+
+// A task ends: its outputs and its states get the values of its computation.
+fn end(checked: &Checked, active: &Active, values: &mut [i64])
+    requires values { length values.old ≡ slots_of checked.now }
+    requires active { IsActiveOf checked.now active.now }
+    requires completed { is_completed active.now ≡ true }
+    ensures { valuation_of checked.now values.new ≡ all_ended checked.now (active_of checked.now active.now ∷ []) (valuation_of checked.now values.old) }
+{
+    let _program = checked.program();
+    write_results(
+        checked,
+        active.task,
+        &active.outputs,
+        &active.new_states,
+        values,
+    );
+}
+
+// For each of the first 64 tasks whether it is due.
+fn due_marks(invocations: &[SlotInvocation], time: u64) -> [bool; 64]
+    requires { AllByRecursion (λ i. 0 < i.interval) invocations.now }
+    ensures { MarksDue invocations.now time result }
+{
+    let mut due = Due::at(time);
+    let mut marks = [false; 64];
+    for i in invocations {
+        if i.task < 64 && due.is_due(i.interval) {
+            marks[i.task] = true;
+        }
+    }
+    marks
+}
+
+// Whether a task at this place of the program is due.
+fn is_task_due(invocations: &[SlotInvocation], time: u64, marks: &[bool; 64], task: usize) -> bool
+    requires positive { AllByRecursion (λ i. 0 < i.interval) invocations.now }
+    requires marks { MarksDue invocations.now time marks.now }
+    ensures { result ≡ list_any (λ i. nat_eq task i.task && (time % i.interval == 0)) invocations.now }
+{
+    if task < 64 {
+        return marks[task];
+    }
+    for i in invocations {
+        if task == i.task && time % i.interval == 0 {
+            return true;
+        }
+    }
+    false
+}
+
+// The due tasks are active no longer. Those that go on keep their order; one is moved up where another ends before it.
+fn drop_due(invocations: &[SlotInvocation], time: u64, active: &mut ActiveTasks)
+    requires { AllByRecursion (λ i. 0 < i.interval) invocations.now }
+    ensures items { active.new.items ≡ filter (λ a. not (list_any (λ (i : SlotInvocation). nat_eq a.task i.task && (time % i.interval == 0)) invocations.now)) active.old.items }
+    ensures room { active.old.room ≤ active.new.room }
+{
+    let marks = due_marks(invocations, time);
+    let mut kept = 0;
+    for i in 0..active.count {
+        if !is_task_due(invocations, time, &marks, active.entries[i].task) {
+            if kept < i {
+                active.entries.swap(kept, i);
+            }
+            kept += 1;
+        }
+    }
+    active.count = kept;
+}

@@ -1,0 +1,158 @@
+//! The second half of an instant: sensors are read, a switch is taken, tasks are released, and the mode time moves on.
+
+ghost use Rattle.std.specs.Prelude.{◌≡◌, ◌<◌, ◌≤◌, ◌+◌, ◌-◌, ◌^◌, Bool, false, [], ◌++◌, length, map, true, is_some, IsTrue, Some, slice_get};
+ghost use Rattle.std.specs.Arc.{arc_value};
+ghost use Rattle.std.specs.List.{AllByRecursion, list_all};
+ghost use Rattle.std.specs.Option.{option_map};
+ghost use Rattle.giotto_check.specs.Timetables.{AreEach};
+ghost use Rattle.giotto_tasks.specs.Sound.{all_different};
+ghost use Rattle.giotto_text.specs.Program.{ModeDeclaration};
+ghost use Rattle.tenant_slots.specs.Due.{IsQuietUntil};
+ghost use Rattle.tenant_slots.specs.Places.{name_of_task};
+ghost use Rattle.tenant_slots.specs.Readings.{readings_within};
+ghost use Rattle.tenant_state.specs.Jobs.{IsComputable, body_in, job_in, released_at};
+ghost use Rattle.tenant_state.specs.Row.{ActiveTask, Row};
+ghost use Rattle.tenant_state.specs.SecondHalf.{second_half_of};
+ghost use Rattle.tenant_state.specs.Standing.{StandsFor, AreReleased, HasRoom, HasShares, most_released};
+ghost use Rattle.tenant_state.specs.Tenants.{active_of, IsActiveOf, IsShareOf};
+
+use crate::jobs::{Job, JobId, Jobs};
+use crate::tenants::releases::invoke_due;
+use crate::tenants::switches::switch;
+use crate::tenants::{Active, State, Tenant};
+use giotto_check::Checked;
+use giotto_tasks::bodies::Body;
+use giotto_text::programs::Program;
+use rig_config::{Budgets, TenantId};
+use std::alloc::Global;
+use std::sync::Arc;
+use tenant_slots::due::next_due;
+use tenant_slots::sensors::sense;
+
+impl Tenant {
+    /// The second half of an instant whose number is below the greatest. `frame` has the input value of each line. The jobs of the
+    /// tasks that are released are added to `jobs`, which has room for them. Takes no memory.
+    pub fn phase_two(&mut self, budgets: &Budgets, frame: &[i64], jobs: &mut Jobs)
+        requires count { self.old.row.count < 2 ^ 64 - 1 }
+        requires places { HasRoom self.old }
+        requires shares { HasShares self.old }
+        requires jobs { most_released self.old.row ≤ jobs.old.room }
+        ensures step { (row : Row) (completed : ActiveTask → Bool) → StandsFor self.old row completed
+            → ((a : ActiveTask) → a.release ≡ row.count → completed a ≡ false)
+            → StandsFor self.new (second_half_of (readings_within budgets.now.reads frame.now) [] row) completed }
+        ensures own { self.new.own ≡ self.old.own }
+        ensures count { self.new.row.count ≡ self.old.row.count + 1 }
+        ensures jobs { jobs.new.jobs ≡ jobs.old.jobs ++ released_at self.old.own self.old.row.count self.new.row }
+        ensures room { jobs.old.room ≤ jobs.new.room + most_released self.old.row }
+    {
+        let before = self.active.len();
+        self.phase_two_without_jobs(budgets, frame);
+        let Some(checked) = &self.program else {
+            return;
+        };
+        let released = &self.active.as_slice()[before..];
+        add_jobs(
+            checked,
+            self.own,
+            released,
+            self.shares.as_mut_slice(),
+            jobs,
+        );
+    }
+
+    /// The second half of an instant whose number is below the greatest, where nobody takes its jobs. `frame` has the input value
+    /// of each line. Takes no memory.
+    // Inlined, so that a tenant that isn't running costs its host no call.
+    #[inline(always)]
+    pub fn phase_two_without_jobs(&mut self, budgets: &Budgets, frame: &[i64])
+        requires count { self.old.row.count < 2 ^ 64 - 1 }
+        requires places { HasRoom self.old }
+        ensures step { (row : Row) (completed : ActiveTask → Bool) → StandsFor self.old row completed
+            → ((a : ActiveTask) → a.release ≡ row.count → completed a ≡ false)
+            → StandsFor self.new (second_half_of (readings_within budgets.now.reads frame.now) [] row) completed }
+        ensures own { self.new.own ≡ self.old.own }
+        ensures count { self.new.row.count ≡ self.old.row.count + 1 }
+        ensures released { AreReleased self.old.row self.new.row }
+        ensures shared { self.new.shared ≡ self.old.shared }
+    {
+        let release = self.count;
+        self.count += 1;
+        let State::Running = self.state else {
+            return;
+        };
+        let Some(checked) = &self.program else {
+            return;
+        };
+        let values = self.values.as_mut_slice();
+        sense(checked, budgets, frame, values);
+        let mut mode = self.mode;
+        let mut time = self.mode_time;
+        let mut next = self.next_due;
+        let active = self.active.as_slice();
+        if let Some(entry) = switch(checked, mode, time, next, active, values) {
+            mode = entry.mode;
+            time = entry.time;
+            next = 0;
+        }
+        let period = checked.program().modes()[mode].period;
+        invoke_due(checked, mode, time, next, release, values, &mut self.active);
+        let behind = (time + 1) % period;
+        self.next_due = due_behind(checked, mode, time, behind, next);
+        self.mode_time = behind;
+        self.mode = mode;
+    }
+}
+
+// A mode time before which nothing is due, from the mode time behind an instant on; `next` is one from the instant's on.
+fn due_behind(checked: &Checked, mode: usize, time: u64, behind: u64, next: u64) -> u64
+    ensures { (m : ModeDeclaration) → slice_get checked.now.modes mode ≡ Some m → IsQuietUntil m time next → IsQuietUntil m behind result }
+{
+    if behind <= time {
+        return 0;
+    }
+    if time < next {
+        return next;
+    }
+    next_due(checked, mode, behind)
+}
+
+// Adds the jobs of these active tasks, which are of different tasks, in their order. Each takes the share of its body.
+fn add_jobs(
+    checked: &Checked,
+    tenant: TenantId,
+    released: &[Active],
+    shares: &mut [Option<Arc<Body, Global>>],
+    jobs: &mut Jobs,
+)
+    requires each { AllByRecursion (IsActiveOf checked.now) released.now }
+    requires different { IsTrue (all_different (map (λ a. name_of_task checked.now a.task) released.now)) }
+    requires shares { AreEach IsShareOf checked.now.tasks (map (option_map arc_value) shares.old) }
+    requires shared { 0 < length released.now → list_all is_some shares.old ≡ true }
+    requires room { length released.now ≤ jobs.old.room }
+    ensures shares { AreEach IsShareOf checked.now.tasks (map (option_map arc_value) shares.new) }
+    ensures jobs { jobs.new.jobs ≡ jobs.old.jobs ++ map (job_in checked.now tenant) (map (active_of checked.now) released.now) }
+    ensures room { jobs.new.room + length released.now ≡ jobs.old.room }
+{
+    let program = checked.program();
+    for active in released {
+        let Some(body) = shares[active.task].take() else {
+            unreachable!()
+        };
+        jobs.put(job_for(program, tenant, active, body));
+    }
+}
+
+// The job of an active task with this body, which is its task's.
+fn job_for(program: &Program, tenant: TenantId, active: &Active, body: Arc<Body, Global>) -> Job
+    requires there { active.now.task < length program.now.tasks }
+    requires computable { IsComputable (job_in program.now tenant (active_of program.now active.now)) }
+    requires body { arc_value body ≡ body_in program.now (name_of_task program.now active.now.task) }
+    ensures { result ≡ job_in program.now tenant (active_of program.now active.now) }
+{
+    let id = JobId {
+        tenant,
+        tick: active.release,
+        task: program.tasks()[active.task].name.copy(),
+    };
+    Job::new(id, body, active.inputs.copy(), active.states.copy())
+}

@@ -1,0 +1,127 @@
+//! What a host asks its tenants.
+
+ghost use Rattle.std.specs.Prelude.{◌≡◌, ◌<◌, ◌%◌, ◌==◌, ◌&&◌, nat_eq, length};
+ghost use Rattle.std.specs.List.{find, list_any, position_from, AllByRecursion};
+ghost use Rattle.std.specs.Option.{option_map};
+ghost use Rattle.giotto_tasks.specs.Names.{is_among, same_name};
+ghost use Rattle.giotto_text.specs.declared.programs.Actuator.{Actuator};
+ghost use Rattle.giotto_check.specs.declared.timetables.SlotInvocation.{SlotInvocation};
+ghost use Rattle.tenant_slots.specs.Places.{name_of_task};
+ghost use Rattle.tenant_state.specs.FirstHalf.{names_due};
+ghost use Rattle.tenant_state.specs.Jobs.{is_active};
+ghost use Rattle.tenant_state.specs.Readers.{actuator_value};
+ghost use Rattle.tenant_state.specs.Tenants.{IsActiveOf};
+
+use crate::jobs::JobId;
+use crate::tenants::{Active, State, Tenant};
+use giotto_check::Checked;
+use giotto_check::timetables::SlotInvocation;
+use giotto_text::programs::Actuator;
+use tenant_slots::due::Due;
+
+impl Tenant {
+    /// Whether the task of this name is active and ends at the next instant. Nothing is due where no program runs. Takes no memory.
+    pub fn due(&self, task: &str) -> bool
+        ensures { result ≡ is_among (names_due self.now.row) task.now }
+    {
+        let State::Running = &self.state else {
+            return false;
+        };
+        let Some(checked) = &self.program else {
+            return false;
+        };
+        // Its frequencies are positive.
+        let _program = checked.program();
+        let Some(place) = active_place(checked, self.active.as_slice(), task) else {
+            return false;
+        };
+        ends_at(checked.invocations(self.mode), self.mode_time, place)
+    }
+
+    /// Whether this job's task is active, with the job's release. Takes no memory.
+    pub fn is_active(&self, id: &JobId) -> bool
+        ensures { result ≡ is_active self.now.row id.now }
+    {
+        let Some(checked) = &self.program else {
+            return false;
+        };
+        has_release(checked, self.active.as_slice(), id)
+    }
+
+    /// How many tasks are active.
+    pub fn active(&self) -> usize
+        ensures { result ≡ length self.now.row.active }
+    {
+        self.active.len()
+    }
+
+    /// The value of the actuator of this name, or `None` where the tenant's program has no such actuator. Takes no memory.
+    pub fn actuator(&self, name: &str) -> Option<i64>
+        ensures { result ≡ actuator_value self.now.row name.now }
+    {
+        let Some(checked) = &self.program else {
+            return None;
+        };
+        let program = checked.program();
+        let place = actuator_place(program.actuators(), name)?;
+        let slot = program.sensors().len() + place;
+        self.values.get(slot).copied()
+    }
+}
+
+// The place in the program's text of the first active task of this name.
+fn active_place(checked: &Checked, active: &[Active], name: &str) -> Option<usize>
+    requires { AllByRecursion (IsActiveOf checked.now) active.now }
+    ensures { result ≡ option_map (λ a. a.task) (find (λ a. same_name (name_of_task checked.now a.task) name.now) active.now) }
+{
+    for entry in active {
+        if is_named(checked, entry.task, name) {
+            return Some(entry.task);
+        }
+    }
+    None
+}
+
+// Whether an active task has this job's name and release.
+fn has_release(checked: &Checked, active: &[Active], id: &JobId) -> bool
+    requires { AllByRecursion (IsActiveOf checked.now) active.now }
+    ensures { result ≡ list_any (λ a. nat_eq a.release id.now.tick && same_name (name_of_task checked.now a.task) id.now.task) active.now }
+{
+    for entry in active {
+        if entry.release == id.tick && is_named(checked, entry.task, id.task.as_str()) {
+            return true;
+        }
+    }
+    false
+}
+
+// Whether the task at this place of the program's text has this name.
+fn is_named(checked: &Checked, place: usize, name: &str) -> bool
+    requires { place < length checked.now.tasks }
+    ensures { result ≡ same_name (name_of_task checked.now place) name.now }
+{
+    checked.program().tasks()[place].name.as_str() == name
+}
+
+// Whether one of these invocations is due, and invokes the task at this place.
+fn ends_at(invocations: &[SlotInvocation], time: u64, place: usize) -> bool
+    requires { AllByRecursion (λ i. 0 < i.interval) invocations.now }
+    ensures { result ≡ list_any (λ i. nat_eq place i.task && (time % i.interval == 0)) invocations.now }
+{
+    let mut due = Due::at(time);
+    for invocation in invocations {
+        if place == invocation.task && due.is_due(invocation.interval) {
+            return true;
+        }
+    }
+    false
+}
+
+// The place of the actuator of this name among these.
+fn actuator_place(actuators: &[Actuator], name: &str) -> Option<usize>
+    ensures { result ≡ position_from (λ (a : Actuator). same_name a.name name.now) 0 actuators.now }
+{
+    actuators
+        .iter()
+        .position(|actuator| actuator.name.as_str() == name)
+}

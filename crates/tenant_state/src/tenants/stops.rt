@@ -1,0 +1,29 @@
+//! A stop: of a tenant that asks for it, or of one whose due task isn't completed.
+
+ghost use Rattle.std.specs.Prelude.{◌≡◌, ◌≤◌, Bool};
+ghost use Rattle.tenant_state.specs.FirstHalf.{stopped_with};
+ghost use Rattle.tenant_state.specs.Row.{ActiveTask, Row};
+ghost use Rattle.tenant_state.specs.Standing.{StandsFor, most_released};
+ghost use Rattle.tenant_state.specs.Tenants.{reason_of};
+
+use crate::tenants::{Reason, State, Tenant};
+use tenant_slots::actuators::reset_actuators;
+
+impl Tenant {
+    // Stops the tenant: its actuators are initial, and no task is active.
+    pub(crate) fn halt(&mut self, reason: Reason)
+        ensures step { (row : Row) (completed : ActiveTask → Bool) → StandsFor self.old row completed
+            → StandsFor self.new (stopped_with (reason_of reason) row) completed }
+        ensures places { self.old.places ≤ self.new.places }
+        ensures shared { self.new.shared ≡ self.old.shared }
+        ensures fewer { most_released self.new.row ≡ 0 }
+        ensures own { self.new.own ≡ self.old.own }
+        ensures count { self.new.row.count ≡ self.old.row.count }
+    {
+        self.state = State::Stopped(reason);
+        self.active.clear();
+        if let Some(checked) = &self.program {
+            reset_actuators(checked, self.values.as_mut_slice());
+        }
+    }
+}

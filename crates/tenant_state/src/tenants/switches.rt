@@ -1,0 +1,141 @@
+//! Switches: the mode that an instant enters, and the mode time there.
+
+ghost use Rattle.std.specs.Prelude.{◌≡◌, ◌<◌, ◌≤◌, ◌*◌, ◌^◌, [], ◌∷◌, Option, Some, None, length, map, nat_eq, slice_get};
+ghost use Rattle.std.specs.List.{find, filter_map, AllByRecursion};
+ghost use Rattle.std.specs.Option.{option_map};
+ghost use Rattle.giotto_rules.specs.Declarations.{period_of_task};
+ghost use Rattle.giotto_check.specs.Slots.{slots_of, valuation_of};
+ghost use Rattle.giotto_text.specs.Program.{ModeDeclaration};
+ghost use Rattle.tenant_slots.specs.Due.{IsQuietUntil};
+ghost use Rattle.tenant_slots.specs.Places.{name_of_task};
+ghost use Rattle.tenant_state.specs.CommonPeriods.{IsCommonPeriod, IsLeastCommonMultiple};
+ghost use Rattle.tenant_state.specs.Row.{ActiveTask};
+ghost use Rattle.tenant_state.specs.SecondHalf.{entry_time};
+ghost use Rattle.tenant_state.specs.Tenants.{active_of, IsActiveOf, IsSwitched};
+
+use crate::tenants::Active;
+use giotto_check::Checked;
+use giotto_check::timetables::SlotInvocation;
+use tenant_slots::switches::take_switch;
+
+/// Where a switch leads.
+#[derive(Drop)]
+pub(crate) struct Entry {
+    /// The place of the mode in the program's text, from 0.
+    pub(crate) mode: usize,
+    /// The mode time there, in ticks.
+    pub(crate) time: u64,
+}
+
+// Takes the first switch of the mode at this place that is due and whose guard holds, and says where it leads. None is due before
+// mode time `next`.
+pub(crate) fn switch(
+    checked: &Checked,
+    mode: usize,
+    time: u64,
+    next: u64,
+    active: &[Active],
+    values: &mut [i64],
+) -> Option<Entry>
+    requires quiet { (m : ModeDeclaration) → slice_get checked.now.modes mode ≡ Some m → IsQuietUntil m time next }
+    requires values { length values.old ≡ slots_of checked.now }
+    requires active { AllByRecursion (IsActiveOf checked.now) active.now }
+    ensures { (m : ModeDeclaration) → slice_get checked.now.modes mode ≡ Some m
+        → IsSwitched checked.now m time (map (active_of checked.now) active.now) (valuation_of checked.now values.old) result values.new }
+{
+    if time < next {
+        return None;
+    }
+    // It is well-formed, and the mode is one of it.
+    let _mode = checked.program().modes().get(mode)?;
+    let target = take_switch(checked, mode, time, values)?;
+    Some(Entry {
+        mode: target,
+        time: entry_time(checked, mode, target, time, active),
+    })
+}
+
+// The mode time behind a switch from the mode at one place to that at another: 0, or as far from its end as the tasks that are
+// active are from their next common deadline.
+fn entry_time(checked: &Checked, from: usize, target: usize, time: u64, active: &[Active]) -> u64
+    requires target { target < length checked.now.modes }
+    requires active { AllByRecursion (IsActiveOf checked.now) active.now }
+    ensures { (m : ModeDeclaration) (t : ModeDeclaration) → slice_get checked.now.modes from ≡ Some m → slice_get checked.now.modes target ≡ Some t
+        → result ≡ entry_time m t time (map (active_of checked.now) active.now) }
+{
+    match common_period(checked, from, active) {
+        None => 0,
+        Some(common) => {
+            let period = checked.program().modes()[target].period;
+            period.saturating_sub(common - time % common)
+        }
+    }
+}
+
+// The least common multiple of these tasks' periods in the mode at this place, in ticks; none where it invokes none of them.
+fn common_period(checked: &Checked, mode: usize, active: &[Active]) -> Option<u64>
+    requires active { AllByRecursion (IsActiveOf checked.now) active.now }
+    ensures there { (m : ModeDeclaration) → slice_get checked.now.modes mode ≡ Some m
+        → IsCommonPeriod (filter_map (λ (a : ActiveTask). period_of_task m a.task) (map (active_of checked.now) active.now)) result }
+    ensures none { length checked.now.modes ≤ mode → result ≡ None }
+{
+    // It is well-formed.
+    let _program = checked.program();
+    let mut common: Option<u64> = None;
+    for a in active {
+        if let Some(period) = period_of(checked, mode, a.task) {
+            common = Some(match common {
+                None => period,
+                Some(other) => common_multiple(other, period),
+            });
+        }
+    }
+    common
+}
+
+// How many ticks lie between two invocations of the task in the mode, if the mode invokes it; both by their places.
+fn period_of(checked: &Checked, mode: usize, task: usize) -> Option<u64>
+    requires task { task < length checked.now.tasks }
+    ensures there { (m : ModeDeclaration) → slice_get checked.now.modes mode ≡ Some m → result ≡ period_of_task m (name_of_task checked.now task) }
+    ensures none { length checked.now.modes ≤ mode → result ≡ None }
+{
+    // It is well-formed.
+    let _program = checked.program();
+    interval_of(checked.invocations(mode), task)
+}
+
+// The interval of the first of these invocations that is of the task at this place.
+fn interval_of(invocations: &[SlotInvocation], task: usize) -> Option<u64>
+    ensures { result ≡ option_map (λ i. i.interval) (find (λ i. nat_eq i.task task) invocations.now) }
+{
+    invocations
+        .iter()
+        .find(|i| i.task == task)
+        .map(|i| i.interval)
+}
+
+// The least common multiple of two numbers of ticks.
+fn common_multiple(a: u64, b: u64) -> u64
+    requires positive { (0 < a) × (0 < b) }
+    requires small { a * b < 2 ^ 64 }
+    ensures { IsLeastCommonMultiple (a ∷ b ∷ []) result }
+{
+    if a < b {
+        multiple_by_steps(b, a)
+    } else {
+        multiple_by_steps(a, b)
+    }
+}
+
+// The same, where the one is no less than the other: it is found by steps of it.
+fn multiple_by_steps(most: u64, least: u64) -> u64
+    requires positive { (0 < most) × (0 < least) }
+    requires small { most * least < 2 ^ 64 }
+    ensures { IsLeastCommonMultiple (most ∷ least ∷ []) result }
+{
+    let mut multiple = most;
+    while multiple % least != 0 {
+        multiple += most;
+    }
+    multiple
+}
