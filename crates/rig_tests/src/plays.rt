@@ -29,7 +29,6 @@ fn show_port(name: Name) -> Event {
 // An overrun at instant 2, a new start, a release at instant 3 and the completion of the release at this instant.
 fn overrun_and_completion(alloc: Global, release: u64) -> Result<Vec<Event>, Fail> {
     let task = Name::new("T").ok_or("a name of one byte")?;
-    let port = Name::new("o").ok_or("a name of one byte")?;
     let mut events = Vec::new(alloc);
     events.push(load(alloc)?)?;
     events.push(Event::Own(0, Command::Start))?;
@@ -46,7 +45,7 @@ fn overrun_and_completion(alloc: Global, release: u64) -> Result<Vec<Event>, Fai
     }))?;
     events.push(tick(alloc, 1)?)?;
     events.push(tick(alloc, 1)?)?;
-    events.push(show_port(port))?;
+    events.push(Event::Own(0, Command::ShowMode))?;
     Ok(events)
 }
 
@@ -87,18 +86,26 @@ fn tenant_out_of_the_roster(rt: HostRuntime) -> Result<(), Fail> {
 }
 
 #[test]
-fn late_completion_is_played(rt: HostRuntime) -> Result<(), Fail> {
+fn completion_of_the_run_before_is_late(rt: HostRuntime) -> Result<(), Fail> {
     let config = built_in(rt.alloc())?;
-    let events = overrun_and_completion(rt.alloc(), 0)?;
-    let Ok(texts) = play(rt.alloc(), &config, events.as_slice()) else {
-        return Err(Fail::from("a legal list"));
-    };
-    assert_eq!(rt; texts.len(), 2);
-    assert_eq!(rt;
-        texts[0].as_str(),
-        "ok load\nok start\nok load\nok start\nok port o 0\n"
-    );
-    assert_eq!(rt; texts[1].as_str(), "");
+    for (release, text) in [
+        (
+            0,
+            "ok load\nok start\nok load\nok start\nok mode stopped overrun T\n",
+        ),
+        (
+            3,
+            "ok load\nok start\nok load\nok start\nok mode running m 1\n",
+        ),
+    ] {
+        let events = overrun_and_completion(rt.alloc(), release)?;
+        let Ok(texts) = play(rt.alloc(), &config, events.as_slice()) else {
+            return Err(Fail::from("a legal list"));
+        };
+        assert_eq!(rt; texts.len(), 2);
+        assert_eq!(rt; texts[0].as_str(), text);
+        assert_eq!(rt; texts[1].as_str(), "");
+    }
     Ok(())
 }
 
