@@ -35,13 +35,20 @@ pub fn first_broken(alloc: Global, program: &Program) -> Result<Option<usize>, A
     if !invocations::invokes_once(alloc, program)? {
         return Ok(Some(5));
     }
-    let program = Indexed::new(alloc, program)?;
-    let ports = invocations::ports_of_modes(alloc, &program)?;
-    first_broken_from_sixth(alloc, &program, &ports)
+    first_broken_from_sixth(alloc, program)
 }
 
-// The first rule from the sixth on that the program breaks, where these are the ports of each mode.
-fn first_broken_from_sixth(
+// The first rule from the sixth on that the program breaks. These find tasks and modes by name.
+fn first_broken_from_sixth(alloc: Global, program: &Program) -> Result<Option<usize>, AllocError>
+    ensures { IfOk result (λ rule. rule ≡ tests.first_broken 6 (drop 5 tests.rules) program.now) }
+{
+    let program = Indexed::new(alloc, program)?;
+    let ports = invocations::ports_of_modes(alloc, &program)?;
+    first_broken_with_ports(alloc, &program, &ports)
+}
+
+// The same, where these are the ports of each mode.
+fn first_broken_with_ports(
     alloc: Global,
     program: &Indexed,
     ports: &[Index],

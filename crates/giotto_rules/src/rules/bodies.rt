@@ -1,6 +1,6 @@
 //! Rule 3: a body uses its task's own ports alone.
 
-ghost use Rattle.std.specs.Prelude.{◌≡◌, IfOk};
+ghost use Rattle.std.specs.Prelude.{◌≡◌, ◌++◌, IfOk};
 ghost use Rattle.giotto_tasks.specs.Names.{is_among};
 ghost use Rattle.giotto_tasks.specs.Sound as sound;
 ghost use Rattle.giotto_tasks.specs.Trees.{statement_of, block_of};
@@ -39,19 +39,31 @@ fn task_uses_own_ports(alloc: Global, task: &Task) -> Result<bool, AllocError>
 fn body_uses_own_ports(alloc: Global, body: &Body) -> Result<bool, AllocError>
     ensures { IfOk result (λ holds. holds ≡ uses_own_ports body.now) }
 {
+    Ok(body_reads_own_ports(alloc, body)? && body_assigns_own_ports(alloc, body)?)
+}
+
+fn body_reads_own_ports(alloc: Global, body: &Body) -> Result<bool, AllocError>
+    ensures { IfOk result
+        (λ holds. holds ≡ sound.block_reads_only (is_among (body.now.inputs ++ (body.now.states ++ body.now.outputs)))
+        body.now.block) }
+{
     let mut ports = Vec::new(alloc);
     names::push_names(&mut ports, body.inputs.as_slice())?;
     names::push_names(&mut ports, body.states.as_slice())?;
     names::push_names(&mut ports, body.outputs.as_slice())?;
-    let mut assigned = Vec::new(alloc);
-    names::push_names(&mut assigned, body.outputs.as_slice())?;
-    names::push_names(&mut assigned, body.states.as_slice())?;
     let ports = Index::new(alloc, ports)?;
-    let assigned = Index::new(alloc, assigned)?;
-    Ok(
-        block_reads_only(&Scope::new(&ports), &body.block)
-            && block_assigns_only(&assigned, &body.block),
-    )
+    Ok(block_reads_only(&Scope::new(&ports), &body.block))
+}
+
+fn body_assigns_own_ports(alloc: Global, body: &Body) -> Result<bool, AllocError>
+    ensures { IfOk result
+        (λ holds. holds ≡ sound.block_assigns_only (is_among (body.now.outputs ++ body.now.states)) body.now.block) }
+{
+    let mut ports = Vec::new(alloc);
+    names::push_names(&mut ports, body.outputs.as_slice())?;
+    names::push_names(&mut ports, body.states.as_slice())?;
+    let ports = Index::new(alloc, ports)?;
+    Ok(block_assigns_only(&ports, &body.block))
 }
 
 #[cycle(reads)]

@@ -1,10 +1,13 @@
 //! Rule 1: names and lines are declared once.
 
-ghost use Rattle.std.specs.Prelude.{◌≡◌, map, IfOk};
+ghost use Rattle.std.specs.Prelude.{◌≡◌, ◌++◌, ◌&&◌, map, IfOk};
 ghost use Rattle.std.specs.List.{list_all};
+ghost use Rattle.giotto_tasks.specs.Sound as sound;
 ghost use Rattle.giotto_text.specs.Program as tree;
 ghost use Rattle.giotto_text.specs.Program.{body_of};
 ghost use Rattle.giotto_text.specs.ProgramTrees.{task_of};
+ghost use Rattle.giotto_rules.specs.Declarations as declared;
+ghost use Rattle.giotto_rules.specs.Names as tests;
 ghost use Rattle.giotto_rules.specs.Rules as rules;
 ghost use Rattle.giotto_rules.specs.TaskPorts.{declares_own};
 
@@ -18,13 +21,25 @@ use std::alloc::{AllocError, Global};
 pub(crate) fn declares_once(alloc: Global, program: &Program) -> Result<bool, AllocError>
     ensures { IfOk result (λ holds. holds ≡ rules.declares_once program.now) }
 {
+    Ok(names_declared_once(alloc, program)? && lines_declared_once(alloc, program)?)
+}
+
+fn names_declared_once(alloc: Global, program: &Program) -> Result<bool, AllocError>
+    ensures { IfOk result
+        (λ holds. holds ≡ sound.all_different (declared.declared_names program.now)
+        && list_all (λ (t : tree.TaskDeclaration). declares_own (declared.declared_names program.now) (body_of t)) program.now.tasks) }
+{
     let declared = Index::new(alloc, declarations::declared_names(alloc, program)?)?;
     if !declared.all_different() {
         return Ok(false);
     }
-    if !tasks_declare_own(alloc, &declared, program.tasks())? {
-        return Ok(false);
-    }
+    tasks_declare_own(alloc, &declared, program.tasks())
+}
+
+fn lines_declared_once(alloc: Global, program: &Program) -> Result<bool, AllocError>
+    ensures { IfOk result
+        (λ holds. holds ≡ tests.all_different_numbers (declared.lines_written program.now)) }
+{
     let lines = declarations::lines_written(alloc, program)?;
     Ok(names::all_different_numbers(&lines))
 }
@@ -54,15 +69,30 @@ fn task_declares_own(alloc: Global, declared: &Index, task: &Task) -> Result<boo
 fn body_declares_own(alloc: Global, declared: &Index, body: &Body) -> Result<bool, AllocError>
     ensures { IfOk result (λ holds. holds ≡ declares_own declared.now body.now) }
 {
+    Ok(outputs_are_different(alloc, body)? && inputs_and_states_are_own(alloc, declared, body)?)
+}
+
+fn outputs_are_different(alloc: Global, body: &Body) -> Result<bool, AllocError>
+    ensures { IfOk result (λ holds. holds ≡ sound.all_different body.now.outputs) }
+{
     let mut outputs = Vec::new(alloc);
     names::push_names(&mut outputs, body.outputs.as_slice())?;
+    Ok(Index::new(alloc, outputs)?.all_different())
+}
+
+// Whether inputs and states are different, and none of them is a declared name.
+fn inputs_and_states_are_own(
+    alloc: Global,
+    declared: &Index,
+    body: &Body,
+) -> Result<bool, AllocError>
+    ensures { IfOk result
+        (λ holds. holds ≡ sound.all_different (body.now.inputs ++ body.now.states)
+        && tests.share_none declared.now (body.now.inputs ++ body.now.states)) }
+{
     let mut own = Vec::new(alloc);
     names::push_names(&mut own, body.inputs.as_slice())?;
     names::push_names(&mut own, body.states.as_slice())?;
     let apart = names::share_none(declared, &own);
-    Ok(
-        Index::new(alloc, outputs)?.all_different()
-            && Index::new(alloc, own)?.all_different()
-            && apart,
-    )
+    Ok(Index::new(alloc, own)?.all_different() && apart)
 }

@@ -3,6 +3,7 @@
 
 ghost use Rattle.std.specs.Prelude.{◌≡◌, [], map, None, IfOk, IfSome};
 ghost use Rattle.std.specs.List.{list_all};
+ghost use Rattle.giotto_tasks.specs.Sound as sound;
 ghost use Rattle.giotto_text.specs.Program as tree;
 ghost use Rattle.giotto_text.specs.ProgramTrees.{mode_of, update_of, switch_of, invocation_of};
 ghost use Rattle.giotto_rules.specs.Declarations as declared;
@@ -30,11 +31,25 @@ pub(crate) fn drivers_read_mode_ports(
     ensures { IfOk result (λ holds. holds ≡ rules.drivers_read_mode_ports program.now) }
 {
     let sensors = Index::new(alloc, declarations::sensor_names(alloc, program.program())?)?;
+    modes_fit(alloc, program, ports, &sensors)
+}
+
+// Whether the drivers of each mode read what they may, where these are the ports of each mode and the sensors.
+fn modes_fit(
+    alloc: Global,
+    program: &Indexed,
+    ports: &[Index],
+    sensors: &Index,
+) -> Result<bool, AllocError>
+    requires ports { ports.now ≡ map (declared.mode_ports program.now) program.now.modes }
+    requires sensors { sensors.now ≡ declared.sensor_names program.now }
+    ensures { IfOk result (λ holds. holds ≡ rules.drivers_read_mode_ports program.now) }
+{
     let modes = program.modes();
     for i in 0..modes.len() {
         let mode = &modes[i];
         let own = &ports[i];
-        let sources = Scope::joined(own, &sensors);
+        let sources = Scope::joined(own, sensors);
         if !mode_drivers_fit(alloc, program, ports, own, &sources, mode)? {
             return Ok(false);
         }
@@ -110,12 +125,18 @@ fn switch_fits(
     ensures { IfOk result
         (λ holds. holds ≡ tests.switch_fits program.now sources.now (switch_of switch.now)) }
 {
-    let destinations = Index::new(alloc, declarations::destinations(alloc, switch)?)?;
-    Ok(
-        reads::switch_reads_only(sources, switch)
-            && gives_to_target(program, ports, switch)
-            && destinations.all_different(),
-    )
+    Ok(reads::switch_reads_only(sources, switch)
+        && gives_to_target(program, ports, switch)
+        && gives_once(alloc, switch)?)
+}
+
+// Whether the switch gives a value to a port once.
+fn gives_once(alloc: Global, switch: &Switch) -> Result<bool, AllocError>
+    ensures { IfOk result
+        (λ holds. holds ≡ sound.all_different (declared.destinations_of (switch_of switch.now))) }
+{
+    let destinations = declarations::destinations(alloc, switch)?;
+    Ok(Index::new(alloc, destinations)?.all_different())
 }
 
 // Whether the switch gives values to ports of its target alone.

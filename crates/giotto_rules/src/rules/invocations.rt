@@ -43,10 +43,16 @@ pub(crate) fn ports_of_modes(alloc: Global, program: &Indexed) -> Result<Vec<Ind
 {
     let mut each = Vec::new(alloc);
     for mode in program.modes() {
-        let ports = declarations::mode_ports(alloc, program, mode)?;
-        each.push(Index::new(alloc, ports)?)?;
+        each.push(ports_of_mode(alloc, program, mode)?)?;
     }
     Ok(each)
+}
+
+fn ports_of_mode(alloc: Global, program: &Indexed, mode: &Mode) -> Result<Index, AllocError>
+    ensures { IfOk result (λ ports. ports ≡ declared.mode_ports program.now (mode_of mode.now)) }
+{
+    let ports = declarations::mode_ports(alloc, program, mode)?;
+    Index::new(alloc, ports)
 }
 
 /// Whether two tasks of a mode share no output, where these are the ports of each mode.

@@ -1,6 +1,6 @@
 //! Rule 2: names stand for what they are used as.
 
-ghost use Rattle.std.specs.Prelude.{◌≡◌, map, IfOk};
+ghost use Rattle.std.specs.Prelude.{◌≡◌, ◌&&◌, map, IfOk};
 ghost use Rattle.std.specs.List.{list_all};
 ghost use Rattle.giotto_text.specs.ProgramTrees.{task_of, mode_of, update_of, switch_of, invocation_of};
 ghost use Rattle.giotto_rules.specs.Kinds as tests;
@@ -45,7 +45,15 @@ pub(crate) fn uses_right_kinds(alloc: Global, program: &Program) -> Result<bool,
     ensures { IfOk result (λ holds. holds ≡ rules.uses_right_kinds program.now) }
 {
     let kinds = kinds_of(alloc, program)?;
-    Ok(tasks_use(&kinds, program.tasks()) && modes_use(&kinds, program.modes()))
+    Ok(program_uses(&kinds, program))
+}
+
+// Whether tasks and modes use these names as what they are.
+fn program_uses(kinds: &Kinds, program: &Program) -> bool
+    ensures { result
+        ≡ list_all (tests.task_uses kinds.now) program.now.tasks && list_all (tests.mode_uses kinds.now) program.now.modes }
+{
+    tasks_use(kinds, program.tasks()) && modes_use(kinds, program.modes())
 }
 
 fn kinds_of(alloc: Global, program: &Program) -> Result<Kinds, AllocError>

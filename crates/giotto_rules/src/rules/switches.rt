@@ -69,12 +69,24 @@ fn modes_keep_periods(
     ensures { IfOk result (λ holds. holds ≡ rules.switches_keep_periods program.now) }
 {
     for mode in program.modes() {
-        let dues = dues(alloc, program, mode)?;
-        if !mode_keeps_periods(program, periods, mode, &dues) {
+        if !mode_keeps_periods(alloc, program, periods, mode)? {
             return Ok(false);
         }
     }
     Ok(true)
+}
+
+fn mode_keeps_periods(
+    alloc: Global,
+    program: &Indexed,
+    periods: &[List<Option<u64>>],
+    mode: &Mode,
+) -> Result<bool, AllocError>
+    requires { periods.now ≡ map (by_place.periods_in program.now) program.now.modes }
+    ensures { IfOk result (λ holds. holds ≡ tests.mode_keeps_periods program.now (mode_of mode.now)) }
+{
+    let dues = dues(alloc, program, mode)?;
+    Ok(switches_keep_dues(program, periods, mode, &dues))
 }
 
 fn dues(alloc: Global, program: &Indexed, mode: &Mode) -> Result<Vec<Due>, AllocError>
@@ -91,7 +103,7 @@ fn dues(alloc: Global, program: &Indexed, mode: &Mode) -> Result<Vec<Due>, Alloc
     Ok(dues)
 }
 
-fn mode_keeps_periods(
+fn switches_keep_dues(
     program: &Indexed,
     periods: &[List<Option<u64>>],
     mode: &Mode,
