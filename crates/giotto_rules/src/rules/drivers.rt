@@ -125,9 +125,11 @@ fn switch_fits(
     ensures { IfOk result
         (λ holds. holds ≡ tests.switch_fits program.now sources.now (switch_of switch.now)) }
 {
-    Ok(reads::switch_reads_only(sources, switch)
-        && gives_to_target(program, ports, switch)
-        && gives_once(alloc, switch)?)
+    Ok(
+        reads::switch_reads_only(sources, switch)
+            && gives_to_target(program, ports, switch)
+            && gives_once(alloc, switch)?,
+    )
 }
 
 // Whether the switch gives a value to a port once.
