@@ -1,11 +1,10 @@
 //! Reads a program from a text.
 
-ghost use Rattle.std.specs.Prelude.{◌≡◌, ◌≢◌, ◌≤◌, [], IfOk, Ok, Err};
+ghost use Rattle.std.specs.Prelude.{◌≡◌, ◌≢◌, ◌≤◌, IfOk, Ok, Err};
 ghost use Rattle.std.specs.List.{list_all};
-ghost use Rattle.giotto_read.specs.Doing.{left};
 ghost use Rattle.giotto_tasks.specs.Sound.{is_small};
 ghost use Rattle.giotto_text.specs.Nesting.{nests_too_deep, open_behind};
-ghost use Rattle.giotto_text.specs.Parsing.{got, parsed, read_all, read_program, reading};
+ghost use Rattle.giotto_text.specs.Parsing.{parsed, read_all};
 ghost use Rattle.giotto_text.specs.Program.{body_of};
 ghost use Rattle.giotto_text.specs.ProgramTrees.{task_of};
 ghost use Rattle.giotto_text.specs.Reading.{has_small_tasks};
@@ -46,18 +45,6 @@ fn read_tokens(alloc: Global, tokens: &[PlacedToken], end: usize) -> Result<Part
         return Err(ReadFault::TooDeep);
     }
     let mut reader = Reader::new(alloc, tokens);
-    let program = read_to_end(&mut reader, end)?;
-    if !has_small_tasks(&program) {
-        return Err(ReadFault::TooMany);
-    }
-    Ok(program)
-}
-
-// The parts of the program that all the tokens spell, whatever it has too many of.
-fn read_to_end(reader: &mut Reader, end: usize) -> Result<Parts, ReadFault>
-    ensures found { IfOk result (λ p. read_program (left reader.old) ≡ got p []) }
-    ensures fault { (f : ReadFault) → result ≡ Err f → f ≢ ReadFault.Memory → reading end (read_program (left reader.old)) ≡ Err f }
-{
     let program = match reader.program() {
         Ok(program) => program,
         Err(Stop::Unexpected) => return Err(ReadFault::Syntax(reader.offset(end))),
@@ -65,6 +52,9 @@ fn read_to_end(reader: &mut Reader, end: usize) -> Result<Parts, ReadFault>
     };
     if !reader.is_at_end() {
         return Err(ReadFault::Syntax(reader.offset(end)));
+    }
+    if !has_small_tasks(&program) {
+        return Err(ReadFault::TooMany);
     }
     Ok(program)
 }

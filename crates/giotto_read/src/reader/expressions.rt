@@ -1,9 +1,7 @@
 //! Expressions and guards.
 
-ghost use Rattle.std.specs.Prelude.{◌≡◌, map, IfErr, IfOk};
+ghost use Rattle.std.specs.Prelude.{◌≡◌, map};
 ghost use Rattle.giotto_read.specs.Doing.{Does, TakesOne};
-ghost use Rattle.giotto_read.specs.declared.reader.Stop.TheVariants as stop;
-ghost use Rattle.giotto_tasks.specs.Syntax as syntax;
 ghost use Rattle.giotto_tasks.specs.Trees.{expression_of};
 ghost use Rattle.giotto_text.specs.Parsing.{binary_in, read_expression, read_guard, read_list, read_operand_of, read_parentheses, unary_in};
 ghost use Rattle.giotto_text.specs.ProgramTrees.{guard_of};
@@ -14,7 +12,6 @@ use giotto_tasks::bodies::Expr;
 use giotto_tasks::lists::List;
 use giotto_tasks::operators::{BinaryOperator, UnaryOperator};
 use giotto_text::tokens::{Keyword, Symbol};
-use std::alloc::Global;
 
 impl Reader<'_> {
     // "(" [expr {"," expr}] ")"
@@ -62,16 +59,17 @@ impl Reader<'_> {
     {
         if let Some(operator) = self.accept_unary() {
             let operand = self.operand()?;
-            let unary = make_unary(self.alloc, operator, operand)?;
-            return Ok(unary);
+            let operand = Box::new(self.alloc, operand)?;
+            return Ok(Expr::Unary(operator, operand));
         }
         let left = self.operand()?;
         let Some(operator) = self.accept_binary() else {
             return Ok(left);
         };
         let right = self.operand()?;
-        let binary = make_binary(self.alloc, operator, left, right)?;
-        Ok(binary)
+        let left = Box::new(self.alloc, left)?;
+        let right = Box::new(self.alloc, right)?;
+        Ok(Expr::Binary(operator, left, right))
     }
 
     // prim = INT | NAME | "(" expr ")"
@@ -111,29 +109,6 @@ impl Reader<'_> {
         self.at += 1;
         Some(operator)
     }
-}
-
-fn make_unary(alloc: Global, operator: UnaryOperator, operand: Expr) -> Result<Expr, Stop>
-    ensures made { IfOk result (λ e. expression_of e ≡ syntax.unary operator (expression_of operand)) }
-    ensures memory { IfErr result (λ e. e ≡ stop.Memory) }
-{
-    let operand = Box::new(alloc, operand)?;
-    Ok(Expr::Unary(operator, operand))
-}
-
-fn make_binary(
-    alloc: Global,
-    operator: BinaryOperator,
-    left: Expr,
-    right: Expr,
-) -> Result<Expr, Stop>
-    ensures made { IfOk result
-        (λ e. expression_of e ≡ syntax.binary operator (expression_of left) (expression_of right)) }
-    ensures memory { IfErr result (λ e. e ≡ stop.Memory) }
-{
-    let left = Box::new(alloc, left)?;
-    let right = Box::new(alloc, right)?;
-    Ok(Expr::Binary(operator, left, right))
 }
 
 fn unary_operator(symbol: Symbol) -> Option<UnaryOperator>

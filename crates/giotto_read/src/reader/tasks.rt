@@ -1,22 +1,18 @@
 //! Tasks.
 
-ghost use Rattle.std.specs.Prelude.{◌≡◌, [], ◌∷◌, ◌++◌, map, length, IfErr, IfOk, OnOk};
-ghost use Rattle.std.specs.Arc.{arc_value};
+ghost use Rattle.std.specs.Prelude.{◌≡◌, map, length, IfOk};
 ghost use Rattle.std.specs.List.{zip};
 ghost use Rattle.giotto_read.specs.Doing.{Does};
-ghost use Rattle.giotto_read.specs.declared.reader.Stop.TheVariants as stop;
-ghost use Rattle.giotto_tasks.specs.Trees.{body_of};
 ghost use Rattle.giotto_text.specs.Parsing.{is_keyword, many, read_list, read_list_behind, read_name, read_parentheses, read_state, read_task};
 ghost use Rattle.giotto_text.specs.ProgramTrees.{task_of};
 ghost use Rattle.giotto_text.specs.declared.tokens.Keyword.TheVariants as keyword;
 
 use super::{Reader, Stop};
-use giotto_tasks::bodies::{Body, Stmt};
+use giotto_tasks::bodies::Body;
 use giotto_tasks::lists::List;
 use giotto_tasks::names::Name;
 use giotto_text::programs::Task;
 use giotto_text::tokens::{Keyword, Symbol};
-use std::alloc::Global;
 use std::sync::Arc;
 
 impl Reader<'_> {
@@ -42,7 +38,8 @@ impl Reader<'_> {
         let outputs = self.task_outputs()?;
         let (states, initials) = self.task_states()?;
         let block = self.block()?;
-        let body = shared_body(self.alloc, inputs, outputs, states, block)?;
+        let body = Body::new(self.alloc, inputs, outputs, states, block)?;
+        let body = Arc::new(self.alloc, body)?;
         Ok(Task {
             name,
             states: initials,
@@ -110,10 +107,12 @@ impl Reader<'_> {
         let mut names = Vec::new(self.alloc);
         let mut initials = Vec::new(self.alloc);
         let (name, initial) = self.state()?;
-        push_state(&mut names, &mut initials, name, initial)?;
+        names.push(name)?;
+        initials.push(initial)?;
         while self.accept(Symbol::Comma) {
             let (name, initial) = self.state()?;
-            push_state(&mut names, &mut initials, name, initial)?;
+            names.push(name)?;
+            initials.push(initial)?;
         }
         Ok((List::from_vec(names), List::from_vec(initials)))
     }
@@ -127,36 +126,4 @@ impl Reader<'_> {
         let initial = self.initial()?;
         Ok((name, initial))
     }
-}
-
-// A body of these ports and this block, in a place of its own.
-fn shared_body(
-    alloc: Global,
-    inputs: List<Name>,
-    outputs: List<Name>,
-    states: List<Name>,
-    block: Vec<Stmt>,
-) -> Result<Arc<Body>, Stop>
-    ensures body { IfOk result (λ b. arc_value b ≡ body_of inputs outputs states block.items) }
-    ensures memory { IfErr result (λ e. e ≡ stop.Memory) }
-{
-    let body = Body::new(alloc, inputs, outputs, states, block)?;
-    let body = Arc::new(alloc, body)?;
-    Ok(body)
-}
-
-// Adds a state's name and its initial value at the end.
-fn push_state(
-    names: &mut Vec<Name>,
-    initials: &mut Vec<i64>,
-    name: Name,
-    initial: i64,
-) -> Result<(), Stop>
-    ensures names { OnOk result (names.new.items ≡ names.old.items ++ name ∷ []) }
-    ensures initials { OnOk result (initials.new.items ≡ initials.old.items ++ initial ∷ []) }
-    ensures memory { IfErr result (λ e. e ≡ stop.Memory) }
-{
-    names.push(name)?;
-    initials.push(initial)?;
-    Ok(())
 }

@@ -31,7 +31,7 @@ pub expression-returns-in-Some : goal.expression-returns-in-Some
 expression-returns-in-Some t c =
     let ts = left c.args.self.now in
     let test : is_unary (next_of ts) ≡ true = ap is_some (took_one unary_in ts (left c.accept_unary.new.self) c.in-Some.operator c.in-Some.ensures) in
-    expression_again ts ∙ rw (c.in_ok-unary.ensures.made, test, c.in-Some.ensures, c.in_ok-operand.ensures) refl
+    expression_again ts ∙ rw (c.in_ok-operand-2.ensures.ok, test, c.in-Some.ensures, c.in_ok-operand.ensures) refl
 
 pub expression-returns-in_err-left : goal.expression-returns-in_err-left
 expression-returns-in_err-left t c =
@@ -82,7 +82,7 @@ expression-returns t c =
     let first = does_same expression_of (read_operand_of read_expression) c.args.self.now c.accept_unary.new.self c.operand-2.new.self (Ok c.in_ok-left.left) other.0 c.in_ok-left.ensures in
     let next = c.in-Some-accept_binary.ensures in
     let operator : is_binary (next_of us) ≡ true = ap is_some (took_one binary_in us (left c.accept_binary.new.self) c.in-Some-accept_binary.operator next) in
-    expression_again ts ∙ rw (c.in_ok-binary.ensures.made, test, first, operator, next, c.in_ok-right.ensures) refl
+    expression_again ts ∙ rw (c.in_ok-left-2.ensures.ok, c.in_ok-right-2.ensures.ok, test, first, operator, next, c.in_ok-right.ensures) refl
 
 pub operand-returns-in_err-name : goal.operand-returns-in_err-name
 operand-returns-in_err-name t c =

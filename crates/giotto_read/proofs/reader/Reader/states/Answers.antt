@@ -21,10 +21,9 @@ loop-self-preserved c =
     let initials = c.loop-self.initials.items in
     let name = c.in_ok-name-2.name in
     let initial = c.in_ok-name-2.initial in
-    let named = c.in_ok-push_state-2.ensures.names in
     let range : to_z w64 (of_z w64 initial) ≡ initial = search rules in
-    let pushed = c.in_ok-push_state-2.ensures.initials ∙ ap (λ z. initials ++ z ∷ []) range in (
-      rw (pairs_pushed names _ initials _ name initial named pushed c.loop-self.invariant.1)
+    let pushed = c.in_ok-push-4.ensures.items ∙ ap (λ z. initials ++ z ∷ []) range in (
+      rw (pairs_pushed names _ initials _ name initial c.in_ok-push-3.ensures.items pushed c.loop-self.invariant.1)
           (list_more read_state c.args.self.now c.loop-self.self c.accept.new.self c.state-in-loop-self.new.self forward c.loop-self.invariant.0 c.loop-self-test.ensures c.in_ok-name-2.ensures),
-      lengths_pushed names _ initials _ name initial named pushed c.loop-self.invariant.1,
+      lengths_pushed names _ initials _ name initial c.in_ok-push-3.ensures.items pushed c.loop-self.invariant.1,
     )
