@@ -3,7 +3,7 @@ use Rattle.std.proofs.Common.{◌≡◌, ℕ, Bool, true, false, cond, ℤ, List
 use Rattle.std.specs.Prelude.{Ok, Err}
 use Rattle.giotto_tasks.specs.Syntax.{TaskBody}
 use Rattle.giotto_text.specs.declared.faults.ReadFault.{ReadFault}
-use Rattle.giotto_text.specs.Program.{GiottoProgram}
+use Rattle.giotto_text.specs.Program.{GiottoProgram, TaskDeclaration}
 use Rattle.giotto_text.specs.Parsing.{parsed}
 use Rattle.rig_config.specs.declared.Budgets.{Budgets}
 use Rattle.tenant_lines.specs.declared.replies.Budget.{Budget}
@@ -66,6 +66,11 @@ module _ {own : ℕ} (state : code.State) (program : Option GiottoProgram) (mode
       }
 
 -- no share is at hand
-pub none_shared : (tasks : List Task) → AreEach IsShareOf (map task_of tasks) (map (λ t. None) tasks)
+pub none_shared : (tasks : List TaskDeclaration) → AreEach IsShareOf tasks (map (λ t. None) tasks)
 none_shared [] = tt
 none_shared (t ∷ rest) = (tt, none_shared rest)
+
+-- as many as there are tasks
+pub none_of_each : (tasks : List Task) → map {B = Option TaskBody} (λ t. None) tasks ≡ map {B = Option TaskBody} (λ t. None) (map task_of tasks)
+none_of_each [] = refl
+none_of_each (t ∷ rest) = ap (λ (shares : List (Option TaskBody)). None ∷ shares) (none_of_each rest)

@@ -1,6 +1,6 @@
 //! What a tenant's commands do.
 
-ghost use Rattle.std.specs.Prelude.{◌≡◌, ◌≢◌, ◌&&◌, Bool, true, false, Ok, Err, None, IfOk, IfErr, OnOk, OnErr, if◌then◌else◌, Some, map};
+ghost use Rattle.std.specs.Prelude.{◌≡◌, ◌≢◌, ◌&&◌, ℕ, Bool, true, false, Ok, Err, None, IfOk, IfErr, OnOk, OnErr, if◌then◌else◌, Some, length, map};
 ghost use Rattle.rig_config.specs.declared.Budgets.{Budgets};
 ghost use Rattle.tenant_lines.specs.declared.replies.Budget.{Budget};
 ghost use Rattle.std.specs.Arc.{arc_value};
@@ -12,9 +12,12 @@ ghost use Rattle.tenant_lines.specs.declared.replies.Refusal.{Refusal};
 ghost use Rattle.tenant_lines.specs.declared.replies.Reply.{Reply};
 ghost use Rattle.giotto_rules.specs.Declarations.{lines_read, lines_written};
 ghost use Rattle.giotto_rules.specs.Rules.{first_broken_rule};
+ghost use Rattle.giotto_check.specs.Slots.{slots_of, valuation_of};
+ghost use Rattle.giotto_check.specs.declared.CheckFault.{CheckFault};
 ghost use Rattle.rig_config.specs.Roster.{may_use};
-ghost use Rattle.tenant_state.specs.Commands.{commanded, takes_memory, refusal_of, load_read, refused, broken_budget};
-ghost use Rattle.tenant_state.specs.Row.{ActiveTask, Row, is_running};
+ghost use Rattle.tenant_slots.specs.Ports.{initial_ports};
+ghost use Rattle.tenant_state.specs.Commands.{at_beginning, commanded, takes_memory, refusal_of, load_kept, load_read, refused, broken_budget};
+ghost use Rattle.tenant_state.specs.Row.{ActiveTask, Row, is_running, loaded};
 ghost use Rattle.tenant_state.specs.Standing.{StandsFor, IsOutcome, without_records};
 
 use crate::tenants::{Reason, State, Tenant};
@@ -31,6 +34,13 @@ use tenant_lines::ports::PortValue;
 use tenant_lines::replies::{Budget, Refusal, Reply};
 use tenant_slots::initial_values::{initial_values, reset_ports};
 use tenant_slots::names::start_place;
+
+/// What a loaded program begins with: the value of each port, by its slot, and a place for a share of each task's body.
+#[derive(Drop)]
+pub(crate) struct Beginning {
+    pub(crate) values: Vec<i64>,
+    pub(crate) shares: Vec<Option<Arc<Body, Global>>>,
+}
 
 impl Tenant {
     /// Carries out a command. A refusal changes nothing, want of memory included.
@@ -84,27 +94,60 @@ impl Tenant {
             → IsOutcome (commanded budgets.now (Command.Load text.now) row) Reply.Loaded self.new completed) }
     {
         let program = read_program(self.alloc, text)?;
+        match self.beginning(budgets, &program) {
+            Ok(beginning) => {
+                self.install(program, beginning);
+                Ok(())
+            }
+            Err(refusal) => {
+                drop(program);
+                Err(refusal)
+            }
+        }
+    }
+
+    // What a program that may be loaded begins with.
+    fn beginning(&self, budgets: &Budgets, program: &Checked) -> Result<Beginning, Refusal>
+        ensures refused { IfErr result (λ r. r ≢ Refusal.Memory → (row : Row) → self.now.row ≡ without_records row → load_kept budgets.now program.now row ≡ refused row r) }
+        ensures loaded { OnOk result ((row : Row) → self.now.row ≡ without_records row
+            → load_kept budgets.now program.now row ≡ record { row = at_beginning loaded program.now row; reply = Reply.Loaded }) }
+        ensures long { IfOk result (λ b. length b.values.items ≡ slots_of program.now) }
+        ensures ports { IfOk result (λ b. valuation_of program.now b.values.items ≡ initial_ports program.now) }
+        ensures shares { IfOk result (λ b. map (option_map arc_value) b.shares.items ≡ map (λ t. None) program.now.tasks) }
+    {
         if self.is_running() {
             return Err(Refusal::Running);
         }
         if !is_within_lines(budgets, program.program()) {
             return Err(Refusal::OverBudget(Budget::Lines));
         }
-        let Ok(values) = initial_values(self.alloc, &program) else {
+        let Ok(values) = initial_values(self.alloc, program) else {
             return Err(Refusal::Memory);
         };
         let Ok(shares) = no_shares(self.alloc, program.program().tasks()) else {
             return Err(Refusal::Memory);
         };
+        Ok(Beginning { values, shares })
+    }
+
+    // Puts a program in place, at its beginning.
+    fn install(&mut self, program: Checked, beginning: Beginning)
+        requires long { length beginning.values.items ≡ slots_of program }
+        requires ports { valuation_of program beginning.values.items ≡ initial_ports program }
+        requires shares { map (option_map arc_value) beginning.shares.items ≡ map (λ t. None) program.tasks }
+        ensures own { self.new.own ≡ self.old.own }
+        ensures count { self.new.row.count ≡ self.old.row.count }
+        ensures step { (row : Row) (completed : ActiveTask → Bool) → StandsFor self.old row completed
+            → StandsFor self.new (at_beginning loaded program row) completed }
+    {
         self.state = State::Loaded;
         self.mode = start_place(&program);
         self.mode_time = 0;
         self.next_due = 0;
         self.active.clear();
-        self.values = values;
-        self.shares = shares;
-        self.program = Some(program);
-        Ok(())
+        self.values = beginning.values;
+        self.shares = beginning.shares;
+        drop(self.program.replace(program));
     }
 
     // Runs the program from its beginning. Takes no memory.
@@ -162,8 +205,21 @@ fn read_program(alloc: Global, text: &str) -> Result<Checked, Refusal>
     };
     match giotto_check::check(alloc, program) {
         Ok(checked) => Ok(checked),
-        Err((_, CheckFault::Rule(rule))) => Err(Refusal::Rule(rule)),
-        Err((_, CheckFault::Memory)) => Err(Refusal::Memory),
+        Err((program, fault)) => {
+            drop(program);
+            Err(refusal_of_check(fault))
+        }
+    }
+}
+
+// The refusal of a program that isn't well-formed, by its fault.
+fn refusal_of_check(fault: CheckFault) -> Refusal
+    ensures memory { fault ≡ CheckFault.Memory → result ≡ Refusal.Memory }
+    ensures rule { (n : ℕ) → fault ≡ CheckFault.Rule n → result ≡ Refusal.Rule n }
+{
+    match fault {
+        CheckFault::Rule(rule) => Refusal::Rule(rule),
+        CheckFault::Memory => Refusal::Memory,
     }
 }
 
