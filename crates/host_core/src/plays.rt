@@ -1,7 +1,7 @@
 //! Playing a list of events on a new host.
 
-ghost use Rattle.std.specs.Prelude.{◌≡◌, ◌<◌, ◌↔◌, ◌++◌, ◌∷◌, ◌||◌, ℕ, List, [], length, IfOk, OnOk, IsTrue, Err};
-ghost use Rattle.std.specs.List.{list_any};
+ghost use Rattle.std.specs.Prelude.{◌≡◌, ◌≢◌, ◌<◌, ◌↔◌, ◌++◌, ◌∷◌, ◌||◌, ℕ, List, [], length, reverse, IfOk, OnOk, IsTrue, Err};
+ghost use Rattle.std.specs.List.{All, list_any};
 ghost use Rattle.host_core.specs.Legal.{may_follow};
 ghost use Rattle.host_core.specs.Playing.{IsPlayed, IsPlayedOn, HasPlace};
 ghost use Rattle.host_core.specs.Plays.{IsSettingOf, AreAnswers, IsLeastIllegal};
@@ -57,16 +57,13 @@ pub fn play(alloc: Global, config: &Config, events: &[Event]) -> Result<Vec<Text
     let Ok(mut stage) = Stage::new(alloc, config) else {
         return Err(PlayFault::Memory);
     };
-    for i in 0..events.len() {
-        let event = &events[i];
-        if !stage.may_follow(event) {
-            return Err(PlayFault::Illegal(i));
+    match stage.play_all(alloc, events) {
+        Ok(()) => Ok(stage.texts),
+        Err(fault) => {
+            drop(stage);
+            Err(fault)
         }
-        let Ok(()) = stage.play(alloc, event) else {
-            return Err(PlayFault::Memory);
-        };
     }
-    Ok(stage.texts)
 }
 
 impl Stage {
@@ -74,16 +71,31 @@ impl Stage {
     fn new(alloc: Global, config: &Config) -> Result<Stage, AllocError>
         ensures { IfOk result (λ stage. (setting : Setting) → IsSettingOf config.now setting → IsPlayed setting [] stage.host stage.texts.items stage.released.keys) }
     {
-        let host = Host::new(alloc, config, 0)?;
-        let mut texts = Vec::new(alloc);
-        for _place in 0..config.tenants.as_slice().len() {
-            texts.push(Text::new(alloc))?;
-        }
+        let texts = blank_texts(alloc, config.tenants.as_slice().len())?;
         Ok(Stage {
-            host,
+            host: Host::new(alloc, config, 0)?,
             texts,
             released: BTreeSet::new(alloc),
         })
+    }
+
+    // Plays these events, the oldest first, where none was played before.
+    fn play_all(&mut self, alloc: Global, events: &[Event]) -> Result<(), PlayFault>
+        ensures played { OnOk result ((setting : Setting) → IsPlayed setting [] self.old.host self.old.texts.items self.old.released.keys
+            → IsPlayed setting (reverse events.now) self.new.host self.new.texts.items self.new.released.keys) }
+        ensures illegal { (setting : Setting) → IsPlayed setting [] self.old.host self.old.texts.items self.old.released.keys
+            → (i : ℕ) → result ≡ Err (PlayFault.Illegal i) → IsLeastIllegal setting events.now i }
+    {
+        for i in 0..events.len() {
+            let event = &events[i];
+            if !self.may_follow(event) {
+                return Err(PlayFault::Illegal(i));
+            }
+            let Ok(()) = self.play(alloc, event) else {
+                return Err(PlayFault::Memory);
+            };
+        }
+        Ok(())
     }
 
     // Whether the event may come next.
@@ -124,11 +136,7 @@ impl Stage {
         ensures { OnOk result (IsPlayedOn (Event.Own tenant command.now) self.old.host self.old.texts.items self.old.released.keys self.new.host self.new.texts.items self.new.released.keys) }
     {
         let reply = self.host.command(tenant, command.copy(alloc)?);
-        if is_memory(&reply) {
-            return Err(AllocError);
-        }
-        add_line(alloc, &mut self.texts[tenant], &reply)?;
-        Ok(())
+        add_answer(alloc, &mut self.texts[tenant], &reply)
     }
 
     // An instant, and the names of its jobs among those of the others.
@@ -148,6 +156,28 @@ fn is_memory(reply: &Reply) -> bool
     ensures { IsTrue result ↔ (reply.now ≡ Reply.Refused Refusal.Memory) }
 {
     matches!(reply, Reply::Refused(Refusal::Memory))
+}
+
+// No text of this many tenants.
+fn blank_texts(alloc: Global, number: usize) -> Result<Vec<Text>, AllocError>
+    ensures many { IfOk result (λ texts. length texts.items ≡ number) }
+    ensures blank { IfOk result (λ texts. All (λ (text : List ℕ). text ≡ []) texts.items) }
+{
+    let mut texts = Vec::new(alloc);
+    for _place in 0..number {
+        texts.push(Text::new(alloc))?;
+    }
+    Ok(texts)
+}
+
+// Adds the printed reply, and LF, where it isn't want of memory.
+fn add_answer(alloc: Global, text: &mut Text, reply: &Reply) -> Result<(), AllocError>
+    ensures { OnOk result ((reply.now ≢ Reply.Refused Refusal.Memory) × (text.new ≡ text.old ++ (text_of_reply reply.now ++ 10 ∷ []))) }
+{
+    if is_memory(reply) {
+        return Err(AllocError);
+    }
+    add_line(alloc, text, reply)
 }
 
 // Adds the printed reply, and LF.

@@ -1,13 +1,9 @@
-use Rattle.std.proofs.Common.{◌∙◌, ◌∷◌, sym, ap, subst, take, reverse}
-use Rattle.host_core.specs.Playing.{IsPlayed}
+use Rattle.std.proofs.Common.{◌≡◌, Err, ap}
+use Rattle.host_core.specs.declared.plays.PlayFault.{PlayFault}
+use Rattle.host_core.specs.declared.plays.PlayFault.TheVariants.{Illegal}
 use Rattle.host_core.proofs.plays.play.Goals as goal
-use Rattle.giotto_tasks.proofs.ListLemmas.{reverse_more}
 
-pub loop-i-preserved : goal.loop-i-preserved
-loop-i-preserved c = λ setting is.
-    let past = reverse (take c.loop-i.i c.args.events.now) in
-    subst (λ es. IsPlayed setting es c.play.new.self.host c.play.new.self.texts.items c.play.new.self.released.keys)
-    (sym (reverse_more c.args.events.now c.loop-i.i c.index-events-i.result c.loop-i-test.true ∙ ap (λ e. e ∷ past) (sym c.index-events-i.is)))
-    (c.in-Ok-play.ensures setting past
-    (sym (c.may_follow.ensures.legal setting past (c.loop-i.invariant setting is)) ∙ c.if-not-may_follow.false)
-    (c.loop-i.invariant setting is))
+pub returns-in-Err-clause-illegal : goal.returns-in-Err-clause-illegal
+returns-in-Err-clause-illegal c = λ setting is i e.
+    let same : c.in-Err.fault ≡ Illegal i = cc in
+    c.in-Err.ensures.illegal setting (c.in-Ok.ensures setting is) i (ap (λ (f : PlayFault). Err f) same)

@@ -1,6 +1,6 @@
 use Rattle.std.proofs.Common.{◌≡◌, ℕ, List, [], length}
 use Rattle.std.specs.List.{All}
-use Rattle.host_core.proofs.plays.Stage.new.Given as goal
+use Rattle.host_core.proofs.plays.blank_texts.Given as goal
 
 abbrev pub invariant-loop-place : goal.invariant-loop-place
 invariant-loop-place l = record {
