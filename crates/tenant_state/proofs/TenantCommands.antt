@@ -26,9 +26,6 @@ module _ (text : List ℕ) (budgets : Budgets) (row : Row) where
   pub refused_by_reader : (f : ReadFault) → parsed text ≡ Err f → load_read budgets row (parsed text) ≡ refused row (refusal_of f)
   refused_by_reader f e = ap (load_read budgets row) e
 
-  pub refused_by_rule : (p : GiottoProgram) (n : ℕ) → parsed text ≡ Ok p → first_broken_rule p ≡ Some n → load_read budgets row (parsed text) ≡ refused row (Rule n)
-  refused_by_rule p n e broken = ap (load_read budgets row) e ∙ ap (load_checked budgets p row) broken
-
   kept_if : (p : GiottoProgram) → parsed text ≡ Ok p → first_broken_rule p ≡ None → load_read budgets row (parsed text) ≡ load_kept budgets p row
   kept_if p e kept = ap (load_read budgets row) e ∙ ap (load_checked budgets p row) kept
 
