@@ -1,7 +1,5 @@
 //! When the code of bodies and drivers is refused, which no contract says.
 
-ghost use Rattle.std.specs.Prelude.{◌≡◌, ◌≤◌, length};
-
 use giotto_tasks::bodies::{Body, Expr, Stmt};
 use giotto_tasks::code::driver::DriverCode;
 use giotto_tasks::faults::CodeFault;
@@ -10,27 +8,8 @@ use giotto_tasks::lists::List;
 use giotto_tasks::names::Name;
 use giotto_tasks::operators::BinaryOperator;
 use std::alloc::{AllocError, Global};
-use std::test::Fail;
 
-fn named(text: &str) -> Name
-    requires { length text.now ≤ 32 }
-{
-    match Name::new(text) {
-        Some(name) => name,
-        None => unreachable!(),
-    }
-}
-
-// A body with the input i and the output o, to which it gives a value.
-fn giving(alloc: Global, e: Expr) -> Result<Body, CodeFault> {
-    let inputs = List::from_vec(vec![in alloc; named("i")]?);
-    let outputs = List::from_vec(vec![in alloc; named("o")]?);
-    let states = List::from_vec(Vec::new(alloc));
-    let block = vec![in alloc; Stmt::Assign(named("o"), e)]?;
-    Body::new(alloc, inputs, outputs, states, block)
-}
-
-// 1 + 1 + .. + 1, with the parentheses on the right
+// 1 + (1 + .. (1 + 1)), with so many operators.
 fn ones(alloc: Global, operators: u64) -> Result<Expr, AllocError> {
     let mut e = Expr::Number(1);
     for _operator in 0..operators {
@@ -41,18 +20,41 @@ fn ones(alloc: Global, operators: u64) -> Result<Expr, AllocError> {
     Ok(e)
 }
 
-#[test]
-fn refuses_what_is_too_deep(rt: HostRuntime) -> Result<(), Fail> {
-    let alloc = rt.alloc();
-    assert!(rt; giving(alloc, ones(alloc, 32)?).is_ok());
-    assert!(rt; matches!(giving(alloc, ones(alloc, 200)?), Err(CodeFault::TooDeep)));
-    let none = Index::new(alloc, Vec::new(alloc))?;
-    assert!(rt; DriverCode::new(alloc, &ones(alloc, 32)?, &none).is_ok());
-    assert!(rt;
-        matches!(
-            DriverCode::new(alloc, &ones(alloc, 33)?, &none),
-            Err(CodeFault::TooDeep)
-        )
-    );
+fn no_names(alloc: Global) -> List<Name> {
+    List::from_vec(Vec::new(alloc))
+}
+
+// A block that branches on so many operators inside one another.
+fn branching(alloc: Global, operators: u64) -> Result<Vec<Stmt>, CodeFault> {
+    let branch = Stmt::If(ones(alloc, operators)?, Vec::new(alloc), Vec::new(alloc));
+    let mut block = Vec::new(alloc);
+    block.push(branch)?;
+    Ok(block)
+}
+
+// Whether there is a body with such a block.
+fn body(alloc: Global, operators: u64) -> Result<(), CodeFault> {
+    let block = branching(alloc, operators)?;
+    let none = no_names(alloc);
+    let _body = Body::new(alloc, none, no_names(alloc), no_names(alloc), block)?;
     Ok(())
+}
+
+// Whether there is code for a driver with so many operators inside one another.
+fn driver(alloc: Global, operators: u64) -> Result<(), CodeFault> {
+    let names = Index::new(alloc, Vec::new(alloc))?;
+    let _code = DriverCode::new(alloc, &ones(alloc, operators)?, &names)?;
+    Ok(())
+}
+
+#[test]
+fn refuses_a_body_that_is_too_deep(rt: HostRuntime) {
+    assert!(rt; body(rt.alloc(), 32).is_ok());
+    assert!(rt; body(rt.alloc(), 200) == Err(CodeFault::TooDeep));
+}
+
+#[test]
+fn refuses_a_driver_that_is_too_deep(rt: HostRuntime) {
+    assert!(rt; driver(rt.alloc(), 32).is_ok());
+    assert!(rt; driver(rt.alloc(), 33) == Err(CodeFault::TooDeep));
 }
