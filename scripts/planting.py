@@ -192,14 +192,20 @@ class Crate:
         return folders[0] if folders else own
 
     def path(self, file, function):
-        """The function's path below the crate, or its module's where it is of a trait; a crate's root has none."""
-        module = self.module(file, function)
-        return "::".join(module if function.is_of_trait else [*module, *([function.type] if function.type else []), function.name])
+        """What names the function to the prover: its path below the crate, or a method's end of it, since that stands at the
+        module of its type; or, where it is of a trait, its module's path, which a crate's root has not."""
+        if function.type:
+            return f"{function.type}::{function.name}"
+        return "::".join([*self.module(file, function), *([] if function.is_of_trait else [function.name])])
 
     def is_single(self, file, function):
         """Whether it can't stand twice: as a trait's, in a cycle of calls, or as its proof is one with others."""
         in_cycle = b"#[cycle" in self.text(file)[function.start : function.head]
-        return function.is_single or in_cycle or os.path.isdir(f"{self.folder}/proofs/{self.proofs(file, function)}/+{function.name}")
+        return function.is_single or in_cycle or self.has_proofs(file, function, "+")
+
+    def has_proofs(self, file, function, mark=""):
+        """Whether the function has proof files of its own, or, with the mark `+`, as a cycle of calls."""
+        return os.path.isdir(f"{self.folder}/proofs/{self.proofs(file, function)}/{mark}{function.name}")
 
     def plant(self, planted):
         """Writes each function behind the one that it is made from, and copies of the proof files."""
