@@ -16,7 +16,7 @@ use Rattle.giotto_text.specs.Program.{TaskDeclaration, ModeDeclaration, ModeSwit
 use Rattle.giotto_text.specs.declared.programs.Mode.{Mode}
 use Rattle.giotto_text.specs.declared.programs.Task.{Task}
 use Rattle.giotto_text.specs.ProgramTrees as trees
-use Rattle.giotto_rules.specs.Declarations.{driver_ports, names_read, mode_of, task_of, mode_ports, output_names, destinations_of}
+use Rattle.giotto_rules.specs.Declarations.{driver_ports, names_read, mode_named, task_named, mode_ports, output_names, destinations_of}
 use Rattle.giotto_check.specs.Facts.{ModeFits, ProgramFits}
 use Rattle.giotto_check.specs.Slots.{shared_port, shown_name, slot_of, slots_of, ports_of_task}
 use Rattle.giotto_check.specs.Timetables.{AreEach, AreTaskSlots, HaveSlotsFrom, IsDestination, IsExpression, place_of_mode, place_of_task}
@@ -43,7 +43,7 @@ mode_found p x modes r e is =
     let test = λ (m : ModeDeclaration). same_name m.name x in
     ap (position_from test 0) (sym is) ∙ place-map test trees.mode_of 0 modes ∙ sym e
 
-pub mode_there : (p : GiottoProgram) (x : Name) → IsSome (mode_of p x) → place_of_mode p x ≡ None → ⊥
+pub mode_there : (p : GiottoProgram) (x : Name) → IsSome (mode_named p x) → place_of_mode p x ≡ None → ⊥
 mode_there p x there none = false≢true (sym (ap is_some none) ∙ place_if_found (λ (m : ModeDeclaration). same_name m.name x) 0 p.modes ∙ there)
 
 -- the task of a name
@@ -52,15 +52,15 @@ task_found p x tasks r e is =
     let test = λ (t : TaskDeclaration). same_name t.name x in
     ap (position_from test 0) (sym is) ∙ place-map test trees.task_of 0 tasks ∙ sym e
 
-pub task_there : (p : GiottoProgram) (x : Name) → IsSome (task_of p x) → place_of_task p x ≡ None → ⊥
+pub task_there : (p : GiottoProgram) (x : Name) → IsSome (task_named p x) → place_of_task p x ≡ None → ⊥
 task_there p x there none = false≢true (sym (ap is_some none) ∙ place_if_found (λ (t : TaskDeclaration). same_name t.name x) 0 p.tasks ∙ there)
 
 -- a switch gives values to outputs
-pub destinations_are_outputs : (p : GiottoProgram) (s : ModeSwitch) → ProgramFits p → IsSomeAnd (mode_of p s.target) (λ m. IsTrue (list_all (is_among (mode_ports p m)) (destinations_of s)))
+pub destinations_are_outputs : (p : GiottoProgram) (s : ModeSwitch) → ProgramFits p → IsSomeAnd (mode_named p s.target) (λ m. IsTrue (list_all (is_among (mode_ports p m)) (destinations_of s)))
     → list_all (is_among (output_names p)) (destinations_of s) ≡ true
-destinations_are_outputs p s fits target = by (mode_of p s.target) refl target
+destinations_are_outputs p s fits target = by (mode_named p s.target) refl target
   where
-    by : (o : Option ModeDeclaration) → mode_of p s.target ≡ o → IsSomeAnd o (λ m. IsTrue (list_all (is_among (mode_ports p m)) (destinations_of s))) → list_all (is_among (output_names p)) (destinations_of s) ≡ true
+    by : (o : Option ModeDeclaration) → mode_named p s.target ≡ o → IsSomeAnd o (λ m. IsTrue (list_all (is_among (mode_ports p m)) (destinations_of s))) → list_all (is_among (output_names p)) (destinations_of s) ≡ true
     by None e t = absurd t
     by (Some m) e t =
         let m_fits = found_has (ModeFits p) (λ (n : ModeDeclaration). same_name n.name s.target) p.modes m fits.modes e in
@@ -71,25 +71,25 @@ pub task_within : (p : GiottoProgram) (x : Name) (tasks : List TaskSlots) (k : �
 task_within p x tasks k each place = omega (arith, place_within (λ (t : TaskDeclaration). same_name t.name x) 0 p.tasks k place, each_long (AreTaskSlots p) p.tasks tasks each)
 
 pub inputs_there : (p : GiottoProgram) (x : Name) (n : ℕ) (tasks : List TaskSlots) (k : ℕ) (other : TaskSlots) → AreEach (AreTaskSlots p) p.tasks tasks → place_of_task p x ≡ Some k
-    → IsSomeAnd (task_of p x) (λ t. n ≡ length t.inputs) → IsSomeAnd (task_of p x) (λ t. HaveSlotsFrom p t.name t.inputs (get_or tasks k other).inputs)
-inputs_there p x n tasks k other each place there = by (task_of p x) refl there
+    → IsSomeAnd (task_named p x) (λ t. n ≡ length t.inputs) → IsSomeAnd (task_named p x) (λ t. HaveSlotsFrom p t.name t.inputs (get_or tasks k other).inputs)
+inputs_there p x n tasks k other each place there = by (task_named p x) refl there
   where
-    by : (o : Option TaskDeclaration) → task_of p x ≡ o → IsSomeAnd o (λ t. n ≡ length t.inputs) → IsSomeAnd o (λ t. HaveSlotsFrom p t.name t.inputs (get_or tasks k other).inputs)
+    by : (o : Option TaskDeclaration) → task_named p x ≡ o → IsSomeAnd o (λ t. n ≡ length t.inputs) → IsSomeAnd o (λ t. HaveSlotsFrom p t.name t.inputs (get_or tasks k other).inputs)
     by None e t = absurd t
     by (Some d) e t =
         let here = found_there (λ (t : TaskDeclaration). same_name t.name x) 0 p.tasks k d place e in
         let same : k ≡ here.0 = omega (arith, here.1) in
         (each_at (AreTaskSlots p) p.tasks tasks k d (get_or tasks k other) each (ap (slice_get p.tasks) same ∙ here.2) (slice_get-get_or tasks k other (task_within p x tasks k each place))).inputs
 
-pub task_is : (p : GiottoProgram) (x : Name) (n : ℕ) → IsSomeAnd (task_of p x) (λ t. n ≡ length t.inputs) → IsSome (task_of p x)
-task_is p x n there = by (task_of p x) there
+pub task_is : (p : GiottoProgram) (x : Name) (n : ℕ) → IsSomeAnd (task_named p x) (λ t. n ≡ length t.inputs) → IsSome (task_named p x)
+task_is p x n there = by (task_named p x) there
   where
     by : (o : Option TaskDeclaration) → IsSomeAnd o (λ t. n ≡ length t.inputs) → IsSome o
     by None t = absurd t
     by (Some d) t = refl
 
-pub mode_is : (p : GiottoProgram) (x : Name) (P : ModeDeclaration → Type 0) → IsSomeAnd (mode_of p x) P → IsSome (mode_of p x)
-mode_is p x P there = by (mode_of p x) there
+pub mode_is : (p : GiottoProgram) (x : Name) (P : ModeDeclaration → Type 0) → IsSomeAnd (mode_named p x) P → IsSome (mode_named p x)
+mode_is p x P there = by (mode_named p x) there
   where
     by : (o : Option ModeDeclaration) → IsSomeAnd o P → IsSome o
     by None t = absurd t

@@ -12,7 +12,7 @@ use Rattle.giotto_tasks.proofs.ListLemmas.{all_zip, all_pass, all_with, found_pa
 use Rattle.giotto_tasks.proofs.NameLemmas.{among_first, among_second, among_turned, apart_from, weaker_all, different_joined}
 use Rattle.giotto_text.specs.Program.{TaskDeclaration, ModeSwitch, TaskInvocation, ModeDeclaration, GiottoProgram, body_of, names_of}
 use Rattle.giotto_text.specs.Sound.{IsPrintable}
-use Rattle.giotto_rules.specs.Declarations.{sensor_names, actuator_names, output_names, task_names, mode_names, declared_names, outputs_of_task, destinations_of, invoked_tasks, updated_actuators, mode_ports, task_of, mode_of}
+use Rattle.giotto_rules.specs.Declarations.{sensor_names, actuator_names, output_names, task_names, mode_names, declared_names, outputs_of_task, destinations_of, invoked_tasks, updated_actuators, mode_ports, task_named, mode_named}
 use Rattle.giotto_rules.specs.Drivers.{readable_ports, ports_of_target, switch_fits, drivers_fit}
 use Rattle.giotto_rules.specs.Frequencies.{divides, frequencies_divide_in}
 use Rattle.giotto_rules.specs.Invocations.{has_arguments_for, argument_for_each_input}
@@ -112,9 +112,9 @@ module _ (p : GiottoProgram) (kept : KeepsRules p) where
   -- a mode's ports are outputs
 
   task_outputs : (x : Name) → are_among (output_names p) (outputs_of_task p x) ≡ true
-  task_outputs x = by (task_of p x) refl
+  task_outputs x = by (task_named p x) refl
     where
-      by : (o : Option TaskDeclaration) → task_of p x ≡ o → are_among (output_names p) (outputs_of_task p x) ≡ true
+      by : (o : Option TaskDeclaration) → task_named p x ≡ o → are_among (output_names p) (outputs_of_task p x) ≡ true
       by None e = rw e refl
       by (Some t) e = rw e (found_passes (task_uses (kinds_of p)) (λ (t : TaskDeclaration). same_name t.name x) p.tasks t (and_parts _ _ kept.uses_right_kinds).0 e)
 
@@ -133,7 +133,7 @@ module _ (p : GiottoProgram) (kept : KeepsRules p) where
       let parts = and_parts _ _ fits.0 in
       record {
         frequency = frequency_of m s.frequency positive h;
-        target = target_fits p (destinations_of s) (mode_of p s.target) (found_some (λ (m : ModeDeclaration). m.name) p.modes s.target uses.0) parts.1;
+        target = target_fits p (destinations_of s) (mode_named p s.target) (found_some (λ (m : ModeDeclaration). m.name) p.modes s.target uses.0) parts.1;
         destinations_once = fits.1;
         reads = parts.0;
       }
@@ -165,7 +165,7 @@ module _ (p : GiottoProgram) (kept : KeepsRules p) where
         switches = three_pass (SwitchFits p m) _ _ _ (λ s h k d. switch_of m s positive h k d) m.switches second.1 of_kind.1 earlier.1;
         invocations = three_pass (InvocationFits p m) _ _ _ (λ i h k d. record {
           frequency = frequency_of m i.frequency positive h;
-          task = arguments_for i (task_of p i.task) k;
+          task = arguments_for i (task_named p i.task) k;
           reads = d;
         }) m.invocations third.1 arguments reads.1;
       }

@@ -4,7 +4,7 @@ use Rattle.std.specs.List.{AllByRecursion}
 use Rattle.giotto_tasks.specs.Names.{is_among}
 use Rattle.giotto_tasks.specs.Sound.{all_different, IsSound}
 use Rattle.giotto_text.specs.Program.{TaskDeclaration, ActuatorUpdate, ModeSwitch, TaskInvocation, ModeDeclaration, GiottoProgram, body_of}
-use Rattle.giotto_rules.specs.Declarations.{actuator_names, output_names, declared_names, task_of, mode_of, invoked_tasks, updated_actuators, destinations_of, mode_ports, lines_written}
+use Rattle.giotto_rules.specs.Declarations.{actuator_names, output_names, declared_names, task_named, mode_named, invoked_tasks, updated_actuators, destinations_of, mode_ports, lines_written}
 use Rattle.giotto_rules.specs.Drivers.{readable_ports}
 use Rattle.giotto_rules.specs.Names.{are_among, all_different_numbers}
 use Rattle.giotto_rules.specs.Reads.{names_in_update, names_in_switch, names_in_invocation}
@@ -25,14 +25,14 @@ pub record UpdateFits (p : GiottoProgram) (m : ModeDeclaration) (u : ActuatorUpd
 -- a switch goes to a mode, gives values to ports of it, each once, and reads ports of its own mode and sensors
 pub record SwitchFits (p : GiottoProgram) (m : ModeDeclaration) (s : ModeSwitch) : Type 0 where
   pub frequency : IsFrequencyOf m s.frequency
-  pub target : IsSomeAnd (mode_of p s.target) (λ target. IsTrue (are_among (mode_ports p target) (destinations_of s)))
+  pub target : IsSomeAnd (mode_named p s.target) (λ target. IsTrue (are_among (mode_ports p target) (destinations_of s)))
   pub destinations_once : IsTrue (all_different (destinations_of s))
   pub reads : IsTrue (are_among (readable_ports p m) (names_in_switch s))
 
 -- an invocation has an argument for each input of its task, and reads ports of its mode and sensors
 pub record InvocationFits (p : GiottoProgram) (m : ModeDeclaration) (i : TaskInvocation) : Type 0 where
   pub frequency : IsFrequencyOf m i.frequency
-  pub task : IsSomeAnd (task_of p i.task) (λ t. length i.arguments ≡ length t.inputs)
+  pub task : IsSomeAnd (task_named p i.task) (λ t. length i.arguments ≡ length t.inputs)
   pub reads : IsTrue (are_among (readable_ports p m) (names_in_invocation i))
 
 -- a mode of 1 to 1,000,000 ticks invokes a task once and updates an actuator once; its ports are outputs, each of one task
@@ -59,4 +59,4 @@ pub record ProgramFits (p : GiottoProgram) : Type 0 where
   pub ports_once : IsTrue (all_different (port_names p))
   pub tasks : AllByRecursion (TaskFits p) p.tasks
   pub modes : AllByRecursion (ModeFits p) p.modes
-  pub start : IsSome (mode_of p p.start)
+  pub start : IsSome (mode_named p p.start)

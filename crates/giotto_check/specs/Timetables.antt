@@ -7,7 +7,7 @@ use Rattle.giotto_tasks.specs.Meaning.{value_of}
 use Rattle.giotto_tasks.specs.Names.{same_name}
 use Rattle.giotto_tasks.specs.Syntax.{Expression}
 use Rattle.giotto_text.specs.Program.{TaskDeclaration, ActuatorUpdate, ModeSwitch, TaskInvocation, ModeDeclaration, GiottoProgram, names_of}
-use Rattle.giotto_rules.specs.Declarations.{driver_ports, task_of}
+use Rattle.giotto_rules.specs.Declarations.{driver_ports, task_named}
 use Rattle.giotto_check.specs.Facts.{ProgramFits}
 use Rattle.giotto_check.specs.Slots.{slot_of, slots_of, valuation_of}
 use Rattle.giotto_check.specs.declared.timetables.SlotExpr.{SlotExpr}
@@ -82,7 +82,7 @@ pub record IsInvocation (p : GiottoProgram) (m : ModeDeclaration) (i : TaskInvoc
   pub interval : entry.interval ≡ m.period / i.frequency
   pub guard : IsGuard p i.guard entry.guard
   pub task : place_of_task p i.task ≡ Some entry.task
-  pub inputs : IsSomeAnd (task_of p i.task) (λ t. HaveSlotsFrom p t.name t.inputs entry.inputs)
+  pub inputs : IsSomeAnd (task_named p i.task) (λ t. HaveSlotsFrom p t.name t.inputs entry.inputs)
   pub arguments : AreEach (IsExpression p) i.arguments entry.arguments.items
 
 -- a task's slots: those of its inputs, of its states, and of each output

@@ -15,9 +15,9 @@ use Rattle.giotto_tasks.proofs.NameLemmas.{same_name_is}
 use Rattle.giotto_tasks.specs.Sound.{all_different}
 use Rattle.giotto_tasks.specs.Syntax.{Expression}
 use Rattle.giotto_text.specs.declared.programs.Task.{Task}
-use Rattle.giotto_text.specs.ProgramTrees.{task_of as tree_of_task}
+use Rattle.giotto_text.specs.ProgramTrees.{task_named as tree_of_task}
 use Rattle.giotto_text.specs.Program.{TaskDeclaration, ModeDeclaration, GiottoProgram}
-use Rattle.giotto_rules.specs.Declarations.{task_names, mode_names, task_of, mode_of, mode_ports, period_of_task}
+use Rattle.giotto_rules.specs.Declarations.{task_names, mode_names, task_named, mode_named, mode_ports, period_of_task}
 use Rattle.giotto_rules.specs.Drivers.{ports_of_target}
 use Rattle.giotto_rules.specs.Names.{are_among}
 use Rattle.giotto_rules.specs.Rules.{tasks_share_no_output}
@@ -45,17 +45,17 @@ find_at_place test xs =
     at_place false e = slice_get_past xs (position_or_len test xs) (ltb-false (position_or_len test xs) (length xs) e)
 
 -- the task of a name stands at the name's place, and so does the mode
-pub task_at_place : (p : GiottoProgram) (x : Name) (place : Option ℕ) → place ≡ place_from 0 (task_names p) x → task_of p x ≡ element_at p.tasks place
+pub task_at_place : (p : GiottoProgram) (x : Name) (place : Option ℕ) → place ≡ place_from 0 (task_names p) x → task_named p x ≡ element_at p.tasks place
 task_at_place p x place e =
     find_at_place (λ (t : TaskDeclaration). same_name t.name x) p.tasks ∙ ap (element_at p.tasks) (sym (e ∙ place_from-map (λ (t : TaskDeclaration). t.name) 0 p.tasks x))
 
-pub mode_at_place : (p : GiottoProgram) (x : Name) (place : Option ℕ) → place ≡ place_from 0 (mode_names p) x → mode_of p x ≡ element_at p.modes place
+pub mode_at_place : (p : GiottoProgram) (x : Name) (place : Option ℕ) → place ≡ place_from 0 (mode_names p) x → mode_named p x ≡ element_at p.modes place
 mode_at_place p x place e =
     find_at_place (λ (m : ModeDeclaration). same_name m.name x) p.modes ∙ ap (element_at p.modes) (sym (e ∙ place_from-map (λ (m : ModeDeclaration). m.name) 0 p.modes x))
 
 -- the ports of a target are those at its place, and none where there is none
 pub ports_at_place : (p : GiottoProgram) (x : Name) (place : Option ℕ) → place ≡ place_from 0 (mode_names p) x
-    → ports_of_target p (mode_of p x) ≡ unwrap_or (element_at (map (mode_ports p) p.modes) place) []
+    → ports_of_target p (mode_named p x) ≡ unwrap_or (element_at (map (mode_ports p) p.modes) place) []
 ports_at_place p x place e = ap (ports_of_target p) (mode_at_place p x place e) ∙ at_place place
   where
     of_mode : (m : Option ModeDeclaration) → ports_of_target p m ≡ unwrap_or (option_map (mode_ports p) m) []
@@ -68,7 +68,7 @@ ports_at_place p x place e = ap (ports_of_target p) (mode_at_place p x place e) 
 
 -- what a look-up at that place gave
 pub task_found : (p : GiottoProgram) (x : Name) (names : List Name) (ts : List Task) (k : ℕ) (found : Option (Bor Task)) → names ≡ task_names p → place_from 0 names x ≡ Some k
-    → map tree_of_task ts ≡ p.tasks → option_copied found ≡ slice_get ts k → task_of p x ≡ option_map tree_of_task (option_copied found)
+    → map tree_of_task ts ≡ p.tasks → option_copied found ≡ slice_get ts k → task_named p x ≡ option_map tree_of_task (option_copied found)
 task_found p x names ts k found e at all got =
     task_at_place p x (Some k) (sym at ∙ ap (λ ns. place_from 0 ns x) e)
     ∙ (ap (λ us. slice_get us k) (sym all) ∙ (slice_get-map tree_of_task ts k ∙ ap (option_map tree_of_task) (sym got)))
@@ -101,7 +101,7 @@ mapped_at f g zs ys xs i z x each all within is at = is ∙ mapped_or f g zs ys 
 
 -- what a list for each mode has at a name's place
 pub mode_mapped : {Y : Type 0} (f : ModeDeclaration → Y) (p : GiottoProgram) (x : Name) (place : Option ℕ) → place ≡ place_from 0 (mode_names p) x
-    → option_map f (mode_of p x) ≡ element_at (map f p.modes) place
+    → option_map f (mode_named p x) ≡ element_at (map f p.modes) place
 mode_mapped f p x place e = ap (option_map f) (mode_at_place p x place e) ∙ at_place place
   where
     at_place : (k : Option ℕ) → option_map f (element_at p.modes k) ≡ element_at (map f p.modes) k
@@ -124,9 +124,9 @@ name_at_place names x k e =
     ap (element_at names) e ∙ (sym (find_at_place (λ n. same_name n x) names) ∙ (find_name names x ∙ ap (λ b. cond b (Some x) None) (sym there)))
 
 -- the period at a task's place tells whether the task goes on
-pub goes_on_at_place : (p : GiottoProgram) (target x : Name) (k every : ℕ) (row : Option (List (Option ℕ))) → row ≡ option_map (periods_in p) (mode_of p target)
-    → Some k ≡ place_from 0 (task_names p) x → is_period (period_at row k) every ≡ goes_on_with (mode_of p target) x every
-goes_on_at_place p target x k every row e at = ap (λ r. is_period (period_at r k) every) e ∙ in_mode (mode_of p target)
+pub goes_on_at_place : (p : GiottoProgram) (target x : Name) (k every : ℕ) (row : Option (List (Option ℕ))) → row ≡ option_map (periods_in p) (mode_named p target)
+    → Some k ≡ place_from 0 (task_names p) x → is_period (period_at row k) every ≡ goes_on_with (mode_named p target) x every
+goes_on_at_place p target x k every row e at = ap (λ r. is_period (period_at r k) every) e ∙ in_mode (mode_named p target)
   where
     in_mode : (m : Option ModeDeclaration) → is_period (period_at (option_map (periods_in p) m) k) every ≡ goes_on_with m x every
     in_mode None = refl

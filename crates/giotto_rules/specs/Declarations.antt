@@ -35,16 +35,16 @@ abbrev pub declared_names : GiottoProgram → List Name
 declared_names p = sensor_names p ++ (actuator_names p ++ (output_names p ++ (task_names p ++ mode_names p)))
 
 -- the first task of this name
-abbrev pub task_of : GiottoProgram → Name → Option TaskDeclaration
-task_of p x = find (λ t. same_name t.name x) p.tasks
+abbrev pub task_named : GiottoProgram → Name → Option TaskDeclaration
+task_named p x = find (λ t. same_name t.name x) p.tasks
 
 -- the first mode of this name
-abbrev pub mode_of : GiottoProgram → Name → Option ModeDeclaration
-mode_of p x = find (λ m. same_name m.name x) p.modes
+abbrev pub mode_named : GiottoProgram → Name → Option ModeDeclaration
+mode_named p x = find (λ m. same_name m.name x) p.modes
 
 -- the outputs of the task of this name, and none where there is no such task
 abbrev pub outputs_of_task : GiottoProgram → Name → List Name
-outputs_of_task p x = outputs (task_of p x)
+outputs_of_task p x = outputs (task_named p x)
   where
     outputs : Option TaskDeclaration → List Name
     outputs None = []

@@ -4,7 +4,7 @@ use Rattle.std.specs.List.{list_all}
 use Rattle.giotto_tasks.specs.declared.names.Name.{Name}
 use Rattle.giotto_tasks.specs.Sound.{all_different}
 use Rattle.giotto_text.specs.Program.{ModeSwitch, ModeDeclaration, GiottoProgram}
-use Rattle.giotto_rules.specs.Declarations.{sensor_names, mode_of, mode_ports, destinations_of}
+use Rattle.giotto_rules.specs.Declarations.{sensor_names, mode_named, mode_ports, destinations_of}
 use Rattle.giotto_rules.specs.Names.{are_among}
 use Rattle.giotto_rules.specs.Reads.{names_in_update, names_in_switch, names_in_invocation}
 
@@ -20,7 +20,7 @@ ports_of_target p (Some m) = mode_ports p m
 -- A switch reads these names alone, and its destinations are ports of its target, each once.
 abbrev pub switch_fits : GiottoProgram → List Name → ModeSwitch → Bool
 switch_fits p readable s = are_among readable (names_in_switch s)
-    && are_among (ports_of_target p (mode_of p s.target)) (destinations_of s) && all_different (destinations_of s)
+    && are_among (ports_of_target p (mode_named p s.target)) (destinations_of s) && all_different (destinations_of s)
 
 -- Updates read ports of their mode; switches and invocations read sensors too.
 abbrev pub drivers_fit : GiottoProgram → ModeDeclaration → Bool

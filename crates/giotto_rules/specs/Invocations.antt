@@ -1,7 +1,7 @@
 -- Whether an invocation gives its task what it takes.
 use Rattle.std.specs.Prelude.{Bool, false, length, ◌==◌, Option, Some, None}
 use Rattle.giotto_text.specs.Program.{TaskDeclaration, TaskInvocation, GiottoProgram}
-use Rattle.giotto_rules.specs.Declarations.{task_of}
+use Rattle.giotto_rules.specs.Declarations.{task_named}
 
 -- as many arguments as a task has inputs, where there is such a task
 abbrev pub has_arguments_for : TaskInvocation → Option TaskDeclaration → Bool
@@ -10,4 +10,4 @@ has_arguments_for i (Some t) = length i.arguments == length t.inputs
 
 -- the invocation has an argument for each input of its task
 abbrev pub argument_for_each_input : GiottoProgram → TaskInvocation → Bool
-argument_for_each_input p i = has_arguments_for i (task_of p i.task)
+argument_for_each_input p i = has_arguments_for i (task_named p i.task)

@@ -1,7 +1,7 @@
 -- The periods of tasks in modes, by the places of their names.
 use Rattle.std.specs.Prelude.{ℕ, ◌/◌, List, map, Option, Some, None, unwrap_or, slice_get}
 use Rattle.giotto_text.specs.Program.{TaskInvocation, ModeDeclaration, GiottoProgram}
-use Rattle.giotto_rules.specs.declared.rules.switches.Due.{Due}
+use Rattle.giotto_rules.specs.declared.rules.switches.Repetition.{Repetition}
 use Rattle.giotto_rules.specs.Declarations.{task_names, period_of_task}
 use Rattle.giotto_tasks.specs.Places.{place_from}
 
@@ -15,5 +15,5 @@ period_at None place = None
 period_at (Some periods) place = unwrap_or (slice_get periods place) None
 
 -- in a mode of this period: how many ticks lie between two of these invocations, and the place of their task
-abbrev pub due_of : GiottoProgram → ℕ → TaskInvocation → Due
-due_of p period i = record { every = period / i.frequency; task = place_from 0 (task_names p) i.task }
+abbrev pub repetition_of : GiottoProgram → ℕ → TaskInvocation → Repetition
+repetition_of p period i = record { every = period / i.frequency; task = place_from 0 (task_names p) i.task }

@@ -3,7 +3,7 @@ use Rattle.std.specs.Prelude.{ℕ, ◌/◌, ◌%◌, ◌==◌, Bool, false, ◌|
 use Rattle.std.specs.List.{list_all}
 use Rattle.giotto_tasks.specs.declared.names.Name.{Name}
 use Rattle.giotto_text.specs.Program.{ModeSwitch, TaskInvocation, ModeDeclaration, GiottoProgram}
-use Rattle.giotto_rules.specs.Declarations.{mode_of, period_of_task}
+use Rattle.giotto_rules.specs.Declarations.{mode_named, period_of_task}
 
 -- a task has a period in a mode, and it is this one
 abbrev pub is_period : Option ℕ → ℕ → Bool
@@ -18,7 +18,7 @@ goes_on_with (Some m) task ticks = is_period (period_of_task m task) ticks
 -- In a mode of this period the switch comes only where the invocation ends, or the target goes on with its task and period.
 abbrev pub keeps_period : GiottoProgram → ℕ → ModeSwitch → TaskInvocation → Bool
 keeps_period p period s i =
-    (period / s.frequency) % (period / i.frequency) == 0 || goes_on_with (mode_of p s.target) i.task (period / i.frequency)
+    (period / s.frequency) % (period / i.frequency) == 0 || goes_on_with (mode_named p s.target) i.task (period / i.frequency)
 
 -- a switch keeps the period of each task that its mode invokes
 abbrev pub switch_keeps_periods : GiottoProgram → ModeDeclaration → ModeSwitch → Bool

@@ -3,7 +3,7 @@
 ghost use Rattle.std.specs.Prelude.{◌≡◌, drop, map, IfOk};
 ghost use Rattle.giotto_rules.specs.Declarations.{mode_ports};
 ghost use Rattle.giotto_rules.specs.Rules.{first_broken_rule};
-ghost use Rattle.giotto_rules.specs.Rules as tests;
+ghost use Rattle.giotto_rules.specs.Rules as spec;
 
 use crate::indexed::Indexed;
 use crate::rules::{
@@ -40,7 +40,7 @@ pub fn first_broken(alloc: Global, program: &Program) -> Result<Option<usize>, A
 
 // The first rule from the sixth on that the program breaks. These find tasks and modes by name.
 fn first_broken_from_sixth(alloc: Global, program: &Program) -> Result<Option<usize>, AllocError>
-    ensures { IfOk result (λ rule. rule ≡ tests.first_broken 6 (drop 5 tests.rules) program.now) }
+    ensures { IfOk result (λ rule. rule ≡ spec.first_broken 6 (drop 5 spec.rules) program.now) }
 {
     let program = Indexed::new(alloc, program)?;
     let ports = invocations::ports_of_modes(alloc, &program)?;
@@ -54,7 +54,7 @@ fn first_broken_with_ports(
     ports: &[Index],
 ) -> Result<Option<usize>, AllocError>
     requires { ports.now ≡ map (mode_ports program.now) program.now.modes }
-    ensures { IfOk result (λ rule. rule ≡ tests.first_broken 6 (drop 5 tests.rules) program.now) }
+    ensures { IfOk result (λ rule. rule ≡ spec.first_broken 6 (drop 5 spec.rules) program.now) }
 {
     if !invocations::tasks_share_no_output(program, ports) {
         return Ok(Some(6));

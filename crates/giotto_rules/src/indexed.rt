@@ -64,8 +64,8 @@ impl<'a> Indexed<'a> {
     /// The task of this name.
     pub(crate) fn task(&self, name: &Name) -> Option<&Task>
         ensures found { IfSome result
-            (λ t. declared.task_of self.now name.now ≡ Some (task_of t.now)) }
-        ensures missing { result ≡ None → declared.task_of self.now name.now ≡ None }
+            (λ t. declared.task_named self.now name.now ≡ Some (task_of t.now)) }
+        ensures missing { result ≡ None → declared.task_named self.now name.now ≡ None }
     {
         match self.tasks.place(name) {
             Some(place) => self.program.tasks().get(place),

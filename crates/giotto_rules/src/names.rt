@@ -2,7 +2,7 @@
 
 ghost use Rattle.std.specs.Prelude.{◌≡◌, ◌++◌};
 ghost use Rattle.std.specs.Result.{OnOk};
-ghost use Rattle.giotto_rules.specs.Names as tests;
+ghost use Rattle.giotto_rules.specs.Names as spec;
 
 use giotto_tasks::index::Index;
 use giotto_tasks::names::Name;
@@ -10,14 +10,14 @@ use std::alloc::AllocError;
 
 /// Whether each of some names is one of these.
 pub(crate) fn are_among(names: &Index, some: &[Name]) -> bool
-    ensures { result ≡ tests.are_among names.now some.now }
+    ensures { result ≡ spec.are_among names.now some.now }
 {
     some.iter().all(|name| names.contains(name))
 }
 
 /// Whether none of some names is one of these.
 pub(crate) fn share_none(names: &Index, some: &[Name]) -> bool
-    ensures { result ≡ tests.share_none names.now some.now }
+    ensures { result ≡ spec.share_none names.now some.now }
 {
     for name in some {
         if names.contains(name) {
@@ -29,7 +29,7 @@ pub(crate) fn share_none(names: &Index, some: &[Name]) -> bool
 
 /// Whether no number stands twice.
 pub(crate) fn all_different_numbers(numbers: &[u64]) -> bool
-    ensures { result ≡ tests.all_different_numbers numbers.now }
+    ensures { result ≡ spec.all_different_numbers numbers.now }
 {
     for i in 0..numbers.len() {
         if numbers[i + 1..].contains(&numbers[i]) {

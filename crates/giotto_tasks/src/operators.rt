@@ -69,9 +69,9 @@ impl BinaryOperator {
         ensures { result ≡ binary self x y }
     {
         match self {
-            BinaryOperator::Add => sum(x, y),
-            BinaryOperator::Subtract => difference(x, y),
-            BinaryOperator::Multiply => product(x, y),
+            BinaryOperator::Add => saturating_sum(x, y),
+            BinaryOperator::Subtract => saturating_difference(x, y),
+            BinaryOperator::Multiply => saturating_product(x, y),
             BinaryOperator::Divide => divided(x, y),
             BinaryOperator::Remainder => remainder_of(x, y),
             BinaryOperator::Equal => i64::from(x == y),
@@ -90,28 +90,28 @@ impl BinaryOperator {
 // differences.
 
 #[inline]
-fn sum(x: i64, y: i64) -> i64
+fn saturating_sum(x: i64, y: i64) -> i64
     ensures { result ≡ saturated (x +ℤ y) }
 {
-    cut(i128::from(x) + i128::from(y))
+    saturate(i128::from(x) + i128::from(y))
 }
 
 #[inline]
-fn difference(x: i64, y: i64) -> i64
+fn saturating_difference(x: i64, y: i64) -> i64
     ensures { result ≡ saturated (x -ℤ y) }
 {
-    cut(i128::from(x) - i128::from(y))
+    saturate(i128::from(x) - i128::from(y))
 }
 
 #[inline]
-fn product(x: i64, y: i64) -> i64
+fn saturating_product(x: i64, y: i64) -> i64
     ensures { result ≡ saturated (x *ℤ y) }
 {
-    cut(i128::from(x) * i128::from(y))
+    saturate(i128::from(x) * i128::from(y))
 }
 
 #[inline]
-fn cut(z: i128) -> i64
+fn saturate(z: i128) -> i64
     ensures { result ≡ saturated z }
 {
     if z < i128::from(i64::MIN) {

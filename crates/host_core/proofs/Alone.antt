@@ -12,7 +12,7 @@ use Rattle.host_core.specs.declared.events.Event.{Event}
 use Rattle.host_core.specs.declared.events.Event.TheVariants.{Own}
 use Rattle.tenant_state.specs.declared.jobs.JobId.{JobId}
 use Rattle.tenant_lines.specs.declared.commands.Command.{Command}
-use Rattle.giotto_rules.specs.Declarations.{mode_of}
+use Rattle.giotto_rules.specs.Declarations.{mode_named}
 use Rattle.rig_config.specs.Roster.{budgets_at}
 use Rattle.tenant_state.specs.Jobs.{job_of, same_job, is_active}
 use Rattle.tenant_state.specs.Row.{ActiveTask, Row, empty_row, is_running}
@@ -35,7 +35,7 @@ pub all_due : (P : ActiveTask → Type 0) (row : Row) → AllByRecursion P row.a
 all_due P row all =
     all_if P (is_running row) (option_map_or (due_in_program row) row.program [])
     (all_option P (due_in_program row) row.program (λ p.
-    all_option P (due_in_mode row) (mode_of p row.mode) (λ m.
+    all_option P (due_in_mode row) (mode_named p row.mode) (λ m.
     all_flat P (λ (i : TaskInvocation). filter (λ (a : ActiveTask). same_name a.task i.task && is_due_at row.mode_time m i.frequency) row.active) m.invocations (λ i. all_filter P _ row.active all))))
 
 -- a job that is active behind the event is counted exactly if it was

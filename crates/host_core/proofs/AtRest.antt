@@ -49,10 +49,10 @@ stands_inside setting host state stands = stands_at_rest setting (record host { 
 pub stands_outside : (setting : Setting) (host : HostStanding) (state : HostState) → Stands setting host state → Stands setting (record host { tenants = map at_rest host.tenants }) state
 stands_outside setting host state stands = stands_at_rest setting host state (map at_rest host.tenants) (rest_twice host.tenants) stands
 
-pub readied : (xs ys : List Standing) (i : ℕ) (x s : Standing) → map at_rest xs ≡ map at_rest ys → x ≡ get_or xs i x → s.own ≡ x.own → s.row ≡ x.row → s.completed ≡ x.completed
+pub readied : (xs ys : List Standing) (i : ℕ) (x s : Standing) → map at_rest xs ≡ map at_rest ys → x ≡ get_or xs i x → s.place ≡ x.place → s.row ≡ x.row → s.completed ≡ x.completed
     → map at_rest (set xs i s) ≡ map at_rest ys
 readied xs ys i x s same here own row completed =
-    let as_it_was : at_rest s ≡ at_rest x = λ k. record { own = own k; row = row k; completed = completed k; places = 0; shared = false } in
+    let as_it_was : at_rest s ≡ at_rest x = λ k. record { place = own k; row = row k; completed = completed k; room = 0; shared = false } in
     map-set_same at_rest xs i s x (as_it_was ∙ ap at_rest here) ∙ same
 
 -- what is gathered from rows and marks is the same

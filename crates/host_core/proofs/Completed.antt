@@ -46,13 +46,13 @@ first_done j js past = ap (λ es. es ++ past) (reverse-append (Done j ∷ []) (m
 
 -- no row changes, and no place
 pub whole_completed : (long n : ℕ) (xs ys : List Standing) → AreStepped (λ t. IsCompleted) xs ys → IsWhole long n xs → IsWhole long n ys
-whole_completed long n xs ys steps whole = (steps.as_many ∙ whole.0, known, placed_behind (λ t. IsCompleted) (λ t x y one. one.own) xs ys steps whole.2)
+whole_completed long n xs ys steps whole = (steps.as_many ∙ whole.0, known, placed_behind (λ t. IsCompleted) (λ t x y one. one.place) xs ys steps whole.2)
   where
     known : All (IsAt n) ys
     known k d lt =
         let within : k < length xs = omega (arith, lt, steps.as_many) in
         let row = ap (λ (s : Standing). s.row) (get_or_default ys k d (empty_standing 0 0) lt) ∙ (steps.each k within).row in
-        subst (λ (r : Row). (r.count ≡ n) × IsKnown r) (sym row) (whole.1 k (empty_standing 0 0) within)
+        subst (λ (r : Row). (r.next_tick ≡ n) × IsKnown r) (sym row) (whole.1 k (empty_standing 0 0) within)
 
 module _ (setting : Setting) where
   -- the state behind the completions of these jobs, the first of them first
@@ -139,7 +139,7 @@ module _ (setting : Setting) where
         (λ lt.
         let one = known j.tenant (empty_standing 0 0) (omega (arith, stands.as_many, lt)) in
         let row = (stands.each j.tenant lt).same_row in
-        let tick = early_active j.tenant (tenant_at host.tenants j.tenant).row.count j (tenant_at host.tenants j.tenant).row.active one.1.early (ap (λ (r : Row). is_active r j) row ∙ e) in
+        let tick = early_active j.tenant (tenant_at host.tenants j.tenant).row.next_tick j (tenant_at host.tenants j.tenant).row.active one.1.early (ap (λ (r : Row). is_active r j) row ∙ e) in
         omega (arith, tick, one.0, stands.same_clock))
         (λ le.
         let none : row_at state j.tenant ≡ empty_row state.clock = get_or-eq_default state.rows (empty_row state.clock) (omega (arith, stands.all_rows, le)) in

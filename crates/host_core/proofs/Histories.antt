@@ -56,7 +56,7 @@ module _ (setting : Setting) where
         (λ le. subst (Keeps (IsEarly []) setting.base.clock) (sym (get_or-eq_default setting.base.rows (empty_row setting.base.clock) (omega (arith, base.as_many)))) (record { each = tt; at = refl }))
         (cases_lt t (length setting.config.tenants))
 
-    -- each active task was released before the next tick, whose number is the row's count
+    -- each active task was released before the next tick, whose number the row has
     pub releases : (past : List Event) (t : ℕ) → Keeps (IsEarly past) (next_tick setting past) (row_of setting past t)
     releases [] t = base_keeps t
     releases (Own u c ∷ past) t =

@@ -79,12 +79,12 @@ released_more n from (x ∷ xs) s =
     ∙ ap (λ k. (released_at from n x.row ++ released_from n (from + 1) xs) ++ released_at k n s.row) (omega arith))
 
 -- the jobs of the next tenant stand behind those of the tenants before
-pub jobs_more : (n i : ℕ) (now : List Standing) (s x : Standing) (first old new : List JobValue) → i < length now → x.own ≡ i → x.row.count ≡ n
-    → new ≡ old ++ released_at x.own x.row.count s.row → old ≡ first ++ released_from n 0 (take i now) → new ≡ first ++ released_from n 0 (take (i + 1) (set now i s))
+pub jobs_more : (n i : ℕ) (now : List Standing) (s x : Standing) (first old new : List JobValue) → i < length now → x.place ≡ i → x.row.next_tick ≡ n
+    → new ≡ old ++ released_at x.place x.row.next_tick s.row → old ≡ first ++ released_from n 0 (take i now) → new ≡ first ++ released_from n 0 (take (i + 1) (set now i s))
 jobs_more n i now s x first old new lt own count more before =
     let place : 0 + length (take i now) ≡ i = omega (arith, length-take i now) in
     more
-    ∙ (ap (λ k. old ++ released_at k x.row.count s.row) own
+    ∙ (ap (λ k. old ++ released_at k x.row.next_tick s.row) own
     ∙ (ap (λ k. old ++ released_at i k s.row) count
     ∙ (ap (λ js. js ++ released_at i n s.row) before
     ∙ (append_assoc first (released_from n 0 (take i now)) (released_at i n s.row)
@@ -103,13 +103,13 @@ module _ {long clock : ℕ} (before : List Standing) {ready middle : List Standi
   kept : IsWhole long clock ready
   kept = kept_at_rest before ready rest whole
 
-  pub counts_middle : All (λ (s : Standing). s.row.count ≡ clock) middle
+  pub counts_middle : All (λ (s : Standing). s.row.next_tick ≡ clock) middle
   counts_middle k d lt =
       let within : k < length ready = omega (arith, first.as_many) in
-      ap (λ (s : Standing). s.row.count) (get_or_default middle k d (empty_standing 0 0) lt) ∙ (first.each k within).count ∙ (kept.1 k (empty_standing 0 0) within).0
+      ap (λ (s : Standing). s.row.next_tick) (get_or_default middle k d (empty_standing 0 0) lt) ∙ (first.each k within).next_tick ∙ (kept.1 k (empty_standing 0 0) within).0
 
   pub placed_middle : ArePlaced middle
-  placed_middle = placed_behind (λ t. IsFirstHalf) (λ t s x half. half.own) ready middle first kept.2
+  placed_middle = placed_behind (λ t. IsFirstHalf) (λ t s x half. half.place) ready middle first kept.2
 
   -- what a host has kept behind it
   pub record IsInstant (config : Config) (frame : List ℤ) (after : List Standing) : Type 0 where
@@ -119,7 +119,7 @@ module _ {long clock : ℕ} (before : List Standing) {ready middle : List Standi
 
   pub is_instant : (config : Config) (frame : List ℤ) (after : List Standing) → AreStepped (λ t. IsSecondHalf (budgets_at config t).reads frame) middle after → IsInstant config frame after
   is_instant config frame after second = record {
-    later = (second.as_many ∙ first.as_many ∙ kept.0, each, placed_behind (λ t. IsSecondHalf (budgets_at config t).reads frame) (λ t s x half. half.own) middle after second placed_middle);
+    later = (second.as_many ∙ first.as_many ∙ kept.0, each, placed_behind (λ t. IsSecondHalf (budgets_at config t).reads frame) (λ t s x half. half.place) middle after second placed_middle);
     stands = λ setting state stands.
         let inside = stands_at_rest setting (record { config = config; tenants = map at_rest before; clock = clock }) state ready (rest ∙ sym (rest_twice before)) stands in
         stands_outside setting (record { config = config; tenants = after; clock = clock + 1 }) (after_event setting state (Tick frame))
@@ -129,4 +129,4 @@ module _ {long clock : ℕ} (before : List Standing) {ready middle : List Standi
       each : All (IsAt (clock + 1)) after
       each k d lt =
           let one = second.each k (omega (arith, second.as_many)) in
-          subst (IsAt (clock + 1)) (get_or_default after k (empty_standing 0 0) d lt) (one.count ∙ ap (λ n. n + 1) (counts_middle k (empty_standing 0 0) (omega (arith, second.as_many))), one.known)
+          subst (IsAt (clock + 1)) (get_or_default after k (empty_standing 0 0) d lt) (one.next_tick ∙ ap (λ n. n + 1) (counts_middle k (empty_standing 0 0) (omega (arith, second.as_many))), one.known)

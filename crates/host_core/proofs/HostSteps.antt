@@ -44,8 +44,8 @@ use Rattle.giotto_tasks.proofs.ListLemmas.{all_map, all_of, any_of_filter, find_
 pub stands_by : (s : Standing) (row : Row) (f g : ActiveTask → Bool) → AllByRecursion (λ a. f a ≡ g a) row.active → StandsFor s row f → StandsFor s row g
 stands_by s row f g same stands = record { same_row = stands.same_row; same_marks = stands.same_marks ∙ map_same f g row.active same }
 
-pub same_count : (s : Standing) (row : Row) (f : ActiveTask → Bool) → StandsFor s row f → row.count ≡ s.row.count
-same_count s row f stands = sym (ap (λ (r : Row). r.count) stands.same_row)
+pub same_count : (s : Standing) (row : Row) (f : ActiveTask → Bool) → StandsFor s row f → row.next_tick ≡ s.row.next_tick
+same_count s row f stands = sym (ap (λ (r : Row). r.next_tick) stands.same_row)
 
 -- the budgets of a tenant of the roster
 pub budgets_here : (config : Config) (t : ℕ) (d : TenantConfig) → t < length config.tenants → budgets_at config t ≡ (get_or config.tenants t d).budgets
@@ -58,7 +58,7 @@ module _ (setting : Setting) where
       → length tenants ≡ length setting.config.tenants → length rows ≡ length setting.config.tenants → state.clock ≤ clock
       → ((t : ℕ) → t < length setting.config.tenants
       → StandsFor (get_or tenants t (empty_standing 0 0)) (get_or rows t (empty_row clock)) (λ a. is_counted state (job_of t a)))
-      → ((t : ℕ) → t < length setting.config.tenants → (get_or rows t (empty_row clock)).count ≡ clock)
+      → ((t : ℕ) → t < length setting.config.tenants → (get_or rows t (empty_row clock)).next_tick ≡ clock)
       → Stands setting (record { config = host.config; tenants = tenants; clock = clock }) (with_rows (record state { clock = clock }) rows)
   stands_with_rows host state tenants rows clock stands as_many all_rows later each counts = record {
     same_config = stands.same_config;
@@ -85,7 +85,7 @@ module _ (setting : Setting) where
     abbrev rows : List Row
     rows = set state.rows u new
 
-    module _ (within : u < length setting.config.tenants) (own : StandsFor s new (λ a. is_counted state (job_of u a))) (count : s.row.count ≡ host.clock) where
+    module _ (within : u < length setting.config.tenants) (own : StandsFor s new (λ a. is_counted state (job_of u a))) (count : s.row.next_tick ≡ host.clock) where
       here_tenant : (t : ℕ) → u ≡ t → get_or tenants t (empty_standing 0 0) ≡ s
       here_tenant t e = ap (λ k. get_or tenants k (empty_standing 0 0)) (sym e) ∙ get_or-set_same host.tenants u s (empty_standing 0 0) (omega (arith, stands.as_many))
 
@@ -110,10 +110,10 @@ module _ (setting : Setting) where
           (stands.each t lt)))
           (cases_eq u t)
 
-      command_counts : (t : ℕ) → t < length setting.config.tenants → (get_or rows t (empty_row state.clock)).count ≡ state.clock
+      command_counts : (t : ℕ) → t < length setting.config.tenants → (get_or rows t (empty_row state.clock)).next_tick ≡ state.clock
       command_counts t lt = ⊎_elim
-          (λ (same : u ≡ t). ap (λ (r : Row). r.count) (here_row t same) ∙ (same_count s new (λ a. is_counted state (job_of u a)) own ∙ (count ∙ stands.same_clock)))
-          (λ (differ : u ≢ t). ap (λ (r : Row). r.count) (there_row t differ) ∙ stands.counts t lt)
+          (λ (same : u ≡ t). ap (λ (r : Row). r.next_tick) (here_row t same) ∙ (same_count s new (λ a. is_counted state (job_of u a)) own ∙ (count ∙ stands.same_clock)))
+          (λ (differ : u ≢ t). ap (λ (r : Row). r.next_tick) (there_row t differ) ∙ stands.counts t lt)
           (cases_eq u t)
 
       pub stands_after_command : Stands setting (record host { tenants = set host.tenants u s }) (after_event setting state (Own u c))
@@ -162,10 +162,10 @@ module _ (setting : Setting) where
       half_stands : StandsFor (tenant_at middle t) half completed
       half_stands = one.step row completed (stands.each t lt)
 
-      half_count : half.count ≡ state.clock
-      half_count = same_count (tenant_at middle t) half completed half_stands ∙ (one.count ∙ (sym (same_count (tenant_at host.tenants t) row completed (stands.each t lt)) ∙ stands.counts t lt))
+      half_count : half.next_tick ≡ state.clock
+      half_count = same_count (tenant_at middle t) half completed half_stands ∙ (one.next_tick ∙ (sym (same_count (tenant_at host.tenants t) row completed (stands.each t lt)) ∙ stands.counts t lt))
 
-      fresh : (a : ActiveTask) → a.release ≡ half.count → completed a ≡ false
+      fresh : (a : ActiveTask) → a.release ≡ half.next_tick → completed a ≡ false
       fresh a e = false_from_ne_true (completed a) (λ h. let before = stands.early (job_of t a) h in absurd (omega (arith, half_count)))
 
       no_binds : row.binds ≡ []
@@ -182,10 +182,10 @@ module _ (setting : Setting) where
       tick_each : StandsFor (get_or after t (empty_standing 0 0)) (get_or rows_behind t (empty_row (state.clock + 1))) completed
       tick_each = subst (λ r. StandsFor (tenant_at after t) r completed) new_row (two.step half completed half_stands fresh)
 
-      tick_counts : (get_or rows_behind t (empty_row (state.clock + 1))).count ≡ state.clock + 1
+      tick_counts : (get_or rows_behind t (empty_row (state.clock + 1))).next_tick ≡ state.clock + 1
       tick_counts =
           same_count (tenant_at after t) (get_or rows_behind t (empty_row (state.clock + 1))) completed tick_each
-          ∙ (two.count ∙ ap (λ n. n + 1) (sym (same_count (tenant_at middle t) half completed half_stands) ∙ half_count))
+          ∙ (two.next_tick ∙ ap (λ n. n + 1) (sym (same_count (tenant_at middle t) half completed half_stands) ∙ half_count))
 
     pub stands_after_tick : Stands setting (record { config = host.config; tenants = after; clock = host.clock + 1 }) (after_event setting state (Tick frame))
     stands_after_tick =
@@ -302,12 +302,12 @@ module _ (setting : Setting) where
 
   -- an awaited job was released before the next instant
   awaited_is_early : (host : HostStanding) (state : HostState) (j : JobId) → j.tenant < length setting.config.tenants → Stands setting host state
-      → IsKnown (tenant_at host.tenants j.tenant).row → is_some (awaited_job (tenant_at host.tenants j.tenant) j) ≡ true → j.tick < (tenant_at host.tenants j.tenant).row.count
+      → IsKnown (tenant_at host.tenants j.tenant).row → is_some (awaited_job (tenant_at host.tenants j.tenant) j) ≡ true → j.tick < (tenant_at host.tenants j.tenant).row.next_tick
   awaited_is_early host state j lt stands known e =
       let s : Standing = tenant_at host.tenants j.tenant in
       let row : Row = row_at state j.tenant in
       let parts = and_parts (is_active row j) (not (is_counted state j)) (sym (awaited_is s row j (is_counted state) (λ i k e. ap (is_counted state) e) known (stands.each j.tenant lt)) ∙ e) in
-      early_active j.tenant s.row.count j row.active (subst (AllByRecursion (λ (a : ActiveTask). a.release < s.row.count)) (ap (λ (r : Row). r.active) (stands.each j.tenant lt).same_row) known.early) parts.0
+      early_active j.tenant s.row.next_tick j row.active (subst (AllByRecursion (λ (a : ActiveTask). a.release < s.row.next_tick)) (ap (λ (r : Row). r.active) (stands.each j.tenant lt).same_row) known.early) parts.0
 
   pub done_counts : (host : HostStanding) (state : HostState) (j : JobId) (place : ℕ) (before after : Standing)
       → place ≡ j.tenant → Stands setting host state → place < length host.tenants → before ≡ get_or host.tenants place before

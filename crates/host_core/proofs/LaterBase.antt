@@ -54,7 +54,7 @@ module _ (setting : Setting) (base : IsBase setting.config setting.base) where
   pub later_is_base : (past : List Event) → is_legal setting past ≡ true → IsBase setting.config (host_after setting past)
   later_is_base past legal = record {
     as_many = agrees.long;
-    counts = λ t lt. ap (λ (r : Row). r.count) (agrees.rows t lt) ∙ ((releases setting base past t).at ∙ sym (same_clock setting past));
+    counts = λ t lt. ap (λ (r : Row). r.next_tick) (agrees.rows t lt) ∙ ((releases setting base past t).at ∙ sym (same_clock setting past));
     early = λ t lt.
         subst (λ n. AllByRecursion (λ (a : ActiveTask). a.release < n) (row_at (host_after setting past) t).active) (sym (same_clock setting past))
         (subst (λ (r : Row). AllByRecursion (λ (a : ActiveTask). a.release < next_tick setting past) r.active) (sym (agrees.rows t lt)) (releases setting base past t).each);
@@ -75,7 +75,7 @@ module _ (config : Config) (first_tick : ℕ) where
   pub new_is_base : IsBase config (new_base config first_tick)
   new_is_base = record {
     as_many = length-map config.tenants _;
-    counts = λ t lt. ap (λ (r : Row). r.count) (new_row t);
+    counts = λ t lt. ap (λ (r : Row). r.next_tick) (new_row t);
     early = λ t lt. subst (λ (r : Row). AllByRecursion (λ (a : ActiveTask). a.release < first_tick) r.active) (sym (new_row t)) tt;
     active = λ j e. absurd (cc);
   }

@@ -48,6 +48,6 @@ module _ (setting : Setting) (n : ℕ) where
         subst (λ (s : Standing). StandsFor s (row_at (new_base setting.config n) t) (λ a. is_counted (new_base setting.config n) (job_of t a))) (sym (standing_empty t lt))
         (subst (λ (r : Row). StandsFor (at_rest (empty_standing t n)) r (λ a. is_counted (new_base setting.config n) (job_of t a))) (sym (row_empty t lt))
         (stands_empty t (λ a. is_counted (new_base setting.config n) (job_of t a))));
-    counts = λ t lt. ap (λ (r : Row). r.count) (row_empty t lt);
+    counts = λ t lt. ap (λ (r : Row). r.next_tick) (row_empty t lt);
     early = λ j e. absurd (cc);
   }

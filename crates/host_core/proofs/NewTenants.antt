@@ -36,5 +36,5 @@ module _ (n : ℕ) (roster : List TenantConfig) where
   new_whole = (
     as_many_new,
     λ t d lt. subst (IsAt n) (sym (new_at t d (omega (arith, as_many_new)))) (refl, record { no_binds = refl; tasks = λ none. refl; early = tt }),
-    λ t lt. ap (λ (s : Standing). s.own) (new_at t (empty_standing 0 0) (omega (arith, as_many_new))),
+    λ t lt. ap (λ (s : Standing). s.place) (new_at t (empty_standing 0 0) (omega (arith, as_many_new))),
   )

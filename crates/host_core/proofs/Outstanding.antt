@@ -50,8 +50,8 @@ behind_all from (x ∷ xs) s =
     ∙ ap (λ k. (map (job_of from) (outstanding_tasks x) ++ outstanding_from (from + 1) xs) ++ map (job_of k) (outstanding_tasks s)) (omega arith))
 
 -- the jobs of the next tenant stand behind those of the tenants before
-pub jobs_more : (i : ℕ) (xs : List Standing) (x : Standing) (old new : List JobId) → i < length xs → x ≡ get_or xs i x → x.own ≡ i
-    → new ≡ old ++ map (job_of x.own) (outstanding_tasks x) → old ≡ outstanding_from 0 (take i xs) → new ≡ outstanding_from 0 (take (i + 1) xs)
+pub jobs_more : (i : ℕ) (xs : List Standing) (x : Standing) (old new : List JobId) → i < length xs → x ≡ get_or xs i x → x.place ≡ i
+    → new ≡ old ++ map (job_of x.place) (outstanding_tasks x) → old ≡ outstanding_from 0 (take i xs) → new ≡ outstanding_from 0 (take (i + 1) xs)
 jobs_more i xs x old new lt at own more before =
     let place : 0 + length (take i xs) ≡ i = omega (arith, length-take i xs) in
     more ∙ (ap (λ k. old ++ map (job_of k) (outstanding_tasks x)) own

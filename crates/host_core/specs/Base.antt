@@ -12,7 +12,7 @@ use Rattle.host_core.specs.HostState.{HostState, row_at, is_counted}
 -- the next one; what is active was released before that; and what is counted is active.
 pub record IsBase (config : Config) (base : HostState) : Type 0 where
   pub as_many : length base.rows ≡ length config.tenants
-  pub counts : (t : ℕ) → t < length config.tenants → (row_at base t).count ≡ base.clock
+  pub counts : (t : ℕ) → t < length config.tenants → (row_at base t).next_tick ≡ base.clock
   pub early : (t : ℕ) → t < length config.tenants → AllByRecursion (λ (a : ActiveTask). a.release < base.clock) (row_at base t).active
   pub active : (j : JobId) → is_counted base j ≡ true → is_active (row_at base j.tenant) j ≡ true
 

@@ -10,7 +10,7 @@ use Rattle.tenant_state.specs.Standing.{Standing, StandsFor, HasRoom, HasShares,
 
 -- ready for the next instant
 pub record IsReady (s : Standing) : Type 0 where
-  pub places : HasRoom s
+  pub room : HasRoom s
   pub shares : HasShares s
 
 -- the most jobs that the next instant of all these can release
@@ -20,22 +20,22 @@ most_of tenants = sum_by (λ (s : Standing). most_released s.row) tenants
 -- a tenant before and behind its first half
 pub record IsFirstHalf (before after : Standing) : Type 0 where
   pub step : (row : Row) (completed : ActiveTask → Bool) → StandsFor before row completed → StandsFor after (first_half_of (unfinished_tasks completed row) row) completed
-  pub count : after.row.count ≡ before.row.count
-  pub own : after.own ≡ before.own
+  pub next_tick : after.row.next_tick ≡ before.row.next_tick
+  pub place : after.place ≡ before.place
 
 -- a tenant that may read these lines, before and behind its second half
 pub record IsSecondHalf (reads : List ℕ) (frame : List ℤ) (before after : Standing) : Type 0 where
   pub step : (row : Row) (completed : ActiveTask → Bool) → StandsFor before row completed
-      → ((a : ActiveTask) → a.release ≡ row.count → completed a ≡ false)
+      → ((a : ActiveTask) → a.release ≡ row.next_tick → completed a ≡ false)
       → StandsFor after (second_half_of (readings_within reads frame) [] row) completed
-  pub count : after.row.count ≡ before.row.count + 1
-  pub own : after.own ≡ before.own
+  pub next_tick : after.row.next_tick ≡ before.row.next_tick + 1
+  pub place : after.place ≡ before.place
   pub known : IsKnown after.row
 
 -- a tenant before and behind the completion of its outstanding jobs
 pub record IsCompleted (before after : Standing) : Type 0 where
   pub row : after.row ≡ before.row
-  pub own : after.own ≡ before.own
+  pub place : after.place ≡ before.place
   pub completed : after.completed ≡ map (λ b. true) before.completed
 
 -- all tenants, each of which has taken the step, by its place

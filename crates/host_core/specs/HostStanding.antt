@@ -33,17 +33,17 @@ pub record Stands (setting : Setting) (host : HostStanding) (state : HostState) 
   pub as_many : length host.tenants ≡ length setting.config.tenants
   pub all_rows : length state.rows ≡ length setting.config.tenants
   pub each : (t : ℕ) → t < length setting.config.tenants → StandsFor (tenant_at host.tenants t) (row_at state t) (λ a. is_counted state (job_of t a))
-  pub counts : (t : ℕ) → t < length setting.config.tenants → (row_at state t).count ≡ state.clock
+  pub counts : (t : ℕ) → t < length setting.config.tenants → (row_at state t).next_tick ≡ state.clock
   -- what is counted was released before the next instant
   pub early : (j : JobId) → is_counted state j ≡ true → j.tick < state.clock
 
 -- what is known of each tenant of a host whose next instant has this number
 abbrev pub IsAt : ℕ → Standing → Type 0
-IsAt n s = (s.row.count ≡ n) × IsKnown s.row
+IsAt n s = (s.row.next_tick ≡ n) × IsKnown s.row
 
 -- each tenant knows its place
 abbrev pub ArePlaced : List Standing → Type 0
-ArePlaced tenants = (t : ℕ) → t < length tenants → (tenant_at tenants t).own ≡ t
+ArePlaced tenants = (t : ℕ) → t < length tenants → (tenant_at tenants t).place ≡ t
 
 -- the job of this name, if its completion is awaited
 abbrev pub awaited_in : HostStanding → JobId → Option JobValue

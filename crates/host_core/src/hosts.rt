@@ -317,12 +317,12 @@ fn first_halves(tenants: &mut Vec<Tenant>)
 // The second half of each tenant, with its budgets.
 fn second_halves(tenants: &mut Vec<Tenant>, config: &Config, frame: &[i64], jobs: &mut Jobs)
     requires tenants { length tenants.old.items ≡ length config.now.tenants }
-    requires counts { All (λ (s : Standing). s.row.count < 2 ^ 64 - 1) tenants.old.items }
+    requires counts { All (λ (s : Standing). s.row.next_tick < 2 ^ 64 - 1) tenants.old.items }
     requires placed { ArePlaced tenants.old.items }
     requires ready { All IsReady tenants.old.items }
     requires jobs { most_of tenants.old.items ≤ jobs.old.room }
     ensures halves { AreStepped (λ t. IsSecondHalf (budgets_at config.now t).reads frame.now) tenants.old.items tenants.new.items }
-    ensures jobs { (n : ℕ) → All (λ (s : Standing). s.row.count ≡ n) tenants.old.items → jobs.new.jobs ≡ jobs.old.jobs ++ released_from n 0 tenants.new.items }
+    ensures jobs { (n : ℕ) → All (λ (s : Standing). s.row.next_tick ≡ n) tenants.old.items → jobs.new.jobs ≡ jobs.old.jobs ++ released_from n 0 tenants.new.items }
 {
     for i in 0..tenants.len() {
         let budgets = &config.tenants.as_slice()[i].budgets;
@@ -335,7 +335,7 @@ fn second_halves(tenants: &mut Vec<Tenant>, config: &Config, frame: &[i64], jobs
 // The second half of each tenant, where nobody takes the jobs.
 fn second_halves_without_jobs(tenants: &mut Vec<Tenant>, config: &Config, frame: &[i64])
     requires tenants { length tenants.old.items ≡ length config.now.tenants }
-    requires counts { All (λ (s : Standing). s.row.count < 2 ^ 64 - 1) tenants.old.items }
+    requires counts { All (λ (s : Standing). s.row.next_tick < 2 ^ 64 - 1) tenants.old.items }
     requires ready { All IsReady tenants.old.items }
     ensures { AreStepped (λ t. IsSecondHalf (budgets_at config.now t).reads frame.now) tenants.old.items tenants.new.items }
 {

@@ -12,7 +12,7 @@ use Rattle.giotto_tasks.proofs.ListLemmas.{found_has, some_same}
 use Rattle.giotto_tasks.proofs.NameLemmas.{same_name_is, same_name_self, all_different-append}
 use Rattle.giotto_tasks.proofs.TestLemmas.{same_answers}
 use Rattle.giotto_text.specs.Program.{TaskDeclaration, ActuatorUpdate, ModeSwitch, TaskInvocation, ModeDeclaration, GiottoProgram}
-use Rattle.giotto_rules.specs.Declarations.{sensor_names, actuator_names, output_names, task_names, mode_names, task_of, mode_of}
+use Rattle.giotto_rules.specs.Declarations.{sensor_names, actuator_names, output_names, task_names, mode_names, task_named, mode_named}
 use Rattle.giotto_check.specs.Facts.{UpdateFits, SwitchFits, InvocationFits, ModeFits, TaskFits, ProgramFits}
 use Rattle.giotto_check.specs.Slots.{is_port, ports_of, slot_of, slots_of}
 use Rattle.giotto_check.specs.Timetables.{AreEach, IsUpdate, IsExit, IsInvocation, AreTaskSlots, place_of_task}
@@ -70,9 +70,9 @@ module _ (p : GiottoProgram) (fits : ProgramFits p) where
   modes_once = different_last (task_names p) (mode_names p) declared
 
   -- the mode at a place is the mode of its name
-  pub mode_here : (k : ℕ) (m : ModeDeclaration) → slice_get p.modes k ≡ Some m → mode_of p (name_of_mode p k) ≡ Some m
+  pub mode_here : (k : ℕ) (m : ModeDeclaration) → slice_get p.modes k ≡ Some m → mode_named p (name_of_mode p k) ≡ Some m
   mode_here k m at =
-      ap (λ o. mode_of p (option_map_or (λ (m : ModeDeclaration). m.name) o [])) at ∙ found_by_name (λ (m : ModeDeclaration). m.name) p.modes k m modes_once at
+      ap (λ o. mode_named p (option_map_or (λ (m : ModeDeclaration). m.name) o [])) at ∙ found_by_name (λ (m : ModeDeclaration). m.name) p.modes k m modes_once at
 
   pub mode_fits_at : (k : ℕ) (m : ModeDeclaration) → slice_get p.modes k ≡ Some m → ModeFits p m
   mode_fits_at k m at = found_has (ModeFits p) (λ (n : ModeDeclaration). same_name n.name (name_of_mode p k)) p.modes m fits.modes (mode_here k m at)
@@ -81,14 +81,14 @@ module _ (p : GiottoProgram) (fits : ProgramFits p) where
   name_here k t at = ap (λ o. option_map_or (λ (t : TaskDeclaration). t.name) o []) at
 
   -- the task at a place is the task of its name
-  pub task_here : (k : ℕ) (t : TaskDeclaration) → slice_get p.tasks k ≡ Some t → task_of p (name_of_task p k) ≡ Some t
-  task_here k t at = ap (task_of p) (name_here k t at) ∙ found_by_name (λ (t : TaskDeclaration). t.name) p.tasks k t tasks_once at
+  pub task_here : (k : ℕ) (t : TaskDeclaration) → slice_get p.tasks k ≡ Some t → task_named p (name_of_task p k) ≡ Some t
+  task_here k t at = ap (task_named p) (name_here k t at) ∙ found_by_name (λ (t : TaskDeclaration). t.name) p.tasks k t tasks_once at
 
   pub task_fits_at : (k : ℕ) (t : TaskDeclaration) → slice_get p.tasks k ≡ Some t → TaskFits p t
   task_fits_at k t at = found_has (TaskFits p) (λ (u : TaskDeclaration). same_name u.name (name_of_task p k)) p.tasks t fits.tasks (task_here k t at)
 
   -- the task of this name stands at the place of the name
-  pub task_of_place : (x : Name) (k : ℕ) (t : TaskDeclaration) → place_of_task p x ≡ Some k → task_of p x ≡ Some t → slice_get p.tasks k ≡ Some t
+  pub task_of_place : (x : Name) (k : ℕ) (t : TaskDeclaration) → place_of_task p x ≡ Some k → task_named p x ≡ Some t → slice_get p.tasks k ≡ Some t
   task_of_place x k t place found =
       let there = found_there (λ (t : TaskDeclaration). same_name t.name x) 0 p.tasks k t place found in
       ap (slice_get p.tasks) (omega (arith, there.1)) ∙ there.2

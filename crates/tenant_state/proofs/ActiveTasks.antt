@@ -12,7 +12,7 @@ use Rattle.tenant_lines.specs.declared.commands.Command.{Command}
 use Rattle.tenant_lines.specs.declared.commands.Command.TheVariants.{Load, Start, Stop, ShowMode, ShowPort, ShowAll}
 use Rattle.tenant_lines.specs.declared.ports.PortName.{PortName}
 use Rattle.tenant_lines.specs.declared.replies.Budget.{Budget}
-use Rattle.giotto_rules.specs.Declarations.{task_of, mode_of}
+use Rattle.giotto_rules.specs.Declarations.{task_named, mode_named}
 use Rattle.giotto_rules.specs.Rules.{first_broken_rule}
 use Rattle.tenant_lines.specs.declared.replies.Refusal.TheVariants.{NotRunning}
 use Rattle.tenant_lines.specs.declared.replies.Reply.TheVariants.{Stopped}
@@ -30,7 +30,7 @@ module _ (P : ActiveTask → Type 0) (n : ℕ) where
   -- each active task has the property, and the row is at this number
   pub record Keeps (row : Row) : Type 0 where
     pub each : AllByRecursion P row.active
-    pub at : row.count ≡ n
+    pub at : row.next_tick ≡ n
 
   pub keeps_where_some : {A : Type 0} (step : A → Row → Row) (o : Option A) (row : Row) → ((x : A) (r : Row) → Keeps r → Keeps (step x r)) → Keeps row → Keeps (where_some step o row)
   keeps_where_some step None row each k = k
@@ -40,7 +40,7 @@ module _ (P : ActiveTask → Type 0) (n : ℕ) where
   keeps_in_program step row each k = keeps_where_some step row.program row each k
 
   keeps_in_mode : (step : GiottoProgram → ModeDeclaration → Row → Row) (row : Row) → ((p : GiottoProgram) (m : ModeDeclaration) (r : Row) → Keeps r → Keeps (step p m r)) → Keeps row → Keeps (in_mode step row)
-  keeps_in_mode step row each k = keeps_in_program (λ p. where_some (step p) (mode_of p row.mode)) row (λ p r. keeps_where_some (step p) (mode_of p row.mode) r (each p)) k
+  keeps_in_mode step row each k = keeps_in_program (λ p. where_some (step p) (mode_named p row.mode)) row (λ p r. keeps_where_some (step p) (mode_named p row.mode) r (each p)) k
 
   keeps_if : (b : Bool) (x y : Row) → Keeps x → Keeps y → Keeps (cond b x y)
   keeps_if true x y kx ky = kx
@@ -72,7 +72,7 @@ module _ (P : ActiveTask → Type 0) (n : ℕ) where
   keeps_switched : (readings : Readings) (granted : Valuation) (p : GiottoProgram) (m : ModeDeclaration) (row : Row) → Keeps row → Keeps (switched p m (sensed readings granted p row))
   keeps_switched readings granted p m row k =
       let sensed_row = sensed readings granted p row in
-      keeps_where_some _ (switch_taken m sensed_row.mode_time sensed_row.ports) _ (λ s r kr. keeps_where_some (entered m s) (mode_of p s.target) r (λ target q kq. record { each = kq.each; at = kq.at }) kr)
+      keeps_where_some _ (switch_taken m sensed_row.mode_time sensed_row.ports) _ (λ s r kr. keeps_where_some (entered m s) (mode_named p s.target) r (λ target q kq. record { each = kq.each; at = kq.at }) kr)
       (record { each = k.each; at = k.at })
 
   module _ (fresh : (a : ActiveTask) → a.release ≡ n → P a) where
@@ -84,19 +84,19 @@ module _ (P : ActiveTask → Type 0) (n : ℕ) where
     pub all_fresh : (p : GiottoProgram) (m : ModeDeclaration) (time c : ℕ) → c ≡ n → (is : List TaskInvocation) (ports : Valuation) → AllByRecursion P (all_released p m time c is ports)
     all_fresh p m time c at [] ports = tt
     all_fresh p m time c at (i ∷ is) ports =
-        all_append P (cond (is_invoked m time i ports) (option_to_list (option_map (released c i ports) (task_of p i.task))) []) (all_released p m time c is (invoked p m time i ports))
-        (fresh_if (is_invoked m time i ports) i ports c at (task_of p i.task)) (all_fresh p m time c at is (invoked p m time i ports))
+        all_append P (cond (is_invoked m time i ports) (option_to_list (option_map (released c i ports) (task_named p i.task))) []) (all_released p m time c is (invoked p m time i ports))
+        (fresh_if (is_invoked m time i ports) i ports c at (task_named p i.task)) (all_fresh p m time c at is (invoked p m time i ports))
 
     keeps_invoked : (p : GiottoProgram) (m : ModeDeclaration) (row : Row) → Keeps row → Keeps (invoked_in_mode p m row)
-    keeps_invoked p m row k = record { each = all_append P row.active _ k.each (all_fresh p m row.mode_time row.count k.at m.invocations row.ports); at = k.at }
+    keeps_invoked p m row k = record { each = all_append P row.active _ k.each (all_fresh p m row.mode_time row.next_tick k.at m.invocations row.ports); at = k.at }
 
     keeps_running : (readings : Readings) (granted : Valuation) (row : Row) → Keeps row → Keeps (second_half_running readings granted row)
     keeps_running readings granted row k =
         keeps_in_mode _ _ (λ p m r kr. let all = keeps_invoked p m r kr in record { each = all.each; at = all.at })
         (keeps_in_mode _ _ (λ p m r kr. keeps_switched readings granted p m r kr) (keeps_replaced row k))
 
-    -- the second half, but for the count that it moves on
-    pub kept_by_instant : (i : LocalInstant) (row : Row) → Keeps row → AllByRecursion P (after_instant i row).active × ((after_instant i row).count ≡ n + 1)
+    -- the second half, but for the next tick, which it moves on
+    pub kept_by_instant : (i : LocalInstant) (row : Row) → Keeps row → AllByRecursion P (after_instant i row).active × ((after_instant i row).next_tick ≡ n + 1)
     kept_by_instant i row k =
         let half = keeps_first_half i.unfinished row k in
         let moved = keeps_if _ _ _ (keeps_running i.readings i.granted (first_half_of i.unfinished row) half) half in

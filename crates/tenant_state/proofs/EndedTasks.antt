@@ -6,7 +6,7 @@ use Rattle.std.proofs.lemmas.Bool.{and_parts, and_from}
 use Rattle.std.proofs.lemmas.List.Folds.{list_all-map}
 use Rattle.std.proofs.lemmas.List.{drop_more}
 use Rattle.std.proofs.lemmas.Option.{slice_get_cases}
-use Rattle.giotto_rules.specs.Declarations.{mode_of}
+use Rattle.giotto_rules.specs.Declarations.{mode_named}
 use Rattle.std.specs.Option.{option_map, option_map_or}
 use Rattle.giotto_tasks.specs.declared.names.Name.{Name}
 use Rattle.giotto_tasks.specs.Names.{Valuation, same_name}
@@ -216,13 +216,13 @@ marks_filtered p completed test (x ∷ xs) e =
     by false first rest = rest
 
 -- a running tenant, and a row for which it stands
-module _ {own : ℕ} (p : GiottoProgram) (fits : ProgramFits p) (m : ModeDeclaration) (mode time : ℕ) (items : List Active) (places : ℕ) (values : List ℤ) (shares : List (Option TaskBody)) (count : ℕ)
-    (at : slice_get p.modes mode ≡ Some m) (row : Row) (completed : ActiveTask → Bool) (st : StandsFor (standing_of own states.Running (Some p) mode time items places values shares count) row completed) where
+module _ {place : ℕ} (p : GiottoProgram) (fits : ProgramFits p) (m : ModeDeclaration) (mode time : ℕ) (items : List Active) (places : ℕ) (values : List ℤ) (shares : List (Option TaskBody)) (count : ℕ)
+    (at : slice_get p.modes mode ≡ Some m) (row : Row) (completed : ActiveTask → Bool) (st : StandsFor (standing_of place states.Running (Some p) mode time items places values shares count) row completed) where
   runs : Runs row p m
   runs = record {
     state = sym (ap (λ (r : Row). r.state) st.same_row);
     program = sym (ap (λ (r : Row). r.program) st.same_row);
-    mode = ap (mode_of p) (sym (ap (λ (r : Row). r.mode) st.same_row)) ∙ mode_here p fits mode m at;
+    mode = ap (mode_named p) (sym (ap (λ (r : Row). r.mode) st.same_row)) ∙ mode_here p fits mode m at;
   }
 
   same_time : time ≡ row.mode_time
@@ -238,7 +238,7 @@ module _ {own : ℕ} (p : GiottoProgram) (fits : ProgramFits p) (m : ModeDeclara
   marks = st.same_marks ∙ ap (map completed) (sym same_active)
 
   -- nothing is due
-  pub quiet_stands : IsQuietAt m time → StandsFor (standing_of own states.Running (Some p) mode time items places values shares count) (first_half_of (unfinished_tasks completed row) row) completed
+  pub quiet_stands : IsQuietAt m time → StandsFor (standing_of place states.Running (Some p) mode time items places values shares count) (first_half_of (unfinished_tasks completed row) row) completed
   quiet_stands quiet =
       let same = unchanged row p m runs completed (subst (IsQuietAt m) same_time quiet) in
       record { same_row = st.same_row ∙ sym same; same_marks = st.same_marks ∙ ap (λ (r : Row). map completed r.active) (sym same) }
@@ -252,7 +252,7 @@ module _ {own : ℕ} (p : GiottoProgram) (fits : ProgramFits p) (m : ModeDeclara
     pub finished : find (opens time items) es ≡ None → (room : ℕ) (ended after : List ℤ)
         → valuation_of p ended ≡ all_ended p (flat_map (group m time (map (active_of p) items)) m.invocations) (valuation_of p values)
         → valuation_of p after ≡ all_updated m time m.updates (valuation_of p ended)
-        → StandsFor (standing_of own states.Running (Some p) mode time (kept time es items) room after shares count) (first_half_of (unfinished_tasks completed row) row) completed
+        → StandsFor (standing_of place states.Running (Some p) mode time (kept time es items) room after shares count) (first_half_of (unfinished_tasks completed row) row) completed
     finished none room ended after end_value update_value =
         let steps = goes_on row p m runs completed (by_none _ (subst (FoundAlike (IsInvocation p m) _) none found)) in
         let remaining : map (active_of p) (kept time es items) ≡ still_active (names_due row) row.active =
@@ -263,7 +263,7 @@ module _ {own : ℕ} (p : GiottoProgram) (fits : ProgramFits p) (m : ModeDeclara
         update_value ∙ ap (all_updated m time m.updates) end_value
         ∙ (λ k. all_updated m (same_time k) m.updates (all_ended p (flat_map (group m (same_time k) (same_active k)) m.invocations) (same_ports k)))
         ∙ ap (λ ts. all_updated m row.mode_time m.updates (all_ended p ts row.ports)) (sym (due_are row p m runs completed)) in
-        subst (λ r. StandsFor (standing_of own states.Running (Some p) mode time (kept time es items) room after shares count) r completed) (sym steps) (record {
+        subst (λ r. StandsFor (standing_of place states.Running (Some p) mode time (kept time es items) room after shares count) r completed) (sym steps) (record {
           same_row = ap (λ (r : Row). record r { active = map (active_of p) (kept time es items); ports = valuation_of p after }) st.same_row
               ∙ (λ k. record row { active = remaining k; ports = new_ports k; records = [] });
           same_marks = marks_filtered p completed _ items marks ∙ ap (map completed) remaining;

@@ -5,7 +5,7 @@ use Rattle.std.specs.List.{find, AllByRecursion}
 use Rattle.std.specs.Option.{option_and_then, option_map_or}
 use Rattle.giotto_tasks.specs.Names.{Valuation, same_name}
 use Rattle.giotto_text.specs.Program.{ModeDeclaration, ModeSwitch, GiottoProgram}
-use Rattle.giotto_rules.specs.Declarations.{mode_of}
+use Rattle.giotto_rules.specs.Declarations.{mode_named}
 use Rattle.giotto_check.specs.Slots.{valuation_of}
 use Rattle.giotto_check.specs.Timetables.{place_of_mode}
 use Rattle.giotto_check.proofs.PlaceLemmas.{found_there, place_if_found, place_within}
@@ -38,12 +38,12 @@ module _ (p : GiottoProgram) (m : ModeDeclaration) (time : ℕ) (active : List A
     where
       by : (o : Option ModeSwitch) → switch_taken m time ports ≡ o → IsEntered p m time active ports (record { mode = k; time = begins }) values
       by None taken = let none = place ∙ ap (option_and_then (λ (s : ModeSwitch). place_of_mode p s.target)) taken in absurd (cc)
-      by (Some s) taken = at_target (mode_of p s.target) refl
+      by (Some s) taken = at_target (mode_named p s.target) refl
         where
           here : place_of_mode p s.target ≡ Some k
           here = sym (place ∙ ap (option_and_then (λ (s : ModeSwitch). place_of_mode p s.target)) taken)
 
-          at_target : (t : Option ModeDeclaration) → mode_of p s.target ≡ t → IsEntered p m time active ports (record { mode = k; time = begins }) values
+          at_target : (t : Option ModeDeclaration) → mode_named p s.target ≡ t → IsEntered p m time active ports (record { mode = k; time = begins }) values
           at_target None found =
               let none : true ≡ false = ap is_some (sym here) ∙ place_if_found (λ (m : ModeDeclaration). same_name m.name s.target) 0 p.modes ∙ ap is_some found in
               absurd (cc)

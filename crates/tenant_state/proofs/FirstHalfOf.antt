@@ -7,7 +7,7 @@ use Rattle.giotto_tasks.specs.Meaning.{value_of}
 use Rattle.giotto_tasks.proofs.ListLemmas.{all_of}
 use Rattle.giotto_tasks.proofs.TestLemmas.{and_false}
 use Rattle.giotto_text.specs.Program.{ActuatorUpdate, TaskInvocation, ModeDeclaration, GiottoProgram}
-use Rattle.giotto_rules.specs.Declarations.{mode_of}
+use Rattle.giotto_rules.specs.Declarations.{mode_named}
 use Rattle.tenant_slots.specs.Due.{is_due_at, IsQuietAt}
 use Rattle.tenant_slots.specs.Ports.{holds}
 use Rattle.tenant_slots.specs.Updates.{all_updated}
@@ -20,12 +20,12 @@ use Rattle.tenant_state.proofs.DueTasks.{group, is_open, is_unfinished, names_of
 pub record Runs (row : Row) (p : GiottoProgram) (m : ModeDeclaration) : Type 0 where
   pub state : row.state ≡ running
   pub program : row.program ≡ Some p
-  pub mode : mode_of p row.mode ≡ Some m
+  pub mode : mode_named p row.mode ≡ Some m
 
 module _ (row : Row) (p : GiottoProgram) (m : ModeDeclaration) (h : Runs row p m) (completed : ActiveTask → Bool) where
   pub due_are : due_tasks row ≡ flat_map (group m row.mode_time row.active) m.invocations
   due_are =
-      let a : due_tasks row ≡ option_map_or (due_in_mode row) (mode_of p row.mode) [] = rw (h.state, h.program) refl in
+      let a : due_tasks row ≡ option_map_or (due_in_mode row) (mode_named p row.mode) [] = rw (h.state, h.program) refl in
       a ∙ ap (λ o. option_map_or (due_in_mode row) o []) h.mode
 
   abbrev by_tasks : List ActiveTask → Row
@@ -36,7 +36,7 @@ module _ (row : Row) (p : GiottoProgram) (m : ModeDeclaration) (h : Runs row p m
   goes_on e =
       ap by_tasks due_are ∙ ap (λ names. first_half_with names row) (none_open m row.mode_time row.active completed m.invocations e)
       ∙ ap (λ s. cond (is_running_state s) (in_mode completed_in_mode row) row) h.state
-      ∙ ap (λ o. where_some (λ p. where_some (completed_in_mode p) (mode_of p row.mode)) o row) h.program ∙ ap (λ o. where_some (completed_in_mode p) o row) h.mode
+      ∙ ap (λ o. where_some (λ p. where_some (completed_in_mode p) (mode_named p row.mode)) o row) h.program ∙ ap (λ o. where_some (completed_in_mode p) o row) h.mode
 
   -- the first that is left open stops the tenant
   pub stops : (i : TaskInvocation) → find (is_open m row.mode_time row.active completed) m.invocations ≡ Some i → first_half_of (unfinished_tasks completed row) row ≡ stopped_with (overrun i.task) row

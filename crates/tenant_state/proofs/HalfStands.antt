@@ -11,7 +11,7 @@ use Rattle.giotto_tasks.proofs.ListLemmas.{some_same}
 use Rattle.giotto_tasks.specs.Syntax.{TaskBody}
 use Rattle.giotto_text.specs.PortNames.{with_values}
 use Rattle.giotto_text.specs.Program.{TaskDeclaration, TaskInvocation, ModeDeclaration, GiottoProgram}
-use Rattle.giotto_rules.specs.Declarations.{task_of, sensor_names}
+use Rattle.giotto_rules.specs.Declarations.{task_named, sensor_names}
 use Rattle.giotto_check.specs.Facts.{ProgramFits}
 use Rattle.giotto_check.specs.Slots.{valuation_of}
 use Rattle.tenant_slots.specs.Due.{is_due_at}
@@ -30,13 +30,13 @@ use Rattle.tenant_state.proofs.SecondHalfSteps.{in_its_mode, running_half, place
 module _ (p : GiottoProgram) (m : ModeDeclaration) (time n : ℕ) where
   -- what each invocation keeps, whether it releases its task or not, holds of all that are released
   pub released_by : (P : List TaskInvocation → List ActiveTask → Type 0) → P [] [] → ((i : TaskInvocation) (is : List TaskInvocation) (later : List ActiveTask) → P is later → P (i ∷ is) later)
-      → ((i : TaskInvocation) (is : List TaskInvocation) (later : List ActiveTask) (ports : Valuation) (t : TaskDeclaration) → is_due_at time m i.frequency ≡ true → task_of p i.task ≡ Some t
+      → ((i : TaskInvocation) (is : List TaskInvocation) (later : List ActiveTask) (ports : Valuation) (t : TaskDeclaration) → is_due_at time m i.frequency ≡ true → task_named p i.task ≡ Some t
       → P is later → P (i ∷ is) (released n i ports t ∷ later))
       → (is : List TaskInvocation) (ports : Valuation) → P is (all_released p m time n is ports)
   released_by P none stay more [] ports = none
-  released_by P none stay more (i ∷ is) ports = first (is_invoked m time i ports) (task_of p i.task) refl refl (released_by P none stay more is (invoked p m time i ports))
+  released_by P none stay more (i ∷ is) ports = first (is_invoked m time i ports) (task_named p i.task) refl refl (released_by P none stay more is (invoked p m time i ports))
     where
-      first : (happens : Bool) (o : Option TaskDeclaration) → is_invoked m time i ports ≡ happens → task_of p i.task ≡ o → {later : List ActiveTask} → P is later
+      first : (happens : Bool) (o : Option TaskDeclaration) → is_invoked m time i ports ≡ happens → task_named p i.task ≡ o → {later : List ActiveTask} → P is later
           → P (i ∷ is) (cond happens (option_to_list (option_map (released n i ports) o)) [] ++ later)
       first false o h e on = stay i is _ on
       first true None h e on = stay i is _ on
@@ -80,12 +80,12 @@ stands_behind readings old new behind row completed marks stands =
 abbrev pub sensed_ports : GiottoProgram → List ℤ → Readings → Valuation
 sensed_ports p values readings = with_values (valuation_of p values) (sensor_names p) (map (reading_taken readings []) p.sensors)
 
-module _ (own : ℕ) (p : GiottoProgram) (kept : ProgramFits p) (m : ModeDeclaration) (mode time n places : ℕ) (old : List Active) (values : List ℤ) (shares : List (Option TaskBody)) where
+module _ (place : ℕ) (p : GiottoProgram) (kept : ProgramFits p) (m : ModeDeclaration) (mode time n places : ℕ) (old : List Active) (values : List ℤ) (shares : List (Option TaskBody)) where
   abbrev before : Standing
-  before = standing_of own Running (Some p) mode time old places values shares n
+  before = standing_of place Running (Some p) mode time old places values shares n
 
   abbrev after : ℕ → ℕ → ℕ → List Active → List ℤ → Standing
-  after to later room new written = standing_of own Running (Some p) to later new room written shares (n + 1)
+  after to later room new written = standing_of place Running (Some p) to later new room written shares (n + 1)
 
   module _ (at_mode : slice_get p.modes mode ≡ Some m) where
     -- the most that the instant can release
@@ -118,10 +118,10 @@ module _ (own : ℕ) (p : GiottoProgram) (kept : ProgramFits p) (m : ModeDeclara
             ∙ (λ k. record (after to ((at + 1) % sym lasts k) room new written).row { active = sym happened.tasks k; ports = sym happened.ports k })
 
         -- the step of a running tenant
-        pub half_stands : (row : Row) (completed : ActiveTask → Bool) → StandsFor before row completed → ((a : ActiveTask) → a.release ≡ row.count → completed a ≡ false)
+        pub half_stands : (row : Row) (completed : ActiveTask → Bool) → StandsFor before row completed → ((a : ActiveTask) → a.release ≡ row.next_tick → completed a ≡ false)
             → StandsFor (after to ((at + 1) % period) room new written) (second_half_of readings [] row) completed
         half_stands row completed stands not_yet =
-            let counts : row.count ≡ n = sym (ap (λ (r : Row). r.count) stands.same_row) in
+            let counts : row.next_tick ≡ n = sym (ap (λ (r : Row). r.next_tick) stands.same_row) in
             let olds : map is_completed old ≡ map completed (map (active_of p) old) = stands.same_marks ∙ sym (ap (λ (r : Row). map completed r.active) stands.same_row) in
             stands_behind readings before (after to ((at + 1) % period) room new written) row_behind row completed
             (ap (map completed) happened.tasks ∙ map-append completed (map (active_of p) old) news

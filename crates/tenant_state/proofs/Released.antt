@@ -7,7 +7,7 @@ use Rattle.std.proofs.lemmas.List.{take-append-drop}
 use Rattle.std.proofs.lemmas.Option.{slice_get_cases}
 use Rattle.giotto_tasks.specs.Names.{Valuation}
 use Rattle.giotto_text.specs.Program.{TaskDeclaration, TaskInvocation, ModeDeclaration, GiottoProgram, body_of}
-use Rattle.giotto_rules.specs.Declarations.{task_of}
+use Rattle.giotto_rules.specs.Declarations.{task_named}
 use Rattle.giotto_check.specs.Facts.{InvocationFits, ProgramFits}
 use Rattle.giotto_check.specs.Timetables.{AreEach, IsExpression, IsInvocation}
 use Rattle.giotto_check.specs.declared.timetables.SlotInvocation.{SlotInvocation}
@@ -29,7 +29,7 @@ pub record Entry (p : GiottoProgram) (m : ModeDeclaration) (k : ℕ) (e : SlotIn
   pub here : drop k m.invocations ≡ invocation ∷ drop (k + 1) m.invocations
   pub is : IsInvocation p m invocation e
   pub positive : 0 < e.interval
-  pub found : task_of p invocation.task ≡ Some task
+  pub found : task_named p invocation.task ≡ Some task
   pub there : slice_get p.tasks e.task ≡ Some task
   pub arguments : length invocation.arguments ≡ length task.inputs
   pub few : length e.arguments.items ≤ 16
@@ -45,7 +45,7 @@ module _ (p : GiottoProgram) (fits : ProgramFits p) (mode k : ℕ) (es : List Sl
       let item = each_item (IsInvocation p m) m.invocations es k e (each m at) lt is in
       let parts = sym (take-append-drop k m.invocations) ∙ ap (λ l. take k m.invocations ++ l) item.1 in
       let fit = all_middle (InvocationFits p m) (take k m.invocations) item.0 (drop (k + 1) m.invocations) (subst (AllByRecursion (InvocationFits p m)) parts (mode_fits_at p fits mode m at).invocations) in
-      let task = its_task (task_of p item.0.task) (length item.0.arguments) fit.task in
+      let task = its_task (task_named p item.0.task) (length item.0.arguments) fit.task in
       let there = task_of_place p fits item.0.task e.task task.0 item.2.task task.1 in
       let small = sound_small (body_of task.0) (task_fits_at p fits e.task task.0 there).sound in
       let few : length e.arguments.items ≤ 16 = omega (arith, small.inputs, task.2, each_long (IsExpression p) item.0.arguments e.arguments.items item.2.arguments) in
@@ -92,7 +92,7 @@ module _ {p : GiottoProgram} {m : ModeDeclaration} {time n : ℕ} {old : List Ac
       by true e = let more = room_by true e in omega (arith, more)
       by false e = room_by false e
 
-  pub happens : (t : TaskDeclaration) {after : Valuation} {new : TaskList} → is_invoked m time i ports ≡ true → task_of p i.task ≡ Some t → map (active_of p) new.items ≡ map (active_of p) active.items ++ released n i ports t ∷ []
+  pub happens : (t : TaskDeclaration) {after : Valuation} {new : TaskList} → is_invoked m time i ports ≡ true → task_named p i.task ≡ Some t → map (active_of p) new.items ≡ map (active_of p) active.items ++ released n i ports t ∷ []
       → map is_completed new.items ≡ map is_completed active.items ++ false ∷ [] → after ≡ with_inputs i ports t → new.room + 1 ≡ active.room → IsInvokedTo p m time n old before rest new after
   happens t {after} {new} h found tasks marks written less =
       let first : all_released p m time n (i ∷ rest) ports ≡ released n i ports t ∷ all_released p m time n rest after = rw (h, found, written) refl in

@@ -8,7 +8,7 @@ use Rattle.std.proofs.lemmas.Bool.{eq-eqb, ne_eqb}
 use Rattle.giotto_tasks.specs.declared.names.Name.{Name}
 use Rattle.giotto_tasks.specs.Names.{Valuation, same_name}
 use Rattle.giotto_text.specs.Program.{ModeSwitch, TaskInvocation, ModeDeclaration, GiottoProgram}
-use Rattle.giotto_rules.specs.Declarations.{mode_of, period_of_task}
+use Rattle.giotto_rules.specs.Declarations.{mode_named, period_of_task}
 use Rattle.giotto_check.specs.Facts.{ProgramFits}
 use Rattle.giotto_check.specs.Slots.{valuation_of}
 use Rattle.tenant_slots.specs.Due.{is_due_at, IsQuietUntil}
@@ -27,15 +27,15 @@ use Rattle.giotto_tasks.proofs.ListLemmas.{find_passes, some_same}
 use Rattle.giotto_tasks.proofs.NameLemmas.{same_name_is}
 use Rattle.giotto_tasks.proofs.TestLemmas.{cond-same}
 
-pub in_its_mode : (step : GiottoProgram → ModeDeclaration → Row → Row) (row : Row) (p : GiottoProgram) (m : ModeDeclaration) → row.program ≡ Some p → mode_of p row.mode ≡ Some m
+pub in_its_mode : (step : GiottoProgram → ModeDeclaration → Row → Row) (row : Row) (p : GiottoProgram) (m : ModeDeclaration) → row.program ≡ Some p → mode_named p row.mode ≡ Some m
     → in_mode step row ≡ step p m row
-in_its_mode step row p m e f = ap (λ o. where_some (λ p. where_some (step p) (mode_of p row.mode)) o row) e ∙ ap (λ o. where_some (step p) o row) f
+in_its_mode step row p m e f = ap (λ o. where_some (λ p. where_some (step p) (mode_named p row.mode)) o row) e ∙ ap (λ o. where_some (step p) o row) f
 
 none_waits : (row : Row) → row.waiting ≡ None → replaced_if_due row ≡ row
 none_waits row e = ap (λ o. cond (row.mode_time == 0) (where_some installed o row) row) e ∙ cond-same (row.mode_time == 0) row
 
 -- up to the switch
-pub running_half : (readings : Readings) (row : Row) (p : GiottoProgram) (m : ModeDeclaration) → row.state ≡ running → row.program ≡ Some p → mode_of p row.mode ≡ Some m → row.waiting ≡ None
+pub running_half : (readings : Readings) (row : Row) (p : GiottoProgram) (m : ModeDeclaration) → row.state ≡ running → row.program ≡ Some p → mode_named p row.mode ≡ Some m → row.waiting ≡ None
     → second_half_of readings [] row ≡ counted (in_mode (λ p m row. moved_on m (invoked_in_mode p m row)) (switched p m (sensed readings [] p row)))
 running_half readings row p m runs program mode waits =
     let first : Row → Row = in_mode (λ p m row. switched p m (sensed readings [] p row)) in
@@ -96,7 +96,7 @@ module _ (p : GiottoProgram) (kept : ProgramFits p) (m : ModeDeclaration) (mode 
     few = le-max_left _ _;
     step = λ row rs. (
       rs,
-      ap (λ o. where_some (λ s. where_some (entered m s) (mode_of p s.target)) o (placed row (name_of_mode p mode) time active ports rs)) none.0
+      ap (λ o. where_some (λ s. where_some (entered m s) (mode_named p s.target)) o (placed row (name_of_mode p mode) time active ports rs)) none.0
           ∙ (λ k. placed row (name_of_mode p mode) time active (sym none.1 k) rs),
     );
   })
@@ -124,9 +124,9 @@ module _ (p : GiottoProgram) (kept : ProgramFits p) (m : ModeDeclaration) (mode 
     quiet = λ m there t from before. absurd (omega (arith, before));
     short = omega (arith, is.begins, entry_within m is.target time active, (mode_fits_at p kept entry.mode is.target is.there).short);
     few = few_there entry is;
-    step = λ row rs. let more : List Record = record { tick = row.count; happening = happening.Mode is.switch.target } ∷ rs in (
+    step = λ row rs. let more : List Record = record { tick = row.next_tick; happening = happening.Mode is.switch.target } ∷ rs in (
       more,
-      ap (λ o. where_some (λ s. where_some (entered m s) (mode_of p s.target)) o (placed row (name_of_mode p mode) time active ports rs)) is.taken
+      ap (λ o. where_some (λ s. where_some (entered m s) (mode_named p s.target)) o (placed row (name_of_mode p mode) time active ports rs)) is.taken
           ∙ ap (λ o. where_some (entered m is.switch) o (placed row (name_of_mode p mode) time active ports rs)) is.named
           ∙ (λ k. placed row (sym (target_named entry is) k) (sym is.begins k) active (sym is.given k) more),
     );

@@ -15,7 +15,7 @@ use Rattle.giotto_text.specs.declared.programs.Task.{Task}
 use Rattle.giotto_text.specs.Program.{TaskDeclaration, ModeSwitch, TaskInvocation, ModeDeclaration, GiottoProgram, body_of}
 use Rattle.giotto_text.specs.ProgramTrees as trees
 use Rattle.giotto_tasks.proofs.ListLemmas.{all_same, some_same, is_some-option_map}
-use Rattle.giotto_rules.specs.Declarations.{mode_of}
+use Rattle.giotto_rules.specs.Declarations.{mode_named}
 use Rattle.giotto_check.specs.Timetables.{AreEach, IsInvocation, place_of_mode}
 use Rattle.giotto_check.specs.Facts.{ProgramFits}
 use Rattle.giotto_check.specs.declared.timetables.SlotInvocation.{SlotInvocation}
@@ -73,12 +73,12 @@ due_each R due test same (x ∷ xs) (e ∷ es) each = ap (λ b. length (cond b (
 -- as many tasks are invoked in the mode of a name as its place has entries
 pub invoked_there : (p : GiottoProgram) (x : Name) (k : ℕ) (es : List SlotInvocation) → place_of_mode p x ≡ Some k → ((m : ModeDeclaration) → slice_get p.modes k ≡ Some m → AreEach (IsInvocation p m) m.invocations es)
     → length es ≡ invoked_in p x
-invoked_there p x k es place there = by (mode_of p x) refl (place_if_found is_named 0 p.modes)
+invoked_there p x k es place there = by (mode_named p x) refl (place_if_found is_named 0 p.modes)
   where
     is_named : ModeDeclaration → Bool
     is_named m = same_name m.name x
 
-    by : (o : Option ModeDeclaration) → mode_of p x ≡ o → is_some (place_of_mode p x) ≡ is_some o → length es ≡ option_map_or (λ (m : ModeDeclaration). length m.invocations) o 0
+    by : (o : Option ModeDeclaration) → mode_named p x ≡ o → is_some (place_of_mode p x) ≡ is_some o → length es ≡ option_map_or (λ (m : ModeDeclaration). length m.invocations) o 0
     by None found same = absurd (false≢true (sym same ∙ ap is_some place))
     by (Some m) found same =
         let at = found_there is_named 0 p.modes k m place found in

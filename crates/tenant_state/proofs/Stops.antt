@@ -33,10 +33,10 @@ none_active : (o : Option GiottoProgram) → tasks_in o [] ≡ []
 none_active None = refl
 none_active (Some p) = refl
 
-module _ {own : ℕ} (state : code.State) (program : Option GiottoProgram) (mode time : ℕ) (active : List Active) (places : ℕ) (values : List ℤ) (shares : List (Option TaskBody)) (count : ℕ) where
+module _ {place : ℕ} (state : code.State) (program : Option GiottoProgram) (mode time : ℕ) (active : List Active) (places : ℕ) (values : List ℤ) (shares : List (Option TaskBody)) (count : ℕ) where
   pub stands_stopped : (row : Row) (completed : ActiveTask → Bool) (reason : Reason) (room : ℕ) (new : List ℤ)
-      → StandsFor (standing_of own state program mode time active places values shares count) row completed → ports_in program new ≡ reset_in program (ports_in program values)
-      → StandsFor (standing_of own (states.Stopped reason) program mode time [] room new shares count) (stopped_with (reason_of reason) row) completed
+      → StandsFor (standing_of place state program mode time active places values shares count) row completed → ports_in program new ≡ reset_in program (ports_in program values)
+      → StandsFor (standing_of place (states.Stopped reason) program mode time [] room new shares count) (stopped_with (reason_of reason) row) completed
   stands_stopped row completed reason room new stands reset =
       let e = stands.same_row in
       let here = sym (is_stopped (reason_of reason) row) in
@@ -53,7 +53,7 @@ module _ {own : ℕ} (state : code.State) (program : Option GiottoProgram) (mode
               binds = (e k).binds;
               waiting = None;
               records = [];
-              count = (e k).count;
+              next_tick = (e k).next_tick;
             })
             ∙ ap without_records here;
         same_marks = ap (λ (r : Row). map completed r.active) here;

@@ -75,7 +75,7 @@ pub in_mid_round : behind 5 (at 2 (releases 98 1)) ≡ record (at 15 (releases 9
   mode = codes "n";
   ports = ports 5 7 8 1;
   records = record { tick = 100; happening = happening.Mode (codes "n") } ∷ [];
-  count = 101;
+  next_tick = 101;
 }
 in_mid_round = refl
 
@@ -83,7 +83,7 @@ in_mid_round = refl
 pub into_itself : behind 3 (at 2 (releases 98 1)) ≡ record (at 3 (releases 98 1)) {
   ports = ports 3 8 7 1;
   records = record { tick = 100; happening = happening.Mode (codes "m") } ∷ [];
-  count = 101;
+  next_tick = 101;
 }
 into_itself = refl
 
@@ -92,10 +92,10 @@ pub at_the_start : behind 5 (at 0 []) ≡ record (at 1 (releases 100 5)) {
   mode = codes "n";
   ports = ports 5 7 8 5;
   records = record { tick = 100; happening = happening.Mode (codes "n") } ∷ [];
-  count = 101;
+  next_tick = 101;
 }
 at_the_start = refl
 
 -- Where no guard holds the mode stands.
-pub not_taken : behind 2 (at 2 (releases 98 1)) ≡ record (at 3 (releases 98 1)) { ports = ports 2 7 8 1; count = 101 }
+pub not_taken : behind 2 (at 2 (releases 98 1)) ≡ record (at 3 (releases 98 1)) { ports = ports 2 7 8 1; next_tick = 101 }
 not_taken = refl

@@ -143,23 +143,23 @@ module _ (p : GiottoProgram) (n : ℕ) where
 pub record AreNew (p : GiottoProgram) (tenant : ℕ) (before after : Row) (news : List Active) : Type 0 where
   pub few : length news ≤ most_released before
   pub declared : AllByRecursion (IsActiveOf p) news
-  pub different : all_different (names p before.count news) ≡ true
-  pub jobs : released_at tenant before.count after ≡ map (job_in p tenant) (map (active_of p) news)
+  pub different : all_different (names p before.next_tick news) ≡ true
+  pub jobs : released_at tenant before.next_tick after ≡ map (job_in p tenant) (map (active_of p) news)
 
-new_tasks : (p : GiottoProgram) (tenant n : ℕ) (before after : Row) (items : List Active) → AreReleased before after → AllByRecursion (λ (a : ActiveTask). a.release < before.count) before.active
+new_tasks : (p : GiottoProgram) (tenant n : ℕ) (before after : Row) (items : List Active) → AreReleased before after → AllByRecursion (λ (a : ActiveTask). a.release < before.next_tick) before.active
     → after.program ≡ Some p → after.active ≡ map (active_of p) items → AllByRecursion (IsActiveIn p n) items → all_different_releases (map (active_of p) items) ≡ true
     → AreNew p tenant before after (drop (length before.active) items)
 new_tasks p tenant n before after items is early program active each different =
     let k = length before.active in
     let dropped : drop k after.active ≡ map (active_of p) (drop k items) = ap (drop k) active ∙ drop-map (active_of p) k items in
-    let now : ReleasedNow p before.count (drop k items) = subst (AllByRecursion (λ (a : ActiveTask). a.release ≡ before.count)) dropped is.newer in
+    let now : ReleasedNow p before.next_tick (drop k items) = subst (AllByRecursion (λ (a : ActiveTask). a.release ≡ before.next_tick)) dropped is.newer in
     record {
       few = omega (arith, is.few, length-drop k items, ap length active ∙ length-map items (active_of p));
       declared = all_drop (IsActiveOf p) k items (all_map (IsActiveIn p n) (IsActiveOf p) items (λ a is. is.declared) each);
-      different = names_differ p before.count (drop k items) now (subst (λ xs. all_different_releases xs ≡ true) (drop-map (active_of p) k items) (different_drop k (map (active_of p) items) different));
-      jobs = ap (λ o. option_map_or (λ p. map (job_in p tenant) (filter (λ (a : ActiveTask). a.release == before.count) after.active)) o []) program
-          ∙ ap (λ xs. map (job_in p tenant) (filter (λ (a : ActiveTask). a.release == before.count) xs)) (sym (take-append-drop k after.active) ∙ ap (λ xs. xs ++ drop k after.active) is.older)
-          ∙ ap (map (job_in p tenant)) (those_released before.count before.active (drop k after.active) early is.newer ∙ dropped);
+      different = names_differ p before.next_tick (drop k items) now (subst (λ xs. all_different_releases xs ≡ true) (drop-map (active_of p) k items) (different_drop k (map (active_of p) items) different));
+      jobs = ap (λ o. option_map_or (λ p. map (job_in p tenant) (filter (λ (a : ActiveTask). a.release == before.next_tick) after.active)) o []) program
+          ∙ ap (λ xs. map (job_in p tenant) (filter (λ (a : ActiveTask). a.release == before.next_tick) xs)) (sym (take-append-drop k after.active) ∙ ap (λ xs. xs ++ drop k after.active) is.older)
+          ∙ ap (map (job_in p tenant)) (those_released before.next_tick before.active (drop k after.active) early is.newer ∙ dropped);
     }
 
 active_long : (o : Option GiottoProgram) (mode time next : ℕ) (active : List Active) (values : List ℤ) (shares : List (Option TaskBody)) (n : ℕ) → FitsIts o mode time next active values shares n
@@ -170,7 +170,7 @@ active_long (Some p) mode time next active values shares n fits = length-map act
 -- as the code has them
 pub are_new : {o q : Option GiottoProgram} {mode time next places n to at later room m : ℕ} {old items : List Active} {values written : List ℤ} {shares others : List (Option TaskBody)} {own own_behind : ℕ}
     (p : GiottoProgram) (tenant : ℕ) (before after : Standing) (s t : code.State)
-    → IsTenant o mode time next old values shares n → standing_of own s o mode time old places values shares n ≡ before
+    → IsTenant o mode time next old values shares n → standing_of place s o mode time old places values shares n ≡ before
     → IsTenant q to at later items written others m → standing_of own_behind t q to at items room written others m ≡ after
     → q ≡ Some p → AreReleased before.row after.row → (k : ℕ) (xs : List Active) → k ≡ length old → xs ≡ items → AreNew p tenant before.row after.row (take (length xs - k) (drop k xs))
 are_new {o} {q} {mode} {time} {next} {places} {n} {to} {at} {later} {room} {m} {old} {items} {values} {written} {shares} {others} p tenant before after s t known view known_after view_after program released k xs long same =
@@ -178,5 +178,5 @@ are_new {o} {q} {mode} {time} {next} {places} {n} {to} {at} {later} {room} {m} {
     let early = (known_of mode time next old values shares n s o known).early in
     let olds : length before.row.active ≡ k = ap (λ (b : Standing). length b.row.active) (sym view) ∙ active_long o mode time next old values shares n known.fits ∙ sym long in
     subst (λ news. AreNew p tenant before.row after.row news) (ap (λ i. drop i items) olds ∙ ap (drop k) (sym same) ∙ sym (take_rest xs k))
-    (new_tasks p tenant m before.row after.row items released (subst (λ (b : Standing). AllByRecursion (λ (a : ActiveTask). a.release < b.row.count) b.row.active) view early)
+    (new_tasks p tenant m before.row after.row items released (subst (λ (b : Standing). AllByRecursion (λ (a : ActiveTask). a.release < b.row.next_tick) b.row.active) view early)
     (ap (λ (b : Standing). b.row.program) (sym view_after) ∙ program) (ap (λ (b : Standing). b.row.active) (sym view_after) ∙ ap (λ o. tasks_in o items) program) is.fits.each is.different)

@@ -39,10 +39,10 @@ module _ (text : List ℕ) (budgets : Budgets) (row : Row) where
       kept_if p e kept ∙ ap (λ b. cond b (refused row Running) (load_within p row (broken_budget budgets p))) rests ∙ ap (load_within p row) over
 
 -- what stands after a program was put at its beginning
-module _ {own : ℕ} (state : code.State) (program : Option GiottoProgram) (mode time : ℕ) (active : List Active) (places : ℕ) (values : List ℤ) (shares : List (Option TaskBody)) (count : ℕ) where
+module _ {place : ℕ} (state : code.State) (program : Option GiottoProgram) (mode time : ℕ) (active : List Active) (places : ℕ) (values : List ℤ) (shares : List (Option TaskBody)) (count : ℕ) where
   pub stands_at_beginning : (row : Row) (completed : ActiveTask → Bool) (next : code.State) (p : GiottoProgram) (start room : ℕ) (new : List ℤ) (at_hand : List (Option TaskBody))
-      → StandsFor (standing_of own state program mode time active places values shares count) row completed → name_of_mode p start ≡ p.start → valuation_of p new ≡ initial_ports p
-      → StandsFor (standing_of own next (Some p) start 0 [] room new at_hand count) (at_beginning (state_of next) p row) completed
+      → StandsFor (standing_of place state program mode time active places values shares count) row completed → name_of_mode p start ≡ p.start → valuation_of p new ≡ initial_ports p
+      → StandsFor (standing_of place next (Some p) start 0 [] room new at_hand count) (at_beginning (state_of next) p row) completed
   stands_at_beginning row completed next p start room new at_hand stands starts initial =
       let e = stands.same_row in
       record {
@@ -57,7 +57,7 @@ module _ {own : ℕ} (state : code.State) (program : Option GiottoProgram) (mode
           binds = ap (λ (r : Row). r.binds) e k;
           waiting = None;
           records = [];
-          count = ap (λ (r : Row). r.count) e k;
+          next_tick = ap (λ (r : Row). r.next_tick) e k;
         };
         same_marks = refl;
       }

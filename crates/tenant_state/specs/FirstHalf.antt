@@ -8,7 +8,7 @@ use Rattle.giotto_tasks.specs.Meaning.{value_of, outputs_of, states_of}
 use Rattle.giotto_text.specs.Program.{TaskDeclaration, ActuatorUpdate, TaskInvocation, ModeDeclaration, GiottoProgram, body_of, names_of}
 use Rattle.tenant_state.specs.declared.trace.Happening.{Happening}
 use Rattle.tenant_state.specs.declared.trace.Happening.TheVariants as happening
-use Rattle.giotto_rules.specs.Declarations.{task_of, mode_of}
+use Rattle.giotto_rules.specs.Declarations.{task_named, mode_named}
 use Rattle.tenant_state.specs.Row.{StopReason, asked, overrun, stopped, ActiveTask, Row, is_running, in_program, in_mode, recorded, with_happenings}
 use Rattle.giotto_text.specs.PortNames.{own_ports, with_values}
 use Rattle.tenant_slots.specs.Ports.{actuators_reset}
@@ -21,7 +21,7 @@ due_in_mode row m = flat_map (λ (i : TaskInvocation). filter (λ (a : ActiveTas
 
 -- the active tasks that are due in the row's mode of this program
 abbrev pub due_in_program : Row → GiottoProgram → List ActiveTask
-due_in_program row p = option_map_or (due_in_mode row) (mode_of p row.mode) []
+due_in_program row p = option_map_or (due_in_mode row) (mode_named p row.mode) []
 
 -- the tasks of a running row that end at this instant
 abbrev pub due_tasks : Row → List ActiveTask
@@ -58,11 +58,11 @@ ended_with a ports t =
 -- the ports behind the ends of these tasks
 abbrev pub all_ended : GiottoProgram → List ActiveTask → Valuation → Valuation
 all_ended p [] ports = ports
-all_ended p (a ∷ rest) ports = all_ended p rest (option_map_or (ended_with a ports) (task_of p a.task) ports)
+all_ended p (a ∷ rest) ports = all_ended p rest (option_map_or (ended_with a ports) (task_named p a.task) ports)
 
 -- each output that they write, in order
 abbrev pub outputs_happened : GiottoProgram → List ActiveTask → List Happening
-outputs_happened p ended = map (λ (o : Name × ℤ). happening.Out o.0 o.1) (flat_map (λ a. option_map_or (written_outputs a) (task_of p a.task) []) ended)
+outputs_happened p ended = map (λ (o : Name × ℤ). happening.Out o.0 o.1) (flat_map (λ a. option_map_or (written_outputs a) (task_named p a.task) []) ended)
 
 -- the active tasks that aren't among these
 abbrev pub still_active : List Name → List ActiveTask → List ActiveTask
@@ -81,7 +81,7 @@ completed_in_mode p m row =
     record row {
       ports = all_updated m row.mode_time m.updates written;
       active = still_active (names_due row) row.active;
-      records = with_happenings row.count (outputs_happened p (due_tasks row) ++ updates_happened m row.mode_time m.updates written) row.records;
+      records = with_happenings row.next_tick (outputs_happened p (due_tasks row) ++ updates_happened m row.mode_time m.updates written) row.records;
     }
 
 -- the first half, by the due tasks that were not completed, in the mode's text order: if there is one, the tenant is stopped, and the first is named; else the due tasks end and the due actuators are updated

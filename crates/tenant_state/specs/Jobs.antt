@@ -6,7 +6,7 @@ use Rattle.giotto_tasks.specs.declared.names.Name.{Name}
 use Rattle.giotto_tasks.specs.Sound.{IsSound}
 use Rattle.giotto_tasks.specs.Syntax.{TaskBody, finished}
 use Rattle.giotto_text.specs.Program.{GiottoProgram, body_of}
-use Rattle.giotto_rules.specs.Declarations.{task_of}
+use Rattle.giotto_rules.specs.Declarations.{task_named}
 use Rattle.giotto_tasks.specs.Names.{same_name}
 use Rattle.tenant_state.specs.declared.jobs.JobId.{JobId}
 use Rattle.tenant_state.specs.Row.{ActiveTask, Row}
@@ -38,7 +38,7 @@ pub record IsComputable (j : JobValue) : Type 0 where
 
 -- the body of a program's task; an empty one where it has no such task
 abbrev pub body_in : GiottoProgram → Name → TaskBody
-body_in p x = option_map_or body_of (task_of p x) (record { inputs = []; outputs = []; states = []; block = finished })
+body_in p x = option_map_or body_of (task_named p x) (record { inputs = []; outputs = []; states = []; block = finished })
 
 -- the job of an active task, for the program that released it
 abbrev pub job_in : GiottoProgram → ℕ → ActiveTask → JobValue

@@ -7,7 +7,7 @@ use Rattle.tenant_state.specs.declared.grants.Offer.{Offer}
 use Rattle.tenant_state.specs.declared.grants.Bind.{Bind}
 use Rattle.tenant_state.specs.declared.trace.Record.{Record}
 use Rattle.tenant_state.specs.declared.trace.Happening.{Happening}
-use Rattle.giotto_rules.specs.Declarations.{mode_of}
+use Rattle.giotto_rules.specs.Declarations.{mode_named}
 
 -- why a tenant was stopped
 pub data StopReason : Type 0 where
@@ -47,7 +47,7 @@ pub record Row : Type 0 where
   -- all records since the host began, the newest first
   pub records : List Record
   -- the number of the next instant
-  pub count : ℕ
+  pub next_tick : ℕ
 
 -- a tenant without a program, whose first instant has this number
 abbrev pub empty_row : ℕ → Row
@@ -62,7 +62,7 @@ empty_row first_tick = record {
   binds = [];
   waiting = None;
   records = [];
-  count = first_tick;
+  next_tick = first_tick;
 }
 
 -- whether the state is that of a running program
@@ -87,11 +87,11 @@ in_program step row = where_some step row.program row
 
 -- a step in the row's program and mode
 abbrev pub in_mode : (GiottoProgram → ModeDeclaration → Row → Row) → Row → Row
-in_mode step row = in_program (λ p. where_some (step p) (mode_of p row.mode)) row
+in_mode step row = in_program (λ p. where_some (step p) (mode_named p row.mode)) row
 
 -- one record more, of the next instant's number
 abbrev pub recorded : Happening → Row → Row
-recorded h row = record row { records = record { tick = row.count; happening = h } ∷ row.records }
+recorded h row = record row { records = record { tick = row.next_tick; happening = h } ∷ row.records }
 
 -- these happenings as records of instant n, in their order, behind the records before
 abbrev pub with_happenings : ℕ → List Happening → List Record → List Record

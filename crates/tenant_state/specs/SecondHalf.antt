@@ -7,7 +7,7 @@ use Rattle.giotto_tasks.specs.Names.{Valuation, value_at, values_of, is_among}
 use Rattle.giotto_tasks.specs.Meaning.{value_of}
 use Rattle.giotto_text.specs.Program.{TaskDeclaration, ModeSwitch, TaskInvocation, ModeDeclaration, GiottoProgram, names_of}
 use Rattle.tenant_state.specs.declared.trace.Happening.TheVariants as happening
-use Rattle.giotto_rules.specs.Declarations.{sensor_names, actuator_names, task_of, mode_of, period_of_task}
+use Rattle.giotto_rules.specs.Declarations.{sensor_names, actuator_names, task_named, mode_named, period_of_task}
 use Rattle.tenant_state.specs.Row.{ActiveTask, Row, is_running, where_some, in_program, in_mode, recorded}
 use Rattle.giotto_text.specs.PortNames.{own_ports, with_values}
 use Rattle.tenant_slots.specs.Ports.{initial_ports, holds}
@@ -75,7 +75,7 @@ entered m s target row =
 
 -- the first switch that is due and whose guard holds is taken, if there is one
 abbrev pub switched : GiottoProgram → ModeDeclaration → Row → Row
-switched p m row = where_some (λ s. where_some (entered m s) (mode_of p s.target)) (switch_taken m row.mode_time row.ports) row
+switched p m row = where_some (λ s. where_some (entered m s) (mode_named p s.target)) (switch_taken m row.mode_time row.ports) row
 
 -- an invocation happens where it is due and its guard holds
 abbrev pub is_invoked : ModeDeclaration → ℕ → TaskInvocation → Valuation → Bool
@@ -95,7 +95,7 @@ with_inputs i ports t = with_values ports (own_ports t.name t.inputs) (values_gi
 
 -- the ports behind one invocation
 abbrev pub invoked : GiottoProgram → ModeDeclaration → ℕ → TaskInvocation → Valuation → Valuation
-invoked p m time i ports = if is_invoked m time i ports then option_map_or (with_inputs i ports) (task_of p i.task) ports else ports
+invoked p m time i ports = if is_invoked m time i ports then option_map_or (with_inputs i ports) (task_named p i.task) ports else ports
 
 -- the ports behind these invocations, in text order
 abbrev pub all_invoked : GiottoProgram → ModeDeclaration → ℕ → List TaskInvocation → Valuation → Valuation
@@ -106,13 +106,13 @@ all_invoked p m time (i ∷ is) ports = all_invoked p m time is (invoked p m tim
 abbrev pub all_released : GiottoProgram → ModeDeclaration → ℕ → ℕ → List TaskInvocation → Valuation → List ActiveTask
 all_released p m time n [] ports = []
 all_released p m time n (i ∷ is) ports =
-    (if is_invoked m time i ports then option_to_list (option_map (released n i ports) (task_of p i.task)) else []) ++ all_released p m time n is (invoked p m time i ports)
+    (if is_invoked m time i ports then option_to_list (option_map (released n i ports) (task_named p i.task)) else []) ++ all_released p m time n is (invoked p m time i ports)
 
 -- the mode's invocations: their ports are written, and their tasks become active
 abbrev pub invoked_in_mode : GiottoProgram → ModeDeclaration → Row → Row
 invoked_in_mode p m row = record row {
   ports = all_invoked p m row.mode_time m.invocations row.ports;
-  active = row.active ++ all_released p m row.mode_time row.count m.invocations row.ports;
+  active = row.active ++ all_released p m row.mode_time row.next_tick m.invocations row.ports;
 }
 
 -- the mode time of the next instant
@@ -121,7 +121,7 @@ moved_on m row = record row { mode_time = (row.mode_time + 1) % m.period }
 
 -- the instant is counted
 abbrev pub counted : Row → Row
-counted row = record row { count = row.count + 1 }
+counted row = record row { next_tick = row.next_tick + 1 }
 
 -- the steps of a running tenant: sensors and a switch in the mode that stands, invocations in the mode behind it
 abbrev pub second_half_running : Readings → Valuation → Row → Row

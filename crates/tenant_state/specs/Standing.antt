@@ -4,7 +4,7 @@ use Rattle.std.specs.List.{AllByRecursion, find, zip}
 use Rattle.std.specs.Option.{option_and_then, option_map, option_map_or}
 use Rattle.giotto_tasks.specs.declared.names.Name.{Name}
 use Rattle.giotto_text.specs.Program.{GiottoProgram, ModeDeclaration, ModeSwitch, TaskInvocation}
-use Rattle.giotto_rules.specs.Declarations.{mode_of}
+use Rattle.giotto_rules.specs.Declarations.{mode_named}
 use Rattle.tenant_state.specs.declared.jobs.JobId.{JobId}
 use Rattle.tenant_lines.specs.declared.replies.Reply.{Reply}
 use Rattle.tenant_slots.specs.Due.{is_due_at}
@@ -14,22 +14,22 @@ use Rattle.tenant_state.specs.Row.{ActiveTask, Row, empty_row, is_running}
 
 -- what a tenant's code keeps: its place in the roster, a row without records, and marks; and what it has ready for the next instant
 pub record Standing : Type 0 where
-  pub own : ℕ
+  pub place : ℕ
   pub row : Row
   -- for each active task, whether its computation is completed
   pub completed : List Bool
   -- how many more tasks there is room for
-  pub places : ℕ
+  pub room : ℕ
   -- whether a share of each task's body is at hand
   pub shared : Bool
 
 -- with nothing ready for the next instant
 abbrev pub at_rest : Standing → Standing
-at_rest s = record s { places = 0; shared = false }
+at_rest s = record s { room = 0; shared = false }
 
 -- that of the tenant at this place, without a program, whose first instant has this number
 abbrev pub empty_standing : ℕ → ℕ → Standing
-empty_standing own first_tick = record { own = own; row = empty_row first_tick; completed = []; places = 0; shared = true }
+empty_standing place first_tick = record { place = place; row = empty_row first_tick; completed = []; room = 0; shared = true }
 
 -- the row but for its records, which the code doesn't keep
 abbrev pub without_records : Row → Row
@@ -47,7 +47,7 @@ greatest (n ∷ ns) = max n (greatest ns)
 
 -- how many tasks the mode of this name invokes
 abbrev pub invoked_in : GiottoProgram → Name → ℕ
-invoked_in p x = option_map_or (λ (m : ModeDeclaration). length m.invocations) (mode_of p x) 0
+invoked_in p x = option_map_or (λ (m : ModeDeclaration). length m.invocations) (mode_named p x) 0
 
 -- the most tasks that an instant in this mode can release at this mode time: those that are due, or all of a mode to which a switch is due
 abbrev pub most_at : GiottoProgram → ModeDeclaration → ℕ → ℕ
@@ -57,7 +57,7 @@ most_at p m time =
 
 -- the most tasks that the row's next instant can release
 abbrev pub most_released : Row → ℕ
-most_released row = if is_running row then option_map_or (λ p. option_map_or (λ m. most_at p m row.mode_time) (mode_of p row.mode) 0) row.program 0 else 0
+most_released row = if is_running row then option_map_or (λ p. option_map_or (λ m. most_at p m row.mode_time) (mode_named p row.mode) 0) row.program 0 else 0
 
 -- a command's outcome: this reply was given, and this is what is left
 pub record IsOutcome (outcome : Outcome) (reply : Reply) (standing : Standing) (completed : ActiveTask → Bool) : Type 0 where
@@ -74,7 +74,7 @@ awaited_job s j = option_and_then (λ p. option_map (job_in p j.tenant) (find (�
 
 -- room for the most tasks that the next instant can release
 abbrev pub HasRoom : Standing → Type 0
-HasRoom s = most_released s.row ≤ s.places
+HasRoom s = most_released s.row ≤ s.room
 
 -- a share of each body that the next instant can need
 abbrev pub HasShares : Standing → Type 0
@@ -84,10 +84,10 @@ HasShares s = 0 < most_released s.row → s.shared ≡ true
 pub record IsKnown (row : Row) : Type 0 where
   pub no_binds : row.binds ≡ []
   pub tasks : row.program ≡ None → row.active ≡ []
-  pub early : AllByRecursion (λ (a : ActiveTask). a.release < row.count) row.active
+  pub early : AllByRecursion (λ (a : ActiveTask). a.release < row.next_tick) row.active
 
 -- the tasks that an instant made active, behind those of before: no more than it can release, and of its number
 pub record AreReleased (before after : Row) : Type 0 where
   pub older : take (length before.active) after.active ≡ before.active
-  pub newer : AllByRecursion (λ (a : ActiveTask). a.release ≡ before.count) (drop (length before.active) after.active)
+  pub newer : AllByRecursion (λ (a : ActiveTask). a.release ≡ before.next_tick) (drop (length before.active) after.active)
   pub few : length after.active ≤ length before.active + most_released before

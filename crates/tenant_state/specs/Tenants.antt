@@ -7,7 +7,7 @@ use Rattle.giotto_tasks.specs.Meaning.{outputs_of, states_of}
 use Rattle.giotto_tasks.specs.Names.{Valuation, same_name}
 use Rattle.giotto_tasks.specs.Syntax.{TaskBody}
 use Rattle.giotto_text.specs.Program.{TaskDeclaration, ModeDeclaration, ModeSwitch, GiottoProgram, body_of}
-use Rattle.giotto_rules.specs.Declarations.{mode_of}
+use Rattle.giotto_rules.specs.Declarations.{mode_named}
 use Rattle.giotto_check.specs.Slots.{slots_of, valuation_of}
 use Rattle.giotto_check.specs.Timetables.{AreEach}
 use Rattle.tenant_slots.specs.Due.{IsQuietUntil}
@@ -53,10 +53,10 @@ mode_in o mode = option_map_or (λ p. name_of_mode p mode) o []
 abbrev pub ports_in : Option GiottoProgram → List ℤ → Valuation
 ports_in o values = option_map_or (λ p. valuation_of p values) o []
 
--- what a tenant's fields stand for: `own` is its place in the roster, `places` is the room left for active tasks, and `shares` has the shares of bodies that are at hand
+-- what a tenant's fields stand for: `place` is its place in the roster, `room` is that left for active tasks, and `shares` has the shares of bodies that are at hand
 abbrev pub standing_of : ℕ → code.State → Option GiottoProgram → ℕ → ℕ → List Active → ℕ → List ℤ → List (Option TaskBody) → ℕ → Standing
-standing_of own state program mode time active places values shares count = record {
-  own = own;
+standing_of place state program mode time active room values shares next_tick = record {
+  place = place;
   row = record {
     state = state_of state;
     program = program;
@@ -68,10 +68,10 @@ standing_of own state program mode time active places values shares count = reco
     binds = [];
     waiting = None;
     records = [];
-    count = count;
+    next_tick = next_tick;
   };
   completed = map is_completed active;
-  places = places;
+  room = room;
   shared = list_all is_some shares;
 }
 
@@ -100,8 +100,8 @@ abbrev pub IsActiveOf : GiottoProgram → Active → Type 0
 IsActiveOf p a = IsSomeAnd (slice_get p.tasks a.task) (IsActiveAs a)
 
 -- and released before the next instant
-pub record IsActiveIn (p : GiottoProgram) (count : ℕ) (a : Active) : Type 0 where
-  pub early : a.release < count
+pub record IsActiveIn (p : GiottoProgram) (next_tick : ℕ) (a : Active) : Type 0 where
+  pub early : a.release < next_tick
   pub declared : IsActiveOf p a
 
 -- the mode's invocations happened: behind the older tasks stand those that were released, not completed, and the values are those behind all drivers
@@ -117,7 +117,7 @@ pub record IsEntered (p : GiottoProgram) (m : ModeDeclaration) (time : ℕ) (act
   pub switch : ModeSwitch
   pub target : ModeDeclaration
   pub taken : switch_taken m time ports ≡ Some switch
-  pub named : mode_of p switch.target ≡ Some target
+  pub named : mode_named p switch.target ≡ Some target
   pub there : slice_get p.modes entry.mode ≡ Some target
   pub begins : entry.time ≡ entry_time m target time active
   pub given : valuation_of p values ≡ with_destinations switch ports
@@ -133,20 +133,20 @@ IsShareOf t share = IfSome share (λ b. b ≡ body_of t)
 
 -- a tenant with this program: its values are as many as the program has ports, its mode is one of the program's, in which nothing is
 -- due before `next`, its active tasks are tasks of it, and the shares are of its bodies, in their order
-pub record FitsProgram (p : GiottoProgram) (mode time next : ℕ) (active : List Active) (values : List ℤ) (shares : List (Option TaskBody)) (count : ℕ) : Type 0 where
+pub record FitsProgram (p : GiottoProgram) (mode time next : ℕ) (active : List Active) (values : List ℤ) (shares : List (Option TaskBody)) (next_tick : ℕ) : Type 0 where
   pub long : length values ≡ slots_of p
   pub mode_there : mode < length p.modes
   pub quiet : (m : ModeDeclaration) → slice_get p.modes mode ≡ Some m → IsQuietUntil m time next
-  pub each : AllByRecursion (IsActiveIn p count) active
+  pub each : AllByRecursion (IsActiveIn p next_tick) active
   pub share_each : AreEach IsShareOf p.tasks shares
 
 -- the tenant fits its program, or it has none and nothing is active
 abbrev pub FitsIts : Option GiottoProgram → ℕ → ℕ → ℕ → List Active → List ℤ → List (Option TaskBody) → ℕ → Type 0
-FitsIts None mode time next active values shares count = active ≡ []
-FitsIts (Some p) mode time next active values shares count = FitsProgram p mode time next active values shares count
+FitsIts None mode time next active values shares next_tick = active ≡ []
+FitsIts (Some p) mode time next active values shares next_tick = FitsProgram p mode time next active values shares next_tick
 
 -- what is known of a tenant at any time: its mode time is small, its releases differ, and the rest fits its program
-pub record IsTenant (program : Option GiottoProgram) (mode time next : ℕ) (active : List Active) (values : List ℤ) (shares : List (Option TaskBody)) (count : ℕ) : Type 0 where
+pub record IsTenant (program : Option GiottoProgram) (mode time next : ℕ) (active : List Active) (values : List ℤ) (shares : List (Option TaskBody)) (next_tick : ℕ) : Type 0 where
   pub short_time : time < 2 ^ 32
   pub different : all_different_releases (tasks_in program active) ≡ true
-  pub fits : FitsIts program mode time next active values shares count
+  pub fits : FitsIts program mode time next active values shares next_tick

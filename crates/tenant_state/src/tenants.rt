@@ -65,7 +65,7 @@ pub(crate) struct Active {
 pub struct Tenant {
     pub(crate) alloc: Global,
     /// Its place in the roster.
-    pub(crate) own: TenantId,
+    pub(crate) place: TenantId,
     pub(crate) state: State,
     pub(crate) program: Option<Checked>,
     /// The place of the mode in the program's text, from 0.
@@ -79,7 +79,7 @@ pub struct Tenant {
     /// For each task a share of its body, where one is at hand.
     pub(crate) shares: Vec<Option<Arc<Body, Global>>>,
     /// The number of the next instant.
-    pub(crate) count: u64,
+    pub(crate) next_tick: u64,
 }
 
 impl Model for Tenant {
@@ -95,19 +95,19 @@ impl Model for Tenant {
 
     ghost coded = { Prim.hlevel (codes, program_code) };
 
-    ghost view = { λ t. standing_of t.own t.state t.program t.mode t.mode_time t.active.items t.active.room t.values.items (map (option_map arc_value) t.shares.items) t.count };
+    ghost view = { λ t. standing_of t.place t.state t.program t.mode t.mode_time t.active.items t.active.room t.values.items (map (option_map arc_value) t.shares.items) t.next_tick };
 
-    ghost invariant = { λ t. IsTenant t.program t.mode t.mode_time t.next_due t.active.items t.values.items (map (option_map arc_value) t.shares.items) t.count };
+    ghost invariant = { λ t. IsTenant t.program t.mode t.mode_time t.next_due t.active.items t.values.items (map (option_map arc_value) t.shares.items) t.next_tick };
 }
 
 impl Tenant {
     /// The tenant at this place of the roster, without a program. Its first instant has this number. Takes no memory.
-    pub fn new(alloc: Global, own: TenantId, first_tick: u64) -> Tenant
-        ensures { result ≡ empty_standing own first_tick }
+    pub fn new(alloc: Global, place: TenantId, first_tick: u64) -> Tenant
+        ensures { result ≡ empty_standing place first_tick }
     {
         Tenant {
             alloc,
-            own,
+            place,
             state: State::Empty,
             program: None,
             mode: 0,
@@ -116,15 +116,15 @@ impl Tenant {
             active: ActiveTasks::new(alloc),
             values: Vec::new(alloc),
             shares: Vec::new(alloc),
-            count: first_tick,
+            next_tick: first_tick,
         }
     }
 
     /// The number of the tenant's next instant. Each active task was released before it.
     pub fn next_tick(&self) -> u64
-        ensures number { result ≡ self.now.row.count }
+        ensures number { result ≡ self.now.row.next_tick }
         ensures known { IsKnown self.now.row }
     {
-        self.count
+        self.next_tick
     }
 }

@@ -45,7 +45,7 @@ impl Numbered<'_> {
 
     // The place of the mode of this name. Goes over the modes once.
     fn target(&self, name: &Name) -> usize
-        requires { IsSome (declared.mode_of self.now name.now) }
+        requires { IsSome (declared.mode_named self.now name.now) }
         ensures { place_of_mode self.now name.now ≡ Some result }
     {
         match mode_place(self.program.modes(), name) {

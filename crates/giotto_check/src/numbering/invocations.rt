@@ -59,7 +59,7 @@ impl Numbered<'_> {
 
     // The place of the task of this name. Goes over the tasks once.
     fn task(&self, name: &Name) -> usize
-        requires { IsSome (declared.task_of self.now name.now) }
+        requires { IsSome (declared.task_named self.now name.now) }
         ensures { place_of_task self.now name.now ≡ Some result }
     {
         match task_place(self.program.tasks(), name) {

@@ -7,7 +7,7 @@ ghost use Rattle.giotto_text.specs.Program as tree;
 ghost use Rattle.giotto_text.specs.Program.{body_of};
 ghost use Rattle.giotto_text.specs.ProgramTrees.{task_of};
 ghost use Rattle.giotto_rules.specs.Declarations as declared;
-ghost use Rattle.giotto_rules.specs.Names as tests;
+ghost use Rattle.giotto_rules.specs.Names as spec;
 ghost use Rattle.giotto_rules.specs.Rules as rules;
 ghost use Rattle.giotto_rules.specs.TaskPorts.{declares_own};
 
@@ -38,7 +38,7 @@ fn names_declared_once(alloc: Global, program: &Program) -> Result<bool, AllocEr
 
 fn lines_declared_once(alloc: Global, program: &Program) -> Result<bool, AllocError>
     ensures { IfOk result
-        (λ holds. holds ≡ tests.all_different_numbers (declared.lines_written program.now)) }
+        (λ holds. holds ≡ spec.all_different_numbers (declared.lines_written program.now)) }
 {
     let lines = declarations::lines_written(alloc, program)?;
     Ok(names::all_different_numbers(&lines))
@@ -88,7 +88,7 @@ fn inputs_and_states_are_own(
 ) -> Result<bool, AllocError>
     ensures { IfOk result
         (λ holds. holds ≡ sound.all_different (body.now.inputs ++ body.now.states)
-        && tests.share_none declared.now (body.now.inputs ++ body.now.states)) }
+        && spec.share_none declared.now (body.now.inputs ++ body.now.states)) }
 {
     let mut own = Vec::new(alloc);
     names::push_names(&mut own, body.inputs.as_slice())?;

@@ -7,7 +7,7 @@ ghost use Rattle.giotto_tasks.specs.Sound as sound;
 ghost use Rattle.giotto_text.specs.Program as tree;
 ghost use Rattle.giotto_text.specs.ProgramTrees.{mode_of, update_of, switch_of, invocation_of};
 ghost use Rattle.giotto_rules.specs.Declarations as declared;
-ghost use Rattle.giotto_rules.specs.Drivers as tests;
+ghost use Rattle.giotto_rules.specs.Drivers as spec;
 ghost use Rattle.giotto_rules.specs.Names.{are_among};
 ghost use Rattle.giotto_rules.specs.Reads.{names_in_update, names_in_invocation};
 ghost use Rattle.giotto_rules.specs.Rules as rules;
@@ -69,8 +69,8 @@ fn mode_drivers_fit(
 ) -> Result<bool, AllocError>
     requires each { ports.now ≡ map (declared.mode_ports program.now) program.now.modes }
     requires own { own.now ≡ declared.mode_ports program.now (mode_of mode.now) }
-    requires sources { sources.now ≡ tests.readable_ports program.now (mode_of mode.now) }
-    ensures { IfOk result (λ holds. holds ≡ tests.drivers_fit program.now (mode_of mode.now)) }
+    requires sources { sources.now ≡ spec.readable_ports program.now (mode_of mode.now) }
+    ensures { IfOk result (λ holds. holds ≡ spec.drivers_fit program.now (mode_of mode.now)) }
 {
     if !updates_read(&Scope::new(own), mode.updates.as_slice()) {
         return Ok(false);
@@ -103,7 +103,7 @@ fn switches_fit(
 ) -> Result<bool, AllocError>
     requires { ports.now ≡ map (declared.mode_ports program.now) program.now.modes }
     ensures { IfOk result
-        (λ holds. holds ≡ list_all (tests.switch_fits program.now sources.now)
+        (λ holds. holds ≡ list_all (spec.switch_fits program.now sources.now)
         (map switch_of switches.now)) }
 {
     for switch in switches {
@@ -123,7 +123,7 @@ fn switch_fits(
 ) -> Result<bool, AllocError>
     requires { ports.now ≡ map (declared.mode_ports program.now) program.now.modes }
     ensures { IfOk result
-        (λ holds. holds ≡ tests.switch_fits program.now sources.now (switch_of switch.now)) }
+        (λ holds. holds ≡ spec.switch_fits program.now sources.now (switch_of switch.now)) }
 {
     Ok(
         reads::switch_reads_only(sources, switch)
@@ -145,8 +145,8 @@ fn gives_once(alloc: Global, switch: &Switch) -> Result<bool, AllocError>
 fn gives_to_target(program: &Indexed, ports: &[Index], switch: &Switch) -> bool
     requires { ports.now ≡ map (declared.mode_ports program.now) program.now.modes }
     ensures { result
-        ≡ are_among (tests.ports_of_target program.now
-        (declared.mode_of program.now (switch_of switch.now).target))
+        ≡ are_among (spec.ports_of_target program.now
+        (declared.mode_named program.now (switch_of switch.now).target))
         (declared.destinations_of (switch_of switch.now)) }
 {
     match ports_of_target(program, ports, &switch.target) {
@@ -159,8 +159,8 @@ fn gives_to_target(program: &Indexed, ports: &[Index], switch: &Switch) -> bool
 fn ports_of_target<'a>(program: &Indexed, ports: &'a [Index], mode: &Name) -> Option<&'a Index>
     requires { ports.now ≡ map (declared.mode_ports program.now) program.now.modes }
     ensures found { IfSome result
-        (λ names. names.now ≡ tests.ports_of_target program.now (declared.mode_of program.now mode.now)) }
-    ensures missing { result ≡ None → tests.ports_of_target program.now (declared.mode_of program.now mode.now) ≡ [] }
+        (λ names. names.now ≡ spec.ports_of_target program.now (declared.mode_named program.now mode.now)) }
+    ensures missing { result ≡ None → spec.ports_of_target program.now (declared.mode_named program.now mode.now) ≡ [] }
 {
     match program.place_of_mode(mode) {
         Some(place) => ports.get(place),

@@ -4,7 +4,7 @@ ghost use Rattle.std.specs.Prelude.{◌≡◌, map};
 ghost use Rattle.std.specs.List.{list_all};
 ghost use Rattle.giotto_text.specs.Program as tree;
 ghost use Rattle.giotto_text.specs.ProgramTrees.{update_of, switch_of, invocation_of};
-ghost use Rattle.giotto_rules.specs.Frequencies as tests;
+ghost use Rattle.giotto_rules.specs.Frequencies as spec;
 ghost use Rattle.giotto_rules.specs.Rules as rules;
 
 use giotto_text::programs::{Invocation, Program, Switch, Update};
@@ -30,7 +30,7 @@ pub(crate) fn frequencies_divide(program: &Program) -> bool
 
 fn updates_divide(updates: &[Update], period: u64) -> bool
     ensures { result
-        ≡ list_all (λ (u : tree.ActuatorUpdate). tests.divides u.frequency period)
+        ≡ list_all (λ (u : tree.ActuatorUpdate). spec.divides u.frequency period)
         (map update_of updates.now) }
 {
     for update in updates {
@@ -43,7 +43,7 @@ fn updates_divide(updates: &[Update], period: u64) -> bool
 
 fn switches_divide(switches: &[Switch], period: u64) -> bool
     ensures { result
-        ≡ list_all (λ (s : tree.ModeSwitch). tests.divides s.frequency period)
+        ≡ list_all (λ (s : tree.ModeSwitch). spec.divides s.frequency period)
         (map switch_of switches.now) }
 {
     for switch in switches {
@@ -56,7 +56,7 @@ fn switches_divide(switches: &[Switch], period: u64) -> bool
 
 fn invocations_divide(invocations: &[Invocation], period: u64) -> bool
     ensures { result
-        ≡ list_all (λ (i : tree.TaskInvocation). tests.divides i.frequency period)
+        ≡ list_all (λ (i : tree.TaskInvocation). spec.divides i.frequency period)
         (map invocation_of invocations.now) }
 {
     for invocation in invocations {
@@ -68,7 +68,7 @@ fn invocations_divide(invocations: &[Invocation], period: u64) -> bool
 }
 
 fn divides(frequency: u64, period: u64) -> bool
-    ensures { result ≡ tests.divides frequency period }
+    ensures { result ≡ spec.divides frequency period }
 {
     1 <= frequency && period % frequency == 0
 }

@@ -3,7 +3,7 @@
 ghost use Rattle.std.specs.Prelude.{◌≡◌, ◌&&◌, map, IfOk};
 ghost use Rattle.std.specs.List.{list_all};
 ghost use Rattle.giotto_text.specs.ProgramTrees.{task_of, mode_of, update_of, switch_of, invocation_of};
-ghost use Rattle.giotto_rules.specs.Kinds as tests;
+ghost use Rattle.giotto_rules.specs.Kinds as spec;
 ghost use Rattle.giotto_rules.specs.Rules as rules;
 
 use crate::scopes::Scope;
@@ -51,13 +51,13 @@ pub(crate) fn uses_right_kinds(alloc: Global, program: &Program) -> Result<bool,
 // Whether tasks and modes use these names as what they are.
 fn program_uses(kinds: &Kinds, program: &Program) -> bool
     ensures { result
-        ≡ list_all (tests.task_uses kinds.now) program.now.tasks && list_all (tests.mode_uses kinds.now) program.now.modes }
+        ≡ list_all (spec.task_uses kinds.now) program.now.tasks && list_all (spec.mode_uses kinds.now) program.now.modes }
 {
     tasks_use(kinds, program.tasks()) && modes_use(kinds, program.modes())
 }
 
 fn kinds_of(alloc: Global, program: &Program) -> Result<Kinds, AllocError>
-    ensures { IfOk result (λ k. k ≡ tests.kinds_of program.now) }
+    ensures { IfOk result (λ k. k ≡ spec.kinds_of program.now) }
 {
     Ok(Kinds {
         actuators: Index::new(alloc, declarations::actuator_names(alloc, program)?)?,
@@ -69,7 +69,7 @@ fn kinds_of(alloc: Global, program: &Program) -> Result<Kinds, AllocError>
 }
 
 fn tasks_use(kinds: &Kinds, tasks: &[Task]) -> bool
-    ensures { result ≡ list_all (tests.task_uses kinds.now) (map task_of tasks.now) }
+    ensures { result ≡ list_all (spec.task_uses kinds.now) (map task_of tasks.now) }
 {
     for task in tasks {
         let body: &Body = &task.body;
@@ -81,7 +81,7 @@ fn tasks_use(kinds: &Kinds, tasks: &[Task]) -> bool
 }
 
 fn modes_use(kinds: &Kinds, modes: &[Mode]) -> bool
-    ensures { result ≡ list_all (tests.mode_uses kinds.now) (map mode_of modes.now) }
+    ensures { result ≡ list_all (spec.mode_uses kinds.now) (map mode_of modes.now) }
 {
     for mode in modes {
         if !mode_uses(kinds, mode) {
@@ -92,7 +92,7 @@ fn modes_use(kinds: &Kinds, modes: &[Mode]) -> bool
 }
 
 fn mode_uses(kinds: &Kinds, mode: &Mode) -> bool
-    ensures { result ≡ tests.mode_uses kinds.now (mode_of mode.now) }
+    ensures { result ≡ spec.mode_uses kinds.now (mode_of mode.now) }
 {
     updates_use(kinds, mode.updates.as_slice())
         && switches_use(kinds, mode.switches.as_slice())
@@ -100,7 +100,7 @@ fn mode_uses(kinds: &Kinds, mode: &Mode) -> bool
 }
 
 fn updates_use(kinds: &Kinds, updates: &[Update]) -> bool
-    ensures { result ≡ list_all (tests.update_uses kinds.now) (map update_of updates.now) }
+    ensures { result ≡ list_all (spec.update_uses kinds.now) (map update_of updates.now) }
 {
     for update in updates {
         if !(kinds.actuators.contains(&update.actuator)
@@ -113,7 +113,7 @@ fn updates_use(kinds: &Kinds, updates: &[Update]) -> bool
 }
 
 fn switches_use(kinds: &Kinds, switches: &[Switch]) -> bool
-    ensures { result ≡ list_all (tests.switch_uses kinds.now) (map switch_of switches.now) }
+    ensures { result ≡ list_all (spec.switch_uses kinds.now) (map switch_of switches.now) }
 {
     for switch in switches {
         if !(kinds.modes.contains(&switch.target)
@@ -128,7 +128,7 @@ fn switches_use(kinds: &Kinds, switches: &[Switch]) -> bool
 
 fn invocations_use(kinds: &Kinds, invocations: &[Invocation]) -> bool
     ensures { result
-        ≡ list_all (tests.invocation_uses kinds.now) (map invocation_of invocations.now) }
+        ≡ list_all (spec.invocation_uses kinds.now) (map invocation_of invocations.now) }
 {
     for invocation in invocations {
         if !(kinds.tasks.contains(&invocation.task)

@@ -6,7 +6,7 @@ ghost use Rattle.giotto_text.specs.ProgramTrees.{mode_of, switch_of, invocation_
 ghost use Rattle.giotto_rules.specs.Declarations as declared;
 ghost use Rattle.giotto_tasks.specs.Places.{place_from};
 ghost use Rattle.giotto_rules.specs.Rules as rules;
-ghost use Rattle.giotto_rules.specs.Switches as tests;
+ghost use Rattle.giotto_rules.specs.Switches as spec;
 ghost use Rattle.giotto_rules.specs.Periods as by_place;
 
 use crate::indexed::Indexed;
@@ -18,7 +18,7 @@ use std::alloc::{AllocError, Global};
 
 // An invocation of a mode.
 #[derive(Drop)]
-struct Due {
+struct Repetition {
     // How many ticks lie between two.
     every: u64,
     // The place of its task among the program's tasks.
@@ -83,38 +83,38 @@ fn mode_keeps_periods(
     mode: &Mode,
 ) -> Result<bool, AllocError>
     requires { periods.now ≡ map (by_place.periods_in program.now) program.now.modes }
-    ensures { IfOk result (λ holds. holds ≡ tests.mode_keeps_periods program.now (mode_of mode.now)) }
+    ensures { IfOk result (λ holds. holds ≡ spec.mode_keeps_periods program.now (mode_of mode.now)) }
 {
-    let dues = dues(alloc, program, mode)?;
-    Ok(switches_keep_dues(program, periods, mode, &dues))
+    let repetitions = repetitions(alloc, program, mode)?;
+    Ok(switches_keep_repetitions(program, periods, mode, &repetitions))
 }
 
-fn dues(alloc: Global, program: &Indexed, mode: &Mode) -> Result<Vec<Due>, AllocError>
+fn repetitions(alloc: Global, program: &Indexed, mode: &Mode) -> Result<Vec<Repetition>, AllocError>
     ensures { IfOk result
-        (λ dues. dues.items ≡ map (by_place.due_of program.now mode.now.period) (mode_of mode.now).invocations) }
+        (λ repetitions. repetitions.items ≡ map (by_place.repetition_of program.now mode.now.period) (mode_of mode.now).invocations) }
 {
-    let mut dues = Vec::new(alloc);
+    let mut repetitions = Vec::new(alloc);
     for invocation in mode.invocations.as_slice() {
-        dues.push(Due {
+        repetitions.push(Repetition {
             every: ticks_between(mode.period, invocation.frequency),
             task: program.place_of_task(&invocation.task),
         })?;
     }
-    Ok(dues)
+    Ok(repetitions)
 }
 
-fn switches_keep_dues(
+fn switches_keep_repetitions(
     program: &Indexed,
     periods: &[List<Option<u64>>],
     mode: &Mode,
-    dues: &[Due],
+    repetitions: &[Repetition],
 ) -> bool
     requires periods { periods.now ≡ map (by_place.periods_in program.now) program.now.modes }
-    requires dues { dues.now ≡ map (by_place.due_of program.now mode.now.period) (mode_of mode.now).invocations }
-    ensures { result ≡ tests.mode_keeps_periods program.now (mode_of mode.now) }
+    requires repetitions { repetitions.now ≡ map (by_place.repetition_of program.now mode.now.period) (mode_of mode.now).invocations }
+    ensures { result ≡ spec.mode_keeps_periods program.now (mode_of mode.now) }
 {
     for switch in mode.switches.as_slice() {
-        if !switch_keeps_periods(program, periods, mode, dues, switch) {
+        if !switch_keeps_periods(program, periods, mode, repetitions, switch) {
             return false;
         }
     }
@@ -125,20 +125,20 @@ fn switch_keeps_periods(
     program: &Indexed,
     periods: &[List<Option<u64>>],
     mode: &Mode,
-    dues: &[Due],
+    repetitions: &[Repetition],
     switch: &Switch,
 ) -> bool
     requires periods { periods.now ≡ map (by_place.periods_in program.now) program.now.modes }
-    requires dues { dues.now ≡ map (by_place.due_of program.now mode.now.period) (mode_of mode.now).invocations }
+    requires repetitions { repetitions.now ≡ map (by_place.repetition_of program.now mode.now.period) (mode_of mode.now).invocations }
     ensures { result
-        ≡ tests.switch_keeps_periods program.now (mode_of mode.now) (switch_of switch.now) }
+        ≡ spec.switch_keeps_periods program.now (mode_of mode.now) (switch_of switch.now) }
 {
     let row = periods_of_target(program, periods, &switch.target);
     let invocations = mode.invocations.as_slice();
     for i in 0..invocations.len() {
         let invocation = &invocations[i];
-        let due = &dues[i];
-        if !keeps_period(program, row, mode, switch, invocation, due) {
+        let repetition = &repetitions[i];
+        if !keeps_period(program, row, mode, switch, invocation, repetition) {
             return false;
         }
     }
@@ -153,7 +153,7 @@ fn periods_of_target<'a>(
 ) -> Option<&'a List<Option<u64>>>
     requires { periods.now ≡ map (by_place.periods_in program.now) program.now.modes }
     ensures { option_copied result
-        ≡ option_map (by_place.periods_in program.now) (declared.mode_of program.now mode.now) }
+        ≡ option_map (by_place.periods_in program.now) (declared.mode_named program.now mode.now) }
 {
     match program.place_of_mode(mode) {
         Some(place) => periods.get(place),
@@ -167,17 +167,19 @@ fn keeps_period(
     mode: &Mode,
     switch: &Switch,
     invocation: &Invocation,
-    due: &Due,
+    repetition: &Repetition,
 ) -> bool
     requires row { option_copied row
-        ≡ option_map (by_place.periods_in program.now) (declared.mode_of program.now switch.now.target) }
-    requires due { due.now ≡ by_place.due_of program.now mode.now.period (invocation_of invocation.now) }
+        ≡ option_map (by_place.periods_in program.now) (declared.mode_named program.now switch.now.target) }
+    requires repetition { repetition.now ≡ by_place.repetition_of program.now mode.now.period (invocation_of invocation.now) }
     ensures { result
-        ≡ tests.keeps_period program.now mode.now.period (switch_of switch.now)
+        ≡ spec.keeps_period program.now mode.now.period (switch_of switch.now)
         (invocation_of invocation.now) }
 {
-    is_multiple(ticks_between(mode.period, switch.frequency), due.every)
-        || goes_on(program, row, &switch.target, &invocation.task, due)
+    is_multiple(
+        ticks_between(mode.period, switch.frequency),
+        repetition.every,
+    ) || goes_on(program, row, &switch.target, &invocation.task, repetition)
 }
 
 // Whether the mode, whose periods these are, invokes the task each so many ticks.
@@ -186,22 +188,22 @@ fn goes_on(
     row: Option<&List<Option<u64>>>,
     mode: &Name,
     task: &Name,
-    due: &Due,
+    repetition: &Repetition,
 ) -> bool
     requires row { option_copied row
-        ≡ option_map (by_place.periods_in program.now) (declared.mode_of program.now mode.now) }
-    requires due { due.now.task ≡ place_from 0 (declared.task_names program.now) task.now }
+        ≡ option_map (by_place.periods_in program.now) (declared.mode_named program.now mode.now) }
+    requires repetition { repetition.now.task ≡ place_from 0 (declared.task_names program.now) task.now }
     ensures { result
-        ≡ tests.goes_on_with (declared.mode_of program.now mode.now) task.now due.now.every }
+        ≡ spec.goes_on_with (declared.mode_named program.now mode.now) task.now repetition.now.every }
 {
-    match due.task {
-        Some(place) => is_period_at(row, place, due.every),
-        None => goes_on_by_name(program.program(), mode, task, due.every),
+    match repetition.task {
+        Some(place) => is_period_at(row, place, repetition.every),
+        None => goes_on_by_name(program.program(), mode, task, repetition.every),
     }
 }
 
 fn is_period_at(row: Option<&List<Option<u64>>>, place: usize, period: u64) -> bool
-    ensures { result ≡ tests.is_period (by_place.period_at (option_copied row.entry) place) period }
+    ensures { result ≡ spec.is_period (by_place.period_at (option_copied row.entry) place) period }
 {
     let Some(periods) = row else {
         return false;
@@ -218,7 +220,7 @@ fn is_period_at(row: Option<&List<Option<u64>>>, place: usize, period: u64) -> b
 
 // Whether the mode invokes the task each so many ticks. A task that isn't declared has no place.
 fn goes_on_by_name(program: &Program, mode: &Name, task: &Name, period: u64) -> bool
-    ensures { result ≡ tests.goes_on_with (declared.mode_of program.now mode.now) task.now period }
+    ensures { result ≡ spec.goes_on_with (declared.mode_named program.now mode.now) task.now period }
 {
     match find_mode(program, mode) {
         Some(mode) => is_invoked_every(mode, task, period),
@@ -228,7 +230,7 @@ fn goes_on_by_name(program: &Program, mode: &Name, task: &Name, period: u64) -> 
 
 fn is_invoked_every(mode: &Mode, task: &Name, period: u64) -> bool
     ensures { result
-        ≡ tests.is_period (declared.period_of_task (mode_of mode.now) task.now) period }
+        ≡ spec.is_period (declared.period_of_task (mode_of mode.now) task.now) period }
 {
     match period_of_task(mode, task) {
         Some(own) => own == period,

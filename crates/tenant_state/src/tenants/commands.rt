@@ -47,8 +47,8 @@ impl Tenant {
     pub fn command(&mut self, budgets: &Budgets, command: Command) -> Reply
         ensures memory { result ≡ Reply.Refused Refusal.Memory → self.new ≡ self.old }
         ensures room { takes_memory command ≡ false → result ≢ Reply.Refused Refusal.Memory }
-        ensures own { self.new.own ≡ self.old.own }
-        ensures count { self.new.row.count ≡ self.old.row.count }
+        ensures place { self.new.place ≡ self.old.place }
+        ensures next_tick { self.new.row.next_tick ≡ self.old.row.next_tick }
         ensures step { (row : Row) (completed : ActiveTask → Bool) → StandsFor self.old row completed
             → result ≢ Reply.Refused Refusal.Memory → IsOutcome (commanded budgets.now command row) result self.new completed }
     {
@@ -86,8 +86,8 @@ impl Tenant {
     // Takes the program that the text spells. All that takes memory is made before the first change.
     fn load(&mut self, budgets: &Budgets, text: &str) -> Result<(), Refusal>
         ensures unchanged { OnErr result (self.new ≡ self.old) }
-        ensures own { self.new.own ≡ self.old.own }
-        ensures count { self.new.row.count ≡ self.old.row.count }
+        ensures place { self.new.place ≡ self.old.place }
+        ensures next_tick { self.new.row.next_tick ≡ self.old.row.next_tick }
         ensures refused { IfErr result (λ r. r ≢ Refusal.Memory → (row : Row) → self.old.row ≡ without_records row
             → commanded budgets.now (Command.Load text.now) row ≡ refused row r) }
         ensures loaded { OnOk result ((row : Row) (completed : ActiveTask → Bool) → StandsFor self.old row completed
@@ -135,8 +135,8 @@ impl Tenant {
         requires long { length beginning.values.items ≡ slots_of program }
         requires ports { valuation_of program beginning.values.items ≡ initial_ports program }
         requires shares { map (option_map arc_value) beginning.shares.items ≡ map (λ t. None) program.tasks }
-        ensures own { self.new.own ≡ self.old.own }
-        ensures count { self.new.row.count ≡ self.old.row.count }
+        ensures place { self.new.place ≡ self.old.place }
+        ensures next_tick { self.new.row.next_tick ≡ self.old.row.next_tick }
         ensures step { (row : Row) (completed : ActiveTask → Bool) → StandsFor self.old row completed
             → StandsFor self.new (at_beginning loaded program row) completed }
     {
@@ -153,8 +153,8 @@ impl Tenant {
     // Runs the program from its beginning. Takes no memory.
     fn start(&mut self) -> Result<(), Refusal>
         ensures unchanged { OnErr result (self.new ≡ self.old) }
-        ensures own { self.new.own ≡ self.old.own }
-        ensures count { self.new.row.count ≡ self.old.row.count }
+        ensures place { self.new.place ≡ self.old.place }
+        ensures next_tick { self.new.row.next_tick ≡ self.old.row.next_tick }
         ensures room { result ≢ Err Refusal.Memory }
         ensures refused { IfErr result (λ r. (budgets : Budgets) (row : Row) → self.old.row ≡ without_records row → commanded budgets Command.Start row ≡ refused row r) }
         ensures started { OnOk result ((budgets : Budgets) (row : Row) (completed : ActiveTask → Bool) → StandsFor self.old row completed
@@ -178,8 +178,8 @@ impl Tenant {
     // Stops the running program, as its tenant asks.
     fn stop(&mut self) -> Result<(), Refusal>
         ensures unchanged { OnErr result (self.new ≡ self.old) }
-        ensures own { self.new.own ≡ self.old.own }
-        ensures count { self.new.row.count ≡ self.old.row.count }
+        ensures place { self.new.place ≡ self.old.place }
+        ensures next_tick { self.new.row.next_tick ≡ self.old.row.next_tick }
         ensures room { result ≢ Err Refusal.Memory }
         ensures refused { IfErr result (λ r. (budgets : Budgets) (row : Row) → self.old.row ≡ without_records row → commanded budgets Command.Stop row ≡ refused row r) }
         ensures stopped { OnOk result ((budgets : Budgets) (row : Row) (completed : ActiveTask → Bool) → StandsFor self.old row completed
@@ -188,7 +188,7 @@ impl Tenant {
         if !self.is_running() {
             return Err(Refusal::NotRunning);
         }
-        self.halt(Reason::Asked);
+        self.stop_with(Reason::Asked);
         Ok(())
     }
 }

@@ -49,7 +49,7 @@ impl Tenant {
     /// are those of the release. Whether it counts; a completion that doesn't changes nothing. Takes no memory.
     pub fn complete(&mut self, done: Done) -> bool
         ensures counted { IsTrue result ↔ (awaited_job self.old done.id ≡ Some done) }
-        ensures own { self.new.own ≡ self.old.own }
+        ensures place { self.new.place ≡ self.old.place }
         ensures row { self.new.row ≡ self.old.row }
         ensures late { OnFalse result (self.new ≡ self.old) }
         ensures left { OnTrue result (length (outstanding_tasks self.old) ≡ length (outstanding_tasks self.new) + 1) }
@@ -73,7 +73,7 @@ impl Tenant {
     /// Computes each outstanding job where its task is active, and counts its completion. How many they were. Takes no memory.
     pub fn complete_all(&mut self) -> usize
         ensures number { result ≡ length (outstanding_tasks self.old) }
-        ensures own { self.new.own ≡ self.old.own }
+        ensures place { self.new.place ≡ self.old.place }
         ensures row { self.new.row ≡ self.old.row }
         ensures completed { self.new.completed ≡ map (λ b. true) self.old.completed }
     {
@@ -88,12 +88,12 @@ impl Tenant {
     /// # Errors
     /// Want of memory.
     pub fn add_outstanding(&self, names: &mut Vec<JobId>) -> Result<(), AllocError>
-        ensures { OnOk result (names.new.items ≡ names.old.items ++ map (job_of self.now.own) (outstanding_tasks self.now)) }
+        ensures { OnOk result (names.new.items ≡ names.old.items ++ map (job_of self.now.place) (outstanding_tasks self.now)) }
     {
         let Some(checked) = &self.program else {
             return Ok(());
         };
-        add_names(checked, self.own, self.active.as_slice(), names)
+        add_names(checked, self.place, self.active.as_slice(), names)
     }
 
     /// How many jobs are outstanding: their tasks are active, and not completed.
@@ -109,7 +109,7 @@ fn compute_each(checked: &Checked, active: &mut ActiveTasks) -> usize
     requires { AllByRecursion (IsActiveOf checked.now) active.old.items }
     ensures number { result ≡ length (filter (λ a. not (is_completed a)) active.old.items) }
     ensures releases { map (active_of checked.now) active.new.items ≡ map (active_of checked.now) active.old.items }
-    ensures tasks { (count : ℕ) → AllByRecursion (IsActiveIn checked.now count) active.old.items → AllByRecursion (IsActiveIn checked.now count) active.new.items }
+    ensures tasks { (next_tick : ℕ) → AllByRecursion (IsActiveIn checked.now next_tick) active.old.items → AllByRecursion (IsActiveIn checked.now next_tick) active.new.items }
     ensures completed { map is_completed active.new.items ≡ map (λ b. true) (map is_completed active.old.items) }
     ensures room { active.new.room ≡ active.old.room }
 {

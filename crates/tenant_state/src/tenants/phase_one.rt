@@ -32,11 +32,11 @@ impl Tenant {
     pub fn phase_one(&mut self)
         ensures step { (row : Row) (completed : ActiveTask → Bool) → StandsFor self.old row completed
             → StandsFor self.new (first_half_of (unfinished_tasks completed row) row) completed }
-        ensures places { self.old.places ≤ self.new.places }
+        ensures room { self.old.room ≤ self.new.room }
         ensures shared { self.new.shared ≡ self.old.shared }
         ensures fewer { most_released self.new.row ≤ most_released self.old.row }
-        ensures own { self.new.own ≡ self.old.own }
-        ensures count { self.new.row.count ≡ self.old.row.count }
+        ensures place { self.new.place ≡ self.old.place }
+        ensures next_tick { self.new.row.next_tick ≡ self.old.row.next_tick }
     {
         let State::Running = &self.state else {
             return;
@@ -54,7 +54,7 @@ impl Tenant {
         let table = entry_table(active);
         if let Some(task) = first_unfinished(invocations, time, active, &table) {
             let name = name_of(checked.program(), task);
-            self.halt(Reason::Overrun(name));
+            self.stop_with(Reason::Overrun(name));
             return;
         }
         let values = self.values.as_mut_slice();

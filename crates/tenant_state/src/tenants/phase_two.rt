@@ -33,16 +33,16 @@ impl Tenant {
     /// The second half of an instant whose number is below the greatest. `frame` has the input value of each line. The jobs of the
     /// tasks that are released are added to `jobs`, which has room for them. Takes no memory.
     pub fn phase_two(&mut self, budgets: &Budgets, frame: &[i64], jobs: &mut Jobs)
-        requires count { self.old.row.count < 2 ^ 64 - 1 }
-        requires places { HasRoom self.old }
+        requires next_tick { self.old.row.next_tick < 2 ^ 64 - 1 }
+        requires room { HasRoom self.old }
         requires shares { HasShares self.old }
         requires jobs { most_released self.old.row ≤ jobs.old.room }
         ensures step { (row : Row) (completed : ActiveTask → Bool) → StandsFor self.old row completed
-            → ((a : ActiveTask) → a.release ≡ row.count → completed a ≡ false)
+            → ((a : ActiveTask) → a.release ≡ row.next_tick → completed a ≡ false)
             → StandsFor self.new (second_half_of (readings_within budgets.now.reads frame.now) [] row) completed }
-        ensures own { self.new.own ≡ self.old.own }
-        ensures count { self.new.row.count ≡ self.old.row.count + 1 }
-        ensures jobs { jobs.new.jobs ≡ jobs.old.jobs ++ released_at self.old.own self.old.row.count self.new.row }
+        ensures place { self.new.place ≡ self.old.place }
+        ensures next_tick { self.new.row.next_tick ≡ self.old.row.next_tick + 1 }
+        ensures jobs { jobs.new.jobs ≡ jobs.old.jobs ++ released_at self.old.place self.old.row.next_tick self.new.row }
         ensures room { jobs.old.room ≤ jobs.new.room + most_released self.old.row }
     {
         let before = self.active.len();
@@ -53,7 +53,7 @@ impl Tenant {
         let released = &self.active.as_slice()[before..];
         add_jobs(
             checked,
-            self.own,
+            self.place,
             released,
             self.shares.as_mut_slice(),
             jobs,
@@ -65,18 +65,18 @@ impl Tenant {
     // Inlined, so that a tenant that isn't running costs its host no call.
     #[inline(always)]
     pub fn phase_two_without_jobs(&mut self, budgets: &Budgets, frame: &[i64])
-        requires count { self.old.row.count < 2 ^ 64 - 1 }
-        requires places { HasRoom self.old }
+        requires next_tick { self.old.row.next_tick < 2 ^ 64 - 1 }
+        requires room { HasRoom self.old }
         ensures step { (row : Row) (completed : ActiveTask → Bool) → StandsFor self.old row completed
-            → ((a : ActiveTask) → a.release ≡ row.count → completed a ≡ false)
+            → ((a : ActiveTask) → a.release ≡ row.next_tick → completed a ≡ false)
             → StandsFor self.new (second_half_of (readings_within budgets.now.reads frame.now) [] row) completed }
-        ensures own { self.new.own ≡ self.old.own }
-        ensures count { self.new.row.count ≡ self.old.row.count + 1 }
+        ensures place { self.new.place ≡ self.old.place }
+        ensures next_tick { self.new.row.next_tick ≡ self.old.row.next_tick + 1 }
         ensures released { AreReleased self.old.row self.new.row }
         ensures shared { self.new.shared ≡ self.old.shared }
     {
-        let release = self.count;
-        self.count += 1;
+        let release = self.next_tick;
+        self.next_tick += 1;
         let State::Running = self.state else {
             return;
         };

@@ -26,9 +26,9 @@ impl Tenant {
     /// Want of memory, or a share of a task's body is refused.
     pub fn ready(&mut self) -> Result<usize, AllocError>
         ensures most { IfOk result (λ n. n ≡ most_released self.old.row) }
-        ensures places { OnOk result (HasRoom self.new) }
+        ensures room { OnOk result (HasRoom self.new) }
         ensures shares { OnOk result (HasShares self.new) }
-        ensures own { self.new.own ≡ self.old.own }
+        ensures place { self.new.place ≡ self.old.place }
         ensures row { self.new.row ≡ self.old.row }
         ensures completed { self.new.completed ≡ self.old.completed }
     {

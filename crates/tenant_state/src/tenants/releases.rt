@@ -30,7 +30,7 @@ pub(crate) fn invoke_due(
 )
     requires quiet { (m : ModeDeclaration) → slice_get checked.now.modes mode ≡ Some m → IsQuietUntil m time next }
     requires values { length values.old ≡ slots_of checked.now }
-    requires places { (m : ModeDeclaration) → slice_get checked.now.modes mode ≡ Some m
+    requires room { (m : ModeDeclaration) → slice_get checked.now.modes mode ≡ Some m
         → length (filter (λ (i : TaskInvocation). is_due_at time m i.frequency) m.invocations) ≤ active.old.room }
     requires each { AllByRecursion (IsActiveIn checked.now (release + 1)) active.old.items }
     ensures { (m : ModeDeclaration) → slice_get checked.now.modes mode ≡ Some m

@@ -11,14 +11,14 @@ use tenant_slots::actuators::reset_actuators;
 
 impl Tenant {
     // Stops the tenant: its actuators are initial, and no task is active.
-    pub(crate) fn halt(&mut self, reason: Reason)
+    pub(crate) fn stop_with(&mut self, reason: Reason)
         ensures step { (row : Row) (completed : ActiveTask → Bool) → StandsFor self.old row completed
             → StandsFor self.new (stopped_with (reason_of reason) row) completed }
-        ensures places { self.old.places ≤ self.new.places }
+        ensures room { self.old.room ≤ self.new.room }
         ensures shared { self.new.shared ≡ self.old.shared }
         ensures fewer { most_released self.new.row ≡ 0 }
-        ensures own { self.new.own ≡ self.old.own }
-        ensures count { self.new.row.count ≡ self.old.row.count }
+        ensures place { self.new.place ≡ self.old.place }
+        ensures next_tick { self.new.row.next_tick ≡ self.old.row.next_tick }
     {
         self.state = State::Stopped(reason);
         self.active.clear();

@@ -16,7 +16,7 @@ loop-i-preserved c =
     let here = ap number_outstanding (c.index_mut.ensures.value ∙ unstepped (λ t. IsCompleted) c.loop-i.i tenants c.loop-i.tenants.items c.index_mut.result.now inside before.steps) in
     record {
       steps = stepped_more (λ t. IsCompleted) c.loop-i.i tenants c.loop-i.tenants.items c.index_mut.result.now c.complete_all.new.self inside c.index_mut.ensures.value before.steps
-          (record { row = c.complete_all.ensures.row; own = c.complete_all.ensures.own; completed = c.complete_all.ensures.completed });
+          (record { row = c.complete_all.ensures.row; place = c.complete_all.ensures.place; completed = c.complete_all.ensures.completed });
       number = omega (arith, before.number, c.complete_all.ensures.number, here, sum_by_more number_outstanding tenants c.loop-i.i (empty_standing 0 0) inside);
       few = omega (arith, before.few);
     }

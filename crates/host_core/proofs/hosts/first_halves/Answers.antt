@@ -14,11 +14,11 @@ loop-i-preserved c =
     let within : c.loop-i.i < length c.loop-i.tenants.items = omega (arith, inside, c.loop-i.invariant.halves.as_many) in
     record {
       halves = stepped_more (λ t. IsFirstHalf) c.loop-i.i c.args.tenants.now.items c.loop-i.tenants.items x half inside c.index_mut.ensures.value c.loop-i.invariant.halves
-          (record { step = c.phase_one.ensures.step; count = c.phase_one.ensures.count; own = c.phase_one.ensures.own });
+          (record { step = c.phase_one.ensures.step; next_tick = c.phase_one.ensures.next_tick; place = c.phase_one.ensures.place });
       ready = λ all.
           let before : IsReady x = subst IsReady (sym c.index_mut.ensures.value) (c.loop-i.invariant.ready all c.loop-i.i x within) in
           All-set IsReady c.loop-i.tenants.items c.loop-i.i half
-          (record { places = omega (arith, c.phase_one.ensures.fewer, c.phase_one.ensures.places, before.places); shares = λ some. c.phase_one.ensures.shared ∙ before.shares (omega (arith, some, c.phase_one.ensures.fewer)) })
+          (record { room = omega (arith, c.phase_one.ensures.fewer, c.phase_one.ensures.room, before.room); shares = λ some. c.phase_one.ensures.shared ∙ before.shares (omega (arith, some, c.phase_one.ensures.fewer)) })
           (c.loop-i.invariant.ready all);
       fewer =
           omega (

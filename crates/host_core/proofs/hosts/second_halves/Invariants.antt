@@ -10,5 +10,5 @@ abbrev pub invariant-loop-i : goal.invariant-loop-i
 invariant-loop-i l = record {
   halves : AreSecondHalvesTo l.config l.frame l.i l.initial.tenants.items l.tenants.items;
   space : most_of (drop l.i l.initial.tenants.items) ≤ l.jobs.room;
-  jobs : (n : ℕ) → All (λ (s : Standing). s.row.count ≡ n) l.initial.tenants.items → l.jobs.jobs ≡ l.initial.jobs.jobs ++ released_from n 0 (take l.i l.tenants.items);
+  jobs : (n : ℕ) → All (λ (s : Standing). s.row.next_tick ≡ n) l.initial.tenants.items → l.jobs.jobs ≡ l.initial.jobs.jobs ++ released_from n 0 (take l.i l.tenants.items);
 }

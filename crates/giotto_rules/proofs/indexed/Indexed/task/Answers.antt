@@ -8,7 +8,7 @@ use Rattle.giotto_rules.proofs.indexed.Indexed.task.Goals as goal
 
 pub returns-in-Some-clause-found : goal.returns-in-Some-clause-found
 returns-in-Some-clause-found c =
-    found_in task_of (declared.task_of c.args.self.now c.args.name.now) c.get.result
+    found_in task_of (declared.task_named c.args.self.now c.args.name.now) c.get.result
     (task_found c.args.self.now c.args.name.now c.self.inside.tasks c.tasks.result.now c.in-Some.place c.get.result (c.self.invariant.0 ∙ ap declared.task_names c.self.view_is) (sym c.place.ensures ∙ c.in-Some.is) (c.tasks.ensures ∙ ap (λ p. p.tasks) c.self.view_is) (copied_at c.tasks.result.now c.in-Some.place c.get.result c.get.ensures.lookup))
 
 pub returns-in-Some-clause-missing : goal.returns-in-Some-clause-missing

@@ -27,5 +27,5 @@ returns-clause-step c = λ setting state stands given.
     stands_outside setting (record host { tenants = set host.tenants c.args.tenant c.command-reply.new.self }) (after_event setting state (Own c.args.tenant c.args.command))
     (stands_after_command setting host state c.args.tenant c.args.command c.command-reply.new.self inside
     (subst (λ (k : Config). c.args.tenant < length k.tenants) inside.same_config within) outcome.stands
-    (c.command-reply.ensures.count ∙ (ap (λ (s : Standing). s.row.count) c.index_mut-tenant.ensures.value
+    (c.command-reply.ensures.next_tick ∙ (ap (λ (s : Standing). s.row.next_tick) c.index_mut-tenant.ensures.value
     ∙ (c.self.invariant.1 c.args.tenant c.index_mut-tenant.result.now (subst (λ n. c.args.tenant < n) (sym c.self.invariant.0) within)).0)))

@@ -20,7 +20,7 @@ returns-clause-step c = λ setting past stands.
     let here : c.index_mut-tenant.result.now ≡ tenant_at host.tenants c.args.tenant =
     c.index_mut-tenant.ensures.value ∙ get_or_default host.tenants c.args.tenant c.index_mut-tenant.result.now (empty_standing 0 0) within in
     let one : IsCompleted (tenant_at host.tenants c.args.tenant) c.complete_all.new.self =
-    subst (λ s. IsCompleted s c.complete_all.new.self) here (record { row = c.complete_all.ensures.row; own = c.complete_all.ensures.own; completed = c.complete_all.ensures.completed }) in
+    subst (λ s. IsCompleted s c.complete_all.new.self) here (record { row = c.complete_all.ensures.row; place = c.complete_all.ensures.place; completed = c.complete_all.ensures.completed }) in
     let jobs : outstanding_of c.args.self.now c.args.tenant ≡ outstanding_of host c.args.tenant =
     ap (λ (h : HostStanding). outstanding_of h c.args.tenant) (sym c.self.view_is) ∙ outstanding_at_rest_of host c.args.tenant in
     let done = host_after_done setting (outstanding_of c.args.self.now c.args.tenant) past ∙ ap (λ js. after_done setting js state) jobs in

@@ -61,7 +61,7 @@ returns c =
     let ss = states_of d.body d.inputs d.states in
     rw (← view, c.in-Some.is, put) (record {
       counted = (λ h. (counts p _ _ _ within at _ found c.declared.ensures.fits c.declared.result.now c.declared.ensures.task d refl).0 is, λ e. refl);
-      own = refl;
+      place = refl;
       row = rw (same_tasks p tasks _ a within at (computed a d) refl) refl;
       late = search rules;
       left = one_fewer p tasks _ a within at d.id found os ss;

@@ -30,6 +30,6 @@ returns c =
     let m = its_mode p s.mode known.fits.mode_there in
     let some = map_some (λ (a : Active). a.task) _ c.in-Some-active_place.place (rw c.as_slice.ensures at c.in-Some-active_place.ensures) in
     let here = ap (λ k. list_any (λ (e : SlotInvocation). nat_eq k e.task && (s.mode_time % e.interval == 0)) c.invocations.result.now) (sym some.2) in
-    let all = all_map (IsActiveIn p s.count) (IsActiveOf p) s.active.items (λ a is. is.declared) known.fits.each in
+    let all = all_map (IsActiveIn p s.next_tick) (IsActiveOf p) s.active.items (λ a is. is.declared) known.fits.each in
     rw (← c.self.view_is, c.in-Some.is, c.in-Running.is)
     (c.ends_at.ensures ∙ here ∙ due_by_place p c.program-program.ensures.fits m.0 s.mode s.mode_time s.active.items m.1 c.args.task.now all _ (c.invocations.ensures.there m.0 m.1) some.0 some.1)

@@ -17,7 +17,7 @@ invariant_of-self c =
         long = c.requires.long;
         mode_there = let start = some_of _ c.start_place-self-inside.ensures in slice_get_within p.modes _ start.0 start.1;
         quiet = λ m at t from before. absurd (omega arith);
-        each = subst (AllByRecursion (IsActiveIn p c.self.inside.count)) (sym c.clear.ensures.items) tt;
+        each = subst (AllByRecursion (IsActiveIn p c.self.inside.next_tick)) (sym c.clear.ensures.items) tt;
         share_each = subst (AreEach IsShareOf p.tasks) (sym c.requires.shares) (none_shared p.tasks);
       };
     })

@@ -22,12 +22,12 @@ returns-then-time-self-clause-step c = λ row completed st.
     let s = c.self.inside in
     let p = c.in-Some.checked in
     let shares = map (option_map arc_value) s.shares.items in
-    let was : c.args.self.now ≡ standing_of s.own states.Running (Some p) s.mode s.mode_time s.active.items s.active.room s.values.items shares s.count =
-    sym c.self.view_is ∙ (λ k. standing_of s.own (c.in-Running.is k) (c.in-Some.is k) s.mode s.mode_time s.active.items s.active.room s.values.items shares s.count) in
-    let fits = subst (λ o. FitsIts o s.mode s.mode_time s.next_due s.active.items s.values.items shares s.count) c.in-Some.is c.self.invariant.fits in
+    let was : c.args.self.now ≡ standing_of s.place states.Running (Some p) s.mode s.mode_time s.active.items s.active.room s.values.items shares s.next_tick =
+    sym c.self.view_is ∙ (λ k. standing_of s.place (c.in-Running.is k) (c.in-Some.is k) s.mode s.mode_time s.active.items s.active.room s.values.items shares s.next_tick) in
+    let fits = subst (λ o. FitsIts o s.mode s.mode_time s.next_due s.active.items s.values.items shares s.next_tick) c.in-Some.is c.self.invariant.fits in
     let m = its_mode p s.mode fits.mode_there in
     subst (λ t. StandsFor t (first_half_of (unfinished_tasks completed row) row) completed) (sym was)
-    (quiet_stands p c.program-program.ensures.fits m.0 s.mode s.mode_time s.active.items s.active.room s.values.items shares s.count m.1 row completed (subst (λ t. StandsFor t row completed) was st)
+    (quiet_stands p c.program-program.ensures.fits m.0 s.mode s.mode_time s.active.items s.active.room s.values.items shares s.next_tick m.1 row completed (subst (λ t. StandsFor t row completed) was st)
     (fits.quiet m.0 m.1 s.mode_time (omega arith) c.if-time-self.true))
 
 pub first_unfinished-requires-clause-positive : goal.first_unfinished-requires-clause-positive
@@ -46,7 +46,7 @@ pub end_due-requires-clause-there : goal.end_due-requires-clause-there
 end_due-requires-clause-there c =
     let s = c.self.inside in
     let p = c.in-Some.checked in
-    let fits = subst (λ o. FitsIts o s.mode s.mode_time s.next_due s.active.items s.values.items (map (option_map arc_value) s.shares.items) s.count) c.in-Some.is c.self.invariant.fits in
+    let fits = subst (λ o. FitsIts o s.mode s.mode_time s.next_due s.active.items s.values.items (map (option_map arc_value) s.shares.items) s.next_tick) c.in-Some.is c.self.invariant.fits in
     let m = its_mode p s.mode fits.mode_there in
     tasks_within p m.0 m.0.invocations _ (c.invocations-invocations.ensures.there m.0 m.1)
 
@@ -54,14 +54,14 @@ pub end_due-requires-clause-active : goal.end_due-requires-clause-active
 end_due-requires-clause-active c =
     let s = c.self.inside in
     let p = c.in-Some.checked in
-    let fits = subst (λ o. FitsIts o s.mode s.mode_time s.next_due s.active.items s.values.items (map (option_map arc_value) s.shares.items) s.count) c.in-Some.is c.self.invariant.fits in
-    subst (AllByRecursion (IsActiveOf p)) (sym c.as_slice-active.ensures) (all_map (IsActiveIn p s.count) (IsActiveOf p) s.active.items (λ a is. is.declared) fits.each)
+    let fits = subst (λ o. FitsIts o s.mode s.mode_time s.next_due s.active.items s.values.items (map (option_map arc_value) s.shares.items) s.next_tick) c.in-Some.is c.self.invariant.fits in
+    subst (AllByRecursion (IsActiveOf p)) (sym c.as_slice-active.ensures) (all_map (IsActiveIn p s.next_tick) (IsActiveOf p) s.active.items (λ a is. is.declared) fits.each)
 
 pub name_of-name-requires : goal.name_of-name-requires
 name_of-name-requires c =
     let s = c.self.inside in
     let p = c.in-Some.checked in
-    let fits = subst (λ o. FitsIts o s.mode s.mode_time s.next_due s.active.items s.values.items (map (option_map arc_value) s.shares.items) s.count) c.in-Some.is c.self.invariant.fits in
+    let fits = subst (λ o. FitsIts o s.mode s.mode_time s.next_due s.active.items s.values.items (map (option_map arc_value) s.shares.items) s.next_tick) c.in-Some.is c.self.invariant.fits in
     let m = its_mode p s.mode fits.mode_there in
     let some = map_some (λ (i : SlotInvocation). i.task) _ c.in-Some-first_unfinished.task c.in-Some-first_unfinished.ensures in
     let within = found_has (λ (e : SlotInvocation). e.task < length p.tasks) _ _ some.0 (tasks_within p m.0 m.0.invocations _ (c.invocations-invocations.ensures.there m.0 m.1)) some.1 in
@@ -72,43 +72,43 @@ returns-in-Some-first_unfinished-clause-step c = λ row completed st.
     let s = c.self.inside in
     let p = c.in-Some.checked in
     let shares = map (option_map arc_value) s.shares.items in
-    let fits = subst (λ o. FitsIts o s.mode s.mode_time s.next_due s.active.items s.values.items shares s.count) c.in-Some.is c.self.invariant.fits in
+    let fits = subst (λ o. FitsIts o s.mode s.mode_time s.next_due s.active.items s.values.items shares s.next_tick) c.in-Some.is c.self.invariant.fits in
     let m = its_mode p s.mode fits.mode_there in
-    let was : c.args.self.now ≡ standing_of s.own states.Running (Some p) s.mode s.mode_time s.active.items s.active.room s.values.items shares s.count =
-    sym c.self.view_is ∙ (λ k. standing_of s.own (c.in-Running.is k) (c.in-Some.is k) s.mode s.mode_time s.active.items s.active.room s.values.items shares s.count) in
+    let was : c.args.self.now ≡ standing_of s.place states.Running (Some p) s.mode s.mode_time s.active.items s.active.room s.values.items shares s.next_tick =
+    sym c.self.view_is ∙ (λ k. standing_of s.place (c.in-Running.is k) (c.in-Some.is k) s.mode s.mode_time s.active.items s.active.room s.values.items shares s.next_tick) in
     let some = map_some (λ (i : SlotInvocation). i.task) _ c.in-Some-first_unfinished.task c.in-Some-first_unfinished.ensures in
     let first = subst (λ acts. find (opens s.mode_time acts) c.invocations-invocations.result.now ≡ Some some.0) c.as_slice-active.ensures some.1 in
     let name : c.name_of-name.result ≡ name_of_task p some.0.task =
     c.name_of-name.ensures ∙ ap (λ (q : GiottoProgram). name_of_task q c.in-Some-first_unfinished.task) c.program.ensures.tree ∙ ap (name_of_task p) (sym some.2) in
-    subst (λ r. StandsFor c.halt.new.self r completed)
-    (sym (halted p c.program-program.ensures.fits m.0 s.mode s.mode_time s.active.items s.active.room s.values.items shares s.count m.1 row completed (subst (λ t. StandsFor t row completed) was st)
-    c.invocations-invocations.result.now (c.invocations-invocations.ensures.there m.0 m.1) (all_map (IsActiveIn p s.count) (IsActiveOf p) s.active.items (λ a is. is.declared) fits.each) some.0 first c.name_of-name.result name))
-    (c.halt.ensures.step row completed st)
+    subst (λ r. StandsFor c.stop_with.new.self r completed)
+    (sym (halted p c.program-program.ensures.fits m.0 s.mode s.mode_time s.active.items s.active.room s.values.items shares s.next_tick m.1 row completed (subst (λ t. StandsFor t row completed) was st)
+    c.invocations-invocations.result.now (c.invocations-invocations.ensures.there m.0 m.1) (all_map (IsActiveIn p s.next_tick) (IsActiveOf p) s.active.items (λ a is. is.declared) fits.each) some.0 first c.name_of-name.result name))
+    (c.stop_with.ensures.step row completed st)
 
 pub invariant_of-self : goal.invariant_of-self
 invariant_of-self c =
     let s = c.self.inside in
     let p = c.in-Some.checked in
     let shares = map (option_map arc_value) s.shares.items in
-    let fits = subst (λ o. FitsIts o s.mode s.mode_time s.next_due s.active.items s.values.items shares s.count) c.in-Some.is c.self.invariant.fits in
+    let fits = subst (λ o. FitsIts o s.mode s.mode_time s.next_due s.active.items s.values.items shares s.next_tick) c.in-Some.is c.self.invariant.fits in
     let written = whole_slice s.values.len c.update_due.new.values s.values.items (omega (arith, c.as_mut_slice-values.ensures.len, c.end_due.auto.values, c.update_due.auto.values)) in
     let began = ap length c.as_mut_slice-values.ensures.value in
     let different : all_different_releases (map (active_of p) c.drop_due.new.active.items) ≡ true =
     subst (λ acts. all_different_releases (map (active_of p) acts) ≡ true) (sym c.drop_due.ensures.items)
     (different_filter p _ s.active.items (subst (λ o. all_different_releases (tasks_in o s.active.items) ≡ true) c.in-Some.is c.self.invariant.different)) in
-    let fits_now : FitsProgram p s.mode s.mode_time s.next_due c.drop_due.new.active.items c.update_due.new.values shares s.count = record {
+    let fits_now : FitsProgram p s.mode s.mode_time s.next_due c.drop_due.new.active.items c.update_due.new.values shares s.next_tick = record {
       long = c.update_due.auto.values ∙ c.end_due.auto.values ∙ began ∙ fits.long;
       mode_there = fits.mode_there;
       quiet = fits.quiet;
-      each = subst (AllByRecursion (IsActiveIn p s.count)) (sym c.drop_due.ensures.items) (all_filter (IsActiveIn p s.count) _ s.active.items fits.each);
+      each = subst (AllByRecursion (IsActiveIn p s.next_tick)) (sym c.drop_due.ensures.items) (all_filter (IsActiveIn p s.next_tick) _ s.active.items fits.each);
       share_each = fits.share_each;
     } in
     record {
       short_time = c.self.invariant.short_time;
       different = subst (λ o. all_different_releases (tasks_in o c.drop_due.new.active.items) ≡ true) (sym c.in-Some.is) different;
       fits = subst (λ o. FitsIts o s.mode s.mode_time s.next_due c.drop_due.new.active.items
-          (take s.values.len (c.update_due.new.values ++ drop (length c.update_due.new.values) s.values.items)) shares s.count) (sym c.in-Some.is)
-          (subst (λ vs. FitsProgram p s.mode s.mode_time s.next_due c.drop_due.new.active.items vs shares s.count) (sym written) fits_now);
+          (take s.values.len (c.update_due.new.values ++ drop (length c.update_due.new.values) s.values.items)) shares s.next_tick) (sym c.in-Some.is)
+          (subst (λ vs. FitsProgram p s.mode s.mode_time s.next_due c.drop_due.new.active.items vs shares s.next_tick) (sym written) fits_now);
     }
 
 pub returns-clause-step : goal.returns-clause-step
@@ -116,10 +116,10 @@ returns-clause-step c = λ row completed st.
     let s = c.self.inside in
     let p = c.in-Some.checked in
     let shares = map (option_map arc_value) s.shares.items in
-    let fits = subst (λ o. FitsIts o s.mode s.mode_time s.next_due s.active.items s.values.items shares s.count) c.in-Some.is c.self.invariant.fits in
+    let fits = subst (λ o. FitsIts o s.mode s.mode_time s.next_due s.active.items s.values.items shares s.next_tick) c.in-Some.is c.self.invariant.fits in
     let m = its_mode p s.mode fits.mode_there in
-    let was : c.args.self.now ≡ standing_of s.own states.Running (Some p) s.mode s.mode_time s.active.items s.active.room s.values.items shares s.count =
-    sym c.self.view_is ∙ (λ k. standing_of s.own (c.in-Running.is k) (c.in-Some.is k) s.mode s.mode_time s.active.items s.active.room s.values.items shares s.count) in
+    let was : c.args.self.now ≡ standing_of s.place states.Running (Some p) s.mode s.mode_time s.active.items s.active.room s.values.items shares s.next_tick =
+    sym c.self.view_is ∙ (λ k. standing_of s.place (c.in-Running.is k) (c.in-Some.is k) s.mode s.mode_time s.active.items s.active.room s.values.items shares s.next_tick) in
     let es = c.invocations-invocations.result.now in
     let none = subst (λ acts. find (opens s.mode_time acts) es ≡ None) c.as_slice-active.ensures (map_none (λ (i : SlotInvocation). i.task) _ c.in_default-first_unfinished.ensures) in
     let written = whole_slice s.values.len c.update_due.new.values s.values.items (omega (arith, c.as_mut_slice-values.ensures.len, c.end_due.auto.values, c.update_due.auto.values)) in
@@ -128,17 +128,17 @@ returns-clause-step c = λ row completed st.
     let after = with_items s.values c.update_due.new.values in
     let ended : valuation_of p c.end_due.new.values ≡ all_ended p (flat_map (group m.0 s.mode_time (map (active_of p) s.active.items)) m.0.invocations) (valuation_of p s.values.items) =
     c.end_due.ensures m.0 each ∙ (λ k. all_ended p (flat_map (group m.0 s.mode_time (map (active_of p) (c.as_slice-active.ensures k))) m.0.invocations) (valuation_of p (c.as_mut_slice-values.ensures.value k))) in
-    let is : standing_of s.own s.state s.program s.mode s.mode_time c.drop_due.new.active.items room after.items shares s.count
-    ≡ standing_of s.own states.Running (Some p) s.mode s.mode_time (kept s.mode_time es s.active.items) room c.update_due.new.values shares s.count =
-    λ k. standing_of s.own (c.in-Running.is k) (c.in-Some.is k) s.mode s.mode_time (c.drop_due.ensures.items k) room (written k) shares s.count in
+    let is : standing_of s.place s.state s.program s.mode s.mode_time c.drop_due.new.active.items room after.items shares s.next_tick
+    ≡ standing_of s.place states.Running (Some p) s.mode s.mode_time (kept s.mode_time es s.active.items) room c.update_due.new.values shares s.next_tick =
+    λ k. standing_of s.place (c.in-Running.is k) (c.in-Some.is k) s.mode s.mode_time (c.drop_due.ensures.items k) room (written k) shares s.next_tick in
     subst (λ t. StandsFor t (first_half_of (unfinished_tasks completed row) row) completed) (sym is)
-    (finished p c.program-program.ensures.fits m.0 s.mode s.mode_time s.active.items s.active.room s.values.items shares s.count m.1 row completed (subst (λ t. StandsFor t row completed) was st)
-    es each (all_map (IsActiveIn p s.count) (IsActiveOf p) s.active.items (λ a is. is.declared) fits.each) none room c.end_due.new.values c.update_due.new.values ended (c.update_due.ensures m.0 m.1))
+    (finished p c.program-program.ensures.fits m.0 s.mode s.mode_time s.active.items s.active.room s.values.items shares s.next_tick m.1 row completed (subst (λ t. StandsFor t row completed) was st)
+    es each (all_map (IsActiveIn p s.next_tick) (IsActiveOf p) s.active.items (λ a is. is.declared) fits.each) none room c.end_due.new.values c.update_due.new.values ended (c.update_due.ensures m.0 m.1))
 
-pub returns-clause-places : goal.returns-clause-places
-returns-clause-places c =
+pub returns-clause-room : goal.returns-clause-room
+returns-clause-room c =
     let s = c.self.inside in
-    let was : c.args.self.now.places ≡ s.active.room = sym (ap (λ (t : Standing). t.places) c.self.view_is) in
+    let was : c.args.self.now.room ≡ s.active.room = sym (ap (λ (t : Standing). t.room) c.self.view_is) in
     let fewer : length c.drop_due.new.active.items ≤ length s.active.items = subst (λ xs. length xs ≤ length s.active.items) (sym c.drop_due.ensures.items) (filter_shorter _ s.active.items) in
     omega (arith, was, fewer, c.drop_due.ensures.room)
 

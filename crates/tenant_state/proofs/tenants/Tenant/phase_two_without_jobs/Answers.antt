@@ -27,7 +27,7 @@ switch-requires c =
     record {
       quiet = is.fits.quiet;
       values = omega (arith, c.sense.auto.values, ap length c.as_mut_slice-values.ensures.value, is.fits.long);
-      active = subst (λ xs. AllByRecursion (IsActiveOf p) xs) (sym c.as_slice-active.ensures) (all_map (IsActiveIn p c.self.inside.count) (IsActiveOf p) c.self.inside.active.items (λ a is. is.declared) is.fits.each);
+      active = subst (λ xs. AllByRecursion (IsActiveOf p) xs) (sym c.as_slice-active.ensures) (all_map (IsActiveIn p c.self.inside.next_tick) (IsActiveOf p) c.self.inside.active.items (λ a is. is.declared) is.fits.each);
     }
 
 module _ (c : After-modes) where
@@ -61,14 +61,14 @@ invoke_due-requires c =
     let s = c.self.inside in
     let p = c.in-Some.checked in
     let is = rw c.in-Some.is at c.self.invariant in
-    let room = rw (← c.self.view_is, c.in-Running.is, c.in-Some.is) at c.requires.places in
+    let room = rw (← c.self.view_is, c.in-Running.is, c.in-Some.is) at c.requires.room in
     let read = (goal.at.invoke_due-requires c).After-modes in
     let new = behind read in
     record {
       quiet = new.quiet;
       values = omega (arith, c.switch.auto.values, c.sense.auto.values, ap length c.as_mut_slice-values.ensures.value, is.fits.long);
-      places = room_due 0 p c.program.ensures.fits (its read).0 s.mode s.mode_time 0 s.active.room s.active.items s.values.items [] (its read).1 c.match-switch.mode c.match-switch.time c.match-switch.next (readings read) c.switch.new.values new room;
-      each = active_later p s.count s.active.items is.fits.each;
+      room = room_due 0 p c.program.ensures.fits (its read).0 s.mode s.mode_time 0 s.active.room s.active.items s.values.items [] (its read).1 c.match-switch.mode c.match-switch.time c.match-switch.next (readings read) c.switch.new.values new room;
+      each = active_later p s.next_tick s.active.items is.fits.each;
     }
 
 pub overflow_add-behind : goal.overflow_add-behind
@@ -108,7 +108,7 @@ module _ (c : goal.After-self-6-1) where
   abbrev read : After-modes
   read = (goal.at.invariant_of-self-2 c).After-modes
 
-  happened : AreInvoked c.in-Some.checked (behind read).new c.match-switch.time c.self.inside.count (valuation_of c.in-Some.checked c.switch.new.values)
+  happened : AreInvoked c.in-Some.checked (behind read).new c.match-switch.time c.self.inside.next_tick (valuation_of c.in-Some.checked c.switch.new.values)
       c.self.inside.active.items c.invoke_due.new.active.items (vec_items (with_items c.self.inside.values c.invoke_due.new.values))
   happened =
       let whole : vec_items (with_items c.self.inside.values c.invoke_due.new.values) ≡ c.invoke_due.new.values =
@@ -122,7 +122,7 @@ invariant_of-self-2 c =
     let p = c.in-Some.checked in
     let is = rw c.in-Some.is at c.self.invariant in
     let new = behind (read c) in
-    rw c.in-Some.is (tenant_behind p c.program.ensures.fits c.match-switch.mode new.new new.there s.mode s.mode_time c.match-switch.time c.match-switch.next s.next_due _ _ s.count _ _ _ _ _ _ (lasts (read c) c.index-modes-mode.result) is (happened c) new.quiet c.due_behind-self-inside.ensures)
+    rw c.in-Some.is (tenant_behind p c.program.ensures.fits c.match-switch.mode new.new new.there s.mode s.mode_time c.match-switch.time c.match-switch.next s.next_due _ _ s.next_tick _ _ _ _ _ _ (lasts (read c) c.index-modes-mode.result) is (happened c) new.quiet c.due_behind-self-inside.ensures)
 
 pub returns-clause-step : goal.returns-clause-step
 returns-clause-step c =
@@ -130,7 +130,7 @@ returns-clause-step c =
     let p = c.in-Some.checked in
     let new = behind (read c) in
     rw (← c.self.view_is, c.in-Running.is, c.in-Some.is)
-    (half_stands s.own p c.program.ensures.fits (its (read c)).0 s.mode s.mode_time s.count s.active.room s.active.items s.values.items (map (option_map arc_value) s.shares.items) (its (read c)).1
+    (half_stands s.place p c.program.ensures.fits (its (read c)).0 s.mode s.mode_time s.next_tick s.active.room s.active.items s.values.items (map (option_map arc_value) s.shares.items) (its (read c)).1
     c.match-switch.mode c.match-switch.time c.match-switch.next (readings (read c)) c.switch.new.values new _ c.invoke_due.new.active.room (lasts (read c) c.index-modes-mode.result) _ _ (happened c))
 
 pub returns-clause-released : goal.returns-clause-released
@@ -139,5 +139,5 @@ returns-clause-released c =
     let p = c.in-Some.checked in
     let new = behind (read c) in
     rw (← c.self.view_is, c.in-Running.is, c.in-Some.is)
-    (half_released 0 p c.program.ensures.fits (its (read c)).0 s.mode s.mode_time s.count 0 s.active.items s.values.items [] (its (read c)).1
+    (half_released 0 p c.program.ensures.fits (its (read c)).0 s.mode s.mode_time s.next_tick 0 s.active.items s.values.items [] (its (read c)).1
     c.match-switch.mode c.match-switch.time c.match-switch.next (readings (read c)) c.switch.new.values new _ 0 (lasts (read c) c.index-modes-mode.result) _ _ (happened c))

@@ -11,8 +11,8 @@ pub returns-then-self-clause-most : goal.returns-then-self-clause-most
 returns-then-self-clause-most c =
     none_due _ _ _ _ _ _ _ _ _ 0 _ c.self.invariant c.in-Running.is c.in-Some.is c.program-program.ensures.fits c.if-self.true ∙ ap (λ (s : Standing). most_released s.row) c.self.view_is
 
-pub returns-then-self-clause-places : goal.returns-then-self-clause-places
-returns-then-self-clause-places c = omega (arith, returns-then-self-clause-most c)
+pub returns-then-self-clause-room : goal.returns-then-self-clause-room
+returns-then-self-clause-room c = omega (arith, returns-then-self-clause-most c)
 
 pub returns-then-self-clause-shares : goal.returns-then-self-clause-shares
 returns-then-self-clause-shares c some = absurd (omega (arith, returns-then-self-clause-most c, some))
@@ -22,8 +22,8 @@ returns-clause-most c =
     most_due _ _ _ _ _ _ _ _ _ 0 _ c.self.invariant c.in-Running.is c.in-Some.is c.program-program.ensures.fits c.most_at-most.result c.most_at-most.ensures
     ∙ ap (λ (s : Standing). most_released s.row) c.self.view_is
 
-pub returns-clause-places : goal.returns-clause-places
-returns-clause-places c = omega (
+pub returns-clause-room : goal.returns-clause-room
+returns-clause-room c = omega (
   arith,
   most_due _ _ _ _ _ _ _ _ _ 0 _ c.self.invariant c.in-Running.is c.in-Some.is c.program-program.ensures.fits c.most_at-most.result c.most_at-most.ensures,
   c.in_ok-reserve.ensures.room,

@@ -29,11 +29,11 @@ returns-clause-started c = λ budgets row completed stands.
     let place = some_of {P = λ (m : ModeDeclaration). m.name ≡ p.start} (slice_get p.modes start) c.start_place-self-inside.ensures in
     let starts = ap (λ o. option_map_or (λ (m : ModeDeclaration). m.name) o []) place.1 ∙ place.2 in
     let written : (with_items s.values new).items ≡ new = whole_slice s.values.len new s.values.items (omega (arith, c.as_mut_slice.ensures.len, c.reset_ports.auto.values)) in
-    let after = standing_of s.own Running s.program start 0 c.clear.new.self.items room (with_items s.values new).items shares s.count in
-    let same : standing_of s.own Running (Some p) start 0 [] room new shares s.count ≡ after =
-    λ k. standing_of s.own Running (sym c.in-Some.is k) start 0 (sym c.clear.ensures.items k) room (sym written k) shares s.count in
+    let after = standing_of s.place Running s.program start 0 c.clear.new.self.items room (with_items s.values new).items shares s.next_tick in
+    let same : standing_of s.place Running (Some p) start 0 [] room new shares s.next_tick ≡ after =
+    λ k. standing_of s.place Running (sym c.in-Some.is k) start 0 (sym c.clear.ensures.items k) room (sym written k) shares s.next_tick in
     let begun = subst (λ t. StandsFor t (at_beginning running p row) completed) same
-    (stands_at_beginning s.state s.program s.mode s.mode_time s.active.items s.active.room s.values.items shares s.count row completed Running p start room new shares
+    (stands_at_beginning s.state s.program s.mode s.mode_time s.active.items s.active.room s.values.items shares s.next_tick row completed Running p start room new shares
     (subst (λ t. StandsFor t row completed) (sym c.self.view_is) stands) starts c.reset_ports.ensures) in
     let steps = ap (λ b. cond b (refused row Refusal.Running) (start_program row row.program)) rests ∙ ap (start_program row) has in
     subst (λ o. IsOutcome o Reply.Started after completed) (sym steps) (record { same_reply = refl; stands = record { same_row = begun.same_row; same_marks = begun.same_marks } })

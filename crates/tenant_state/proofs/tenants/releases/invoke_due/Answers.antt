@@ -17,7 +17,7 @@ pub loop-invocation-init : goal.loop-invocation-init
 loop-invocation-init c = record {
   time = c.at-due.ensures;
   each = c.requires.each;
-  to = λ m at. record { tasks = refl; marks = refl; ports = refl; room = c.requires.places m at };
+  to = λ m at. record { tasks = refl; marks = refl; ports = refl; room = c.requires.room m at };
 }
 
 pub returns-then-time-next : goal.returns-then-time-next

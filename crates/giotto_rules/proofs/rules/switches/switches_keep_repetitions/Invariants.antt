@@ -2,7 +2,7 @@ use Rattle.std.proofs.Common.{◌≡◌, drop, map}
 use Rattle.std.specs.List.{list_all}
 use Rattle.giotto_text.specs.ProgramTrees.{mode_of, switch_of}
 use Rattle.giotto_rules.specs.Switches.{switch_keeps_periods}
-use Rattle.giotto_rules.proofs.rules.switches.switches_keep_dues.Given as goal
+use Rattle.giotto_rules.proofs.rules.switches.switches_keep_repetitions.Given as goal
 
 abbrev pub invariant-loop-switch : goal.invariant-loop-switch
 invariant-loop-switch l =
