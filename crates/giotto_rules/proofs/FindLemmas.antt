@@ -15,7 +15,7 @@ use Rattle.giotto_tasks.proofs.NameLemmas.{same_name_is}
 use Rattle.giotto_tasks.specs.Sound.{all_different}
 use Rattle.giotto_tasks.specs.Syntax.{Expression}
 use Rattle.giotto_text.specs.declared.programs.Task.{Task}
-use Rattle.giotto_text.specs.ProgramTrees.{task_named as tree_of_task}
+use Rattle.giotto_text.specs.ProgramTrees.{task_of as tree_of_task}
 use Rattle.giotto_text.specs.Program.{TaskDeclaration, ModeDeclaration, GiottoProgram}
 use Rattle.giotto_rules.specs.Declarations.{task_names, mode_names, task_named, mode_named, mode_ports, period_of_task}
 use Rattle.giotto_rules.specs.Drivers.{ports_of_target}
