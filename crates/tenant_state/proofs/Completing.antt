@@ -112,7 +112,7 @@ module _ (p : GiottoProgram) (tasks : List Active) (i : ℕ) (a : Active) (lt : 
 
       pub counts : (d : JobValue) → d.id ≡ j → ((arc_value t.body ≡ d.body) × (a.inputs ≡ d.inputs) × (a.states ≡ d.states))
           ↔ (option_map (job_in p j.tenant) (find (λ b. same_job (job_of j.tenant b) j) (outstanding_in p tasks)) ≡ Some d)
-      counts d place = (
+      counts d own = (
         λ is. job_is ∙ λ k. Some (record { id = sym own k; body = is.0 k; inputs = is.1 k; states = is.2 k }),
         λ e. let same = some_same own_job d (sym job_is ∙ e) in (ap (λ (j : JobValue). j.body) same, ap (λ (j : JobValue). j.inputs) same, ap (λ (j : JobValue). j.states) same),
       )

@@ -168,10 +168,10 @@ active_long None mode time next active values shares n none = ap length (sym non
 active_long (Some p) mode time next active values shares n fits = length-map active (active_of p)
 
 -- as the code has them
-pub are_new : {o q : Option GiottoProgram} {mode time next places n to at later room m : ℕ} {old items : List Active} {values written : List ℤ} {shares others : List (Option TaskBody)} {own own_behind : ℕ}
+pub are_new : {o q : Option GiottoProgram} {mode time next places n to at later room m : ℕ} {old items : List Active} {values written : List ℤ} {shares others : List (Option TaskBody)} {place place_behind : ℕ}
     (p : GiottoProgram) (tenant : ℕ) (before after : Standing) (s t : code.State)
     → IsTenant o mode time next old values shares n → standing_of place s o mode time old places values shares n ≡ before
-    → IsTenant q to at later items written others m → standing_of own_behind t q to at items room written others m ≡ after
+    → IsTenant q to at later items written others m → standing_of place_behind t q to at items room written others m ≡ after
     → q ≡ Some p → AreReleased before.row after.row → (k : ℕ) (xs : List Active) → k ≡ length old → xs ≡ items → AreNew p tenant before.row after.row (take (length xs - k) (drop k xs))
 are_new {o} {q} {mode} {time} {next} {places} {n} {to} {at} {later} {room} {m} {old} {items} {values} {written} {shares} {others} p tenant before after s t known view known_after view_after program released k xs long same =
     let is : IsTenant (Some p) to at later items written others m = subst (λ o. IsTenant o to at later items written others m) program known_after in
