@@ -1,6 +1,7 @@
 pub mod CodeExamples
 pub mod CodeLemmas
 pub mod CompileLemmas
+pub mod DepthLemmas
 pub mod DriverExamples
 pub mod DriverLemmas
 pub mod EvaluationLemmas

@@ -3,6 +3,7 @@ pub mod Code
 pub mod Codes
 pub mod Compiled
 pub mod Cost
+pub mod Depth
 pub mod DriverCode
 pub mod HasCode
 pub mod Meaning

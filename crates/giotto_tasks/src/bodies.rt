@@ -1,6 +1,7 @@
 //! The trees of task bodies and of the expressions in drivers.
 
-ghost use Rattle.std.specs.Prelude.{◌≡◌, ◌↔◌, ◌≤◌, ◌++◌, length, IsTrue, IfOk};
+ghost use Rattle.std.specs.Prelude.{◌≡◌, ◌↔◌, ◌≤◌, ◌<◌, ◌++◌, length, Err, IsTrue, IfOk};
+ghost use Rattle.giotto_tasks.specs.Depth.{depth_of_block};
 ghost use Rattle.giotto_tasks.specs.HasCode.{IsCompiled};
 ghost use Rattle.giotto_tasks.specs.Sound.{is_small};
 ghost use Rattle.giotto_tasks.specs.Trees.{expression_of, statement_of, block_of, body_of};
@@ -79,7 +80,7 @@ impl Body {
     /// has no code.
     ///
     /// # Errors
-    /// `Memory` where there is want of memory, `TooDeep` where an expression has more than 32
+    /// `Memory` where there is want of memory, `TooDeep` only where an expression has more than 32
     /// operations inside one another, as no program's text can have it.
     pub fn new(
         alloc: Global,
@@ -88,7 +89,8 @@ impl Body {
         states: List<Name>,
         block: Vec<Stmt>,
     ) -> Result<Body, CodeFault>
-        ensures { IfOk result (λ b. b ≡ body_of inputs outputs states block.items) }
+        ensures too_deep { result ≡ Err CodeFault.TooDeep → 32 < depth_of_block (block_of block.items) }
+        ensures value { IfOk result (λ b. b ≡ body_of inputs outputs states block.items) }
     {
         let code = compiled(alloc, &inputs, &outputs, &states, &block)?;
         Ok(Body {
@@ -135,7 +137,8 @@ fn compiled(
     states: &List<Name>,
     block: &[Stmt],
 ) -> Result<Code, CodeFault>
-    ensures { IfOk result (λ c. IsCompiled (body_of inputs.now outputs.now states.now block.now) c) }
+    ensures too_deep { result ≡ Err CodeFault.TooDeep → 32 < depth_of_block (block_of block.now) }
+    ensures code { IfOk result (λ c. IsCompiled (body_of inputs.now outputs.now states.now block.now) c) }
 {
     if !are_few(inputs) || !are_few(outputs) || !are_few(states) {
         return Ok(Code::none(alloc));
