@@ -29,7 +29,7 @@ open_after-append n [] us = refl
 open_after-append n (t ∷ ts) us = open_after-append (open_behind n t) ts us
 
 -- tokens, and what stands behind them: both nest too deep nowhere, where they don't together
-deep_parts : (n : ℕ) (ts us : List Token) → nests_too_deep_from n (ts ++ us) ≡ false
+pub deep_parts : (n : ℕ) (ts us : List Token) → nests_too_deep_from n (ts ++ us) ≡ false
     → (nests_too_deep_from n ts ≡ false) × (nests_too_deep_from (open_after n ts) us ≡ false)
 deep_parts n [] us h = (refl, h)
 deep_parts n (t ∷ ts) us h =
@@ -55,7 +55,7 @@ not_above : (a b : ℕ) → a ≤ b → nat_le 33 b ≡ false → nat_le 33 a �
 not_above a b le e = grind (arith, nat_tests)
 
 -- with fewer open before, tokens nest no deeper
-deep_less : (m n : ℕ) (ts : List Token) → m ≤ n → nests_too_deep_from n ts ≡ false → nests_too_deep_from m ts ≡ false
+pub deep_less : (m n : ℕ) (ts : List Token) → m ≤ n → nests_too_deep_from n ts ≡ false → nests_too_deep_from m ts ≡ false
 deep_less m n [] le h = refl
 deep_less m n (t ∷ ts) le h =
     let less = open_behind-le m n t le in
@@ -73,18 +73,18 @@ balanced_append ts us b d = record { same = λ n. open_after-append n ts us ∙ 
 balanced_brackets : (ts : List Token) → IsBalanced ts → IsBalanced (symbol OpenParenthesis ∷ ts ++ symbol CloseParenthesis ∷ [])
 balanced_brackets ts b = record { same = λ n. open_after-append (suc n) ts (symbol CloseParenthesis ∷ []) ∙ ap (λ k. k - 1) (b.same (suc n)) ∙ omega arith }
 
-unary_symbol_opens_none : (n : ℕ) (o : UnaryOperator) → open_behind n (symbol (symbol_of_unary o)) ≡ n
+pub unary_symbol_opens_none : (n : ℕ) (o : UnaryOperator) → open_behind n (symbol (symbol_of_unary o)) ≡ n
 unary_symbol_opens_none n Negate = refl
 unary_symbol_opens_none n _ = refl
 
-binary_symbol_opens_none : (n : ℕ) (o : BinaryOperator) → open_behind n (symbol (symbol_of_binary o)) ≡ n
+pub binary_symbol_opens_none : (n : ℕ) (o : BinaryOperator) → open_behind n (symbol (symbol_of_binary o)) ≡ n
 binary_symbol_opens_none n Add = refl
 binary_symbol_opens_none n _ = refl
 
 balanced_behind : (t : Token) (ts : List Token) → ((n : ℕ) → open_behind n t ≡ n) → IsBalanced ts → IsBalanced (t ∷ ts)
 balanced_behind t ts none b = record { same = λ n. ap (λ k. open_after k ts) (none n) ∙ b.same n }
 
-balanced_operand : (e : Expression) (ts : List Token) → IsBalanced ts → IsBalanced (operand_tokens e ts)
+pub balanced_operand : (e : Expression) (ts : List Token) → IsBalanced ts → IsBalanced (operand_tokens e ts)
 balanced_operand (number z) ts b = b
 balanced_operand (port x) ts b = b
 balanced_operand (unary o e) ts b = balanced_brackets ts b

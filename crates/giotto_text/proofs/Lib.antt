@@ -24,6 +24,7 @@ pub mod Prefixes
 pub mod Printable
 pub mod ProgramLines
 pub mod SameToken
+pub mod Shallow
 pub mod SmallTasks
 pub mod SoundTokens
 pub mod TaskLines

@@ -1,7 +1,6 @@
 -- The tokens, as the parser reads them.
 use Rattle.std.proofs.Common.{◌≡◌, ◌≢◌, ℕ, suc, ◌-◌, ◌^◌, ◌<◌, ◌≤◌, Bool, true, false, List, [], ◌∷◌, ◌++◌, length, Option, Some, None, refl, ap, ◌∙◌, sym, subst, arith, lit<, lit≤, length-append}
 use Rattle.std.specs.Prelude.{nat_le, is_some, if◌then◌else◌}
-use Rattle.std.specs.Cmp.Lexicographic.{same_text, nat_list_eq_equiv}
 use Rattle.std.proofs.lemmas.Bool.{leb-true}
 use Rattle.std.proofs.lemmas.Bool.Decides.{nat_tests}
 use Rattle.std.proofs.lemmas.Option.{same_Some, none-some}
@@ -12,20 +11,17 @@ use Rattle.giotto_tasks.specs.declared.operators.BinaryOperator.{BinaryOperator}
 use Rattle.giotto_tasks.specs.declared.operators.BinaryOperator.TheVariants as operators
 use Rattle.giotto_tasks.specs.declared.operators.UnaryOperator.{UnaryOperator}
 use Rattle.giotto_tasks.specs.declared.operators.UnaryOperator.TheVariants as unary_operators
-use Rattle.giotto_text.specs.declared.tokens.Keyword.{Keyword}
-use Rattle.giotto_text.specs.declared.tokens.Keyword.TheVariants as keywords
 use Rattle.giotto_text.specs.declared.tokens.PlacedToken.{PlacedToken}
-use Rattle.giotto_text.specs.declared.tokens.Symbol.{Symbol}
 use Rattle.giotto_text.specs.declared.tokens.Symbol.TheVariants as symbols
 use Rattle.giotto_text.specs.declared.tokens.Token.{Token}
 use Rattle.giotto_text.specs.declared.tokens.Token.TheVariants.{Number, Name as Named, Keyword as Word, Symbol as Mark}
 use Rattle.giotto_text.specs.Grammar.{Part, IsWritten, token, name, int, symbol_of_unary, symbol_of_binary, an_int as int_line}
 use Rattle.giotto_text.specs.Parsing.{end_mark, Parser, done, behind, ◌>>=◌, ◌>>◌, next_of, same_token, this, name_in, number_in, unary_in, binary_in, read_one, read_token, read_name, read_int}
 use Rattle.giotto_text.specs.Spelling.{SpellsParts, all_spelled, line_spelled, BeginsParts}
-use Rattle.giotto_text.specs.Tokens.{text_of_keyword, text_of_symbol, keyword_of, symbol_at, bare}
+use Rattle.giotto_text.specs.Tokens.{bare}
 use Rattle.giotto_text.proofs.Forms.{Form, one_token, mark, one, both, led, ended, Fails, Begins, Repeats, Writes, first_token_is, apart_closed, apart_mark, line_writes, same_writes}
 use Rattle.giotto_text.proofs.ParserSteps.{Right, Parses, Spans, one_right, behind_right, bind_apart, mapped, parsed_as}
-use Rattle.giotto_text.proofs.SameToken.{same_token_is, same_token_self, is_this}
+use Rattle.giotto_text.proofs.SameToken.{same_token_self, is_this}
 
 pub isnt_this : (t u : Token) → same_token t u ≡ false → u ≢ t
 isnt_this t u e same = let yes : true ≡ false = sym (same_token_self t) ∙ ap (same_token t) (sym same) ∙ e in cc

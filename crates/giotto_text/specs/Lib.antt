@@ -1,5 +1,6 @@
 pub mod Bytes
 pub mod Canonical
+pub mod Depth
 pub mod Grammar
 pub mod Nesting
 pub mod Parsing

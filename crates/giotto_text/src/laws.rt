@@ -2,16 +2,22 @@
 //!
 //! The functions do nothing: each contract is a law.
 
-ghost use Rattle.std.specs.Prelude.{◌≡◌, ℕ, List, ◌++◌, Result, Ok};
+ghost use Rattle.std.specs.Prelude.{◌≡◌, ◌≤◌, ℕ, false, List, ◌++◌, Result, Ok, IsTrue};
+ghost use Rattle.giotto_tasks.specs.Depth.{depth_of_block};
+ghost use Rattle.giotto_tasks.specs.Syntax.{Block};
 ghost use Rattle.giotto_text.specs.declared.faults.ReadFault.{ReadFault};
+ghost use Rattle.giotto_text.specs.declared.tokens.PlacedToken.{PlacedToken};
 ghost use Rattle.giotto_text.specs.declared.tokens.Token.{Token};
 ghost use Rattle.giotto_text.specs.Canonical.{canonical_of, canonical_tokens};
+ghost use Rattle.giotto_text.specs.Depth.{is_shallow_program};
 ghost use Rattle.giotto_text.specs.Grammar.{Part};
-ghost use Rattle.giotto_text.specs.Parsing.{parsed};
+ghost use Rattle.giotto_text.specs.Nesting.{nests_too_deep};
+ghost use Rattle.giotto_text.specs.Parsing.{got, parsed, read_block};
 ghost use Rattle.giotto_text.specs.Program.{GiottoProgram};
 ghost use Rattle.giotto_text.specs.Reading.{Reads};
 ghost use Rattle.giotto_text.specs.Sound.{IsPrintable};
 ghost use Rattle.giotto_text.specs.Spelling.{SpellsParts, BeginsParts, Spells, IsPrefix};
+ghost use Rattle.giotto_text.specs.Tokens.{bare};
 
 /// The first tokens of what is spelled are a prefix, and so are the first tokens of a prefix. Each prefix goes on to a
 /// whole program: so the prefixes are just what the programs' tokens begin with.
@@ -35,6 +41,14 @@ pub fn parser()
 /// A program that a text reads as can be printed.
 pub fn printable()
     ensures { (text : List ℕ) (p : GiottoProgram) → parsed text ≡ Ok p → IsPrintable p }
+{}
+
+/// Each expression of a program that can be printed, in its bodies and drivers, has at most 32 operations inside one
+/// another: an operand that is an operation stands in parentheses. So has each block with which tokens begin that don't nest
+/// too deep.
+pub fn shallow()
+    ensures program { (p : GiottoProgram) → IsPrintable p → IsTrue (is_shallow_program p) }
+    ensures block { (ts rest : List PlacedToken) (b : Block) → nests_too_deep (bare ts) ≡ false → read_block ts ≡ got b rest → depth_of_block b ≤ 32 }
 {}
 
 /// The canonical tokens of a program that is spelled at all spell it. The canonical text of one that can be printed reads as
