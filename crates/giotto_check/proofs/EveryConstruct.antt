@@ -1,5 +1,5 @@
 -- The program with every construct, from its text: it is well-formed, what it costs, and what three releases of its task compute.
-use Rattle.std.proofs.Common.{◌≡◌, ℕ, ℤ, pos, negsuc, List, [], ◌∷◌, map, None, Option, Some, refl, codes}
+use Rattle.std.proofs.Common.{◌≡◌, ℕ, ℤ, pos, negsuc, List, [], ◌∷◌, map, None, refl, codes}
 use Rattle.std.specs.Prelude.{Ok, Err, Result}
 use Rattle.giotto_tasks.specs.Meaning.{outputs_of, states_of}
 use Rattle.giotto_text.specs.declared.faults.ReadFault.{ReadFault}

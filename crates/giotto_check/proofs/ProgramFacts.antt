@@ -10,6 +10,7 @@ use Rattle.giotto_tasks.specs.Names.{same_name, is_among}
 use Rattle.giotto_tasks.specs.Sound.{all_different, block_reads_only, block_assigns_only, is_small}
 use Rattle.giotto_tasks.proofs.ListLemmas.{all_zip, all_pass, all_with, found_passes}
 use Rattle.giotto_tasks.proofs.NameLemmas.{among_first, among_second, among_turned, apart_from, weaker_all, different_joined}
+use Rattle.giotto_text.specs.Depth.{is_shallow_update, is_shallow_switch, is_shallow_invocation, is_shallow_mode, is_shallow_task, is_shallow_program}
 use Rattle.giotto_text.specs.Program.{TaskDeclaration, ModeSwitch, TaskInvocation, ModeDeclaration, GiottoProgram, body_of, names_of}
 use Rattle.giotto_text.specs.Sound.{IsPrintable}
 use Rattle.giotto_rules.specs.Declarations.{sensor_names, actuator_names, output_names, task_names, mode_names, declared_names, outputs_of_task, destinations_of, invoked_tasks, updated_actuators, mode_ports, task_named, mode_named}
@@ -71,15 +72,17 @@ arguments_for i (Some t) h = eqb-true _ _ h
 passed : {X : Type 0} (test : X → Bool) (xs : List X) → list_all test xs ≡ true → AllByRecursion (λ x. test x ≡ true) xs
 passed test xs h = all_pass (λ x. test x ≡ true) test (λ x k. k) xs h
 
--- what three tests that all elements pass say of each
-three_pass : {X : Type 0} (P : X → Type 0) (one two three : X → Bool) → ((x : X) → one x ≡ true → two x ≡ true → three x ≡ true → P x) → (xs : List X)
-    → list_all one xs ≡ true → list_all two xs ≡ true → list_all three xs ≡ true → AllByRecursion P xs
-three_pass P one two three means [] h k d = tt
-three_pass P one two three means (x ∷ xs) h k d =
+-- what four tests that all elements pass say of each
+four_pass : {X : Type 0} (P : X → Type 0) (one two three four : X → Bool)
+    → ((x : X) → one x ≡ true → two x ≡ true → three x ≡ true → four x ≡ true → P x) → (xs : List X)
+    → list_all one xs ≡ true → list_all two xs ≡ true → list_all three xs ≡ true → list_all four xs ≡ true → AllByRecursion P xs
+four_pass P one two three four means [] h k d l = tt
+four_pass P one two three four means (x ∷ xs) h k d l =
     let a = and_parts (one x) (list_all one xs) h in
     let b = and_parts (two x) (list_all two xs) k in
     let c = and_parts (three x) (list_all three xs) d in
-    (means x a.0 b.0 c.0, three_pass P one two three means xs a.1 b.1 c.1)
+    let e = and_parts (four x) (list_all four xs) l in
+    (means x a.0 b.0 c.0 e.0, four_pass P one two three four means xs a.1 b.1 c.1 e.1)
 
 module _ (p : GiottoProgram) (kept : KeepsRules p) where
   -- tasks
@@ -126,8 +129,8 @@ module _ (p : GiottoProgram) (kept : KeepsRules p) where
   -- modes
 
   switch_of : (m : ModeDeclaration) (s : ModeSwitch) → 1 ≤ m.period → divides s.frequency m.period ≡ true → switch_uses (kinds_of p) s ≡ true
-      → switch_fits p (readable_ports p m) s ≡ true → SwitchFits p m s
-  switch_of m s positive h k d =
+      → switch_fits p (readable_ports p m) s ≡ true → is_shallow_switch s ≡ true → SwitchFits p m s
+  switch_of m s positive h k d shallow =
       let uses = and_parts _ _ (and_parts _ _ k).0 in
       let fits = and_parts _ _ d in
       let parts = and_parts _ _ fits.0 in
@@ -136,12 +139,13 @@ module _ (p : GiottoProgram) (kept : KeepsRules p) where
         target = target_fits p (destinations_of s) (mode_named p s.target) (found_some (λ (m : ModeDeclaration). m.name) p.modes s.target uses.0) parts.1;
         destinations_once = fits.1;
         reads = parts.0;
+        shallow = shallow;
       }
 
   mode_fits : (m : ModeDeclaration) → frequencies_divide_in m ≡ true → mode_uses (kinds_of p) m ≡ true → drivers_fit p m ≡ true
       → list_all (argument_for_each_input p) m.invocations ≡ true → all_different (invoked_tasks m) ≡ true → all_different (updated_actuators m) ≡ true
-      → all_different (mode_ports p m) ≡ true → ModeFits p m
-  mode_fits m times uses drivers arguments tasks_once actuators_once ports_once =
+      → all_different (mode_ports p m) ≡ true → is_shallow_mode m ≡ true → ModeFits p m
+  mode_fits m times uses drivers arguments tasks_once actuators_once ports_once shallow =
       let third = and_parts _ _ times in
       let second = and_parts _ _ third.0 in
       let first = and_parts _ _ second.0 in
@@ -150,6 +154,8 @@ module _ (p : GiottoProgram) (kept : KeepsRules p) where
       let of_kind = and_parts _ _ (and_parts _ _ uses).0 in
       let reads = and_parts _ _ drivers in
       let earlier = and_parts _ _ reads.0 in
+      let depths = and_parts (list_all is_shallow_update m.updates) _ shallow in
+      let later = and_parts (list_all is_shallow_switch m.switches) (list_all is_shallow_invocation m.invocations) depths.1 in
       record {
         positive = positive;
         short = leb-true _ _ period.1;
@@ -157,21 +163,23 @@ module _ (p : GiottoProgram) (kept : KeepsRules p) where
         actuators_once = actuators_once;
         ports_once = ports_once;
         ports_are_outputs = ports_are_outputs m.invocations;
-        updates = three_pass (UpdateFits p m) _ _ _ (λ u h k d. record {
+        updates = four_pass (UpdateFits p m) _ _ _ is_shallow_update (λ u h k d s. record {
           frequency = frequency_of m u.frequency positive h;
           actuator = (and_parts _ _ k).0;
           reads = d;
-        }) m.updates first.1 of_kind.0 earlier.0;
-        switches = three_pass (SwitchFits p m) _ _ _ (λ s h k d. switch_of m s positive h k d) m.switches second.1 of_kind.1 earlier.1;
-        invocations = three_pass (InvocationFits p m) _ _ _ (λ i h k d. record {
+          shallow = s;
+        }) m.updates first.1 of_kind.0 earlier.0 depths.0;
+        switches = four_pass (SwitchFits p m) _ _ _ is_shallow_switch (λ s h k d low. switch_of m s positive h k d low) m.switches second.1 of_kind.1 earlier.1 later.0;
+        invocations = four_pass (InvocationFits p m) _ _ _ is_shallow_invocation (λ i h k d s. record {
           frequency = frequency_of m i.frequency positive h;
           task = arguments_for i (task_named p i.task) k;
           reads = d;
-        }) m.invocations third.1 arguments reads.1;
+          shallow = s;
+        }) m.invocations third.1 arguments reads.1 later.1;
       }
 
-  modes_fit : AllByRecursion (ModeFits p) p.modes
-  modes_fit =
+  modes_fit : list_all is_shallow_mode p.modes ≡ true → AllByRecursion (ModeFits p) p.modes
+  modes_fit shallow =
       let times = passed _ p.modes kept.frequencies_divide in
       let uses = passed _ p.modes (and_parts _ _ kept.uses_right_kinds).1 in
       let drivers = passed _ p.modes kept.drivers_read_mode_ports in
@@ -179,12 +187,14 @@ module _ (p : GiottoProgram) (kept : KeepsRules p) where
       let tasks = passed _ p.modes kept.invokes_once in
       let actuators = passed _ p.modes kept.updates_once in
       let ports = passed _ p.modes kept.tasks_share_no_output in
-      all_with _ _ (ModeFits p) (λ m a b. mode_fits m a.0.0 a.0.1 a.1.0 a.1.1 b.0 b.1.0 b.1.1) p.modes
-      (all_zip _ _ p.modes (all_zip _ _ p.modes times uses) (all_zip _ _ p.modes drivers arguments)) (all_zip _ _ p.modes tasks (all_zip _ _ p.modes actuators ports))
+      let depths = passed is_shallow_mode p.modes shallow in
+      all_with _ _ (ModeFits p) (λ m a b. mode_fits m a.0.0 a.0.1 a.1.0 a.1.1 b.0.0 b.0.1 b.1.0 b.1.1) p.modes
+      (all_zip _ _ p.modes (all_zip _ _ p.modes times uses) (all_zip _ _ p.modes drivers arguments))
+      (all_zip _ _ p.modes (all_zip _ _ p.modes tasks actuators) (all_zip _ _ p.modes ports depths))
 
   -- A well-formed program that can be printed.
-  pub program_fits : IsPrintable p → ProgramFits p
-  program_fits printable =
+  pub program_fits : IsPrintable p → is_shallow_program p ≡ true → ProgramFits p
+  program_fits printable shallow =
       let declared = and_parts _ _ kept.declares_once in
       let once = and_parts _ _ declared.0 in
       record {
@@ -192,6 +202,6 @@ module _ (p : GiottoProgram) (kept : KeepsRules p) where
         lines_once = declared.1;
         ports_once = ports_different p (names_have_no_dots p printable) once.0 once.1;
         tasks = tasks_fit (small_if_printable p printable);
-        modes = modes_fit;
+        modes = modes_fit (and_parts (list_all is_shallow_task p.tasks) (list_all is_shallow_mode p.modes) shallow).1;
         start = found_some (λ (m : ModeDeclaration). m.name) p.modes p.start kept.starts_in_a_mode;
       }

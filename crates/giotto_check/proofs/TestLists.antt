@@ -32,3 +32,12 @@ all_in_item {X = X} test f g xs i x h is lt = ap (λ z. list_all test (g (f z)))
     at [] i h lt = absurd (omega arith)
     at (y ∷ ys) zero h lt = (all_in_parts test (g (f y)) (flat_map g (map f ys)) h).0
     at (y ∷ ys) (suc i) h lt = at ys i (all_in_parts test (g (f y)) (flat_map g (map f ys)) h).1 (omega arith)
+
+-- a test that all images pass
+pub test_at_item : {X A : Type 0} (test : A → Bool) (f : X → A) (xs : List X) (i : ℕ) (x : X) → list_all test (map f xs) ≡ true → x ≡ get_or xs i x → i < length xs → test (f x) ≡ true
+test_at_item {X = X} test f xs i x h is lt = ap (λ z. test (f z)) is ∙ at xs i h lt
+  where
+    at : (xs : List X) (i : ℕ) → list_all test (map f xs) ≡ true → i < length xs → test (f (get_or xs i x)) ≡ true
+    at [] i h lt = absurd (omega arith)
+    at (y ∷ ys) zero h lt = (and_parts (test (f y)) (list_all test (map f ys)) h).0
+    at (y ∷ ys) (suc i) h lt = at ys i (and_parts (test (f y)) (list_all test (map f ys)) h).1 (omega arith)

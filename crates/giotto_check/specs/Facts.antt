@@ -1,8 +1,9 @@
--- What follows from the rules for whoever runs a program: names stand once, frequencies divide, and lists fit.
+-- What follows from the rules for whoever runs a program: names stand once, frequencies divide, lists fit, and drivers are shallow.
 use Rattle.std.specs.Prelude.{◌≡◌, ℕ, ◌/◌, ◌%◌, ◌≤◌, length, IsTrue, IsSomeAnd, IsSome}
 use Rattle.std.specs.List.{AllByRecursion}
 use Rattle.giotto_tasks.specs.Names.{is_among}
 use Rattle.giotto_tasks.specs.Sound.{all_different, IsSound}
+use Rattle.giotto_text.specs.Depth.{is_shallow_update, is_shallow_switch, is_shallow_invocation}
 use Rattle.giotto_text.specs.Program.{TaskDeclaration, ActuatorUpdate, ModeSwitch, TaskInvocation, ModeDeclaration, GiottoProgram, body_of}
 use Rattle.giotto_rules.specs.Declarations.{actuator_names, output_names, declared_names, task_named, mode_named, invoked_tasks, updated_actuators, destinations_of, mode_ports, lines_written}
 use Rattle.giotto_rules.specs.Drivers.{readable_ports}
@@ -16,24 +17,27 @@ pub record IsFrequencyOf (m : ModeDeclaration) (w : ℕ) : Type 0 where
   pub divides : m.period % w ≡ 0
   pub interval : 1 ≤ m.period / w
 
--- an update writes an actuator, and reads ports of its mode
+-- an update writes an actuator, reads ports of its mode, and is shallow
 pub record UpdateFits (p : GiottoProgram) (m : ModeDeclaration) (u : ActuatorUpdate) : Type 0 where
   pub frequency : IsFrequencyOf m u.frequency
   pub actuator : IsTrue (is_among (actuator_names p) u.actuator)
   pub reads : IsTrue (are_among (mode_ports p m) (names_in_update u))
+  pub shallow : IsTrue (is_shallow_update u)
 
--- a switch goes to a mode, gives values to ports of it, each once, and reads ports of its own mode and sensors
+-- a switch goes to a mode, gives values to ports of it, each once, reads ports of its own mode and sensors, and is shallow
 pub record SwitchFits (p : GiottoProgram) (m : ModeDeclaration) (s : ModeSwitch) : Type 0 where
   pub frequency : IsFrequencyOf m s.frequency
   pub target : IsSomeAnd (mode_named p s.target) (λ target. IsTrue (are_among (mode_ports p target) (destinations_of s)))
   pub destinations_once : IsTrue (all_different (destinations_of s))
   pub reads : IsTrue (are_among (readable_ports p m) (names_in_switch s))
+  pub shallow : IsTrue (is_shallow_switch s)
 
--- an invocation has an argument for each input of its task, and reads ports of its mode and sensors
+-- an invocation has an argument for each input of its task, reads ports of its mode and sensors, and is shallow
 pub record InvocationFits (p : GiottoProgram) (m : ModeDeclaration) (i : TaskInvocation) : Type 0 where
   pub frequency : IsFrequencyOf m i.frequency
   pub task : IsSomeAnd (task_named p i.task) (λ t. length i.arguments ≡ length t.inputs)
   pub reads : IsTrue (are_among (readable_ports p m) (names_in_invocation i))
+  pub shallow : IsTrue (is_shallow_invocation i)
 
 -- a mode of 1 to 1,000,000 ticks invokes a task once and updates an actuator once; its ports are outputs, each of one task
 pub record ModeFits (p : GiottoProgram) (m : ModeDeclaration) : Type 0 where

@@ -53,6 +53,11 @@ place_of_task p x = position_from (λ (t : TaskDeclaration). same_name t.name x)
 abbrev pub HaveSlotsFrom : GiottoProgram → Name → List Name → ℕ → Type 0
 HaveSlotsFrom p t names first = map (slot_of p (Some t)) names ≡ map Some (range_with_len first (length names))
 
+-- these ports of a task stand in a row from this slot on, and there is a value for each
+pub record AreInRow (p : GiottoProgram) (t : Name) (names : List Name) (first : ℕ) (values : List ℤ) : Type 0 where
+  pub slots : HaveSlotsFrom p t names first
+  pub long : length values ≡ length names
+
 -- the ports that drivers of a well-formed program read, in the order of their slots
 pub record AreDriverPorts (p : GiottoProgram) (names : List Name) : Type 0 where
   pub fits : ProgramFits p

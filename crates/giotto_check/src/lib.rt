@@ -164,13 +164,13 @@ fn fits(program: &Program)
     ensures fits { ProgramFits program.now }
 {
     let _parts = program.parts();
+    giotto_text::laws::shallow();
 }
 
 /// The program checked, if it keeps the eleven rules.
 ///
 /// # Errors
-/// The program as it was, with `Rule` and the first rule that it breaks, or with `Memory` where there is want of memory. A
-/// driver with more than 32 operations inside one another, as no text has it, would be told as `Memory` too.
+/// The program as it was, with `Rule` and the first rule that it breaks, or with `Memory` where there is want of memory.
 pub fn check(alloc: Global, program: Program) -> Result<Checked, (Program, CheckFault)>
     ensures checked { IfOk result (λ c. c ≡ program) }
     ensures kept { IsOk result → first_broken_rule program ≡ None }

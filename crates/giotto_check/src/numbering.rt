@@ -13,9 +13,8 @@ mod updates;
 
 use crate::numbering::numbered::Numbered;
 use crate::timetables::{TaskSlots, Timetable};
-use giotto_tasks::faults::CodeFault;
 use giotto_text::programs::Program;
-use std::alloc::Global;
+use std::alloc::{AllocError, Global};
 
 /// A program by number.
 #[derive(Drop)]
@@ -29,12 +28,8 @@ pub(crate) struct Numbering {
 }
 
 impl Numbering {
-    /// The numbering of a well-formed program.
-    ///
-    /// # Errors
-    /// `Memory` where there is want of memory, `TooDeep` where an expression has more than 32 operations inside one
-    /// another, as no program's text can have it.
-    pub(crate) fn new(alloc: Global, program: &Program) -> Result<Numbering, CodeFault>
+    /// The numbering of a well-formed program. Fails where there is want of memory.
+    pub(crate) fn new(alloc: Global, program: &Program) -> Result<Numbering, AllocError>
         requires { ProgramFits program.now }
         ensures { IfOk result (λ n. IsNumbering program.now n) }
     {

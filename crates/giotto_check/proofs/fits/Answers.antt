@@ -6,4 +6,4 @@ pub returns-clause-rules : goal.returns-clause-rules
 returns-clause-rules c = rules_kept c.args.program.now c.requires
 
 pub returns-clause-fits : goal.returns-clause-fits
-returns-clause-fits c = program_fits c.args.program.now (rules_kept c.args.program.now c.requires) c.parts-parts.ensures.printable
+returns-clause-fits c = program_fits c.args.program.now (rules_kept c.args.program.now c.requires) c.parts-parts.ensures.printable (c.shallow.ensures.program c.args.program.now c.parts-parts.ensures.printable)

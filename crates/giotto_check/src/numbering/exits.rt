@@ -1,9 +1,10 @@
 //! Switches by number.
 
 ghost use Rattle.std.specs.Prelude.{◌≡◌, Some, IfOk, IsTrue, IsSome, map};
-ghost use Rattle.std.specs.List.{flat_map, position_from};
+ghost use Rattle.std.specs.List.{flat_map, list_all, position_from};
 ghost use Rattle.giotto_tasks.specs.Names.{is_among, same_name};
 ghost use Rattle.giotto_tasks.specs.Trees.{expression_of};
+ghost use Rattle.giotto_text.specs.Depth.{is_shallow};
 ghost use Rattle.giotto_text.specs.ProgramTrees.{mode_of, switch_of, destination_of};
 ghost use Rattle.giotto_rules.specs.Declarations as declared;
 ghost use Rattle.giotto_rules.specs.Names.{are_among};
@@ -12,13 +13,13 @@ ghost use Rattle.giotto_check.specs.Timetables.{AreEach, IsDestination, IsExit, 
 
 use crate::numbering::numbered::Numbered;
 use crate::timetables::{SlotDestination, SlotExit};
-use giotto_tasks::faults::CodeFault;
 use giotto_tasks::names::Name;
 use giotto_text::programs::{Destination, Mode, Switch};
+use std::alloc::AllocError;
 
 impl Numbered<'_> {
     /// The switches of a mode, in text order.
-    pub(crate) fn exits(&self, mode: &Mode) -> Result<Vec<SlotExit>, CodeFault>
+    pub(crate) fn exits(&self, mode: &Mode) -> Result<Vec<SlotExit>, AllocError>
         requires { ModeFits self.now (mode_of mode.now) }
         ensures { IfOk result (λ entries. AreEach (IsExit self.now (mode_of mode.now)) (mode_of mode.now).switches entries.items) }
     {
@@ -29,7 +30,7 @@ impl Numbered<'_> {
         Ok(entries)
     }
 
-    fn exit(&self, mode: &Mode, switch: &Switch) -> Result<SlotExit, CodeFault>
+    fn exit(&self, mode: &Mode, switch: &Switch) -> Result<SlotExit, AllocError>
         requires program { ProgramFits self.now }
         requires mode { ModeFits self.now (mode_of mode.now) }
         requires switch { SwitchFits self.now (mode_of mode.now) (switch_of switch.now) }
@@ -54,9 +55,10 @@ impl Numbered<'_> {
         }
     }
 
-    fn destinations(&self, destinations: &[Destination]) -> Result<Vec<SlotDestination>, CodeFault>
+    fn destinations(&self, destinations: &[Destination]) -> Result<Vec<SlotDestination>, AllocError>
         requires outputs { IsTrue (are_among (declared.output_names self.now) (map (λ d. d.0) (map destination_of destinations.now))) }
         requires reads { IsTrue (are_among (declared.driver_ports self.now) (flat_map (λ d. declared.names_read d.1) (map destination_of destinations.now))) }
+        requires shallow { IsTrue (list_all (λ d. is_shallow d.1) (map destination_of destinations.now)) }
         ensures { IfOk result (λ entries. AreEach (IsDestination self.now) (map destination_of destinations.now) entries.items) }
     {
         let mut entries = Vec::new(self.alloc);
@@ -66,9 +68,10 @@ impl Numbered<'_> {
         Ok(entries)
     }
 
-    fn destination(&self, destination: &Destination) -> Result<SlotDestination, CodeFault>
+    fn destination(&self, destination: &Destination) -> Result<SlotDestination, AllocError>
         requires output { IsTrue (is_among (declared.output_names self.now) destination.now.output) }
         requires reads { IsTrue (are_among (declared.driver_ports self.now) (declared.names_read (expression_of destination.now.value))) }
+        requires shallow { IsTrue (is_shallow (expression_of destination.now.value)) }
         ensures { IfOk result (λ entry. IsDestination self.now (destination_of destination.now) entry) }
     {
         Ok(SlotDestination {

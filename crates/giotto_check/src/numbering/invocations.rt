@@ -1,9 +1,10 @@
 //! Invocations by number.
 
 ghost use Rattle.std.specs.Prelude.{◌≡◌, Some, IfOk, IsTrue, IsSome, map};
-ghost use Rattle.std.specs.List.{flat_map, position_from};
+ghost use Rattle.std.specs.List.{flat_map, list_all, position_from};
 ghost use Rattle.giotto_tasks.specs.Names.{same_name};
 ghost use Rattle.giotto_tasks.specs.Trees.{expression_of};
+ghost use Rattle.giotto_text.specs.Depth.{is_shallow};
 ghost use Rattle.giotto_text.specs.ProgramTrees.{mode_of, invocation_of};
 ghost use Rattle.giotto_rules.specs.Declarations as declared;
 ghost use Rattle.giotto_rules.specs.Names.{are_among};
@@ -13,9 +14,9 @@ ghost use Rattle.giotto_check.specs.Timetables.{AreEach, AreTaskSlots, IsExpress
 use crate::numbering::numbered::Numbered;
 use crate::timetables::{SlotExpr, SlotInvocation, TaskSlots};
 use giotto_tasks::bodies::Expr;
-use giotto_tasks::faults::CodeFault;
 use giotto_tasks::names::Name;
 use giotto_text::programs::{Invocation, Mode, Task};
+use std::alloc::AllocError;
 
 impl Numbered<'_> {
     /// The invocations of a mode, in text order, where these are the slots of the tasks.
@@ -23,7 +24,7 @@ impl Numbered<'_> {
         &self,
         tasks: &[TaskSlots],
         mode: &Mode,
-    ) -> Result<Vec<SlotInvocation>, CodeFault>
+    ) -> Result<Vec<SlotInvocation>, AllocError>
         requires tasks { AreEach (AreTaskSlots self.now) self.now.tasks tasks.now }
         requires mode { ModeFits self.now (mode_of mode.now) }
         ensures { IfOk result (λ entries. AreEach (IsInvocation self.now (mode_of mode.now)) (mode_of mode.now).invocations entries.items) }
@@ -40,7 +41,7 @@ impl Numbered<'_> {
         tasks: &[TaskSlots],
         mode: &Mode,
         invocation: &Invocation,
-    ) -> Result<SlotInvocation, CodeFault>
+    ) -> Result<SlotInvocation, AllocError>
         requires tasks { AreEach (AreTaskSlots self.now) self.now.tasks tasks.now }
         requires mode { ModeFits self.now (mode_of mode.now) }
         requires invocation { InvocationFits self.now (mode_of mode.now) (invocation_of invocation.now) }
@@ -68,8 +69,9 @@ impl Numbered<'_> {
         }
     }
 
-    fn arguments(&self, arguments: &[Expr]) -> Result<Vec<SlotExpr>, CodeFault>
-        requires { IsTrue (are_among (declared.driver_ports self.now) (flat_map declared.names_read (map expression_of arguments.now))) }
+    fn arguments(&self, arguments: &[Expr]) -> Result<Vec<SlotExpr>, AllocError>
+        requires reads { IsTrue (are_among (declared.driver_ports self.now) (flat_map declared.names_read (map expression_of arguments.now))) }
+        requires shallow { IsTrue (list_all is_shallow (map expression_of arguments.now)) }
         ensures { IfOk result (λ codes. AreEach (IsExpression self.now) (map expression_of arguments.now) codes.items) }
     {
         let mut codes = Vec::new(self.alloc);

@@ -7,12 +7,12 @@ ghost use Rattle.giotto_check.specs.Timetables.{AreEach, AreTaskSlots, IsTimetab
 
 use crate::numbering::numbered::Numbered;
 use crate::timetables::{TaskSlots, Timetable};
-use giotto_tasks::faults::CodeFault;
 use giotto_text::programs::Mode;
+use std::alloc::AllocError;
 
 impl Numbered<'_> {
     /// The timetables of all modes, in text order, where these are the slots of the tasks.
-    pub(crate) fn modes(&self, tasks: &[TaskSlots]) -> Result<Vec<Timetable>, CodeFault>
+    pub(crate) fn modes(&self, tasks: &[TaskSlots]) -> Result<Vec<Timetable>, AllocError>
         requires { AreEach (AreTaskSlots self.now) self.now.tasks tasks.now }
         ensures { IfOk result (λ tables. AreEach (IsTimetable self.now) self.now.modes tables.items) }
     {
@@ -23,7 +23,7 @@ impl Numbered<'_> {
         Ok(tables)
     }
 
-    fn timetable(&self, tasks: &[TaskSlots], mode: &Mode) -> Result<Timetable, CodeFault>
+    fn timetable(&self, tasks: &[TaskSlots], mode: &Mode) -> Result<Timetable, AllocError>
         requires tasks { AreEach (AreTaskSlots self.now) self.now.tasks tasks.now }
         requires mode { ModeFits self.now (mode_of mode.now) }
         ensures { IfOk result (λ table. IsTimetable self.now (mode_of mode.now) table) }

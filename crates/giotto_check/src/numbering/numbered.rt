@@ -3,6 +3,7 @@
 ghost use Rattle.std.specs.Prelude.{◌≡◌, Some, None, IfOk, IsTrue};
 ghost use Rattle.giotto_tasks.specs.Names.{is_among};
 ghost use Rattle.giotto_tasks.specs.Trees.{expression_of};
+ghost use Rattle.giotto_text.specs.Depth.{is_shallow, has_shallow_guard};
 ghost use Rattle.giotto_text.specs.ProgramTrees.{guard_of};
 ghost use Rattle.giotto_rules.specs.Declarations.{driver_ports, names_read};
 ghost use Rattle.giotto_rules.specs.Names.{are_among};
@@ -73,17 +74,22 @@ impl Numbered<'_> {
     }
 
     /// The expression over slots.
-    pub(crate) fn expression(&self, e: &Expr) -> Result<SlotExpr, CodeFault>
-        requires { IsTrue (are_among (driver_ports self.now) (names_read (expression_of e.now))) }
+    pub(crate) fn expression(&self, e: &Expr) -> Result<SlotExpr, AllocError>
+        requires reads { IsTrue (are_among (driver_ports self.now) (names_read (expression_of e.now))) }
+        requires shallow { IsTrue (is_shallow (expression_of e.now)) }
         ensures { IfOk result (λ c. IsExpression self.now (expression_of e.now) c) }
     {
-        let code = DriverCode::new(self.alloc, e, &self.names)?;
-        Ok(SlotExpr { code })
+        match DriverCode::new(self.alloc, e, &self.names) {
+            Ok(code) => Ok(SlotExpr { code }),
+            Err(CodeFault::Memory) => Err(AllocError),
+            Err(CodeFault::TooDeep) => unreachable!(),
+        }
     }
 
     /// The guard over slots, if there is one.
-    pub(crate) fn guard(&self, guard: &Option<Expr>) -> Result<Option<SlotExpr>, CodeFault>
-        requires { IsTrue (are_among (driver_ports self.now) (names_in_guard (guard_of guard.now))) }
+    pub(crate) fn guard(&self, guard: &Option<Expr>) -> Result<Option<SlotExpr>, AllocError>
+        requires reads { IsTrue (are_among (driver_ports self.now) (names_in_guard (guard_of guard.now))) }
+        requires shallow { IsTrue (has_shallow_guard (guard_of guard.now)) }
         ensures { IfOk result (λ c. IsGuard self.now (guard_of guard.now) c) }
     {
         match guard {

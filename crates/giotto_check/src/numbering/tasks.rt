@@ -9,13 +9,12 @@ ghost use Rattle.giotto_check.specs.Timetables.{AreEach, AreTaskSlots};
 use crate::numbering::numbered::Numbered;
 use crate::timetables::TaskSlots;
 use giotto_tasks::bodies::Body;
-use giotto_tasks::faults::CodeFault;
 use giotto_tasks::names::Name;
 use std::alloc::AllocError;
 
 impl Numbered<'_> {
     /// The slots of all tasks, in text order, and how many ports there are.
-    pub(crate) fn tasks(&self) -> Result<(Vec<TaskSlots>, usize), CodeFault>
+    pub(crate) fn tasks(&self) -> Result<(Vec<TaskSlots>, usize), AllocError>
         ensures tasks { IfOk result (λ r. AreEach (AreTaskSlots self.now) self.now.tasks r.0.items) }
         ensures slots { IfOk result (λ r. r.1 ≡ slots_of self.now) }
     {

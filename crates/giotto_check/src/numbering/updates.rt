@@ -7,12 +7,12 @@ ghost use Rattle.giotto_check.specs.Timetables.{AreEach, IsUpdate};
 
 use crate::numbering::numbered::Numbered;
 use crate::timetables::SlotUpdate;
-use giotto_tasks::faults::CodeFault;
 use giotto_text::programs::{Mode, Update};
+use std::alloc::AllocError;
 
 impl Numbered<'_> {
     /// The updates of a mode, in text order.
-    pub(crate) fn updates(&self, mode: &Mode) -> Result<Vec<SlotUpdate>, CodeFault>
+    pub(crate) fn updates(&self, mode: &Mode) -> Result<Vec<SlotUpdate>, AllocError>
         requires { ModeFits self.now (mode_of mode.now) }
         ensures { IfOk result (λ entries. AreEach (IsUpdate self.now (mode_of mode.now)) (mode_of mode.now).updates entries.items) }
     {
@@ -23,7 +23,7 @@ impl Numbered<'_> {
         Ok(entries)
     }
 
-    fn update(&self, mode: &Mode, update: &Update) -> Result<SlotUpdate, CodeFault>
+    fn update(&self, mode: &Mode, update: &Update) -> Result<SlotUpdate, AllocError>
         requires mode { ModeFits self.now (mode_of mode.now) }
         requires update { UpdateFits self.now (mode_of mode.now) (update_of update.now) }
         ensures { IfOk result (λ entry. IsUpdate self.now (mode_of mode.now) (update_of update.now) entry) }

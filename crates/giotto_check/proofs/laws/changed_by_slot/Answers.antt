@@ -7,13 +7,13 @@ use Rattle.giotto_check.proofs.Valuations.{with_value_at_place, with_values_at_p
 use Rattle.giotto_check.proofs.laws.changed_by_slot.Goals as goal
 
 pub returns-clause-value : goal.returns-clause-value
-returns-clause-value c = λ p values task x k z different long at.
-    with_value_at_place (port_names p) values k (shown_name (record { task = task; name = x })) z different (name_at_slot p task x k at) (length-map (ports_of p) shown_name ∙ sym long)
+returns-clause-value c = λ p values port k z all at.
+    with_value_at_place (port_names p) values k (shown_name port) z all.ports_once (name_at_slot p port.task port.name k at) (length-map (ports_of p) shown_name ∙ sym all.long)
 
 pub returns-clause-several : goal.returns-clause-several
-returns-clause-several c = λ p values names slots zs different long at.
-    with_values_at_places (port_names p) values names slots zs different (names_at_slots p None names slots at ∙ ap (map Some) (shared_shown names)) (length-map (ports_of p) shown_name ∙ sym long)
+returns-clause-several c = λ p values names slots zs all at.
+    with_values_at_places (port_names p) values names slots zs all.ports_once (names_at_slots p None names slots at ∙ ap (map Some) (shared_shown names)) (length-map (ports_of p) shown_name ∙ sym all.long)
 
 pub returns-clause-range : goal.returns-clause-range
-returns-clause-range c = λ p values t names first zs different long slots same.
-    with_values_in_range (port_names p) values (map (own_port t) names) first zs different (names_in_row p t names first slots) (length-map (ports_of p) shown_name ∙ sym long) (same ∙ sym (length-map names (own_port t)))
+returns-clause-range c = λ p values t names first zs all given.
+    with_values_in_range (port_names p) values (map (own_port t) names) first zs all.ports_once (names_in_row p t names first given.slots) (length-map (ports_of p) shown_name ∙ sym all.long) (given.long ∙ sym (length-map names (own_port t)))

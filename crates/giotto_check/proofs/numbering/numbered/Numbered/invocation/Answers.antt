@@ -1,6 +1,8 @@
 use Rattle.std.proofs.Common.{length, arith, refl}
-use Rattle.std.specs.List.{flat_map}
+use Rattle.std.specs.List.{flat_map, list_all}
+use Rattle.std.proofs.lemmas.Bool.{and_parts}
 use Rattle.giotto_tasks.specs.Names.{is_among}
+use Rattle.giotto_text.specs.Depth.{is_shallow, has_shallow_guard}
 use Rattle.giotto_text.specs.ProgramTrees.{mode_of, invocation_of}
 use Rattle.giotto_rules.specs.Declarations.{driver_ports, names_read}
 use Rattle.giotto_rules.specs.Reads.{names_in_guard, names_in_invocation}
@@ -20,18 +22,28 @@ offset_bounds-tasks-task c =
     let lt = task_within c.args.self.now c.args.invocation.now.task c.args.tasks.now c.task-task.result c.requires.tasks c.task-task.ensures in
     omega (arith, lt)
 
-pub guard-requires : goal.guard-requires
-guard-requires c =
+pub guard-requires-clause-reads : goal.guard-requires-clause-reads
+guard-requires-clause-reads c =
     let p = c.args.self.now in
     let i = invocation_of c.args.invocation.now in
     (all_in_parts (is_among (driver_ports p)) (names_in_guard i.guard) (flat_map names_read i.arguments) (readable_are_ports p (mode_of c.args.mode.now) c.requires.mode (names_in_invocation i) c.requires.invocation.reads)).0
 
-pub arguments-requires : goal.arguments-requires
-arguments-requires c =
+pub arguments-requires-clause-reads : goal.arguments-requires-clause-reads
+arguments-requires-clause-reads c =
     let p = c.args.self.now in
     let i = invocation_of c.args.invocation.now in
     rw c.as_slice.ensures
     ((all_in_parts (is_among (driver_ports p)) (names_in_guard i.guard) (flat_map names_read i.arguments) (readable_are_ports p (mode_of c.args.mode.now) c.requires.mode (names_in_invocation i) c.requires.invocation.reads)).1)
+
+pub guard-requires-clause-shallow : goal.guard-requires-clause-shallow
+guard-requires-clause-shallow c =
+    let i = invocation_of c.args.invocation.now in
+    (and_parts (has_shallow_guard i.guard) (list_all is_shallow i.arguments) c.requires.invocation.shallow).0
+
+pub arguments-requires-clause-shallow : goal.arguments-requires-clause-shallow
+arguments-requires-clause-shallow c =
+    let i = invocation_of c.args.invocation.now in
+    rw c.as_slice.ensures ((and_parts (has_shallow_guard i.guard) (list_all is_shallow i.arguments) c.requires.invocation.shallow).1)
 
 pub returns : goal.returns
 returns c =
