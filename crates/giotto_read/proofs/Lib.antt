@@ -5,6 +5,7 @@ pub mod Nested
 pub mod NextToken
 pub mod Pairs
 pub mod PrintingLemmas
+pub mod ShallowTokens
 pub mod Shrinking
 pub mod TextReading
 pub mod Writing

@@ -1,8 +1,10 @@
 //! Reads a program from its tokens: one function for each line of the grammar, from left to right, with one token of
 //! lookahead.
 
-ghost use Rattle.std.specs.Prelude.{◌≡◌, ℕ, pos, neg_ℤ, List, ◌≤◌, ◌^◌, ◌<◌, ◌↔◌, length, IsTrue, IfSome, IfNone, IfOk};
+ghost use Rattle.std.specs.Prelude.{◌≡◌, ℕ, false, pos, neg_ℤ, List, ◌≤◌, ◌^◌, ◌<◌, ◌↔◌, length, IsTrue, IfSome, IfNone, IfOk};
 ghost use Rattle.std.specs.Bool.{OnTrue, OnFalse};
+ghost use Rattle.giotto_text.specs.Nesting.{nests_too_deep};
+ghost use Rattle.giotto_text.specs.Tokens.{bare};
 
 mod declarations;
 mod expressions;
@@ -10,7 +12,6 @@ mod modes;
 mod statements;
 mod tasks;
 
-use giotto_tasks::faults::CodeFault;
 use giotto_tasks::names::Name;
 use giotto_text::programs::Parts;
 use giotto_text::tokens::{Keyword, PlacedToken, Symbol, Token};
@@ -47,30 +48,20 @@ impl From<AllocError> for Stop {
     }
 }
 
-// Nesting is counted before the first token is read, so no body is too deep for its code.
-impl From<CodeFault> for Stop {
-    ghost use Rattle.std.specs.Prelude.{◌≡◌};
-    ghost use Rattle.giotto_read.specs.declared.reader.Stop.TheVariants.{Memory};
-
-    ghost from_gives = { λ _ e. e ≡ Memory };
-
-    fn from(_fault: CodeFault) -> Stop {
-        Stop::Memory
-    }
-}
-
-/// The tokens of a text, and how many of them are read.
+/// The tokens of a text, which nest at most 32 deep, and how many of them are read.
 #[derive(Drop)]
 pub(crate) struct Reader<'a> {
     alloc: Global,
     tokens: &'a [PlacedToken],
     at: usize,
     ghost within: { at ≤ length tokens.now },
+    ghost shallow: { nests_too_deep (bare tokens.now) ≡ false },
 }
 
 impl<'a> Reader<'a> {
     /// A reader of these tokens, at the first.
     pub(crate) fn new(alloc: Global, tokens: &'a [PlacedToken]) -> Reader<'a>
+        requires { nests_too_deep (bare tokens.now) ≡ false }
         ensures tokens { result.tokens.now ≡ tokens.now }
         ensures start { result.at ≡ 0 }
     {

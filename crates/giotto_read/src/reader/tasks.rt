@@ -1,18 +1,23 @@
 //! Tasks.
 
-ghost use Rattle.std.specs.Prelude.{◌≡◌, map, length, IfOk};
+ghost use Rattle.std.specs.Prelude.{◌≡◌, ◌≤◌, map, length, IfOk};
 ghost use Rattle.std.specs.List.{zip};
+ghost use Rattle.giotto_tasks.specs.Depth.{depth_of_block};
+ghost use Rattle.giotto_tasks.specs.Trees.{block_of, body_of};
 ghost use Rattle.giotto_read.specs.Doing.{Does};
 ghost use Rattle.giotto_text.specs.Parsing.{is_keyword, many, read_list, read_list_behind, read_name, read_parentheses, read_state, read_task};
 ghost use Rattle.giotto_text.specs.ProgramTrees.{task_of};
 ghost use Rattle.giotto_text.specs.declared.tokens.Keyword.TheVariants as keyword;
 
 use super::{Reader, Stop};
-use giotto_tasks::bodies::Body;
+use giotto_tasks::bodies::{Body, Stmt};
+use giotto_tasks::faults::CodeFault;
 use giotto_tasks::lists::List;
 use giotto_tasks::names::Name;
+use giotto_text::laws;
 use giotto_text::programs::Task;
 use giotto_text::tokens::{Keyword, Symbol};
+use std::alloc::{AllocError, Global};
 use std::sync::Arc;
 
 impl Reader<'_> {
@@ -38,7 +43,8 @@ impl Reader<'_> {
         let outputs = self.task_outputs()?;
         let (states, initials) = self.task_states()?;
         let block = self.block()?;
-        let body = Body::new(self.alloc, inputs, outputs, states, block)?;
+        laws::shallow();
+        let body = shallow_body(self.alloc, inputs, outputs, states, block)?;
         let body = Arc::new(self.alloc, body)?;
         Ok(Task {
             name,
@@ -125,5 +131,23 @@ impl Reader<'_> {
         self.symbol(Symbol::Becomes)?;
         let initial = self.initial()?;
         Ok((name, initial))
+    }
+}
+
+// The body with these ports and this block, which is not too deep for its code.
+fn shallow_body(
+    alloc: Global,
+    inputs: List<Name>,
+    outputs: List<Name>,
+    states: List<Name>,
+    block: Vec<Stmt>,
+) -> Result<Body, AllocError>
+    requires { depth_of_block (block_of block.items) ≤ 32 }
+    ensures { IfOk result (λ b. b ≡ body_of inputs outputs states block.items) }
+{
+    match Body::new(alloc, inputs, outputs, states, block) {
+        Ok(body) => Ok(body),
+        Err(CodeFault::Memory) => Err(AllocError),
+        Err(CodeFault::TooDeep) => unreachable!(),
     }
 }

@@ -9,7 +9,7 @@ pub returns-then-not-next_is : goal.returns-then-not-next_is
 returns-then-not-next_is c = (refl, not_this c.args.self.now (token.Symbol c.args.symbol) c.if-not-next_is.ensures.no)
 
 pub invariant_of-self : goal.invariant_of-self
-invariant_of-self c = record { within = room c.args.self.now (token.Symbol c.args.symbol) c.if-not-next_is.ensures.yes (λ same. cc) }
+invariant_of-self c = record { within = room c.args.self.now (token.Symbol c.args.symbol) c.if-not-next_is.ensures.yes (λ same. cc); shallow = c.args.self.now.shallow }
 
 pub returns : goal.returns
 returns c = one_got (this (token.Symbol c.args.symbol)) c.args.self.now (token.Symbol c.args.symbol) tt c.if-not-next_is.ensures.yes (λ same. cc) (this_self (token.Symbol c.args.symbol))

@@ -12,7 +12,7 @@ pub returns-in_err-operator : goal.returns-in_err-operator
 returns-in_err-operator c = rw c.from_residual-in_err-operator.ensures (refl, one_stopped unary_in c.args.self.now (token.Symbol c.in_ok-symbol.symbol) c.in_ok-symbol.ensures.some (sym c.in_err-operator.ensures))
 
 pub invariant_of-self : goal.invariant_of-self
-invariant_of-self c = record { within = room c.args.self.now (token.Symbol c.in_ok-symbol.symbol) c.in_ok-symbol.ensures.some (λ same. cc) }
+invariant_of-self c = record { within = room c.args.self.now (token.Symbol c.in_ok-symbol.symbol) c.in_ok-symbol.ensures.some (λ same. cc); shallow = c.args.self.now.shallow }
 
 pub returns : goal.returns
 returns c = one_got unary_in c.args.self.now (token.Symbol c.in_ok-symbol.symbol) c.in_ok-operator.operator c.in_ok-symbol.ensures.some (λ same. cc) (sym c.in_ok-operator.ensures)

@@ -9,7 +9,7 @@ pub returns-in_default : goal.returns-in_default
 returns-in_default c = not_name c.args.self.now c.in_default.ensures.none
 
 pub invariant_of-self : goal.invariant_of-self
-invariant_of-self c = let other : token.Name c.in-Some.name.now ≢ end_mark = λ same. cc in record { within = room c.args.self.now (token.Name c.in-Some.name.now) c.in-Some.ensures.some other }
+invariant_of-self c = let other : token.Name c.in-Some.name.now ≢ end_mark = λ same. cc in record { within = room c.args.self.now (token.Name c.in-Some.name.now) c.in-Some.ensures.some other; shallow = c.args.self.now.shallow }
 
 pub returns : goal.returns
 returns c = rw c.copy-name.ensures (one_got name_in c.args.self.now (token.Name c.in-Some.name.now) c.in-Some.name.now c.in-Some.ensures.some (λ same. cc) refl)

@@ -14,7 +14,7 @@ returns-then-number-clause-read c = not_number (2 ^ 63) c.args.self.now (λ n le
 pub invariant_of-self : goal.invariant_of-self
 invariant_of-self c =
     let small : c.in-Some.number ≤ 2 ^ 63 = omega arith in
-    record { within = room_behind c.args.self.now c.in-Some.number small c.in-Some.ensures.some }
+    record { within = room_behind c.args.self.now c.in-Some.number small c.in-Some.ensures.some; shallow = c.args.self.now.shallow }
 
 pub returns-clause-read : goal.returns-clause-read
 returns-clause-read c =
