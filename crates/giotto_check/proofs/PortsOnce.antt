@@ -98,8 +98,8 @@ tasks_different declared (t ∷ ts) h d own =
     let none = and_parts (has_no_dot t.name) _ h in
     let names = and_parts _ _ d in
     let both = and_parts (declares_own declared (body_of t)) _ own in
-    let mine = and_parts _ _ (and_parts _ _ both.0).0 in
-    different_joined (shown_of_task t) (flat_map shown_of_task ts) (own_different t.name (own_names t) none.0 mine.1)
+    let mine = and_parts _ _ (and_parts _ _ both.0).1 in
+    different_joined (shown_of_task t) (flat_map shown_of_task ts) (own_different t.name (own_names t) none.0 mine.0)
     (tasks_different declared ts none.1 names.1 both.1) (apart_from_others t.name ts (own_names t) none.0 none.1 names.0)
 
 -- all ports, by name

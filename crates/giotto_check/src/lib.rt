@@ -36,7 +36,7 @@ pub mod timetables;
 use crate::greatest_cost::greatest_cost;
 use crate::numbering::Numbering;
 use crate::timetables::{SlotExit, SlotInvocation, SlotUpdate, TaskSlots, Timetable};
-use giotto_rules::first_broken::first_broken;
+use giotto_rules::first_broken;
 use giotto_text::programs::Program;
 use std::alloc::Global;
 use std::marker::Model;

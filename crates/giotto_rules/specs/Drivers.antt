@@ -3,7 +3,7 @@ use Rattle.std.specs.Prelude.{Bool, ◌&&◌, List, [], ◌++◌, Option, Some, 
 use Rattle.std.specs.List.{list_all}
 use Rattle.giotto_tasks.specs.declared.names.Name.{Name}
 use Rattle.giotto_tasks.specs.Sound.{all_different}
-use Rattle.giotto_text.specs.Program.{ModeSwitch, ModeDeclaration, GiottoProgram}
+use Rattle.giotto_text.specs.Program.{ActuatorUpdate, ModeSwitch, TaskInvocation, ModeDeclaration, GiottoProgram}
 use Rattle.giotto_rules.specs.Declarations.{sensor_names, mode_named, mode_ports, destinations_of}
 use Rattle.giotto_rules.specs.Names.{are_among}
 use Rattle.giotto_rules.specs.Reads.{names_in_update, names_in_switch, names_in_invocation}
@@ -17,13 +17,24 @@ abbrev pub ports_of_target : GiottoProgram → Option ModeDeclaration → List N
 ports_of_target p None = []
 ports_of_target p (Some m) = mode_ports p m
 
+-- A switch gives values to ports of its target alone.
+abbrev pub gives_to_target : GiottoProgram → ModeSwitch → Bool
+gives_to_target p s = are_among (ports_of_target p (mode_named p s.target)) (destinations_of s)
+
 -- A switch reads these names alone, and its destinations are ports of its target, each once.
 abbrev pub switch_fits : GiottoProgram → List Name → ModeSwitch → Bool
 switch_fits p readable s = are_among readable (names_in_switch s)
-    && are_among (ports_of_target p (mode_named p s.target)) (destinations_of s) && all_different (destinations_of s)
+    && gives_to_target p s && all_different (destinations_of s)
+
+-- Updates read these names alone.
+abbrev pub updates_read : List Name → List ActuatorUpdate → Bool
+updates_read names us = list_all (λ (u : ActuatorUpdate). are_among names (names_in_update u)) us
+
+-- Invocations read these names alone.
+abbrev pub invocations_read : List Name → List TaskInvocation → Bool
+invocations_read names is = list_all (λ (i : TaskInvocation). are_among names (names_in_invocation i)) is
 
 -- Updates read ports of their mode; switches and invocations read sensors too.
 abbrev pub drivers_fit : GiottoProgram → ModeDeclaration → Bool
-drivers_fit p m = list_all (λ u. are_among (mode_ports p m) (names_in_update u)) m.updates
-    && list_all (switch_fits p (readable_ports p m)) m.switches
-    && list_all (λ i. are_among (readable_ports p m) (names_in_invocation i)) m.invocations
+drivers_fit p m = updates_read (mode_ports p m) m.updates && list_all (switch_fits p (readable_ports p m)) m.switches
+    && invocations_read (readable_ports p m) m.invocations

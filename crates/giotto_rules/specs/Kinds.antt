@@ -40,3 +40,7 @@ invocation_uses k i = is_among k.tasks i.task && are_among k.ports (names_in_inv
 -- each driver of a mode uses names as what they are
 abbrev pub mode_uses : Kinds → ModeDeclaration → Bool
 mode_uses k m = list_all (update_uses k) m.updates && list_all (switch_uses k) m.switches && list_all (invocation_uses k) m.invocations
+
+-- each task and each mode of a program does
+abbrev pub program_uses : Kinds → GiottoProgram → Bool
+program_uses k p = list_all (task_uses k) p.tasks && list_all (mode_uses k) p.modes

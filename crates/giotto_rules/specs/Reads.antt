@@ -15,9 +15,13 @@ names_in_guard (Some e) = names_read e
 abbrev pub names_in_update : ActuatorUpdate → List Name
 names_in_update u = names_in_guard u.guard ++ names_read u.value
 
+-- what destinations read in their values
+abbrev pub names_in_destinations : List (Name × Expression) → List Name
+names_in_destinations ds = flat_map (λ (d : Name × Expression). names_read d.1) ds
+
 -- what a switch reads, in its guard and in the values that it gives
 abbrev pub names_in_switch : ModeSwitch → List Name
-names_in_switch s = names_in_guard s.guard ++ flat_map (λ (d : Name × Expression). names_read d.1) s.destinations
+names_in_switch s = names_in_guard s.guard ++ names_in_destinations s.destinations
 
 -- what an invocation reads, in its guard and its arguments
 abbrev pub names_in_invocation : TaskInvocation → List Name

@@ -6,8 +6,8 @@ use Rattle.giotto_tasks.specs.Sound.{all_different}
 use Rattle.giotto_text.specs.Program.{ModeDeclaration, GiottoProgram, body_of}
 use Rattle.giotto_rules.specs.Declarations.{declared_names, mode_names, invoked_tasks, updated_actuators, mode_ports, lines_written}
 use Rattle.giotto_rules.specs.Names.{all_different_numbers}
-use Rattle.giotto_rules.specs.TaskPorts.{declares_own, uses_own_ports}
-use Rattle.giotto_rules.specs.Kinds.{kinds_of, task_uses, mode_uses}
+use Rattle.giotto_rules.specs.TaskPorts.{tasks_declare_own, uses_own_ports}
+use Rattle.giotto_rules.specs.Kinds.{kinds_of, program_uses}
 use Rattle.giotto_rules.specs.Frequencies.{frequencies_divide_in}
 use Rattle.giotto_rules.specs.Invocations.{argument_for_each_input}
 use Rattle.giotto_rules.specs.Drivers.{drivers_fit}
@@ -17,14 +17,21 @@ use Rattle.giotto_rules.specs.Switches.{mode_keeps_periods}
 abbrev pub each_mode : (ModeDeclaration → Bool) → GiottoProgram → Bool
 each_mode test p = list_all test p.modes
 
+-- names are declared once, a task's own ones too
+abbrev pub declares_names_once : GiottoProgram → Bool
+declares_names_once p = all_different (declared_names p) && tasks_declare_own (declared_names p) p.tasks
+
+-- a line is driven by one actuator
+abbrev pub drives_lines_once : GiottoProgram → Bool
+drives_lines_once p = all_different_numbers (lines_written p)
+
 -- 1: names and lines are declared once
 abbrev pub declares_once : GiottoProgram → Bool
-declares_once p = all_different (declared_names p)
-    && list_all (λ t. declares_own (declared_names p) (body_of t)) p.tasks && all_different_numbers (lines_written p)
+declares_once p = declares_names_once p && drives_lines_once p
 
 -- 2: names stand for what they are used as
 abbrev pub uses_right_kinds : GiottoProgram → Bool
-uses_right_kinds p = list_all (task_uses (kinds_of p)) p.tasks && each_mode (mode_uses (kinds_of p)) p
+uses_right_kinds p = program_uses (kinds_of p) p
 
 -- 3: a body uses its task's own ports alone
 abbrev pub bodies_use_own_ports : GiottoProgram → Bool

@@ -1,6 +1,6 @@
 //! When a Giotto program is well-formed.
 //!
-//! [`first_broken`](first_broken::first_broken) names the first of the eleven rules that a program breaks:
+//! [`first_broken`] names the first of the eleven rules that a program breaks:
 //!
 //! ```text
 //! match first_broken(alloc, &program)? {
@@ -10,16 +10,16 @@
 //! ```
 //!
 //! The rules stand in `specs/Rules.antt`, over what a program declares (`specs/Declarations.antt`), and the code that tests
-//! them in `src/rules/`; `proofs/RuleExamples.antt` computes them on examples. [`lookups`] finds tasks and modes by name, and
-//! [`laws`] says what follows from the rules.
+//! them in `src/rules.rt`; `proofs/RuleExamples.antt` computes them on examples. [`laws`] says what follows from the rules.
 #![tactic(auto)]
 
 pub mod declarations;
-pub mod first_broken;
 mod indexed;
 pub mod laws;
-pub mod lookups;
+mod lookups;
 mod names;
 mod reads;
 mod rules;
 mod scopes;
+
+pub use rules::first_broken;

@@ -4,13 +4,11 @@ ghost use Rattle.std.specs.Prelude.{◌≡◌, map};
 ghost use Rattle.std.specs.List.{flat_map};
 ghost use Rattle.giotto_tasks.specs.Names as tasks;
 ghost use Rattle.giotto_tasks.specs.Sound as sound;
-ghost use Rattle.giotto_tasks.specs.Syntax.{Expression};
 ghost use Rattle.giotto_tasks.specs.Trees.{expression_of};
-ghost use Rattle.giotto_tasks.specs.declared.names.Name.{Name};
 ghost use Rattle.giotto_text.specs.ProgramTrees.{guard_of, update_of, switch_of, invocation_of, destination_of};
 ghost use Rattle.giotto_rules.specs.Declarations.{names_read, destinations_of};
 ghost use Rattle.giotto_rules.specs.Names.{are_among};
-ghost use Rattle.giotto_rules.specs.Reads.{names_in_guard, names_in_update, names_in_switch, names_in_invocation};
+ghost use Rattle.giotto_rules.specs.Reads.{names_in_guard, names_in_destinations, names_in_update, names_in_switch, names_in_invocation};
 
 use crate::scopes::Scope;
 use giotto_tasks::bodies::Expr;
@@ -76,9 +74,7 @@ pub(crate) fn invocation_reads_only(names: &Scope, invocation: &Invocation) -> b
 }
 
 fn destinations_read_only(names: &Scope, destinations: &[Destination]) -> bool
-    ensures { result
-        ≡ are_among names.now (flat_map (λ (d : Name × Expression). names_read d.1)
-        (map destination_of destinations.now)) }
+    ensures { result ≡ are_among names.now (names_in_destinations (map destination_of destinations.now)) }
 {
     for destination in destinations {
         if !reads_only(names, &destination.value) {

@@ -1,13 +1,13 @@
 //! Rule 3: a body uses its task's own ports alone.
 
-ghost use Rattle.std.specs.Prelude.{◌≡◌, ◌++◌, IfOk};
+ghost use Rattle.std.specs.Prelude.{◌≡◌, IfOk};
 ghost use Rattle.giotto_tasks.specs.Names.{is_among};
 ghost use Rattle.giotto_tasks.specs.Sound as sound;
 ghost use Rattle.giotto_tasks.specs.Trees.{statement_of, block_of};
 ghost use Rattle.giotto_text.specs.Program.{body_of};
 ghost use Rattle.giotto_text.specs.ProgramTrees.{task_of};
 ghost use Rattle.giotto_rules.specs.Rules as rules;
-ghost use Rattle.giotto_rules.specs.TaskPorts.{uses_own_ports};
+ghost use Rattle.giotto_rules.specs.TaskPorts.{assigns_own_ports, reads_own_ports, uses_own_ports};
 
 use crate::names;
 use crate::reads::reads_only;
@@ -43,9 +43,7 @@ fn body_uses_own_ports(alloc: Global, body: &Body) -> Result<bool, AllocError>
 }
 
 fn body_reads_own_ports(alloc: Global, body: &Body) -> Result<bool, AllocError>
-    ensures { IfOk result
-        (λ holds. holds ≡ sound.block_reads_only (is_among (body.now.inputs ++ (body.now.states ++ body.now.outputs)))
-        body.now.block) }
+    ensures { IfOk result (λ holds. holds ≡ reads_own_ports body.now) }
 {
     let mut ports = Vec::new(alloc);
     names::push_names(&mut ports, body.inputs.as_slice())?;
@@ -56,8 +54,7 @@ fn body_reads_own_ports(alloc: Global, body: &Body) -> Result<bool, AllocError>
 }
 
 fn body_assigns_own_ports(alloc: Global, body: &Body) -> Result<bool, AllocError>
-    ensures { IfOk result
-        (λ holds. holds ≡ sound.block_assigns_only (is_among (body.now.outputs ++ body.now.states)) body.now.block) }
+    ensures { IfOk result (λ holds. holds ≡ assigns_own_ports body.now) }
 {
     let mut ports = Vec::new(alloc);
     names::push_names(&mut ports, body.outputs.as_slice())?;

@@ -1,15 +1,11 @@
 //! Rule 1: names and lines are declared once.
 
-ghost use Rattle.std.specs.Prelude.{◌≡◌, ◌++◌, ◌&&◌, map, IfOk};
-ghost use Rattle.std.specs.List.{list_all};
+ghost use Rattle.std.specs.Prelude.{◌≡◌, ◌++◌, map, IfOk};
 ghost use Rattle.giotto_tasks.specs.Sound as sound;
-ghost use Rattle.giotto_text.specs.Program as tree;
 ghost use Rattle.giotto_text.specs.Program.{body_of};
 ghost use Rattle.giotto_text.specs.ProgramTrees.{task_of};
-ghost use Rattle.giotto_rules.specs.Declarations as declared;
-ghost use Rattle.giotto_rules.specs.Names as spec;
 ghost use Rattle.giotto_rules.specs.Rules as rules;
-ghost use Rattle.giotto_rules.specs.TaskPorts.{declares_own};
+ghost use Rattle.giotto_rules.specs.TaskPorts.{declares_own, keeps_own, tasks_declare_own};
 
 use crate::{declarations, names};
 use giotto_tasks::bodies::Body;
@@ -25,9 +21,7 @@ pub(crate) fn declares_once(alloc: Global, program: &Program) -> Result<bool, Al
 }
 
 fn names_declared_once(alloc: Global, program: &Program) -> Result<bool, AllocError>
-    ensures { IfOk result
-        (λ holds. holds ≡ sound.all_different (declared.declared_names program.now)
-        && list_all (λ (t : tree.TaskDeclaration). declares_own (declared.declared_names program.now) (body_of t)) program.now.tasks) }
+    ensures { IfOk result (λ holds. holds ≡ rules.declares_names_once program.now) }
 {
     let declared = Index::new(alloc, declarations::declared_names(alloc, program)?)?;
     if !declared.all_different() {
@@ -37,8 +31,7 @@ fn names_declared_once(alloc: Global, program: &Program) -> Result<bool, AllocEr
 }
 
 fn lines_declared_once(alloc: Global, program: &Program) -> Result<bool, AllocError>
-    ensures { IfOk result
-        (λ holds. holds ≡ spec.all_different_numbers (declared.lines_written program.now)) }
+    ensures { IfOk result (λ holds. holds ≡ rules.drives_lines_once program.now) }
 {
     let lines = declarations::lines_written(alloc, program)?;
     Ok(names::all_different_numbers(&lines))
@@ -47,8 +40,7 @@ fn lines_declared_once(alloc: Global, program: &Program) -> Result<bool, AllocEr
 // Whether each task's ports are different, and its inputs and states are no declared names.
 fn tasks_declare_own(alloc: Global, declared: &Index, tasks: &[Task]) -> Result<bool, AllocError>
     ensures { IfOk result
-        (λ holds. holds ≡ list_all (λ (t : tree.TaskDeclaration). declares_own declared.now (body_of t))
-        (map task_of tasks.now)) }
+        (λ holds. holds ≡ tasks_declare_own declared.now (map task_of tasks.now)) }
 {
     for task in tasks {
         if !task_declares_own(alloc, declared, task)? {
@@ -87,8 +79,7 @@ fn inputs_and_states_are_own(
     body: &Body,
 ) -> Result<bool, AllocError>
     ensures { IfOk result
-        (λ holds. holds ≡ sound.all_different (body.now.inputs ++ body.now.states)
-        && spec.share_none declared.now (body.now.inputs ++ body.now.states)) }
+        (λ holds. holds ≡ keeps_own declared.now (body.now.inputs ++ body.now.states)) }
 {
     let mut own = Vec::new(alloc);
     names::push_names(&mut own, body.inputs.as_slice())?;

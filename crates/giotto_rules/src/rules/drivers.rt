@@ -4,12 +4,9 @@
 ghost use Rattle.std.specs.Prelude.{◌≡◌, [], map, None, IfOk, IfSome};
 ghost use Rattle.std.specs.List.{list_all};
 ghost use Rattle.giotto_tasks.specs.Sound as sound;
-ghost use Rattle.giotto_text.specs.Program as tree;
 ghost use Rattle.giotto_text.specs.ProgramTrees.{mode_of, update_of, switch_of, invocation_of};
 ghost use Rattle.giotto_rules.specs.Declarations as declared;
 ghost use Rattle.giotto_rules.specs.Drivers as spec;
-ghost use Rattle.giotto_rules.specs.Names.{are_among};
-ghost use Rattle.giotto_rules.specs.Reads.{names_in_update, names_in_invocation};
 ghost use Rattle.giotto_rules.specs.Rules as rules;
 
 use crate::indexed::Indexed;
@@ -82,9 +79,7 @@ fn mode_drivers_fit(
 }
 
 fn updates_read(ports: &Scope, updates: &[Update]) -> bool
-    ensures { result
-        ≡ list_all (λ (u : tree.ActuatorUpdate). are_among ports.now (names_in_update u))
-        (map update_of updates.now) }
+    ensures { result ≡ spec.updates_read ports.now (map update_of updates.now) }
 {
     for update in updates {
         if !reads::update_reads_only(ports, update) {
@@ -144,10 +139,7 @@ fn gives_once(alloc: Global, switch: &Switch) -> Result<bool, AllocError>
 // Whether the switch gives values to ports of its target alone.
 fn gives_to_target(program: &Indexed, ports: &[Index], switch: &Switch) -> bool
     requires { ports.now ≡ map (declared.mode_ports program.now) program.now.modes }
-    ensures { result
-        ≡ are_among (spec.ports_of_target program.now
-        (declared.mode_named program.now (switch_of switch.now).target))
-        (declared.destinations_of (switch_of switch.now)) }
+    ensures { result ≡ spec.gives_to_target program.now (switch_of switch.now) }
 {
     match ports_of_target(program, ports, &switch.target) {
         Some(names) => reads::switch_gives_only(names, switch),
@@ -169,9 +161,7 @@ fn ports_of_target<'a>(program: &Indexed, ports: &'a [Index], mode: &Name) -> Op
 }
 
 fn invocations_read(sources: &Scope, invocations: &[Invocation]) -> bool
-    ensures { result
-        ≡ list_all (λ (i : tree.TaskInvocation). are_among sources.now (names_in_invocation i))
-        (map invocation_of invocations.now) }
+    ensures { result ≡ spec.invocations_read sources.now (map invocation_of invocations.now) }
 {
     for invocation in invocations {
         if !reads::invocation_reads_only(sources, invocation) {

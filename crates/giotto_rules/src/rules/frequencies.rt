@@ -1,8 +1,6 @@
 //! Rule 4: a period is 1 to 1,000,000 ticks, and a frequency is at least 1 and divides it.
 
 ghost use Rattle.std.specs.Prelude.{◌≡◌, map};
-ghost use Rattle.std.specs.List.{list_all};
-ghost use Rattle.giotto_text.specs.Program as tree;
 ghost use Rattle.giotto_text.specs.ProgramTrees.{update_of, switch_of, invocation_of};
 ghost use Rattle.giotto_rules.specs.Frequencies as spec;
 ghost use Rattle.giotto_rules.specs.Rules as rules;
@@ -29,9 +27,7 @@ pub(crate) fn frequencies_divide(program: &Program) -> bool
 }
 
 fn updates_divide(updates: &[Update], period: u64) -> bool
-    ensures { result
-        ≡ list_all (λ (u : tree.ActuatorUpdate). spec.divides u.frequency period)
-        (map update_of updates.now) }
+    ensures { result ≡ spec.updates_divide period (map update_of updates.now) }
 {
     for update in updates {
         if !divides(update.frequency, period) {
@@ -42,9 +38,7 @@ fn updates_divide(updates: &[Update], period: u64) -> bool
 }
 
 fn switches_divide(switches: &[Switch], period: u64) -> bool
-    ensures { result
-        ≡ list_all (λ (s : tree.ModeSwitch). spec.divides s.frequency period)
-        (map switch_of switches.now) }
+    ensures { result ≡ spec.switches_divide period (map switch_of switches.now) }
 {
     for switch in switches {
         if !divides(switch.frequency, period) {
@@ -55,9 +49,7 @@ fn switches_divide(switches: &[Switch], period: u64) -> bool
 }
 
 fn invocations_divide(invocations: &[Invocation], period: u64) -> bool
-    ensures { result
-        ≡ list_all (λ (i : tree.TaskInvocation). spec.divides i.frequency period)
-        (map invocation_of invocations.now) }
+    ensures { result ≡ spec.invocations_divide period (map invocation_of invocations.now) }
 {
     for invocation in invocations {
         if !divides(invocation.frequency, period) {

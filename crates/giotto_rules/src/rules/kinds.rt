@@ -1,6 +1,6 @@
 //! Rule 2: names stand for what they are used as.
 
-ghost use Rattle.std.specs.Prelude.{◌≡◌, ◌&&◌, map, IfOk};
+ghost use Rattle.std.specs.Prelude.{◌≡◌, map, IfOk};
 ghost use Rattle.std.specs.List.{list_all};
 ghost use Rattle.giotto_text.specs.ProgramTrees.{task_of, mode_of, update_of, switch_of, invocation_of};
 ghost use Rattle.giotto_rules.specs.Kinds as spec;
@@ -50,8 +50,7 @@ pub(crate) fn uses_right_kinds(alloc: Global, program: &Program) -> Result<bool,
 
 // Whether tasks and modes use these names as what they are.
 fn program_uses(kinds: &Kinds, program: &Program) -> bool
-    ensures { result
-        ≡ list_all (spec.task_uses kinds.now) program.now.tasks && list_all (spec.mode_uses kinds.now) program.now.modes }
+    ensures { result ≡ spec.program_uses kinds.now program.now }
 {
     tasks_use(kinds, program.tasks()) && modes_use(kinds, program.modes())
 }

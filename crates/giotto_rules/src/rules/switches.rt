@@ -1,7 +1,7 @@
 //! Rule 10: a task that a switch can interrupt goes on in the target mode with its period.
 
 ghost use Rattle.std.specs.Prelude.{◌≡◌, ◌/◌, ◌%◌, ◌==◌, map, IfOk};
-ghost use Rattle.std.specs.Option.{option_copied, option_map};
+ghost use Rattle.std.specs.Option.{option_copied};
 ghost use Rattle.giotto_text.specs.ProgramTrees.{mode_of, switch_of, invocation_of};
 ghost use Rattle.giotto_rules.specs.Declarations as declared;
 ghost use Rattle.giotto_tasks.specs.Places.{place_from};
@@ -91,7 +91,7 @@ fn mode_keeps_periods(
 
 fn repetitions(alloc: Global, program: &Indexed, mode: &Mode) -> Result<Vec<Repetition>, AllocError>
     ensures { IfOk result
-        (λ repetitions. repetitions.items ≡ map (by_place.repetition_of program.now mode.now.period) (mode_of mode.now).invocations) }
+        (λ repetitions. repetitions.items ≡ by_place.repetitions_in program.now (mode_of mode.now)) }
 {
     let mut repetitions = Vec::new(alloc);
     for invocation in mode.invocations.as_slice() {
@@ -110,7 +110,7 @@ fn switches_keep_repetitions(
     repetitions: &[Repetition],
 ) -> bool
     requires periods { periods.now ≡ map (by_place.periods_in program.now) program.now.modes }
-    requires repetitions { repetitions.now ≡ map (by_place.repetition_of program.now mode.now.period) (mode_of mode.now).invocations }
+    requires repetitions { repetitions.now ≡ by_place.repetitions_in program.now (mode_of mode.now) }
     ensures { result ≡ spec.mode_keeps_periods program.now (mode_of mode.now) }
 {
     for switch in mode.switches.as_slice() {
@@ -129,7 +129,7 @@ fn switch_keeps_periods(
     switch: &Switch,
 ) -> bool
     requires periods { periods.now ≡ map (by_place.periods_in program.now) program.now.modes }
-    requires repetitions { repetitions.now ≡ map (by_place.repetition_of program.now mode.now.period) (mode_of mode.now).invocations }
+    requires repetitions { repetitions.now ≡ by_place.repetitions_in program.now (mode_of mode.now) }
     ensures { result
         ≡ spec.switch_keeps_periods program.now (mode_of mode.now) (switch_of switch.now) }
 {
@@ -152,8 +152,7 @@ fn periods_of_target<'a>(
     mode: &Name,
 ) -> Option<&'a List<Option<u64>>>
     requires { periods.now ≡ map (by_place.periods_in program.now) program.now.modes }
-    ensures { option_copied result
-        ≡ option_map (by_place.periods_in program.now) (declared.mode_named program.now mode.now) }
+    ensures { option_copied result ≡ by_place.periods_in_named program.now mode.now }
 {
     match program.place_of_mode(mode) {
         Some(place) => periods.get(place),
@@ -169,8 +168,7 @@ fn keeps_period(
     invocation: &Invocation,
     repetition: &Repetition,
 ) -> bool
-    requires row { option_copied row
-        ≡ option_map (by_place.periods_in program.now) (declared.mode_named program.now switch.now.target) }
+    requires row { option_copied row ≡ by_place.periods_in_named program.now switch.now.target }
     requires repetition { repetition.now ≡ by_place.repetition_of program.now mode.now.period (invocation_of invocation.now) }
     ensures { result
         ≡ spec.keeps_period program.now mode.now.period (switch_of switch.now)
@@ -190,8 +188,7 @@ fn goes_on(
     task: &Name,
     repetition: &Repetition,
 ) -> bool
-    requires row { option_copied row
-        ≡ option_map (by_place.periods_in program.now) (declared.mode_named program.now mode.now) }
+    requires row { option_copied row ≡ by_place.periods_in_named program.now mode.now }
     requires repetition { repetition.now.task ≡ place_from 0 (declared.task_names program.now) task.now }
     ensures { result
         ≡ spec.goes_on_with (declared.mode_named program.now mode.now) task.now repetition.now.every }
