@@ -11,7 +11,7 @@ pub loop-tenant-preserved : goal.loop-tenant-preserved
 loop-tenant-preserved c =
     let placed : ArePlaced c.deref-tenant-items.result.now = subst ArePlaced (sym c.deref-tenant-items.ensures.value) c.self.invariant.2 in
     let place = own_place c.deref-tenant-items.result.now c.loop-tenant.tenant-index c.tenant-item.result c.loop-tenant-test.true c.tenant-item.is placed in
-    jobs_more c.loop-tenant.tenant-index c.deref-tenant-items.result.now c.tenant-item.result c.loop-tenant.names.items c.add_outstanding.new.names.items c.loop-tenant-test.true c.tenant-item.is own
+    jobs_more c.loop-tenant.tenant-index c.deref-tenant-items.result.now c.tenant-item.result c.loop-tenant.names.items c.add_outstanding.new.names.items c.loop-tenant-test.true c.tenant-item.is place
     c.in_ok-add_outstanding.ensures c.loop-tenant.invariant
 
 pub returns : goal.returns

@@ -8,7 +8,7 @@ use Rattle.host_core.specs.Views.{after_command}
 use Rattle.host_core.specs.declared.events.Event.TheVariants.{Own}
 use Rattle.tenant_lines.specs.Replies.{text_of_reply}
 use Rattle.host_core.proofs.Played.{step_own}
-use Rattle.host_core.proofs.plays.Stage.place.Goals as goal
+use Rattle.host_core.proofs.plays.Stage.own.Goals as goal
 
 pub returns : goal.returns
 returns c = on_ok_weaker c.add_answer.result (λ added setting past may played.
