@@ -9,6 +9,7 @@ pub mod EnteredModes
 pub mod EntryTables
 pub mod EntryTimeRows
 pub mod FirstHalfOf
+pub mod GreatestOf
 pub mod HalfStands
 pub mod JobNames
 pub mod ProgramLines

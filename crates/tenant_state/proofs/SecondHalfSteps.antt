@@ -21,7 +21,9 @@ use Rattle.tenant_state.specs.declared.trace.Happening.TheVariants as happening
 use Rattle.tenant_state.specs.declared.trace.Record.{Record}
 use Rattle.tenant_state.specs.Row.{running, ActiveTask, Row, is_running_state, where_some, in_mode}
 use Rattle.tenant_state.specs.SecondHalf.{installed, replaced_if_due, sensed, time_before_end, entry_time, entered, switched, invoked_in_mode, moved_on, counted, second_half_running, second_half_of}
-use Rattle.tenant_state.specs.Standing.{greatest, invoked_in, most_at}
+use Rattle.giotto_check.specs.Costs.{greatest}
+use Rattle.tenant_state.specs.Standing.{invoked_in, most_at}
+use Rattle.tenant_state.proofs.GreatestOf.{greatest_more}
 use Rattle.tenant_state.specs.Tenants.{IsEntered, IsSwitched}
 use Rattle.giotto_tasks.proofs.ListLemmas.{find_passes, some_same}
 use Rattle.giotto_tasks.proofs.NameLemmas.{same_name_is}
@@ -65,8 +67,8 @@ found_within f one other (y ∷ ys) x e = at_head (one y) (other y) e (found_wit
   where
     at_head : (a b : Bool) → cond (a && b) (Some y) (find (λ y. one y && other y) ys) ≡ Some x → (find (λ y. one y && other y) ys ≡ Some x → f x ≤ greatest (map f (filter one ys)))
         → f x ≤ greatest (map f (cond a (y ∷ filter one ys) (filter one ys)))
-    at_head true true e on = subst (λ z. f z ≤ max (f y) (greatest (map f (filter one ys)))) (some_same y x e) (le-max_left (f y) (greatest (map f (filter one ys))))
-    at_head true false e on = omega (arith, on e, le-max_right (f y) (greatest (map f (filter one ys))))
+    at_head true true e on = omega (arith, ap f (some_same y x e), greatest_more (f y) (map f (filter one ys)))
+    at_head true false e on = omega (arith, on e, greatest_more (f y) (map f (filter one ys)))
     at_head false b e on = on e
 
 no_more : {X : Type 0} (test : X → Bool) (xs : List X) → length (filter test xs) ≤ length xs

@@ -16,6 +16,7 @@ use Rattle.giotto_text.specs.Program.{TaskDeclaration, ModeSwitch, TaskInvocatio
 use Rattle.giotto_text.specs.ProgramTrees as trees
 use Rattle.giotto_tasks.proofs.ListLemmas.{all_same, some_same, is_some-option_map}
 use Rattle.giotto_rules.specs.Declarations.{mode_named}
+use Rattle.giotto_check.specs.Costs.{greatest}
 use Rattle.giotto_check.specs.Timetables.{AreEach, IsInvocation, place_of_mode}
 use Rattle.giotto_check.specs.Facts.{ProgramFits}
 use Rattle.giotto_check.specs.declared.timetables.SlotInvocation.{SlotInvocation}
@@ -23,11 +24,13 @@ use Rattle.giotto_check.proofs.EachLemmas.{each_long}
 use Rattle.giotto_check.proofs.PlaceLemmas.{found_there, place_if_found}
 use Rattle.tenant_slots.specs.Due.{is_due_at}
 use Rattle.tenant_slots.proofs.Numbered.{mode_here}
+use Rattle.tenant_state.proofs.DueTasks.{none_passes}
+use Rattle.tenant_state.proofs.GreatestOf.{greatest_more}
 use Rattle.tenant_state.proofs.TenantFacts.{body_of_task}
 use Rattle.tenant_state.specs.declared.tenants.Active.{Active}
 use Rattle.tenant_state.specs.declared.tenants.State as code
 use Rattle.tenant_state.specs.declared.tenants.State.TheVariants.{Running}
-use Rattle.tenant_state.specs.Standing.{greatest, invoked_in, most_at, most_released}
+use Rattle.tenant_state.specs.Standing.{invoked_in, most_at, most_released}
 use Rattle.tenant_state.specs.Tenants.{standing_of, IsShareOf, FitsProgram, FitsIts, IsTenant}
 
 -- the declaration at a place is that of the task there
@@ -103,14 +106,10 @@ module _ (p : GiottoProgram) (m : ModeDeclaration) (time most : ℕ) (s : ModeSw
   entered_by due e = ap (most_entered p m time) here ∙ ap (λ b. most_invoked p (cond b (s ∷ switches_due m time rest) (switches_due m time rest))) e
 
   pub enters : (n new : ℕ) → is_due_at time m s.frequency ≡ true → n ≡ invoked_in p s.target → new ≡ max most n → max new (most_entered p m time rest) ≡ max most (most_entered p m time ss)
-  enters n new due long greater = omega (arith, entered_by true due, long, greater)
+  enters n new due long greater = omega (arith, entered_by true due, long, greater, greatest_more (invoked_in p s.target) (map (λ (s : ModeSwitch). invoked_in p s.target) (switches_due m time rest)))
 
   pub stays : is_due_at time m s.frequency ≡ false → max most (most_entered p m time rest) ≡ max most (most_entered p m time ss)
   stays due = ap (max most) (sym (entered_by false due))
-
-none_pass : {X : Type 0} (test : X → Bool) (xs : List X) → AllByRecursion (λ x. test x ≡ false) xs → filter test xs ≡ []
-none_pass test [] all = refl
-none_pass test (x ∷ xs) all = ap (λ b. cond b (x ∷ filter test xs) (filter test xs)) all.0 ∙ none_pass test xs all.1
 
 -- how many tasks a running tenant's next instant can release
 module _ (state : code.State) (program : Option GiottoProgram) (mode time next : ℕ) (active : List Active) (values : List ℤ) (shares : List (Option TaskBody)) (count places : ℕ) (p : GiottoProgram)
@@ -126,5 +125,5 @@ module _ (state : code.State) (program : Option GiottoProgram) (mode time next :
   pub none_due : time < next → 0 ≡ most_released (standing_of 0 state program mode time active places values shares count).row
   none_due lt = most_due 0 (λ m at.
       let quiet = its.quiet m at time (omega arith) lt in
-      sym (ap (λ is. max (length is) (most_entered p m time m.switches)) (none_pass (λ (i : TaskInvocation). is_due_at time m i.frequency) m.invocations quiet.no_invocation)
-      ∙ ap (λ ss. max 0 (most_invoked p ss)) (none_pass (λ (s : ModeSwitch). is_due_at time m s.frequency) m.switches quiet.no_switch)))
+      sym (ap (λ is. max (length is) (most_entered p m time m.switches)) (none_passes (λ (i : TaskInvocation). is_due_at time m i.frequency) m.invocations quiet.no_invocation)
+      ∙ ap (λ ss. max 0 (most_invoked p ss)) (none_passes (λ (s : ModeSwitch). is_due_at time m s.frequency) m.switches quiet.no_switch)))

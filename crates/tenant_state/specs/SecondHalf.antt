@@ -1,6 +1,6 @@
 -- The second half of an instant: a waiting program is installed, sensors are read, a switch may be taken, tasks are invoked, and the mode time moves on.
 use Rattle.std.specs.Prelude.{ℕ, zero, suc, ◌+◌, ◌-◌, ◌%◌, ◌==◌, Bool, ◌&&◌, ◌||◌, if◌then◌else◌, ℤ, List, [], ◌∷◌, ◌++◌, map, Some, None, unwrap_or, option_to_list}
-use Rattle.std.specs.List.{filter_map, list_all}
+use Rattle.std.specs.List.{filter_map}
 use Rattle.std.specs.Option.{option_map, option_map_or}
 use Rattle.giotto_tasks.specs.declared.names.Name.{Name}
 use Rattle.giotto_tasks.specs.Names.{Valuation, value_at, values_of, is_among}
@@ -8,6 +8,7 @@ use Rattle.giotto_tasks.specs.Meaning.{value_of}
 use Rattle.giotto_text.specs.Program.{TaskDeclaration, ModeSwitch, TaskInvocation, ModeDeclaration, GiottoProgram, names_of}
 use Rattle.tenant_state.specs.declared.trace.Happening.TheVariants as happening
 use Rattle.giotto_rules.specs.Declarations.{sensor_names, actuator_names, task_named, mode_named, period_of_task}
+use Rattle.tenant_state.specs.CommonPeriods.{is_common_multiple}
 use Rattle.tenant_state.specs.Row.{ActiveTask, Row, is_running, where_some, in_program, in_mode, recorded}
 use Rattle.giotto_text.specs.PortNames.{own_ports, with_values}
 use Rattle.tenant_slots.specs.Ports.{initial_ports, holds}
@@ -48,7 +49,7 @@ sensed readings granted p row = record row { ports = with_values row.ports (sens
 -- the first number from n on that all of these divide, looked for among the next `more` numbers
 abbrev pub common_multiple_from : ℕ → ℕ → List ℕ → ℕ
 common_multiple_from zero n ks = n
-common_multiple_from (suc more) n ks = if list_all (λ k. n % k == 0) ks then n else common_multiple_from more (n + 1) ks
+common_multiple_from (suc more) n ks = if is_common_multiple ks n then n else common_multiple_from more (n + 1) ks
 
 -- the least common multiple of numbers that divide the period
 abbrev pub least_common_multiple : ℕ → List ℕ → ℕ

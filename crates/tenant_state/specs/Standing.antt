@@ -4,6 +4,7 @@ use Rattle.std.specs.List.{AllByRecursion, find, zip}
 use Rattle.std.specs.Option.{option_and_then, option_map, option_map_or}
 use Rattle.giotto_tasks.specs.declared.names.Name.{Name}
 use Rattle.giotto_text.specs.Program.{GiottoProgram, ModeDeclaration, ModeSwitch, TaskInvocation}
+use Rattle.giotto_check.specs.Costs.{greatest}
 use Rattle.giotto_rules.specs.Declarations.{mode_named}
 use Rattle.tenant_state.specs.declared.jobs.JobId.{JobId}
 use Rattle.tenant_lines.specs.declared.replies.Reply.{Reply}
@@ -39,11 +40,6 @@ without_records row = record row { records = [] }
 pub record StandsFor (standing : Standing) (row : Row) (completed : ActiveTask → Bool) : Type 0 where
   pub same_row : standing.row ≡ without_records row
   pub same_marks : standing.completed ≡ map completed row.active
-
--- the greatest of these numbers, and 0 of none
-abbrev pub greatest : List ℕ → ℕ
-greatest [] = 0
-greatest (n ∷ ns) = max n (greatest ns)
 
 -- how many tasks the mode of this name invokes
 abbrev pub invoked_in : GiottoProgram → Name → ℕ
