@@ -1,18 +1,22 @@
 -- Tenants that are the same at rest: they differ only in what they have ready for the next instant.
-use Rattle.std.proofs.Common.{◌≡◌, ℕ, false, ◌+◌, ◌<◌, List, [], ◌∷◌, ◌++◌, length, map, get_or, set, Some, refl, sym, ap, ◌∙◌, subst, arith}
+use Rattle.std.proofs.Common.{◌≡◌, ℕ, false, ◌+◌, ◌<◌, List, [], ◌∷◌, ◌++◌, length, map, get_or, set, Option, Some, None, refl, sym, ap, ◌∙◌, subst, arith}
 use Rattle.std.specs.Prelude.{slice_get}
 use Rattle.std.specs.Option.{option_and_then, option_map}
 use Rattle.std.specs.List.{All, flat_map, enumerate_from}
+use Rattle.std.specs.Prelude.{sum}
 use Rattle.std.proofs.Math.ListN as lists
 use Rattle.std.proofs.Math.Seq.{map-set_same}
-use Rattle.std.proofs.lemmas.List.{length-map}
+use Rattle.std.proofs.lemmas.List.{length-map, get_or_default}
+use Rattle.std.proofs.lemmas.List.Sums.{sum-map}
+use Rattle.std.proofs.lemmas.Simd.{map-map}
 use Rattle.std.proofs.lemmas.Option.{slice_get-get_or, slice_get-map}
 use Rattle.tenant_state.specs.declared.jobs.JobId.{JobId}
-use Rattle.host_core.specs.HostStanding.{HostStanding, IsAt, Stands, outstanding_from, outstanding_of}
+use Rattle.host_core.specs.Halves.{most_of}
+use Rattle.host_core.specs.HostStanding.{HostStanding, IsAt, Stands, tenant_at, awaited_in, outstanding_from, outstanding_of}
 use Rattle.host_core.specs.HostState.{HostState}
 use Rattle.host_core.specs.Setting.{Setting}
 use Rattle.tenant_state.specs.Jobs.{job_of}
-use Rattle.tenant_state.specs.Standing.{Standing, at_rest, empty_standing, outstanding_tasks, awaited_job}
+use Rattle.tenant_state.specs.Standing.{Standing, at_rest, empty_standing, most_released, outstanding_tasks, awaited_job}
 
 pub same_at_rest : (xs ys : List Standing) (k : ℕ) (d : Standing) → map at_rest ys ≡ map at_rest xs → at_rest (get_or ys k d) ≡ at_rest (get_or xs k d)
 same_at_rest xs ys k d same = sym (lists.get_or-map at_rest ys k d) ∙ ap (λ zs. get_or zs k (at_rest d)) same ∙ lists.get_or-map at_rest xs k d
@@ -72,3 +76,25 @@ pub awaited_here : (xs : List Standing) (j : JobId) (x : Standing) → j.tenant 
     → option_and_then (λ s. awaited_job s j) (slice_get (map at_rest xs) j.tenant) ≡ awaited_job x j
 awaited_here xs j x lt here =
     ap (λ o. option_and_then (λ s. awaited_job s j) o) (slice_get-map at_rest xs j.tenant ∙ ap (option_map at_rest) (slice_get-get_or xs j.tenant x lt ∙ ap Some (sym here)))
+
+pub awaited_at_rest : (host : HostStanding) (j : JobId) → awaited_in (record host { tenants = map at_rest host.tenants }) j ≡ awaited_in host j
+awaited_at_rest host j = ap (λ o. option_and_then (λ s. awaited_job s j) o) (slice_get-map at_rest host.tenants j.tenant) ∙ by (slice_get host.tenants j.tenant)
+  where
+    by : (o : Option Standing) → option_and_then (λ s. awaited_job s j) (option_map at_rest o) ≡ option_and_then (λ s. awaited_job s j) o
+    by None = refl
+    by (Some s) = refl
+
+-- a tenant's row, as the host's view has it
+pub row_here : (host view : HostStanding) (t : ℕ) (x : Standing) → record host { tenants = map at_rest host.tenants } ≡ view → t < length host.tenants → x ≡ get_or host.tenants t x
+    → (tenant_at view.tenants t).row ≡ x.row
+row_here host view t x is lt here =
+    ap (λ (h : HostStanding). (tenant_at h.tenants t).row) (sym is)
+    ∙ (ap (λ (s : Standing). s.row) (same_at_rest host.tenants (map at_rest host.tenants) t (empty_standing 0 0) (rest_twice host.tenants))
+    ∙ ap (λ (s : Standing). s.row) (sym (here ∙ get_or_default host.tenants t x (empty_standing 0 0) lt)))
+
+-- the most jobs of all
+pub most_at_rest : (xs : List Standing) → most_of (map at_rest xs) ≡ most_of xs
+most_at_rest xs = let most : Standing → ℕ = λ s. most_released s.row in sym (sum-map most (map at_rest xs)) ∙ (ap sum (map-map most at_rest xs) ∙ sum-map most xs)
+
+pub same_most : (xs ys : List Standing) → map at_rest ys ≡ map at_rest xs → most_of ys ≡ most_of xs
+same_most xs ys same = sym (most_at_rest ys) ∙ (ap most_of same ∙ most_at_rest xs)

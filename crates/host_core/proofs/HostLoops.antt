@@ -3,7 +3,7 @@ use Rattle.std.proofs.Common.{◌≡◌, ℕ, ◌+◌, ◌<◌, ◌≤◌, ◌�
 use Rattle.std.specs.List.{All}
 use Rattle.std.proofs.lemmas.Bool.{cases_eq}
 use Rattle.std.proofs.lemmas.List.{get_or-set_same, get_or-set_other, get_or_default, append-nil, append_assoc, take_more_set, length-take}
-use Rattle.std.proofs.lemmas.List.Sums.{sum_by-append, sum_by-cons, sum_by-drop_more}
+use Rattle.std.proofs.lemmas.List.Sums.{sum_by-append, sum_by-cons, sum_by-drop_more, get_or-le-sum_by}
 use Rattle.host_core.specs.HostStanding.{ArePlaced, IsAt, Stands, released_from, tenant_at}
 use Rattle.host_core.specs.Halves.{AreStepped, IsFirstHalf, IsSecondHalf, most_of}
 use Rattle.host_core.specs.Host.{after_event}
@@ -16,7 +16,7 @@ use Rattle.rig_config.specs.declared.TenantConfig.{TenantConfig}
 use Rattle.rig_config.specs.Roster.{budgets_at}
 use Rattle.tenant_state.specs.Jobs.{JobValue, released_at}
 use Rattle.tenant_state.specs.Standing.{Standing, at_rest, empty_standing, most_released}
-use Rattle.host_core.proofs.AtRest.{rest_twice, stands_at_rest, stands_outside}
+use Rattle.host_core.proofs.AtRest.{rest_twice, same_most, stands_at_rest, stands_outside}
 use Rattle.host_core.proofs.HostSteps.{budgets_here, stands_after_tick}
 use Rattle.host_core.proofs.Placed.{IsWhole, kept_at_rest, placed_behind}
 
@@ -96,6 +96,12 @@ pub most_more : (xs : List Standing) (i : ℕ) (s : Standing) → i < length xs 
 most_more xs i s lt =
     let most : Standing → ℕ = λ s. most_released s.row in
     ap most_of (take_more_set xs i s lt) ∙ omega (arith, sum_by-append most (take i xs) (s ∷ []), sum_by-cons most s [])
+
+-- where all together can release nothing, neither can one
+pub none_of_one : (before now : List Standing) (i : ℕ) (x : Standing) → map at_rest now ≡ map at_rest before → i < length now → x ≡ get_or now i x → most_of before ≡ 0 → most_released x.row ≡ 0
+none_of_one before now i x same lt here none =
+    let most : Standing → ℕ = λ s. most_released s.row in
+    omega (arith, same_most before now same, none, get_or-le-sum_by most now i x lt, ap most here)
 
 -- an instant of all tenants: before it, ready for it, between its halves, and behind it
 module _ {long clock : ℕ} (before : List Standing) {ready middle : List Standing} (rest : map at_rest ready ≡ map at_rest before) (whole : IsWhole long clock before)

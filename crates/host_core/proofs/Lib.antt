@@ -2,6 +2,7 @@ pub mod Alone
 pub mod AloneAlong
 pub mod AtRest
 pub mod Completed
+pub mod Completion
 pub mod FirstRun
 pub mod FromABase
 pub mod Histories

@@ -1,11 +1,15 @@
 -- The completions of a history.
-use Rattle.std.specs.Prelude.{Bool, ◌||◌, List, [], ◌∷◌}
+use Rattle.std.specs.Prelude.{Bool, ◌||◌, List, [], ◌∷◌, ◌++◌, map, reverse}
 use Rattle.host_core.specs.declared.events.Event.{Event}
 use Rattle.host_core.specs.declared.events.Event.TheVariants.{Own, Tick, Done}
 use Rattle.tenant_state.specs.declared.jobs.JobId.{JobId}
 use Rattle.tenant_state.specs.Jobs.{same_job}
 use Rattle.host_core.specs.HostState.{is_counted}
 use Rattle.host_core.specs.Setting.{Setting}
+
+-- these events, the newest first, and then the completions of these jobs, the first of them first
+abbrev pub with_completions : List JobId → List Event → List Event
+with_completions jobs past = reverse (map Done jobs) ++ past
 
 module _ (setting : Setting) where
   -- the job has a completion: among the events, or counted by the base

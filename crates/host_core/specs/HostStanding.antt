@@ -1,10 +1,12 @@
 -- What the host's code stands for.
-use Rattle.std.specs.Prelude.{◌≡◌, ◌<◌, ℕ, true, List, map, length, slice_get, slice_index_or, Option}
+use Rattle.std.specs.Prelude.{◌≡◌, ◌<◌, ℕ, true, List, map, length, slice_get, slice_index_or, Option, IfSome}
 use Rattle.std.specs.List.{flat_map, enumerate_from}
 use Rattle.std.specs.Option.{option_and_then}
 use Rattle.rig_config.specs.declared.Config.{Config}
 use Rattle.rig_config.specs.declared.TenantConfig.{TenantConfig}
 use Rattle.tenant_state.specs.declared.jobs.JobId.{JobId}
+use Rattle.host_core.specs.Host.{after_event}
+use Rattle.host_core.specs.declared.events.Event.{Event}
 use Rattle.host_core.specs.HostState.{HostState, row_at, is_counted}
 use Rattle.host_core.specs.Setting.{Setting}
 use Rattle.tenant_state.specs.Jobs.{JobValue, job_of, released_at}
@@ -37,6 +39,10 @@ pub record Stands (setting : Setting) (host : HostStanding) (state : HostState) 
   -- what is counted was released before the next instant
   pub early : (j : JobId) → is_counted state j ≡ true → j.tick < state.clock
 
+-- a host goes on as this event says: whatever state it stood for, it stands for the state behind the event
+abbrev pub IsStep : Event → HostStanding → HostStanding → Type 0
+IsStep e before after = (setting : Setting) (state : HostState) → Stands setting before state → Stands setting after (after_event setting state e)
+
 -- what is known of each tenant of a host whose next instant has this number
 abbrev pub IsAt : ℕ → Standing → Type 0
 IsAt n s = (s.row.next_tick ≡ n) × IsKnown s.row
@@ -48,6 +54,10 @@ ArePlaced tenants = (t : ℕ) → t < length tenants → (tenant_at tenants t).p
 -- the job of this name, if its completion is awaited
 abbrev pub awaited_in : HostStanding → JobId → Option JobValue
 awaited_in host j = option_and_then (λ s. awaited_job s j) (slice_get host.tenants j.tenant)
+
+-- a completion of the host's own: where a job of its name is awaited, it is of that job, with its body, inputs and states
+abbrev pub IsOwn : HostStanding → JobValue → Type 0
+IsOwn host done = IfSome (awaited_in host done.id) (λ job. job ≡ done)
 
 -- the jobs that the instant of number n released, tenant by tenant, from this place on
 abbrev pub released_from : ℕ → ℕ → List Standing → List JobValue

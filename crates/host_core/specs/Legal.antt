@@ -1,9 +1,10 @@
 -- Which lists of events can happen, and which completions count.
-use Rattle.std.specs.Prelude.{ℕ, ◌+◌, ◌-◌, ◌^◌, nat_lt, Bool, true, not, ◌&&◌, ◌||◌, ◌==◌, List, [], ◌∷◌, length}
+use Rattle.std.specs.Prelude.{◌≡◌, ℕ, ◌+◌, ◌-◌, ◌^◌, nat_lt, Bool, true, not, ◌&&◌, ◌||◌, ◌==◌, List, [], ◌∷◌, length}
 use Rattle.host_core.specs.declared.events.Event.{Event}
 use Rattle.host_core.specs.declared.events.Event.TheVariants.{Own, Tick, Done}
 use Rattle.tenant_state.specs.declared.jobs.JobId.{JobId}
 use Rattle.rig_config.specs.Roster.{is_tenant}
+use Rattle.host_core.specs.Base.{IsBase}
 use Rattle.host_core.specs.Completions.{has_completion}
 use Rattle.tenant_state.specs.Jobs.{is_active}
 use Rattle.host_core.specs.HostState.{row_at}
@@ -37,3 +38,8 @@ module _ (setting : Setting) where
   -- An event has the job's name alone: its body, inputs and states are compared with those of `awaited_in`.
   abbrev pub counts : List Event → JobId → Bool
   counts past j = is_active (row_of setting past j.tenant) j && not (has_completion setting past j)
+
+-- a list of events that can happen, where the history begins with a base
+pub record IsHistory (setting : Setting) (past : List Event) : Type 0 where
+  pub base : IsBase setting.config setting.base
+  pub legal : is_legal setting past ≡ true

@@ -1,14 +1,15 @@
 -- What playing a list of events has come to.
-use Rattle.std.specs.Prelude.{◌≡◌, ◌<◌, ⊤, ℕ, true, List, [], ◌∷◌, length, slice_index_or}
+use Rattle.std.specs.Prelude.{◌≡◌, ◌<◌, ⊤, ℕ, true, List, [], ◌∷◌, length, slice_index_or, None}
 use Rattle.std.specs.List.{list_any}
 use Rattle.host_core.specs.declared.events.Event.{Event}
 use Rattle.host_core.specs.declared.events.Event.TheVariants.{Own, Tick, Done}
+use Rattle.host_core.specs.declared.plays.Stage.{Stage}
 use Rattle.rig_config.specs.declared.Config.{Config}
 use Rattle.tenant_state.specs.declared.jobs.JobId.{JobId}
 use Rattle.host_core.specs.Answers.{answers_of}
 use Rattle.host_core.specs.Base.{IsBase}
 use Rattle.host_core.specs.Host.{host_after}
-use Rattle.host_core.specs.HostStanding.{HostStanding, Stands}
+use Rattle.host_core.specs.HostStanding.{HostStanding, Stands, awaited_in}
 use Rattle.host_core.specs.Legal.{may_follow, was_released, is_legal}
 use Rattle.host_core.specs.Setting.{Setting}
 use Rattle.tenant_state.specs.Jobs.{same_job}
@@ -22,11 +23,19 @@ pub record IsPlayed (setting : Setting) (past : List Event) (host : HostStanding
   pub each : (t : ℕ) → t < length setting.config.tenants → slice_index_or texts t [] ≡ answers_of setting past t
   pub names : (j : JobId) → list_any (λ r. same_job r j) released ≡ was_released setting past j
 
+-- a stage on which these events were played
+abbrev pub IsStage : Setting → List Event → Stage → Type 0
+IsStage setting past stage = IsPlayed setting past stage.host stage.texts.items stage.released.keys
+
 -- one event more is played, where it may come
-abbrev pub IsPlayedOn : Event → HostStanding → List (List ℕ) → List JobId → HostStanding → List (List ℕ) → List JobId → Type 0
-IsPlayedOn e host texts released host_new texts_new released_new =
-    (setting : Setting) (past : List Event) → may_follow setting past e ≡ true
-    → IsPlayed setting past host texts released → IsPlayed setting (e ∷ past) host_new texts_new released_new
+abbrev pub IsPlayedOn : Event → Stage → Stage → Type 0
+IsPlayedOn e before after = (setting : Setting) (past : List Event) → may_follow setting past e ≡ true → IsStage setting past before → IsStage setting (e ∷ past) after
+
+-- the completion of a job that the host doesn't await
+abbrev pub IsLate : Event → HostStanding → Type 0
+IsLate (Own t c) host = ⊥
+IsLate (Tick frame) host = ⊥
+IsLate (Done j) host = awaited_in host j ≡ None
 
 -- a command's tenant is one of the host, and has a text
 abbrev pub HasPlace : Event → Config → List (List ℕ) → Type 0

@@ -1,11 +1,12 @@
 //! The host of a rig: all its tenants, on one clock.
 
-ghost use Rattle.std.specs.Prelude.{◌≡◌, ◌≢◌, ◌<◌, ◌≤◌, ◌+◌, ◌-◌, ◌^◌, ◌↔◌, ℕ, ◌∷◌, ◌++◌, List, length, map, reverse, is_some, false, IfOk, IfSome, OnOk, OnErr, OnSome, Ok, Err, Some, None};
+ghost use Rattle.std.specs.Prelude.{◌≡◌, ◌≢◌, ◌<◌, ◌≤◌, ◌+◌, ◌-◌, ◌^◌, ◌↔◌, ℕ, ◌∷◌, ◌++◌, List, length, map, reverse, is_some, false, if◌then◌else◌, IsOk, IsSome, IfOk, IfSome, OnOk, OnErr, OnSome, Ok, Err, Some, None};
 ghost use Rattle.std.specs.List.{All};
 ghost use Rattle.host_core.specs.Halves.{AreStepped, IsFirstHalf, IsSecondHalf, IsReady, IsCompleted, most_of};
+ghost use Rattle.host_core.specs.Completions.{with_completions};
 ghost use Rattle.host_core.specs.Host.{after_event, host_after};
 ghost use Rattle.host_core.specs.HostState.{HostState, row_at, awaits};
-ghost use Rattle.host_core.specs.HostStanding.{Stands, ArePlaced, new_host, awaited_in, released_from, outstanding_from, outstanding_jobs, outstanding_of};
+ghost use Rattle.host_core.specs.HostStanding.{Stands, ArePlaced, IsOwn, IsStep, new_host, tenant_at, awaited_in, released_from, outstanding_from, outstanding_jobs, outstanding_of};
 ghost use Rattle.host_core.specs.Setting.{Setting};
 ghost use Rattle.rig_config.specs.Roster.{budgets_at};
 ghost use Rattle.tenant_state.specs.Commands.{takes_memory};
@@ -97,10 +98,11 @@ impl Host {
     }
 
     /// Carries out a tenant's command. A refusal changes nothing, want of memory included, and no command changes another tenant.
+    /// Only `load`, and `show all` of a tenant with a program, are ever refused for want of memory.
     pub fn command(&mut self, tenant: TenantId, command: Command) -> Reply
         requires { tenant < length self.old.config.tenants }
         ensures memory { result ≡ Reply.Refused Refusal.Memory → self.new ≡ self.old }
-        ensures room { takes_memory command ≡ false → result ≢ Reply.Refused Refusal.Memory }
+        ensures room { takes_memory command (tenant_at self.old.tenants tenant).row ≡ false → result ≢ Reply.Refused Refusal.Memory }
         ensures config { self.new.config ≡ self.old.config }
         ensures reply { (setting : Setting) (state : HostState) → Stands setting self.old state
             → result ≢ Reply.Refused Refusal.Memory → result ≡ (after_command setting tenant command (row_at state tenant)).reply }
@@ -119,13 +121,14 @@ impl Host {
     ///
     /// # Errors
     /// `BadFrame` where the frame has not one value for each line, else `ClockEnded` where the instant's number would be `u64::MAX`, else
-    /// `Memory`. Nothing has changed then.
+    /// `Memory`, but never where the instant can release no task. Nothing has changed then.
     pub fn tick(&mut self, frame: &[i64]) -> Result<Jobs, TickFault>
-        ensures step { OnOk result ((setting : Setting) (state : HostState) → Stands setting self.old state → Stands setting self.new (after_event setting state (Event.Tick frame.now))) }
+        ensures step { OnOk result (IsStep (Event.Tick frame.now) self.old self.new) }
         ensures jobs { IfOk result (λ jobs. jobs.jobs ≡ released_from self.old.clock 0 self.new.tenants) }
         ensures refused { OnErr result (self.new ≡ self.old) }
         ensures bad_frame { result ≡ Err TickFault.BadFrame ↔ length frame.now ≢ self.old.config.lines }
         ensures clock_ended { result ≡ Err TickFault.ClockEnded ↔ ((length frame.now ≡ self.old.config.lines) × (self.old.clock ≡ 2 ^ 64 - 1)) }
+        ensures room { most_of self.old.tenants ≡ 0 → result ≢ Err TickFault.Memory }
         ensures known { OnOk result (All (λ (s : Standing). IsKnown s.row) self.new.tenants) }
     {
         self.check(frame)?;
@@ -146,10 +149,11 @@ impl Host {
     /// # Errors
     /// As `tick`. Nothing has changed then.
     pub fn instant(&mut self, frame: &[i64]) -> Result<(), TickFault>
-        ensures step { OnOk result ((setting : Setting) (state : HostState) → Stands setting self.old state → Stands setting self.new (after_event setting state (Event.Tick frame.now))) }
+        ensures step { OnOk result (IsStep (Event.Tick frame.now) self.old self.new) }
         ensures refused { OnErr result (self.new ≡ self.old) }
         ensures bad_frame { result ≡ Err TickFault.BadFrame ↔ length frame.now ≢ self.old.config.lines }
         ensures clock_ended { result ≡ Err TickFault.ClockEnded ↔ ((length frame.now ≡ self.old.config.lines) × (self.old.clock ≡ 2 ^ 64 - 1)) }
+        ensures room { most_of self.old.tenants ≡ 0 → result ≢ Err TickFault.Memory }
     {
         self.check(frame)?;
         let tenants = &mut self.tenants;
@@ -166,6 +170,7 @@ impl Host {
     fn check(&self, frame: &[i64]) -> Result<(), TickFault>
         ensures bad_frame { result ≡ Err TickFault.BadFrame ↔ length frame.now ≢ self.now.config.lines }
         ensures clock_ended { result ≡ Err TickFault.ClockEnded ↔ ((length frame.now ≡ self.now.config.lines) × (self.now.clock ≡ 2 ^ 64 - 1)) }
+        ensures room { result ≢ Err TickFault.Memory }
         ensures next { OnOk result (self.now.clock < 2 ^ 64 - 1) }
     {
         if frame.len() != self.config.lines {
@@ -177,12 +182,14 @@ impl Host {
         Ok(())
     }
 
-    /// Takes a completion: it counts where its job is awaited, by its name, its body, and the inputs and states of the release. Takes no memory.
+    /// Takes a completion: it counts where its job is awaited, by its name, its body, and the inputs and states of the release. One that
+    /// is late changes nothing. Takes no memory.
     pub fn done(&mut self, done: Done) -> Counted
         ensures counted { result ≡ Counted.Counted ↔ awaited_in self.old done.id ≡ Some done }
         ensures late { result ≡ Counted.Late → self.new ≡ self.old }
-        ensures step { result ≡ Counted.Counted → (setting : Setting) (state : HostState) → Stands setting self.old state
-            → Stands setting self.new (record state { counted = done.id ∷ state.counted }) }
+        ensures answer { IsOwn self.old done → (setting : Setting) (state : HostState) → Stands setting self.old state
+            → result ≡ (if awaits state done.id then Counted.Counted else Counted.Late) }
+        ensures step { IsOwn self.old done → IsStep (Event.Done done.id) self.old self.new }
         ensures left { result ≡ Counted.Counted → length (outstanding_jobs self.old) ≡ length (outstanding_jobs self.new) + 1 }
     {
         let place = done.id().tenant;
@@ -200,7 +207,7 @@ impl Host {
     pub fn complete_all(&mut self) -> u128
         ensures number { result ≡ length (outstanding_jobs self.old) }
         ensures step { (setting : Setting) (past : List Event) → Stands setting self.old (host_after setting past)
-            → Stands setting self.new (host_after setting (reverse (map Event.Done (outstanding_jobs self.old)) ++ past)) }
+            → Stands setting self.new (host_after setting (with_completions (outstanding_jobs self.old) past)) }
     {
         complete_each(&mut self.tenants)
     }
@@ -210,7 +217,7 @@ impl Host {
         requires { tenant < length self.old.config.tenants }
         ensures number { result ≡ length (outstanding_of self.old tenant) }
         ensures step { (setting : Setting) (past : List Event) → Stands setting self.old (host_after setting past)
-            → Stands setting self.new (host_after setting (reverse (map Event.Done (outstanding_of self.old tenant)) ++ past)) }
+            → Stands setting self.new (host_after setting (with_completions (outstanding_of self.old tenant) past)) }
     {
         let tenant = &mut self.tenants[tenant];
         tenant.complete_all()
@@ -219,10 +226,11 @@ impl Host {
     /// The job of this name, where its completion is awaited.
     ///
     /// # Errors
-    /// A share of the task's body is refused.
+    /// A share of the task's body is refused, which is asked for only where the completion is awaited.
     pub fn job(&self, id: &JobId) -> Result<Option<Job>, AllocError>
         ensures job { IfOk result (λ job. job ≡ awaited_in self.now id.now) }
         ensures awaited { IfOk result (λ job. (setting : Setting) (state : HostState) → Stands setting self.now state → is_some job ≡ awaits state id.now) }
+        ensures never_refused { awaited_in self.now id.now ≡ None → IsOk result }
     {
         if id.tenant >= self.tenants.len() {
             return Ok(None);
@@ -273,12 +281,13 @@ impl Host {
 /// Computes the job of this name and takes its result, where its completion is awaited; else the completion is late and changes nothing.
 ///
 /// # Errors
-/// A share of the task's body is refused. Nothing has changed then.
+/// A share of the task's body is refused, which is asked for only where the completion is awaited. Nothing has changed then.
 pub fn complete(host: &mut Host, id: &JobId) -> Result<Counted, AllocError>
     ensures counted { IfOk result (λ c. c ≡ Counted.Counted ↔ awaited_in host.old id.now ≢ None) }
-    ensures step { OnOk result ((setting : Setting) (state : HostState) → Stands setting host.old state → Stands setting host.new (after_event setting state (Event.Done id.now))) }
+    ensures step { OnOk result (IsStep (Event.Done id.now) host.old host.new) }
     ensures left { result ≡ Ok Counted.Counted → length (outstanding_jobs host.old) ≡ length (outstanding_jobs host.new) + 1 }
     ensures memory { OnErr result (host.new ≡ host.old) }
+    ensures never_refused { awaited_in host.old id.now ≡ None → IsOk result }
 {
     let Some(job) = host.job(id)? else {
         return Ok(Counted::Late);
@@ -287,11 +296,13 @@ pub fn complete(host: &mut Host, id: &JobId) -> Result<Counted, AllocError>
     Ok(counted)
 }
 
-// Makes what each tenant's next instant needs. How many jobs all of them can release at most, if that is a number of this size.
+// Makes what each tenant's next instant needs. How many jobs all of them can release at most, if that is a number of this size. Takes
+// no memory where they can release none.
 fn all_ready(tenants: &mut Vec<Tenant>) -> Option<usize>
     ensures rest { map at_rest tenants.new.items ≡ map at_rest tenants.old.items }
     ensures ready { OnSome result (All IsReady tenants.new.items) }
     ensures most { IfSome result (λ n. n ≡ most_of tenants.new.items) }
+    ensures never_refused { most_of tenants.old.items ≡ 0 → IsSome result }
 {
     let mut most: usize = 0;
     for i in 0..tenants.len() {

@@ -7,7 +7,7 @@ ghost use Rattle.rig_config.specs.declared.Config.{Config};
 ghost use Rattle.host_core.specs.Base.{IsBase, new_base};
 ghost use Rattle.host_core.specs.Host.{host_after};
 ghost use Rattle.host_core.specs.HostState.{row_at, awaits};
-ghost use Rattle.host_core.specs.Legal.{next_tick, is_legal, counts};
+ghost use Rattle.host_core.specs.Legal.{IsHistory, next_tick, counts};
 ghost use Rattle.host_core.specs.declared.events.Event.{Event};
 ghost use Rattle.host_core.specs.Answers.{answers_of};
 ghost use Rattle.host_core.specs.Setting.{Setting};
@@ -23,9 +23,9 @@ pub fn equal_views_give_equal_answers()
 /// the one-tenant machine over the tenant's own view, and the host awaits just the completions that count. Its clock is the
 /// number of the next instant.
 pub fn whole_host()
-    ensures rows { (setting : Setting) (past : List Event) (t : ℕ) → IsBase setting.config setting.base → is_legal setting past ≡ true
+    ensures rows { (setting : Setting) (past : List Event) (t : ℕ) → IsHistory setting past
         → is_tenant setting.config t ≡ true → row_at (host_after setting past) t ≡ row_of setting past t }
-    ensures completions { (setting : Setting) (past : List Event) (j : JobId) → IsBase setting.config setting.base → is_legal setting past ≡ true
+    ensures completions { (setting : Setting) (past : List Event) (j : JobId) → IsHistory setting past
         → is_tenant setting.config j.tenant ≡ true → awaits (host_after setting past) j ≡ counts setting past j }
     ensures clock { (setting : Setting) (past : List Event) → (host_after setting past).clock ≡ next_tick setting past }
 {}
@@ -37,6 +37,5 @@ pub fn new_host_is_a_base()
 
 /// What stands behind a legal list of events, the newest first, that begins with a base is a base again.
 pub fn later_host_is_a_base()
-    ensures { (setting : Setting) (past : List Event) → IsBase setting.config setting.base → is_legal setting past ≡ true
-        → IsBase setting.config (host_after setting past) }
+    ensures { (setting : Setting) (past : List Event) → IsHistory setting past → IsBase setting.config (host_after setting past) }
 {}

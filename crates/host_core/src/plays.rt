@@ -1,9 +1,10 @@
 //! Playing a list of events on a new host.
 
-ghost use Rattle.std.specs.Prelude.{◌≡◌, ◌≢◌, ◌<◌, ◌↔◌, ◌++◌, ◌∷◌, ◌||◌, ℕ, List, [], length, reverse, IfOk, OnOk, IsTrue, Err};
+ghost use Rattle.std.specs.Prelude.{◌≡◌, ◌≢◌, ◌<◌, ◌↔◌, ◌++◌, ◌∷◌, ◌||◌, ℕ, List, [], length, reverse, IfOk, OnOk, IsOk, IsTrue, Err, None};
 ghost use Rattle.std.specs.List.{All, list_any};
 ghost use Rattle.host_core.specs.Legal.{may_follow};
-ghost use Rattle.host_core.specs.Playing.{IsPlayed, IsPlayedOn, HasPlace};
+ghost use Rattle.host_core.specs.HostStanding.{awaited_in};
+ghost use Rattle.host_core.specs.Playing.{IsStage, IsPlayedOn, IsLate, HasPlace};
 ghost use Rattle.host_core.specs.Plays.{IsSettingOf, AreAnswers, IsLeastIllegal};
 ghost use Rattle.host_core.specs.Setting.{Setting};
 ghost use Rattle.tenant_state.specs.Jobs.{JobValue, same_job};
@@ -69,7 +70,7 @@ pub fn play(alloc: Global, config: &Config, events: &[Event]) -> Result<Vec<Text
 impl Stage {
     // Before any event.
     fn new(alloc: Global, config: &Config) -> Result<Stage, AllocError>
-        ensures { IfOk result (λ stage. (setting : Setting) → IsSettingOf config.now setting → IsPlayed setting [] stage.host stage.texts.items stage.released.keys) }
+        ensures { IfOk result (λ stage. (setting : Setting) → IsSettingOf config.now setting → IsStage setting [] stage) }
     {
         let texts = blank_texts(alloc, config.tenants.as_slice().len())?;
         Ok(Stage {
@@ -81,10 +82,8 @@ impl Stage {
 
     // Plays these events, the oldest first, where none was played before.
     fn play_all(&mut self, alloc: Global, events: &[Event]) -> Result<(), PlayFault>
-        ensures played { OnOk result ((setting : Setting) → IsPlayed setting [] self.old.host self.old.texts.items self.old.released.keys
-            → IsPlayed setting (reverse events.now) self.new.host self.new.texts.items self.new.released.keys) }
-        ensures illegal { (setting : Setting) → IsPlayed setting [] self.old.host self.old.texts.items self.old.released.keys
-            → (i : ℕ) → result ≡ Err (PlayFault.Illegal i) → IsLeastIllegal setting events.now i }
+        ensures played { OnOk result ((setting : Setting) → IsStage setting [] self.old → IsStage setting (reverse events.now) self.new) }
+        ensures illegal { (setting : Setting) → IsStage setting [] self.old → (i : ℕ) → result ≡ Err (PlayFault.Illegal i) → IsLeastIllegal setting events.now i }
     {
         for i in 0..events.len() {
             let event = &events[i];
@@ -100,7 +99,7 @@ impl Stage {
 
     // Whether the event may come next.
     fn may_follow(&self, event: &Event) -> bool
-        ensures legal { (setting : Setting) (past : List Event) → IsPlayed setting past self.now.host self.now.texts.items self.now.released.keys → result ≡ may_follow setting past event.now }
+        ensures legal { (setting : Setting) (past : List Event) → IsStage setting past self.now → result ≡ may_follow setting past event.now }
         ensures place { IsTrue result → HasPlace event.now self.now.host.config self.now.texts.items }
     {
         match event {
@@ -114,18 +113,16 @@ impl Stage {
         }
     }
 
-    // Plays one event more.
+    // Plays one event more. A late completion is never refused for want of memory.
     fn play(&mut self, alloc: Global, event: &Event) -> Result<(), AllocError>
         requires { HasPlace event.now self.old.host.config self.old.texts.items }
-        ensures { OnOk result (IsPlayedOn event.now self.old.host self.old.texts.items self.old.released.keys self.new.host self.new.texts.items self.new.released.keys) }
+        ensures played { OnOk result (IsPlayedOn event.now self.old self.new) }
+        ensures late { IsLate event.now self.old.host → IsOk result }
     {
         match event {
             Event::Own(tenant, command) => self.own(alloc, *tenant, command),
             Event::Tick(frame) => self.tick(frame.as_slice()),
-            Event::Done(id) => {
-                complete(&mut self.host, id)?;
-                Ok(())
-            }
+            Event::Done(id) => self.done(id),
         }
     }
 
@@ -133,7 +130,7 @@ impl Stage {
     fn own(&mut self, alloc: Global, tenant: TenantId, command: &Command) -> Result<(), AllocError>
         requires host { tenant < length self.old.host.config.tenants }
         requires text { tenant < length self.old.texts.items }
-        ensures { OnOk result (IsPlayedOn (Event.Own tenant command.now) self.old.host self.old.texts.items self.old.released.keys self.new.host self.new.texts.items self.new.released.keys) }
+        ensures { OnOk result (IsPlayedOn (Event.Own tenant command.now) self.old self.new) }
     {
         let reply = self.host.command(tenant, command.copy(alloc)?);
         add_answer(alloc, &mut self.texts[tenant], &reply)
@@ -141,12 +138,21 @@ impl Stage {
 
     // An instant, and the names of its jobs among those of the others.
     fn tick(&mut self, frame: &[i64]) -> Result<(), AllocError>
-        ensures { OnOk result (IsPlayedOn (Event.Tick frame.now) self.old.host self.old.texts.items self.old.released.keys self.new.host self.new.texts.items self.new.released.keys) }
+        ensures { OnOk result (IsPlayedOn (Event.Tick frame.now) self.old self.new) }
     {
         let Ok(jobs) = self.host.tick(frame) else {
             return Err(AllocError);
         };
         add_names(&mut self.released, jobs)?;
+        Ok(())
+    }
+
+    // A completion, of the named job with its result.
+    fn done(&mut self, id: &JobId) -> Result<(), AllocError>
+        ensures played { OnOk result (IsPlayedOn (Event.Done id.now) self.old self.new) }
+        ensures never_refused { awaited_in self.old.host id.now ≡ None → IsOk result }
+    {
+        complete(&mut self.host, id)?;
         Ok(())
     }
 }

@@ -1,5 +1,5 @@
 -- What a command does, and its reply. A refusal changes nothing; the first that applies is given.
-use Rattle.std.specs.Prelude.{ℕ, Bool, true, false, ◌&&◌, if◌then◌else◌, ℤ, pos, [], map, Option, Some, None, unwrap_or, Result, Ok, Err}
+use Rattle.std.specs.Prelude.{ℕ, Bool, true, false, ◌&&◌, if◌then◌else◌, ℤ, pos, [], map, Option, Some, None, is_some, unwrap_or, Result, Ok, Err}
 use Rattle.std.specs.List.{list_all}
 use Rattle.giotto_tasks.specs.Names.{Valuation, value_at}
 use Rattle.giotto_text.specs.declared.faults.ReadFault.{ReadFault}
@@ -113,14 +113,14 @@ abbrev pub show_all : Row → Option GiottoProgram → Outcome
 show_all row None = refused row NotLoaded
 show_all row (Some p) = record { row = row; reply = All (map (port_with_value row.ports) (ports_of p)) }
 
--- whether a command takes memory, for a program or for the list of all values, and so can be refused for want of it
-abbrev pub takes_memory : Command → Bool
-takes_memory (Load text) = true
-takes_memory Start = false
-takes_memory Stop = false
-takes_memory ShowMode = false
-takes_memory (ShowPort x) = false
-takes_memory ShowAll = true
+-- whether a command takes memory, and so can be refused for want of it: `load` for its program, and `show all` for the list of all values, where the tenant has a program
+abbrev pub takes_memory : Command → Row → Bool
+takes_memory (Load text) row = true
+takes_memory Start row = false
+takes_memory Stop row = false
+takes_memory ShowMode row = false
+takes_memory (ShowPort x) row = false
+takes_memory ShowAll row = is_some row.program
 
 -- the step of a command: the row after it, and its reply
 abbrev pub commanded : Budgets → Command → Row → Outcome

@@ -1,6 +1,6 @@
 //! Jobs: the computations that an instant releases, and their results.
 
-ghost use Rattle.std.specs.Prelude.{◌≡◌, ◌<◌, ◌≤◌, ◌+◌, ◌-◌, [], ◌∷◌, ◌++◌, ◌↔◌, length, IsTrue, IsSome, IfOk, option_to_list};
+ghost use Rattle.std.specs.Prelude.{◌≡◌, ◌<◌, ◌≤◌, ◌+◌, ◌-◌, [], ◌∷◌, ◌++◌, ◌↔◌, length, IsTrue, IsSome, IsOk, IfOk, option_to_list};
 ghost use Rattle.std.specs.Arc.{arc_value};
 ghost use Rattle.giotto_tasks.specs.Meaning.{outputs_of, states_of};
 ghost use Rattle.giotto_tasks.specs.Sound.{IsSound};
@@ -245,10 +245,11 @@ impl Jobs {
     /// No job, with room for this many.
     ///
     /// # Errors
-    /// Want of memory.
+    /// Want of memory. Never for no room.
     pub fn with_room(alloc: Global, room: usize) -> Result<Jobs, AllocError>
         ensures jobs { IfOk result (λ jobs. jobs.jobs ≡ []) }
         ensures room { IfOk result (λ jobs. room ≤ jobs.room) }
+        ensures never_refused { room ≡ 0 → IsOk result }
     {
         let jobs = VecDeque::with_capacity(alloc, room)?;
         Ok(Jobs { jobs })

@@ -43,10 +43,11 @@ pub(crate) struct Beginning {
 }
 
 impl Tenant {
-    /// Carries out a command. A refusal changes nothing, want of memory included.
+    /// Carries out a command. A refusal changes nothing, want of memory included. Only `load`, and `show all` of a tenant with a
+    /// program, take memory; no other command is refused for it.
     pub fn command(&mut self, budgets: &Budgets, command: Command) -> Reply
         ensures memory { result ≡ Reply.Refused Refusal.Memory → self.new ≡ self.old }
-        ensures room { takes_memory command ≡ false → result ≢ Reply.Refused Refusal.Memory }
+        ensures room { takes_memory command self.old.row ≡ false → result ≢ Reply.Refused Refusal.Memory }
         ensures place { self.new.place ≡ self.old.place }
         ensures next_tick { self.new.row.next_tick ≡ self.old.row.next_tick }
         ensures step { (row : Row) (completed : ActiveTask → Bool) → StandsFor self.old row completed

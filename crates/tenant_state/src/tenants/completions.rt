@@ -1,6 +1,6 @@
 //! The jobs of a tenant whose completion is awaited.
 
-ghost use Rattle.std.specs.Prelude.{◌≡◌, ℕ, ◌<◌, ◌+◌, ◌↔◌, ◌||◌, ◌&&◌, not, nat_eq, Bool, filter, length, map, ◌++◌, IsTrue, IfOk, IfSome, OnOk, Some, find, true, slice_get};
+ghost use Rattle.std.specs.Prelude.{◌≡◌, ℕ, ◌<◌, ◌+◌, ◌↔◌, ◌||◌, ◌&&◌, not, nat_eq, Bool, filter, length, map, ◌++◌, IsTrue, IsOk, IfOk, IfSome, OnOk, None, Some, find, true, slice_get};
 ghost use Rattle.std.specs.Arc.{arc_value};
 ghost use Rattle.std.specs.Bool.{OnTrue, OnFalse};
 ghost use Rattle.std.specs.List.{AllByRecursion};
@@ -28,9 +28,10 @@ impl Tenant {
     /// The job of this name, where its completion is awaited: its task is active with this release and not completed.
     ///
     /// # Errors
-    /// A share of the task's body is refused.
+    /// A share of the task's body is refused, which is asked for only where the completion is awaited.
     pub fn job(&self, id: &JobId) -> Result<Option<Job>, AllocError>
-        ensures { IfOk result (λ job. job ≡ awaited_job self.now id.now) }
+        ensures job { IfOk result (λ job. job ≡ awaited_job self.now id.now) }
+        ensures never_refused { awaited_job self.now id.now ≡ None → IsOk result }
     {
         let Some(checked) = &self.program else {
             return Ok(None);

@@ -1,6 +1,6 @@
 //! What an instant needs, made before it begins.
 
-ghost use Rattle.std.specs.Prelude.{◌≡◌, map, is_some, true, IfOk, OnOk, Some, slice_get};
+ghost use Rattle.std.specs.Prelude.{◌≡◌, map, is_some, true, IsOk, IfOk, OnOk, Some, slice_get};
 ghost use Rattle.std.specs.Arc.{arc_value};
 ghost use Rattle.std.specs.List.{list_all};
 ghost use Rattle.std.specs.Option.{option_map};
@@ -23,9 +23,10 @@ impl Tenant {
     /// it can release at most. The row stays as it was.
     ///
     /// # Errors
-    /// Want of memory, or a share of a task's body is refused.
+    /// Want of memory, or a share of a task's body is refused. Never where the next instant can release nothing.
     pub fn ready(&mut self) -> Result<usize, AllocError>
         ensures most { IfOk result (λ n. n ≡ most_released self.old.row) }
+        ensures never_refused { most_released self.old.row ≡ 0 → IsOk result }
         ensures room { OnOk result (HasRoom self.new) }
         ensures shares { OnOk result (HasShares self.new) }
         ensures place { self.new.place ≡ self.old.place }
@@ -43,6 +44,9 @@ impl Tenant {
             return Ok(0);
         }
         let most = most_at(checked, self.mode, self.mode_time);
+        if most == 0 {
+            return Ok(0);
+        }
         self.active.reserve(most)?;
         share_bodies(program.tasks(), self.shares.as_mut_slice())?;
         Ok(most)

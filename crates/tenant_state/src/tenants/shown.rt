@@ -1,6 +1,6 @@
 //! What a tenant shows: its status, and the values of its ports.
 
-ghost use Rattle.std.specs.Prelude.{◌≡◌, ◌≢◌, ℤ, ◌++◌, Err, None, Some, length, map, IfOk, IfErr, OnOk};
+ghost use Rattle.std.specs.Prelude.{◌≡◌, ◌≢◌, ℤ, ◌++◌, Err, None, Some, false, is_some, length, map, IfOk, IfErr, OnOk};
 ghost use Rattle.std.specs.List.{zip};
 ghost use Rattle.giotto_check.specs.Slots.{ProgramPort, ports_of, slots_of, valuation_of};
 ghost use Rattle.giotto_tasks.specs.declared.names.Name.{Name};
@@ -65,8 +65,9 @@ impl Tenant {
         }
     }
 
-    // The values of all ports of the program.
+    // The values of all ports of the program. Takes no memory where there is none.
     pub(crate) fn all_values(&self) -> Result<List<PortValue>, Refusal>
+        ensures room { is_some self.now.row.program ≡ false → result ≢ Err Refusal.Memory }
         ensures refused { IfErr result (λ r. r ≢ Refusal.Memory → (row : Row) → self.now.row ≡ without_records row → show_all row row.program ≡ refused row r) }
         ensures shown { IfOk result (λ all. (row : Row) → self.now.row ≡ without_records row → show_all row row.program ≡ record { row = row; reply = Reply.All all }) }
     {

@@ -1,10 +1,11 @@
-use Rattle.std.proofs.Common.{◌<◌, length, ap, arith}
+use Rattle.std.proofs.Common.{rules, ◌<◌, length, ap, arith}
 use Rattle.std.proofs.lemmas.List.Elements.{AllWithin-more_set}
 use Rattle.host_core.specs.Halves.{IsReady}
 use Rattle.tenant_state.specs.Row.{Row}
-use Rattle.tenant_state.specs.Standing.{most_released}
-use Rattle.host_core.proofs.AtRest.{readied, same_length}
-use Rattle.host_core.proofs.HostLoops.{most_more}
+use Rattle.std.proofs.lemmas.List.Sums.{sum_by-take-le}
+use Rattle.tenant_state.specs.Standing.{Standing, most_released}
+use Rattle.host_core.proofs.AtRest.{readied, same_length, same_most}
+use Rattle.host_core.proofs.HostLoops.{most_more, none_of_one}
 use Rattle.host_core.proofs.hosts.all_ready.Goals as goal
 
 pub returns-in_default-clause-rest : goal.returns-in_default-clause-rest
@@ -14,6 +15,27 @@ returns-in_default-clause-rest c =
 pub returns-in_err-most-clause-rest : goal.returns-in_err-most-clause-rest
 returns-in_err-most-clause-rest c =
     readied c.loop-i.tenants.items c.args.tenants.now.items c.loop-i.i c.index_mut.result.now c.ready.new.self c.loop-i.invariant.rest c.index_mut.ensures.value c.ready.ensures.place c.ready.ensures.row c.ready.ensures.completed
+
+pub returns-in_default-clause-never_refused : goal.returns-in_default-clause-never_refused
+returns-in_default-clause-never_refused c = λ none.
+    let within : c.loop-i.i < length c.loop-i.tenants.items = omega (arith, c.loop-i-test.true, c.len-i-end.ensures, same_length c.args.tenants.now.items c.loop-i.tenants.items c.loop-i.invariant.rest) in
+    let given = c.ready.ensures.never_refused (none_of_one c.args.tenants.now.items c.loop-i.tenants.items c.loop-i.i c.index_mut.result.now c.loop-i.invariant.rest within c.index_mut.ensures.value none) in
+    search rules
+
+pub returns-in_err-most-clause-never_refused : goal.returns-in_err-most-clause-never_refused
+returns-in_err-most-clause-never_refused c = λ none.
+    let within : c.loop-i.i < length c.loop-i.tenants.items = omega (arith, c.loop-i-test.true, c.len-i-end.ensures, same_length c.args.tenants.now.items c.loop-i.tenants.items c.loop-i.invariant.rest) in
+    let one = none_of_one c.args.tenants.now.items c.loop-i.tenants.items c.loop-i.i c.index_mut.result.now c.loop-i.invariant.rest within c.index_mut.ensures.value none in
+    absurd (omega (
+      arith,
+      c.in_err-most.ensures,
+      c.loop-i.invariant.most,
+      c.in-Ok.ensures.most,
+      one,
+      none,
+      same_most c.args.tenants.now.items c.loop-i.tenants.items c.loop-i.invariant.rest,
+      sum_by-take-le (λ (s : Standing). most_released s.row) c.loop-i.tenants.items c.loop-i.i,
+    ))
 
 pub loop-i-preserved : goal.loop-i-preserved
 loop-i-preserved c =

@@ -1,10 +1,11 @@
-use Rattle.std.proofs.Common.{◌≡◌, ◌∷◌, Some, true, sym, ap, subst, ◌∙◌}
-use Rattle.std.specs.Prelude.{is_some}
-use Rattle.host_core.specs.HostState.{awaits}
+use Rattle.std.proofs.Common.{◌≡◌, Some, refl, sym, ap, subst, ◌∙◌}
+use Rattle.std.specs.Prelude.{IfSome}
+use Rattle.host_core.specs.declared.events.Event.TheVariants.{Done}
+use Rattle.host_core.specs.Host.{after_event}
 use Rattle.host_core.specs.HostStanding.{Stands, awaited_in}
 use Rattle.tenant_state.specs.declared.jobs.JobId.{JobId}
 use Rattle.tenant_state.specs.Jobs.{JobValue}
-use Rattle.host_core.proofs.HostSteps.{awaited_name_in, done_awaited}
+use Rattle.host_core.proofs.HostSteps.{awaited_name_in}
 use Rattle.host_core.proofs.hosts.complete.Goals as goal
 
 pub returns-clause-counted : goal.returns-clause-counted
@@ -19,7 +20,5 @@ returns-clause-step c = λ setting state stands.
     let same : awaited_in c.args.host.now c.args.id.now ≡ Some c.in-Some.job = sym c.in_ok-job.ensures.job ∙ c.in-Some.is in
     let name : c.run_job.result.id ≡ c.args.id.now = ap (λ (k : JobValue). k.id) c.run_job.ensures ∙ awaited_name_in c.args.host.now c.args.id.now c.in-Some.job same in
     let here : awaited_in c.args.host.now c.run_job.result.id ≡ Some c.run_job.result = ap (awaited_in c.args.host.now) name ∙ (same ∙ ap Some (sym c.run_job.ensures)) in
-    let awaited : awaits state c.args.id.now ≡ true = sym (c.in_ok-job.ensures.awaited setting state stands) ∙ ap is_some c.in-Some.is in
-    done_awaited setting state c.args.id.now c.done-counted.new.self awaited
-    (subst (λ (k : JobId). Stands setting c.done-counted.new.self (record state { counted = k ∷ state.counted })) name
-    (c.done-counted.ensures.step (c.done-counted.ensures.counted.1 here) setting state stands))
+    subst (λ (k : JobId). Stands setting c.done-counted.new.self (after_event setting state (Done k))) name
+    (c.done-counted.ensures.step (subst (λ o. IfSome o (λ job. job ≡ c.run_job.result)) (sym here) refl) setting state stands)

@@ -2,10 +2,10 @@ use Rattle.host_core.proofs.AloneAlong.{same_rows, same_awaits, same_clock}
 use Rattle.host_core.proofs.laws.whole_host.Goals as goal
 
 pub returns-clause-rows : goal.returns-clause-rows
-returns-clause-rows c = λ setting past t base. same_rows setting base past t
+returns-clause-rows c = λ setting past t history. same_rows setting history.base past t history.legal
 
 pub returns-clause-completions : goal.returns-clause-completions
-returns-clause-completions c = λ setting past j base. same_awaits setting base past j
+returns-clause-completions c = λ setting past j history. same_awaits setting history.base past j history.legal
 
 pub returns-clause-clock : goal.returns-clause-clock
 returns-clause-clock c = same_clock

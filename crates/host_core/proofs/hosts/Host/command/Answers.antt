@@ -3,9 +3,10 @@ use Rattle.host_core.specs.Host.{after_event}
 use Rattle.host_core.specs.declared.events.Event.TheVariants.{Own}
 use Rattle.rig_config.specs.declared.TenantConfig.{TenantConfig}
 use Rattle.host_core.specs.HostStanding.{HostStanding, Stands}
+use Rattle.tenant_state.specs.Commands.{takes_memory}
 use Rattle.tenant_state.specs.Standing.{Standing}
 use Rattle.rig_config.specs.declared.Config.{Config}
-use Rattle.host_core.proofs.AtRest.{stands_inside, stands_outside}
+use Rattle.host_core.proofs.AtRest.{row_here, stands_inside, stands_outside}
 use Rattle.host_core.proofs.HostSteps.{stands_after_command, own_outcome}
 use Rattle.host_core.proofs.hosts.Host.command.Goals as goal
 
@@ -29,3 +30,10 @@ returns-clause-step c = λ setting state stands given.
     (subst (λ (k : Config). c.args.tenant < length k.tenants) inside.same_config within) outcome.stands
     (c.command-reply.ensures.next_tick ∙ (ap (λ (s : Standing). s.row.next_tick) c.index_mut-tenant.ensures.value
     ∙ (c.self.invariant.1 c.args.tenant c.index_mut-tenant.result.now (subst (λ n. c.args.tenant < n) (sym c.self.invariant.0) within)).0)))
+
+pub returns-clause-room : goal.returns-clause-room
+returns-clause-room c = λ none.
+    let host : HostStanding = record { config = c.self.inside.config; tenants = c.self.inside.tenants.items; clock = c.self.inside.clock } in
+    let known : c.args.tenant < length host.config.tenants = subst (λ (h : HostStanding). c.args.tenant < length h.config.tenants) (sym c.self.view_is) c.requires in
+    let within : c.args.tenant < length host.tenants = subst (λ n. c.args.tenant < n) (sym c.self.invariant.0) known in
+    c.command-reply.ensures.room (ap (takes_memory c.args.command) (sym (row_here host c.args.self.now c.args.tenant c.index_mut-tenant.result.now c.self.view_is within c.index_mut-tenant.ensures.value)) ∙ none)

@@ -1,10 +1,12 @@
-use Rattle.std.proofs.Common.{◌≡◌, ◌<◌, ◌+◌, List, ◌∷◌, length, map, set, sym, ap, subst, ◌∙◌, arith, refl}
+use Rattle.std.proofs.Common.{◌≡◌, ◌<◌, ◌≤◌, ◌+◌, List, ◌∷◌, length, map, set, sym, ap, subst, ◌∙◌, arith, refl}
 use Rattle.std.specs.Prelude.{is_some, slice_get}
 use Rattle.std.specs.Option.{option_and_then}
+use Rattle.std.proofs.Math.Seq.{map-set_same}
 use Rattle.host_core.specs.HostStanding.{HostStanding, Stands, awaited_in, outstanding_jobs}
 use Rattle.tenant_state.specs.declared.jobs.JobId.{JobId}
 use Rattle.tenant_state.specs.Standing.{at_rest, awaited_job}
 use Rattle.host_core.proofs.AtRest.{awaited_here, stands_inside, stands_outside, outstanding_at_rest}
+use Rattle.host_core.proofs.Completion.{comes_to, past_roster}
 use Rattle.host_core.proofs.HostSteps.{done_counts}
 use Rattle.host_core.proofs.Outstanding.{one_fewer_in}
 use Rattle.host_core.proofs.hosts.Host.done.Goals as goal
@@ -22,18 +24,57 @@ returns-clause-counted c =
       | else-complete w ↦ (λ counted. absurd (cc), λ some. absurd (let bad = w.if-complete.ensures.counted.1 (sym same ∙ some) in cc))
     ]
 
-pub returns-clause-step : goal.returns-clause-step
-returns-clause-step c = λ counted setting state stands.
+pub returns-clause-late : goal.returns-clause-late
+returns-clause-late c = λ late. elim c.if-complete.branch [
+  | then-complete w ↦ absurd (cc)
+  | else-complete w ↦
+      let same = map-set_same at_rest c.self.inside.tenants.items c.id.result.now.tenant c.complete.new.self c.index_mut.result.now (ap at_rest (w.if-complete.ensures.late ∙ c.index_mut.ensures.value)) in
+      (λ k. record { config = c.self.inside.config; tenants = same k; clock = c.self.inside.clock }) ∙ c.self.view_is
+]
+
+pub returns-then-place-len-clause-answer : goal.returns-then-place-len-clause-answer
+returns-then-place-len-clause-answer c = λ own setting state stands.
+    let host : HostStanding = record { config = c.self.inside.config; tenants = c.self.inside.tenants.items; clock = c.self.inside.clock } in
+    let place : c.id.result.now.tenant ≡ c.args.done.id.tenant = ap (λ (i : JobId). i.tenant) c.id.ensures in
+    let past : length host.tenants ≤ c.args.done.id.tenant = omega (arith, place, c.if-place-len.true) in
+    (past_roster setting host c.args.self.now state c.self.invariant.1 c.self.view_is stands c.args.done past).answer
+
+pub returns-then-place-len-clause-step : goal.returns-then-place-len-clause-step
+returns-then-place-len-clause-step c = λ own setting state stands.
+    let host : HostStanding = record { config = c.self.inside.config; tenants = c.self.inside.tenants.items; clock = c.self.inside.clock } in
+    let place : c.id.result.now.tenant ≡ c.args.done.id.tenant = ap (λ (i : JobId). i.tenant) c.id.ensures in
+    let past : length host.tenants ≤ c.args.done.id.tenant = omega (arith, place, c.if-place-len.true) in
+    (past_roster setting host c.args.self.now state c.self.invariant.1 c.self.view_is stands c.args.done past).step
+
+pub returns-clause-answer : goal.returns-clause-answer
+returns-clause-answer c = λ own setting state stands.
     let host : HostStanding = record { config = c.self.inside.config; tenants = c.self.inside.tenants.items; clock = c.self.inside.clock } in
     let inside : Stands setting host state = stands_inside setting host state (subst (λ h. Stands setting h state) (sym c.self.view_is) stands) in
     let within : c.id.result.now.tenant < length host.tenants = omega (arith, c.if-place-len.false) in
-    elim c.if-complete.branch [
+    (comes_to setting host c.args.self.now state c.self.invariant.1 c.self.view_is stands c.args.done _
+    (record host { tenants = map at_rest (set host.tenants c.id.result.now.tenant c.complete.new.self) }) (returns-clause-counted c) (returns-clause-late c)
+    (λ counted. elim c.if-complete.branch [
       | then-complete w ↦
           stands_outside setting (record host { tenants = set host.tenants c.id.result.now.tenant c.complete.new.self }) (record state { counted = c.args.done.id ∷ state.counted })
           (done_counts setting host state c.args.done.id c.id.result.now.tenant c.index_mut.result.now c.complete.new.self (ap (λ (i : JobId). i.tenant) c.id.ensures) inside within c.index_mut.ensures.value
           c.self.invariant.1 (ap is_some (w.if-complete.ensures.counted.0 refl)) w.if-complete.ensures.step)
       | else-complete w ↦ absurd (cc)
-    ]
+    ]) own).answer
+
+pub returns-clause-step : goal.returns-clause-step
+returns-clause-step c = λ own setting state stands.
+    let host : HostStanding = record { config = c.self.inside.config; tenants = c.self.inside.tenants.items; clock = c.self.inside.clock } in
+    let inside : Stands setting host state = stands_inside setting host state (subst (λ h. Stands setting h state) (sym c.self.view_is) stands) in
+    let within : c.id.result.now.tenant < length host.tenants = omega (arith, c.if-place-len.false) in
+    (comes_to setting host c.args.self.now state c.self.invariant.1 c.self.view_is stands c.args.done _
+    (record host { tenants = map at_rest (set host.tenants c.id.result.now.tenant c.complete.new.self) }) (returns-clause-counted c) (returns-clause-late c)
+    (λ counted. elim c.if-complete.branch [
+      | then-complete w ↦
+          stands_outside setting (record host { tenants = set host.tenants c.id.result.now.tenant c.complete.new.self }) (record state { counted = c.args.done.id ∷ state.counted })
+          (done_counts setting host state c.args.done.id c.id.result.now.tenant c.index_mut.result.now c.complete.new.self (ap (λ (i : JobId). i.tenant) c.id.ensures) inside within c.index_mut.ensures.value
+          c.self.invariant.1 (ap is_some (w.if-complete.ensures.counted.0 refl)) w.if-complete.ensures.step)
+      | else-complete w ↦ absurd (cc)
+    ]) own).step
 
 pub returns-clause-left : goal.returns-clause-left
 returns-clause-left c = λ counted.

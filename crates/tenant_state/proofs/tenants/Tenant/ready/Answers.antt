@@ -1,4 +1,4 @@
-use Rattle.std.proofs.Common.{is_some, ap, ◌∙◌, arith}
+use Rattle.std.proofs.Common.{is_some, sym, ap, ◌∙◌, arith}
 use Rattle.std.specs.Arc.{arc_value}
 use Rattle.std.specs.List.{list_all}
 use Rattle.std.specs.Vec.{with_items}
@@ -16,6 +16,29 @@ returns-then-self-clause-room c = omega (arith, returns-then-self-clause-most c)
 
 pub returns-then-self-clause-shares : goal.returns-then-self-clause-shares
 returns-then-self-clause-shares c some = absurd (omega (arith, returns-then-self-clause-most c, some))
+
+pub returns-then-most-eq0-clause-most : goal.returns-then-most-eq0-clause-most
+returns-then-most-eq0-clause-most c =
+    sym c.if-most-eq0.true ∙ most_due _ _ _ _ _ _ _ _ _ 0 _ c.self.invariant c.in-Running.is c.in-Some.is c.program-program.ensures.fits c.most_at-most.result c.most_at-most.ensures
+    ∙ ap (λ (s : Standing). most_released s.row) c.self.view_is
+
+pub returns-then-most-eq0-clause-room : goal.returns-then-most-eq0-clause-room
+returns-then-most-eq0-clause-room c = omega (arith, returns-then-most-eq0-clause-most c)
+
+pub returns-then-most-eq0-clause-shares : goal.returns-then-most-eq0-clause-shares
+returns-then-most-eq0-clause-shares c some = absurd (omega (arith, returns-then-most-eq0-clause-most c, some))
+
+pub returns-in_err-reserve-clause-never_refused : goal.returns-in_err-reserve-clause-never_refused
+returns-in_err-reserve-clause-never_refused c none =
+    let most = most_due _ _ _ _ _ _ _ _ _ 0 _ c.self.invariant c.in-Running.is c.in-Some.is c.program-program.ensures.fits c.most_at-most.result c.most_at-most.ensures
+    ∙ ap (λ (s : Standing). most_released s.row) c.self.view_is in
+    absurd (c.if-most-eq0.false (most ∙ none))
+
+pub returns-in_err-share_bodies-clause-never_refused : goal.returns-in_err-share_bodies-clause-never_refused
+returns-in_err-share_bodies-clause-never_refused c none =
+    let most = most_due _ _ _ _ _ _ _ _ _ 0 _ c.self.invariant c.in-Running.is c.in-Some.is c.program-program.ensures.fits c.most_at-most.result c.most_at-most.ensures
+    ∙ ap (λ (s : Standing). most_released s.row) c.self.view_is in
+    absurd (c.if-most-eq0.false (most ∙ none))
 
 pub returns-clause-most : goal.returns-clause-most
 returns-clause-most c =
