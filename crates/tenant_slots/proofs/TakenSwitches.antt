@@ -133,6 +133,13 @@ module _ (p : GiottoProgram) where
 pub taken_fits : (p : GiottoProgram) (m : ModeDeclaration) (time : ℕ) (s : ModeSwitch) (values : List ℤ) → ModeFits p m → switch_taken m time (valuation_of p values) ≡ Some s → SwitchFits p m s
 taken_fits p m time s values f taken = found_has (SwitchFits p m) (is_open m time (valuation_of p values)) m.switches s f.switches taken
 
+-- none of no exits is taken
+pub none_there : {C : Type 0} (p : GiottoProgram) (time : ℕ) (values : List ℤ) (es : List SlotExit) (e : SlotExit) → length values ≡ slots_of p → es ≡ []
+    → ((q : GiottoProgram) (m : ModeDeclaration) → AreEach (IsExit q m) m.switches es → length values ≡ slots_of q → IsSomeAnd (switch_taken m time (valuation_of q values)) (λ s. IsExit q m s e)) → C
+none_there p time values es e long none found =
+    let idle : ModeDeclaration = record { name = []; period = 0; updates = []; switches = []; invocations = [] } in
+    absurd (found p idle (subst (AreEach (IsExit p idle) []) (sym none) tt) long)
+
 -- where an exit is taken, there is such a mode, and the exit is that of a switch that fits
 pub taken_there : (p : GiottoProgram) → ProgramFits p → (mode time : ℕ) (values : List ℤ) (es : List SlotExit) (e : SlotExit) → length values ≡ slots_of p
     → ((m : ModeDeclaration) → slice_get p.modes mode ≡ Some m → AreEach (IsExit p m) m.switches es) → (length p.modes ≤ mode → es ≡ [])
@@ -143,6 +150,4 @@ taken_there p fits mode time values es e long there none found = ⊎_elim
     let m = here.0 in
     let taken = some_that (λ (s : ModeSwitch). IsExit p m s e) (switch_taken m time (valuation_of p values)) (found p m (there m here.2) long) in
     (m, taken.0, taken.2, taken_fits p m time taken.0 values (mode_fits_at p fits mode m here.2) taken.1))
-    (λ past.
-    let idle : ModeDeclaration = record { name = []; period = 0; updates = []; switches = []; invocations = [] } in
-    absurd (found p idle (subst (AreEach (IsExit p idle) []) (sym (none past.0)) tt) long)) (slice_get_cases p.modes mode).1
+    (λ past. none_there p time values es e long (none past.0) found) (slice_get_cases p.modes mode).1

@@ -1,8 +1,9 @@
 //! Actuators: their updates in a mode, and their reset when a program is stopped.
 
-ghost use Rattle.std.specs.Prelude.{◌≡◌, Some, length, slice_get};
+ghost use Rattle.std.specs.Prelude.{◌≡◌, ◌≤◌, length};
 ghost use Rattle.giotto_text.specs.Program.{ModeDeclaration};
 ghost use Rattle.giotto_check.specs.Slots.{slots_of, valuation_of};
+ghost use Rattle.tenant_slots.specs.Places.{IsModeAt};
 ghost use Rattle.tenant_slots.specs.Ports.{actuators_reset};
 ghost use Rattle.tenant_slots.specs.Updates.{all_updated};
 
@@ -25,11 +26,12 @@ pub fn reset_actuators(checked: &Checked, values: &mut [i64])
 }
 
 /// Updates the actuators that are due in the mode at this place, at this mode time, and whose guards hold, in text order.
-/// Takes no memory.
+/// Where there is no such mode it leaves the values as they are. Takes no memory.
 pub fn update_due(checked: &Checked, mode: usize, time: u64, values: &mut [i64])
     requires { length values.old ≡ slots_of checked.now }
-    ensures { (m : ModeDeclaration) → slice_get checked.now.modes mode ≡ Some m
+    ensures there { (m : ModeDeclaration) → IsModeAt checked.now mode m
         → valuation_of checked.now values.new ≡ all_updated m time m.updates (valuation_of checked.now values.old) }
+    ensures missing { length checked.now.modes ≤ mode → values.new ≡ values.old }
 {
     // Its frequencies are positive, and its ports stand once.
     let _program = checked.program();

@@ -1,8 +1,9 @@
 //! What is due at a mode time.
 
-ghost use Rattle.std.specs.Prelude.{◌≡◌, ◌<◌, ◌≤◌, ◌%◌, ◌==◌, ℕ, false, Some, slice_get};
+ghost use Rattle.std.specs.Prelude.{◌≡◌, ◌<◌, ◌≤◌, ◌%◌, ◌==◌, ℕ, false};
 ghost use Rattle.giotto_text.specs.Program.{ModeDeclaration};
 ghost use Rattle.tenant_slots.specs.Due.{IsQuietUntil};
+ghost use Rattle.tenant_slots.specs.Places.{IsModeAt};
 
 use giotto_check::Checked;
 use std::marker::Model;
@@ -53,7 +54,7 @@ impl Due {
 
 /// A mode time before which nothing of the mode at this place is due, from this time on.
 pub fn next_due(checked: &Checked, mode: usize, time: u64) -> u64
-    ensures { (m : ModeDeclaration) → slice_get checked.now.modes mode ≡ Some m → IsQuietUntil m time result }
+    ensures { (m : ModeDeclaration) → IsModeAt checked.now mode m → IsQuietUntil m time result }
 {
     // Its frequencies are positive.
     let _program = checked.program();

@@ -1,11 +1,9 @@
 //! What the sensors of a program read.
 
-ghost use Rattle.std.specs.Prelude.{◌≡◌, [], length, map};
-ghost use Rattle.giotto_text.specs.PortNames.{with_values};
+ghost use Rattle.std.specs.Prelude.{◌≡◌, [], length};
 ghost use Rattle.giotto_text.specs.ProgramTrees.{sensor_of};
-ghost use Rattle.giotto_rules.specs.Declarations.{sensor_names};
 ghost use Rattle.giotto_check.specs.Slots.{slots_of, valuation_of};
-ghost use Rattle.tenant_slots.specs.Readings.{readings_within, reading_of, reading_taken};
+ghost use Rattle.tenant_slots.specs.Readings.{readings_within, reading_of, reading_taken, with_readings};
 
 use giotto_check::Checked;
 use giotto_text::programs::{Sensor, Source};
@@ -15,7 +13,7 @@ use rig_config::Budgets;
 pub fn sense(checked: &Checked, budgets: &Budgets, frame: &[i64], values: &mut [i64])
     requires { length values.old ≡ slots_of checked.now }
     ensures { valuation_of checked.now values.new
-        ≡ with_values (valuation_of checked.now values.old) (sensor_names checked.now) (map (reading_taken (readings_within budgets.now.reads frame.now) []) checked.now.sensors) }
+        ≡ with_readings checked.now (readings_within budgets.now.reads frame.now) [] (valuation_of checked.now values.old) }
 {
     let sensors = checked.program().sensors();
     for i in 0..sensors.len() {
@@ -23,8 +21,8 @@ pub fn sense(checked: &Checked, budgets: &Budgets, frame: &[i64], values: &mut [
     }
 }
 
-/// A sensor's reading where nothing is granted: its line's value, if the tenant may read the line, or else its initial value.
-pub fn reading(sensor: &Sensor, budgets: &Budgets, frame: &[i64]) -> i64
+// A sensor's reading where nothing is granted: its line's value, if the tenant may read the line, or else its initial value.
+fn reading(sensor: &Sensor, budgets: &Budgets, frame: &[i64]) -> i64
     ensures { result ≡ reading_taken (readings_within budgets.now.reads frame.now) [] (sensor_of sensor.now) }
 {
     match &sensor.source {

@@ -1,14 +1,14 @@
 //! Switches: which one is taken, and what its destinations get.
 
-ghost use Rattle.std.specs.Prelude.{◌≡◌, ◌<◌, None, Some, IsSomeAnd, IsTrue, MatchOption, length, slice_get};
+ghost use Rattle.std.specs.Prelude.{◌≡◌, ◌<◌, ◌≤◌, None, IsTrue, length};
 ghost use Rattle.std.specs.List.{AllByRecursion};
-ghost use Rattle.std.specs.Option.{option_and_then, option_map_or};
 ghost use Rattle.giotto_text.specs.Program.{GiottoProgram, ModeDeclaration};
 ghost use Rattle.giotto_rules.specs.Names.{all_different_numbers};
 ghost use Rattle.giotto_check.specs.Slots.{slots_of, valuation_of, with_slots};
-ghost use Rattle.giotto_check.specs.Timetables.{AreEach, IsExit, place_of_mode};
+ghost use Rattle.giotto_check.specs.Timetables.{AreEach, IsExit};
 ghost use Rattle.giotto_check.specs.declared.timetables.SlotExit.{SlotExit};
-ghost use Rattle.tenant_slots.specs.Switches.{slots_given, switch_taken, values_given, with_destinations};
+ghost use Rattle.tenant_slots.specs.Places.{IsModeAt};
+ghost use Rattle.tenant_slots.specs.Switches.{IsExitOf, place_entered, ports_switched, slots_given, switch_taken, values_given};
 
 use crate::drivers::holds;
 use crate::due::Due;
@@ -17,15 +17,13 @@ use giotto_check::timetables::{SlotDestination, SlotExit, slot_value};
 
 /// Takes the first switch of the mode at this place that is due at this mode time and whose guard holds, in text order: its
 /// destinations get their values. The place of the mode that it enters, in text order from 0; `None` where no switch is
-/// taken. Takes no memory.
+/// taken, and where there is no such mode; the values are then as they were. Takes no memory.
 pub fn take_switch(checked: &Checked, mode: usize, time: u64, values: &mut [i64]) -> Option<usize>
     requires { length values.old ≡ slots_of checked.now }
-    ensures target { (m : ModeDeclaration) → slice_get checked.now.modes mode ≡ Some m
-        → result ≡ option_and_then (λ s. place_of_mode checked.now s.target) (switch_taken m time (valuation_of checked.now values.old)) }
-    ensures none { (m : ModeDeclaration) → slice_get checked.now.modes mode ≡ Some m → result ≡ None → switch_taken m time (valuation_of checked.now values.old) ≡ None }
-    ensures ports { (m : ModeDeclaration) → slice_get checked.now.modes mode ≡ Some m
-        → valuation_of checked.now values.new
-        ≡ option_map_or (λ s. with_destinations s (valuation_of checked.now values.old)) (switch_taken m time (valuation_of checked.now values.old)) (valuation_of checked.now values.old) }
+    ensures target { (m : ModeDeclaration) → IsModeAt checked.now mode m → result ≡ place_entered checked.now m time (valuation_of checked.now values.old) }
+    ensures none { (m : ModeDeclaration) → IsModeAt checked.now mode m → result ≡ None → switch_taken m time (valuation_of checked.now values.old) ≡ None }
+    ensures ports { (m : ModeDeclaration) → IsModeAt checked.now mode m → valuation_of checked.now values.new ≡ ports_switched m time (valuation_of checked.now values.old) }
+    ensures missing { length checked.now.modes ≤ mode → (result ≡ None) × (values.new ≡ values.old) }
 {
     // It is well-formed.
     let _program = checked.program();
@@ -38,7 +36,7 @@ pub fn take_switch(checked: &Checked, mode: usize, time: u64, values: &mut [i64]
 fn first_open<'a>(exits: &'a [SlotExit], time: u64, values: &[i64]) -> Option<&'a SlotExit>
     requires { AllByRecursion (λ (e : SlotExit). 0 < e.interval) exits.now }
     ensures { (p : GiottoProgram) (m : ModeDeclaration) → AreEach (IsExit p m) m.switches exits.now → length values.now ≡ slots_of p
-        → MatchOption result (switch_taken m time (valuation_of p values.now) ≡ None) (λ exit. IsSomeAnd (switch_taken m time (valuation_of p values.now)) (λ s. IsExit p m s exit.now)) }
+        → IsExitOf p m (switch_taken m time (valuation_of p values.now)) result }
 {
     let mut due = Due::at(time);
     for exit in exits {

@@ -1,15 +1,15 @@
 //! A task's inputs, states and outputs: what a release takes and writes, and what an end writes.
 
-ghost use Rattle.std.specs.Prelude.{◌≡◌, ◌<◌, ◌≤◌, ◌+◌, ℕ, List, [], Some, drop, length, map, slice_get, take};
+ghost use Rattle.std.specs.Prelude.{◌≡◌, ◌<◌, ◌≤◌, ◌+◌, ℕ, List, [], drop, length, map, take};
 ghost use Rattle.std.specs.List.{AllByRecursion, range_with_len};
 ghost use Rattle.giotto_tasks.specs.Meaning.{value_of};
-ghost use Rattle.giotto_tasks.specs.Names.{values_of};
 ghost use Rattle.giotto_tasks.specs.Syntax.{Expression};
-ghost use Rattle.giotto_text.specs.PortNames.{own_ports, with_values};
-ghost use Rattle.giotto_text.specs.Program.{GiottoProgram, TaskDeclaration, names_of};
+ghost use Rattle.giotto_text.specs.Program.{GiottoProgram, TaskDeclaration};
 ghost use Rattle.giotto_check.specs.Facts.{ProgramFits};
 ghost use Rattle.giotto_check.specs.Slots.{slots_of, valuation_of, with_slots};
 ghost use Rattle.giotto_check.specs.Timetables.{AreEach, AreTaskSlots, IsExpression};
+ghost use Rattle.tenant_slots.specs.Places.{IsTaskAt};
+ghost use Rattle.tenant_slots.specs.Tasks.{states_in, with_input_values, with_results};
 
 use giotto_check::Checked;
 use giotto_check::timetables::{SlotExpr, TaskSlots, slot_value};
@@ -32,8 +32,7 @@ pub fn state_values(checked: &Checked, task: usize, values: &[i64], taken: &mut 
     requires there { task < length checked.now.tasks }
     requires values { length values.now ≡ slots_of checked.now }
     requires empty { taken.old ≡ [] }
-    ensures { (t : TaskDeclaration) → slice_get checked.now.tasks task ≡ Some t
-        → taken.new ≡ values_of (valuation_of checked.now values.now) (own_ports t.name (names_of t.states)) }
+    ensures { (t : TaskDeclaration) → IsTaskAt checked.now task t → taken.new ≡ states_in t (valuation_of checked.now values.now) }
 {
     let states = checked.program().tasks()[task].states.as_slice().len();
     read_range(slots_at(checked, task).states, states, values, taken);
@@ -43,9 +42,9 @@ pub fn state_values(checked: &Checked, task: usize, values: &[i64], taken: &mut 
 pub fn write_inputs(checked: &Checked, task: usize, inputs: &Values, values: &mut [i64])
     requires there { task < length checked.now.tasks }
     requires values { length values.old ≡ slots_of checked.now }
-    requires inputs { (t : TaskDeclaration) → slice_get checked.now.tasks task ≡ Some t → length inputs.now ≡ length t.inputs }
-    ensures { (t : TaskDeclaration) → slice_get checked.now.tasks task ≡ Some t
-        → valuation_of checked.now values.new ≡ with_values (valuation_of checked.now values.old) (own_ports t.name t.inputs) inputs.now }
+    requires inputs { (t : TaskDeclaration) → IsTaskAt checked.now task t → length inputs.now ≡ length t.inputs }
+    ensures { (t : TaskDeclaration) → IsTaskAt checked.now task t
+        → valuation_of checked.now values.new ≡ with_input_values t inputs.now (valuation_of checked.now values.old) }
 {
     write_range(slots_at(checked, task).inputs, inputs.as_slice(), values);
 }
@@ -60,10 +59,9 @@ pub fn write_results(
 )
     requires there { task < length checked.now.tasks }
     requires values { length values.old ≡ slots_of checked.now }
-    requires states { (t : TaskDeclaration) → slice_get checked.now.tasks task ≡ Some t → length states.now ≡ length t.states }
-    ensures { (t : TaskDeclaration) → slice_get checked.now.tasks task ≡ Some t
-        → valuation_of checked.now values.new
-        ≡ with_values (with_values (valuation_of checked.now values.old) t.outputs outputs.now) (own_ports t.name (names_of t.states)) states.now }
+    requires states { (t : TaskDeclaration) → IsTaskAt checked.now task t → length states.now ≡ length t.states }
+    ensures { (t : TaskDeclaration) → IsTaskAt checked.now task t
+        → valuation_of checked.now values.new ≡ with_results t outputs.now states.now (valuation_of checked.now values.old) }
 {
     let slots = slots_at(checked, task);
     write_each(slots.outputs.as_slice(), outputs.as_slice(), values);
@@ -74,7 +72,7 @@ pub fn write_results(
 fn slots_at(checked: &Checked, task: usize) -> &TaskSlots
     requires { task < length checked.now.tasks }
     ensures fits { ProgramFits checked.now }
-    ensures slots { (t : TaskDeclaration) × (slice_get checked.now.tasks task ≡ Some t) × AreTaskSlots checked.now t result.now }
+    ensures slots { (t : TaskDeclaration) × IsTaskAt checked.now task t × AreTaskSlots checked.now t result.now }
 {
     // It is well-formed.
     let _program = checked.program();

@@ -57,10 +57,11 @@ loop-update-preserved c =
                 ∙ ap (valuation_of p) (sym w.values-is)
           ])
           (c.loop-update.invariant.updated m at);
+      missing = λ past. absurd (omega (arith, ap length (c.updates-update-items.ensures.none past), c.loop-update-test.true));
     }
 
-pub returns : goal.returns
-returns c =
+pub returns-clause-there : goal.returns-clause-there
+returns-clause-there c =
     let es = c.updates-update-items.result.now in
     let p = c.args.checked.now in
     λ m at.

@@ -1,4 +1,4 @@
-use Rattle.std.proofs.Common.{◌≡◌, Some, length, drop, slice_get}
+use Rattle.std.proofs.Common.{◌≡◌, ◌≤◌, Some, length, drop, slice_get}
 use Rattle.giotto_text.specs.Program.{ModeDeclaration}
 use Rattle.giotto_check.specs.Slots.{slots_of, valuation_of}
 use Rattle.tenant_slots.specs.Updates.{all_updated}
@@ -10,4 +10,5 @@ invariant-loop-update l = record {
   long : length l.values ≡ slots_of l.checked;
   updated : (m : ModeDeclaration) → slice_get l.checked.modes l.mode ≡ Some m
       → all_updated m l.time (drop l.update-index m.updates) (valuation_of l.checked l.values) ≡ all_updated m l.time m.updates (valuation_of l.checked l.initial.values);
+  missing : length l.checked.modes ≤ l.mode → l.values ≡ l.initial.values;
 }

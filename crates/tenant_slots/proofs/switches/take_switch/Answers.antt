@@ -1,4 +1,4 @@
-use Rattle.std.proofs.Common.{◌<◌, List, length, IsTrue, sym, ap, subst, ◌∙◌}
+use Rattle.std.proofs.Common.{◌<◌, List, length, IsTrue, refl, sym, ap, subst, ◌∙◌}
 use Rattle.std.specs.List.{AllByRecursion}
 use Rattle.std.specs.Option.{option_and_then, option_map_or}
 use Rattle.giotto_text.specs.Program.{ModeSwitch}
@@ -8,7 +8,7 @@ use Rattle.giotto_check.specs.Timetables.{IsExit, place_of_mode}
 use Rattle.giotto_check.specs.declared.timetables.SlotDestination.{SlotDestination}
 use Rattle.tenant_slots.specs.Switches.{slots_given, switch_taken, values_given, with_destinations}
 use Rattle.tenant_slots.proofs.Quiet.{exits_positive}
-use Rattle.tenant_slots.proofs.TakenSwitches.{given, given_once, given_within, some_that, taken_there}
+use Rattle.tenant_slots.proofs.TakenSwitches.{given, given_once, given_within, none_there, some_that, taken_there}
 use Rattle.tenant_slots.proofs.switches.take_switch.Goals as goal
 
 pub first_open-requires : goal.first_open-requires
@@ -31,6 +31,9 @@ returns-in_err-exit-clause-ports c = λ m at.
     let ports = valuation_of p c.args.values.now in
     let none = c.in_err-exit.ensures p m (c.exits.ensures.there m at) c.requires in
     sym (ap (λ o. option_map_or (λ (s : ModeSwitch). with_destinations s ports) o ports) none)
+
+pub returns-in_err-exit-clause-missing : goal.returns-in_err-exit-clause-missing
+returns-in_err-exit-clause-missing c = λ past. (c.from_residual.ensures, refl)
 
 -- one is
 
@@ -69,3 +72,6 @@ returns-clause-ports c = λ m at.
     ap (valuation_of p) (c.give.ensures ∙ ap (λ ds. with_slots values (slots_given ds) (values_given ds values)) c.as_slice.ensures.value)
     ∙ given p c.program-program.ensures.fits m taken.0 e taken.2 values c.requires
     ∙ sym (ap (λ o. option_map_or (λ (s : ModeSwitch). with_destinations s ports) o ports) taken.1)
+
+pub returns-clause-missing : goal.returns-clause-missing
+returns-clause-missing c = λ past. none_there c.args.checked.now c.args.time c.args.values.now c.exits.result.now c.in_ok-exit.exit.now c.requires (c.exits.ensures.none past) c.in_ok-exit.ensures
