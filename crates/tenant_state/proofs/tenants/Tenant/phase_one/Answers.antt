@@ -133,7 +133,7 @@ returns-clause-step c = λ row completed st.
     λ k. standing_of s.place (c.in-Running.is k) (c.in-Some.is k) s.mode s.mode_time (c.drop_due.ensures.items k) room (written k) shares s.next_tick in
     subst (λ t. StandsFor t (first_half_of (unfinished_tasks completed row) row) completed) (sym is)
     (finished p c.program-program.ensures.fits m.0 s.mode s.mode_time s.active.items s.active.room s.values.items shares s.next_tick m.1 row completed (subst (λ t. StandsFor t row completed) was st)
-    es each (all_map (IsActiveIn p s.next_tick) (IsActiveOf p) s.active.items (λ a is. is.declared) fits.each) none room c.end_due.new.values c.update_due.new.values ended (c.update_due.ensures m.0 m.1))
+    es each (all_map (IsActiveIn p s.next_tick) (IsActiveOf p) s.active.items (λ a is. is.declared) fits.each) none room c.end_due.new.values c.update_due.new.values ended (c.update_due.ensures.there m.0 m.1))
 
 pub returns-clause-room : goal.returns-clause-room
 returns-clause-room c =
