@@ -1,6 +1,6 @@
 //! The replies to a tenant's commands.
 
-ghost use Rattle.std.specs.Prelude.{◌≡◌, ◌++◌, codes, IfOk, string_bytes};
+ghost use Rattle.std.specs.Prelude.{◌≡◌, ◌↔◌, ◌++◌, codes, IfOk, IsTrue, string_bytes};
 ghost use Rattle.std.specs.Fmt.{signed_decimal};
 ghost use Rattle.std.specs.List.{flat_map};
 ghost use Rattle.tenant_lines.specs.Replies.{word_of_budget, text_of_port, text_of_refusal, text_of_reply, text_of_status, text_of_value};
@@ -116,6 +116,13 @@ impl Reply {
             Reply::All(ports) => Reply::All(copy_of(alloc, ports.as_slice())?),
             Reply::Refused(refusal) => Reply::Refused(*refusal),
         })
+    }
+
+    /// Whether a command is refused for want of memory.
+    pub fn is_memory(&self) -> bool
+        ensures { IsTrue result ↔ (self.now ≡ Reply.Refused Refusal.Memory) }
+    {
+        matches!(self, Reply::Refused(Refusal::Memory))
     }
 }
 
