@@ -215,11 +215,8 @@ fn print_all(alloc: Global, ports: &[PortValue]) -> Result<String, AllocError>
     Ok(text)
 }
 
-/// The text of a refusal, without the word `err`.
-///
-/// # Errors
-/// Want of memory.
-pub fn print_refusal(alloc: Global, refusal: Refusal) -> Result<String, AllocError>
+// The text of a refusal, without the word `err`.
+fn print_refusal(alloc: Global, refusal: Refusal) -> Result<String, AllocError>
     ensures { IfOk result (λ text. string_bytes text ≡ text_of_refusal refusal) }
 {
     match refusal {

@@ -20,8 +20,8 @@ impl Model for Text {
 }
 
 impl Text {
-    /// The text of a string. Takes no memory.
-    pub fn from_string(text: String) -> Text
+    // The text of a string. Takes no memory.
+    fn from_string(text: String) -> Text
         ensures { result ≡ string_bytes text }
     {
         Text { text }

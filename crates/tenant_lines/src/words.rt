@@ -23,16 +23,16 @@ pub fn behind_first_word(line: &str) -> &str
     &rest[word_len(rest.as_bytes())..]
 }
 
-/// Whether a byte of a line is a blank: space, tab or CR. A line has no LF.
-pub fn is_blank(byte: u8) -> bool
+// Whether a byte of a line is a blank: space, tab or CR. A line has no LF.
+fn is_blank(byte: u8) -> bool
     ensures { result ≡ is_blank_of_line byte }
 {
     matches!(byte, b' ' | b'\t' | b'\r')
 }
 
-/// The value of a word: an optional `-`, then digits, leading zeros allowed. `None` where the word has another shape,
-/// or its value is no i64.
-pub fn value_of_word(word: &str) -> Option<i64>
+// The value of a word: an optional `-`, then digits, leading zeros allowed. `None` where the word has another shape,
+// or its value is no i64.
+fn value_of_word(word: &str) -> Option<i64>
     ensures { result ≡ value_of_word word.now }
 {
     let [first, ..] = word.as_bytes() else {
