@@ -14,7 +14,8 @@ use Rattle.rig_config.specs.declared.Config.{Config}
 use Rattle.rig_config.specs.declared.TenantConfig.{TenantConfig}
 use Rattle.tenant_lines.specs.declared.commands.Command.{Command}
 use Rattle.tenant_state.specs.declared.jobs.JobId.{JobId}
-use Rattle.host_core.specs.Halves.{AreStepped, IsFirstHalf, IsSecondHalf}
+use Rattle.tenant_state.specs.Halves.{IsFirstHalf}
+use Rattle.host_core.specs.Halves.{AreStepped, IsKnownBehind}
 use Rattle.host_core.specs.Host.{instant_of, with_rows, after_event}
 use Rattle.host_core.specs.HostState.{HostState, is_counted, row_at, awaits}
 use Rattle.host_core.specs.HostStanding.{HostStanding, IsAt, tenant_at, Stands, awaited_in}
@@ -139,7 +140,7 @@ module _ (setting : Setting) where
       (stands : Stands setting host state)
       (known : All (IsAt host.clock) host.tenants)
       (first : AreStepped (λ t. IsFirstHalf) host.tenants middle)
-      (second : AreStepped (λ t. IsSecondHalf (budgets_at host.config t).reads frame) middle after) where
+      (second : AreStepped (λ t. IsKnownBehind (budgets_at host.config t).reads frame) middle after) where
     abbrev rows_behind : List Row
     rows_behind = map (λ (place : ℕ × Row). after_instant (instant_of setting state frame place.0) place.1) (enumerate_from 0 state.rows)
 
@@ -156,7 +157,7 @@ module _ (setting : Setting) where
       one : IsFirstHalf (tenant_at host.tenants t) (tenant_at middle t)
       one = first.each t (omega (arith, stands.as_many))
 
-      two : IsSecondHalf (budgets_at host.config t).reads frame (tenant_at middle t) (tenant_at after t)
+      two : IsKnownBehind (budgets_at host.config t).reads frame (tenant_at middle t) (tenant_at after t)
       two = second.each t (omega (arith, stands.as_many, first.as_many))
 
       half_stands : StandsFor (tenant_at middle t) half completed
@@ -180,12 +181,12 @@ module _ (setting : Setting) where
       new_row = same_step ∙ sym (row_behind state frame t (omega (arith, stands.all_rows)))
 
       tick_each : StandsFor (get_or after t (empty_standing 0 0)) (get_or rows_behind t (empty_row (state.clock + 1))) completed
-      tick_each = subst (λ r. StandsFor (tenant_at after t) r completed) new_row (two.step half completed half_stands fresh)
+      tick_each = subst (λ r. StandsFor (tenant_at after t) r completed) new_row (two.half.step half completed half_stands fresh)
 
       tick_counts : (get_or rows_behind t (empty_row (state.clock + 1))).next_tick ≡ state.clock + 1
       tick_counts =
           same_count (tenant_at after t) (get_or rows_behind t (empty_row (state.clock + 1))) completed tick_each
-          ∙ (two.next_tick ∙ ap (λ n. n + 1) (sym (same_count (tenant_at middle t) half completed half_stands) ∙ half_count))
+          ∙ (two.half.next_tick ∙ ap (λ n. n + 1) (sym (same_count (tenant_at middle t) half completed half_stands) ∙ half_count))
 
     pub stands_after_tick : Stands setting (record { config = host.config; tenants = after; clock = host.clock + 1 }) (after_event setting state (Tick frame))
     stands_after_tick =

@@ -1,8 +1,8 @@
 //! The host of a rig: all its tenants, on one clock.
 
-ghost use Rattle.std.specs.Prelude.{◌≡◌, ◌≢◌, ◌<◌, ◌≤◌, ◌+◌, ◌-◌, ◌^◌, ◌↔◌, ℕ, ◌∷◌, ◌++◌, List, length, map, reverse, is_some, false, if◌then◌else◌, IsOk, IsSome, IfOk, IfSome, OnOk, OnErr, OnSome, Ok, Err, Some, None};
+ghost use Rattle.std.specs.Prelude.{◌≡◌, ◌≢◌, ◌<◌, ◌≤◌, ◌+◌, ◌-◌, ◌^◌, ◌↔◌, ℕ, ◌++◌, List, length, map, is_some, false, if◌then◌else◌, IsOk, IsSome, IfOk, IfSome, OnOk, OnErr, OnSome, Ok, Err, Some, None};
 ghost use Rattle.std.specs.List.{All};
-ghost use Rattle.host_core.specs.Halves.{AreStepped, IsFirstHalf, IsSecondHalf, IsReady, IsCompleted, most_of};
+ghost use Rattle.host_core.specs.Halves.{AreStepped, IsKnownBehind, IsReady, IsCompleted, most_of};
 ghost use Rattle.host_core.specs.Completions.{with_completions};
 ghost use Rattle.host_core.specs.Host.{after_event, host_after};
 ghost use Rattle.host_core.specs.HostState.{HostState, row_at, awaits};
@@ -10,6 +10,7 @@ ghost use Rattle.host_core.specs.HostStanding.{Stands, ArePlaced, IsOwn, IsStep,
 ghost use Rattle.host_core.specs.Setting.{Setting};
 ghost use Rattle.rig_config.specs.Roster.{budgets_at};
 ghost use Rattle.tenant_state.specs.Commands.{takes_memory};
+ghost use Rattle.tenant_state.specs.Halves.{IsFirstHalf};
 ghost use Rattle.tenant_state.specs.Standing.{Standing, at_rest, IsKnown};
 ghost use Rattle.host_core.specs.Views.{after_command};
 ghost use Rattle.host_core.specs.declared.events.Event.{Event};
@@ -332,7 +333,7 @@ fn second_halves(tenants: &mut Vec<Tenant>, config: &Config, frame: &[i64], jobs
     requires placed { ArePlaced tenants.old.items }
     requires ready { All IsReady tenants.old.items }
     requires jobs { most_of tenants.old.items ≤ jobs.old.room }
-    ensures halves { AreStepped (λ t. IsSecondHalf (budgets_at config.now t).reads frame.now) tenants.old.items tenants.new.items }
+    ensures halves { AreStepped (λ t. IsKnownBehind (budgets_at config.now t).reads frame.now) tenants.old.items tenants.new.items }
     ensures jobs { (n : ℕ) → All (λ (s : Standing). s.row.next_tick ≡ n) tenants.old.items → jobs.new.jobs ≡ jobs.old.jobs ++ released_from n 0 tenants.new.items }
 {
     for i in 0..tenants.len() {
@@ -348,7 +349,7 @@ fn second_halves_without_jobs(tenants: &mut Vec<Tenant>, config: &Config, frame:
     requires tenants { length tenants.old.items ≡ length config.now.tenants }
     requires counts { All (λ (s : Standing). s.row.next_tick < 2 ^ 64 - 1) tenants.old.items }
     requires ready { All IsReady tenants.old.items }
-    ensures { AreStepped (λ t. IsSecondHalf (budgets_at config.now t).reads frame.now) tenants.old.items tenants.new.items }
+    ensures { AreStepped (λ t. IsKnownBehind (budgets_at config.now t).reads frame.now) tenants.old.items tenants.new.items }
 {
     for i in 0..tenants.len() {
         let budgets = &config.tenants.as_slice()[i].budgets;

@@ -1,8 +1,12 @@
 -- The active entries, and what is due, by the places of the tasks.
-use Rattle.std.specs.Prelude.{◌≡◌, ◌<◌, ◌≤◌, ◌-◌, ◌%◌, ◌==◌, ◌&&◌, ℕ, nat_eq, Bool, false, List, filter, get_or, take, drop}
+use Rattle.std.specs.Prelude.{◌≡◌, ◌<◌, ◌≤◌, ◌-◌, ◌%◌, ◌==◌, ◌&&◌, ℕ, ℤ, nat_eq, Bool, false, List, map, filter, get_or, take, drop}
 use Rattle.std.specs.List.{list_any}
+use Rattle.giotto_check.specs.Slots.{valuation_of}
 use Rattle.giotto_check.specs.declared.timetables.SlotInvocation.{SlotInvocation}
+use Rattle.giotto_text.specs.Program.{GiottoProgram, ModeDeclaration}
 use Rattle.tenant_state.specs.declared.tenants.Active.{Active}
+use Rattle.tenant_state.specs.FirstHalf.{all_ended, due_among}
+use Rattle.tenant_state.specs.Tenants.{active_of}
 
 -- of the first entries each task has at most one: the table has its number from 1, or 0 where there is none
 abbrev pub IsTableOf : ℕ → List Active → List ℕ → Type 0
@@ -16,3 +20,7 @@ is_among_due time task invocations = list_any (λ (i : SlotInvocation). nat_eq t
 -- each mark says whether its task is due
 abbrev pub MarksDue : List SlotInvocation → ℕ → List Bool → Type 0
 MarksDue invocations time marks = (t : ℕ) → t < 64 → get_or marks t false ≡ is_among_due time t invocations
+
+-- the values in the slots before and behind the ends of those of these entries that are due in the mode at this mode time
+abbrev pub AreDueEnded : GiottoProgram → ModeDeclaration → ℕ → List Active → List ℤ → List ℤ → Type 0
+AreDueEnded p m time active before after = valuation_of p after ≡ all_ended p (due_among (map (active_of p) active) m time) (valuation_of p before)

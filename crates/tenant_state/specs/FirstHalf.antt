@@ -15,9 +15,13 @@ use Rattle.tenant_slots.specs.Ports.{actuators_reset}
 use Rattle.tenant_slots.specs.Due.{is_due_at}
 use Rattle.tenant_slots.specs.Updates.{is_updated, updated, all_updated}
 
--- the active tasks whose period divides the mode time, in the mode's text order
+-- those of these active tasks whose period in the mode divides this mode time, in the mode's text order
+abbrev pub due_among : List ActiveTask → ModeDeclaration → ℕ → List ActiveTask
+due_among active m time = flat_map (λ (i : TaskInvocation). filter (λ (a : ActiveTask). same_name a.task i.task && is_due_at time m i.frequency) active) m.invocations
+
+-- the row's active tasks that are due in this mode
 abbrev pub due_in_mode : Row → ModeDeclaration → List ActiveTask
-due_in_mode row m = flat_map (λ (i : TaskInvocation). filter (λ (a : ActiveTask). same_name a.task i.task && is_due_at row.mode_time m i.frequency) row.active) m.invocations
+due_in_mode row m = due_among row.active m row.mode_time
 
 -- the active tasks that are due in the row's mode of this program
 abbrev pub due_in_program : Row → GiottoProgram → List ActiveTask

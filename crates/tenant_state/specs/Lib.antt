@@ -3,10 +3,12 @@ pub mod Commands
 pub mod CommonPeriods
 pub mod EntryTable
 pub mod FirstHalf
+pub mod Halves
 pub mod Instants
 pub mod JobLists
 pub mod Jobs
 pub mod Readers
+pub mod Releases
 pub mod Row
 pub mod SecondHalf
 pub mod Standing

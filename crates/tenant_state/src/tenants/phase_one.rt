@@ -1,19 +1,17 @@
 //! The first half of an instant: due tasks end, and due actuators are updated.
 
-ghost use Rattle.std.specs.Prelude.{◌≡◌, ◌<◌, ◌≤◌, ◌%◌, ◌==◌, ◌&&◌, Bool, not, true, false, ◌∷◌, [], nat_eq, length, map, filter, Some, None, IfSome, ◌⊎◌};
-ghost use Rattle.std.specs.List.{find, flat_map, list_all, list_any, AllByRecursion};
+ghost use Rattle.std.specs.Prelude.{◌≡◌, ◌<◌, ◌≤◌, ◌%◌, ◌==◌, ◌&&◌, not, true, false, ◌∷◌, [], nat_eq, length, map, filter, Some, None, IfSome, ◌⊎◌};
+ghost use Rattle.std.specs.List.{find, list_all, list_any, AllByRecursion};
 ghost use Rattle.std.specs.Option.{option_map};
-ghost use Rattle.giotto_tasks.specs.Names.{same_name};
-ghost use Rattle.giotto_text.specs.Program.{ModeDeclaration, TaskInvocation};
+ghost use Rattle.giotto_text.specs.Program.{ModeDeclaration};
 ghost use Rattle.giotto_check.specs.Slots.{slots_of, valuation_of};
 ghost use Rattle.giotto_check.specs.Timetables.{AreEach, IsInvocation};
 ghost use Rattle.giotto_check.specs.declared.timetables.SlotInvocation.{SlotInvocation};
-ghost use Rattle.tenant_slots.specs.Due.{is_due_at};
 ghost use Rattle.tenant_slots.specs.Places.{name_of_task};
-ghost use Rattle.tenant_state.specs.EntryTable.{IsTableOf, MarksDue};
-ghost use Rattle.tenant_state.specs.FirstHalf.{unfinished_tasks, all_ended, first_half_of};
-ghost use Rattle.tenant_state.specs.Row.{ActiveTask, Row};
-ghost use Rattle.tenant_state.specs.Standing.{StandsFor, most_released};
+ghost use Rattle.tenant_state.specs.EntryTable.{IsTableOf, AreDueEnded, MarksDue};
+ghost use Rattle.tenant_state.specs.FirstHalf.{all_ended};
+ghost use Rattle.tenant_state.specs.Halves.{IsFirstHalf};
+ghost use Rattle.tenant_state.specs.Standing.{most_released};
 ghost use Rattle.tenant_state.specs.Tenants.{active_of, is_completed, IsActiveOf};
 
 use crate::tenants::active_tasks::ActiveTasks;
@@ -30,13 +28,10 @@ impl Tenant {
     /// The first half of an instant. The due tasks write their results, and the due actuators are updated; or the tenant is
     /// stopped where the computation of a due task isn't completed. Takes no memory.
     pub fn phase_one(&mut self)
-        ensures step { (row : Row) (completed : ActiveTask → Bool) → StandsFor self.old row completed
-            → StandsFor self.new (first_half_of (unfinished_tasks completed row) row) completed }
+        ensures half { IsFirstHalf self.old self.new }
         ensures room { self.old.room ≤ self.new.room }
         ensures shared { self.new.shared ≡ self.old.shared }
         ensures fewer { most_released self.new.row ≤ most_released self.old.row }
-        ensures place { self.new.place ≡ self.old.place }
-        ensures next_tick { self.new.row.next_tick ≡ self.old.row.next_tick }
     {
         let State::Running = &self.state else {
             return;
@@ -159,8 +154,7 @@ fn end_due(
     requires table { IfSome table.now (IsTableOf (length active.now) active.now) }
     requires completed { find (λ i. (time % i.interval == 0) && list_any (λ a. nat_eq a.task i.task && not (is_completed a)) active.now) invocations.now ≡ None }
     ensures { (m : ModeDeclaration) → AreEach (IsInvocation checked.now m) m.invocations invocations.now
-        → valuation_of checked.now values.new ≡ all_ended checked.now (flat_map (λ (i : TaskInvocation). filter (λ (a : ActiveTask). same_name a.task i.task
-        && is_due_at time m i.frequency) (map (active_of checked.now) active.now)) m.invocations) (valuation_of checked.now values.old) }
+        → AreDueEnded checked.now m time active.now values.old values.new }
 {
     let _program = checked.program();
     let mut due = Due::at(time);

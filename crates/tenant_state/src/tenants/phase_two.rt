@@ -1,6 +1,6 @@
 //! The second half of an instant: sensors are read, a switch is taken, tasks are released, and the mode time moves on.
 
-ghost use Rattle.std.specs.Prelude.{◌≡◌, ◌<◌, ◌≤◌, ◌+◌, ◌-◌, ◌^◌, Bool, false, [], ◌++◌, length, map, true, is_some, IsTrue, Some, slice_get};
+ghost use Rattle.std.specs.Prelude.{◌≡◌, ◌<◌, ◌≤◌, ◌+◌, ◌-◌, ◌^◌, ◌++◌, length, map, true, is_some, IsTrue, Some, slice_get};
 ghost use Rattle.std.specs.Arc.{arc_value};
 ghost use Rattle.std.specs.List.{AllByRecursion, list_all};
 ghost use Rattle.std.specs.Option.{option_map};
@@ -9,11 +9,9 @@ ghost use Rattle.giotto_tasks.specs.Sound.{all_different};
 ghost use Rattle.giotto_text.specs.Program.{ModeDeclaration};
 ghost use Rattle.tenant_slots.specs.Due.{IsQuietUntil};
 ghost use Rattle.tenant_slots.specs.Places.{name_of_task};
-ghost use Rattle.tenant_slots.specs.Readings.{readings_within};
+ghost use Rattle.tenant_state.specs.Halves.{IsSecondHalf};
 ghost use Rattle.tenant_state.specs.Jobs.{IsComputable, body_in, job_in, released_at};
-ghost use Rattle.tenant_state.specs.Row.{ActiveTask, Row};
-ghost use Rattle.tenant_state.specs.SecondHalf.{second_half_of};
-ghost use Rattle.tenant_state.specs.Standing.{StandsFor, AreReleased, HasRoom, HasShares, most_released};
+ghost use Rattle.tenant_state.specs.Standing.{AreReleased, HasRoom, HasShares, most_released};
 ghost use Rattle.tenant_state.specs.Tenants.{active_of, IsActiveOf, IsShareOf};
 
 use crate::jobs::{Job, JobId, Jobs};
@@ -37,11 +35,7 @@ impl Tenant {
         requires room { HasRoom self.old }
         requires shares { HasShares self.old }
         requires jobs { most_released self.old.row ≤ jobs.old.room }
-        ensures step { (row : Row) (completed : ActiveTask → Bool) → StandsFor self.old row completed
-            → ((a : ActiveTask) → a.release ≡ row.next_tick → completed a ≡ false)
-            → StandsFor self.new (second_half_of (readings_within budgets.now.reads frame.now) [] row) completed }
-        ensures place { self.new.place ≡ self.old.place }
-        ensures next_tick { self.new.row.next_tick ≡ self.old.row.next_tick + 1 }
+        ensures half { IsSecondHalf budgets.now.reads frame.now self.old self.new }
         ensures jobs { jobs.new.jobs ≡ jobs.old.jobs ++ released_at self.old.place self.old.row.next_tick self.new.row }
         ensures room { jobs.old.room ≤ jobs.new.room + most_released self.old.row }
     {
@@ -67,11 +61,7 @@ impl Tenant {
     pub fn phase_two_without_jobs(&mut self, budgets: &Budgets, frame: &[i64])
         requires next_tick { self.old.row.next_tick < 2 ^ 64 - 1 }
         requires room { HasRoom self.old }
-        ensures step { (row : Row) (completed : ActiveTask → Bool) → StandsFor self.old row completed
-            → ((a : ActiveTask) → a.release ≡ row.next_tick → completed a ≡ false)
-            → StandsFor self.new (second_half_of (readings_within budgets.now.reads frame.now) [] row) completed }
-        ensures place { self.new.place ≡ self.old.place }
-        ensures next_tick { self.new.row.next_tick ≡ self.old.row.next_tick + 1 }
+        ensures half { IsSecondHalf budgets.now.reads frame.now self.old self.new }
         ensures released { AreReleased self.old.row self.new.row }
         ensures shared { self.new.shared ≡ self.old.shared }
     {

@@ -60,7 +60,7 @@ pub(crate) fn switch(
 fn entry_time(checked: &Checked, from: usize, target: usize, time: u64, active: &[Active]) -> u64
     requires target { target < length checked.now.modes }
     requires active { AllByRecursion (IsActiveOf checked.now) active.now }
-    ensures { (m : ModeDeclaration) (t : ModeDeclaration) → slice_get checked.now.modes from ≡ Some m → slice_get checked.now.modes target ≡ Some t
+    ensures { (m t : ModeDeclaration) → slice_get checked.now.modes from ≡ Some m → slice_get checked.now.modes target ≡ Some t
         → result ≡ entry_time m t time (map (active_of checked.now) active.now) }
 {
     match common_period(checked, from, active) {

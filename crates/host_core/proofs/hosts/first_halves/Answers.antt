@@ -1,7 +1,8 @@
 use Rattle.std.proofs.Common.{◌<◌, length, ap, sym, subst, ◌∙◌, arith}
 use Rattle.std.proofs.lemmas.List.Elements.{All-set}
 use Rattle.std.proofs.lemmas.List.Sums.{sum_by-set}
-use Rattle.host_core.specs.Halves.{IsFirstHalf, IsReady}
+use Rattle.tenant_state.specs.Halves.{IsFirstHalf}
+use Rattle.host_core.specs.Halves.{IsReady}
 use Rattle.tenant_state.specs.Standing.{Standing, most_released}
 use Rattle.host_core.proofs.HostLoops.{stepped_more, stepped_all}
 use Rattle.host_core.proofs.hosts.first_halves.Goals as goal
@@ -14,7 +15,7 @@ loop-i-preserved c =
     let within : c.loop-i.i < length c.loop-i.tenants.items = omega (arith, inside, c.loop-i.invariant.halves.as_many) in
     record {
       halves = stepped_more (λ t. IsFirstHalf) c.loop-i.i c.args.tenants.now.items c.loop-i.tenants.items x half inside c.index_mut.ensures.value c.loop-i.invariant.halves
-          (record { step = c.phase_one.ensures.step; next_tick = c.phase_one.ensures.next_tick; place = c.phase_one.ensures.place });
+          c.phase_one.ensures.half;
       ready = λ all.
           let before : IsReady x = subst IsReady (sym c.index_mut.ensures.value) (c.loop-i.invariant.ready all c.loop-i.i x within) in
           All-set IsReady c.loop-i.tenants.items c.loop-i.i half

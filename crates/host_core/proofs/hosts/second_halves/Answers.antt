@@ -15,7 +15,7 @@ loop-i-preserved c =
     let same = c.index_mut-tenant.ensures.value ∙ unstepped _ c.loop-i.i c.args.tenants.now.items c.loop-i.tenants.items x inside c.loop-i.invariant.halves in
     record {
       halves = second_more c.args.config.now c.args.frame.now c.loop-i.i c.args.tenants.now.items c.loop-i.tenants.items x c.phase_two.new.self c.as_slice.result.now c.index-as_slice-i.result inside
-          c.index_mut-tenant.ensures.value c.requires.tenants c.as_slice.ensures c.loop-i.invariant.halves (record { step = c.phase_two.ensures.step; next_tick = c.phase_two.ensures.next_tick; place = c.phase_two.ensures.place; known = c.next_tick.ensures.known });
+          c.index_mut-tenant.ensures.value c.requires.tenants c.as_slice.ensures c.loop-i.invariant.halves (record { half = c.phase_two.ensures.half; known = c.next_tick.ensures.known });
       space = omega (arith, c.loop-i.invariant.space, c.phase_two.ensures.room, most_left _ c.loop-i.i c.args.tenants.now.items c.loop-i.tenants.items x inside c.index_mut-tenant.ensures.value c.loop-i.invariant.halves);
       jobs = λ n counts.
           jobs_more n c.loop-i.i c.loop-i.tenants.items c.phase_two.new.self x c.args.jobs.now.jobs c.loop-i.jobs.jobs c.phase_two.new.jobs.jobs within

@@ -1,4 +1,4 @@
-use Rattle.std.proofs.Common.{◌≡◌, ◌<◌, ◌≤◌, ◌++◌, true, map, take, drop, length, Some, None, sym, ap, subst, ◌∙◌, arith}
+use Rattle.std.proofs.Common.{rules, ◌≡◌, ◌<◌, ◌≤◌, ◌++◌, true, map, take, drop, length, Some, None, sym, ap, subst, ◌∙◌, arith}
 use Rattle.std.specs.Arc.{arc_value}
 use Rattle.std.specs.List.{find, flat_map, AllByRecursion}
 use Rattle.std.specs.Option.{option_map}
@@ -17,18 +17,22 @@ use Rattle.tenant_state.proofs.DueTasks.{group}
 use Rattle.tenant_state.proofs.EndedTasks.{different_filter, finished, halted, its_mode, kept, map_none, map_some, opens, quiet_stands, tasks_within}
 use Rattle.tenant_state.proofs.tenants.Tenant.phase_one.Goals as goal
 
-pub returns-then-time-self-clause-step : goal.returns-then-time-self-clause-step
-returns-then-time-self-clause-step c = λ row completed st.
-    let s = c.self.inside in
-    let p = c.in-Some.checked in
-    let shares = map (option_map arc_value) s.shares.items in
-    let was : c.args.self.now ≡ standing_of s.place states.Running (Some p) s.mode s.mode_time s.active.items s.active.room s.values.items shares s.next_tick =
-    sym c.self.view_is ∙ (λ k. standing_of s.place (c.in-Running.is k) (c.in-Some.is k) s.mode s.mode_time s.active.items s.active.room s.values.items shares s.next_tick) in
-    let fits = subst (λ o. FitsIts o s.mode s.mode_time s.next_due s.active.items s.values.items shares s.next_tick) c.in-Some.is c.self.invariant.fits in
-    let m = its_mode p s.mode fits.mode_there in
-    subst (λ t. StandsFor t (first_half_of (unfinished_tasks completed row) row) completed) (sym was)
-    (quiet_stands p c.program-program.ensures.fits m.0 s.mode s.mode_time s.active.items s.active.room s.values.items shares s.next_tick m.1 row completed (subst (λ t. StandsFor t row completed) was st)
-    (fits.quiet m.0 m.1 s.mode_time (omega arith) c.if-time-self.true))
+pub returns-then-time-self-clause-half : goal.returns-then-time-self-clause-half
+returns-then-time-self-clause-half c = record {
+  step = λ row completed st.
+      let s = c.self.inside in
+      let p = c.in-Some.checked in
+      let shares = map (option_map arc_value) s.shares.items in
+      let was : c.args.self.now ≡ standing_of s.place states.Running (Some p) s.mode s.mode_time s.active.items s.active.room s.values.items shares s.next_tick =
+      sym c.self.view_is ∙ (λ k. standing_of s.place (c.in-Running.is k) (c.in-Some.is k) s.mode s.mode_time s.active.items s.active.room s.values.items shares s.next_tick) in
+      let fits = subst (λ o. FitsIts o s.mode s.mode_time s.next_due s.active.items s.values.items shares s.next_tick) c.in-Some.is c.self.invariant.fits in
+      let m = its_mode p s.mode fits.mode_there in
+      subst (λ t. StandsFor t (first_half_of (unfinished_tasks completed row) row) completed) (sym was)
+      (quiet_stands p c.program-program.ensures.fits m.0 s.mode s.mode_time s.active.items s.active.room s.values.items shares s.next_tick m.1 row completed (subst (λ t. StandsFor t row completed) was st)
+      (fits.quiet m.0 m.1 s.mode_time (omega arith) c.if-time-self.true));
+  next_tick = search rules;
+  place = search rules;
+}
 
 pub first_unfinished-requires-clause-positive : goal.first_unfinished-requires-clause-positive
 first_unfinished-requires-clause-positive c =
@@ -67,23 +71,27 @@ name_of-name-requires c =
     let within = found_has (λ (e : SlotInvocation). e.task < length p.tasks) _ _ some.0 (tasks_within p m.0 m.0.invocations _ (c.invocations-invocations.ensures.there m.0 m.1)) some.1 in
     subst (λ (q : GiottoProgram). c.in-Some-first_unfinished.task < length q.tasks) (sym c.program.ensures.tree) (subst (λ k. k < length p.tasks) some.2 within)
 
-pub returns-in-Some-first_unfinished-clause-step : goal.returns-in-Some-first_unfinished-clause-step
-returns-in-Some-first_unfinished-clause-step c = λ row completed st.
-    let s = c.self.inside in
-    let p = c.in-Some.checked in
-    let shares = map (option_map arc_value) s.shares.items in
-    let fits = subst (λ o. FitsIts o s.mode s.mode_time s.next_due s.active.items s.values.items shares s.next_tick) c.in-Some.is c.self.invariant.fits in
-    let m = its_mode p s.mode fits.mode_there in
-    let was : c.args.self.now ≡ standing_of s.place states.Running (Some p) s.mode s.mode_time s.active.items s.active.room s.values.items shares s.next_tick =
-    sym c.self.view_is ∙ (λ k. standing_of s.place (c.in-Running.is k) (c.in-Some.is k) s.mode s.mode_time s.active.items s.active.room s.values.items shares s.next_tick) in
-    let some = map_some (λ (i : SlotInvocation). i.task) _ c.in-Some-first_unfinished.task c.in-Some-first_unfinished.ensures in
-    let first = subst (λ acts. find (opens s.mode_time acts) c.invocations-invocations.result.now ≡ Some some.0) c.as_slice-active.ensures some.1 in
-    let name : c.name_of-name.result ≡ name_of_task p some.0.task =
-    c.name_of-name.ensures ∙ ap (λ (q : GiottoProgram). name_of_task q c.in-Some-first_unfinished.task) c.program.ensures.tree ∙ ap (name_of_task p) (sym some.2) in
-    subst (λ r. StandsFor c.stop_with.new.self r completed)
-    (sym (halted p c.program-program.ensures.fits m.0 s.mode s.mode_time s.active.items s.active.room s.values.items shares s.next_tick m.1 row completed (subst (λ t. StandsFor t row completed) was st)
-    c.invocations-invocations.result.now (c.invocations-invocations.ensures.there m.0 m.1) (all_map (IsActiveIn p s.next_tick) (IsActiveOf p) s.active.items (λ a is. is.declared) fits.each) some.0 first c.name_of-name.result name))
-    (c.stop_with.ensures.step row completed st)
+pub returns-in-Some-first_unfinished-clause-half : goal.returns-in-Some-first_unfinished-clause-half
+returns-in-Some-first_unfinished-clause-half c = record {
+  step = λ row completed st.
+      let s = c.self.inside in
+      let p = c.in-Some.checked in
+      let shares = map (option_map arc_value) s.shares.items in
+      let fits = subst (λ o. FitsIts o s.mode s.mode_time s.next_due s.active.items s.values.items shares s.next_tick) c.in-Some.is c.self.invariant.fits in
+      let m = its_mode p s.mode fits.mode_there in
+      let was : c.args.self.now ≡ standing_of s.place states.Running (Some p) s.mode s.mode_time s.active.items s.active.room s.values.items shares s.next_tick =
+      sym c.self.view_is ∙ (λ k. standing_of s.place (c.in-Running.is k) (c.in-Some.is k) s.mode s.mode_time s.active.items s.active.room s.values.items shares s.next_tick) in
+      let some = map_some (λ (i : SlotInvocation). i.task) _ c.in-Some-first_unfinished.task c.in-Some-first_unfinished.ensures in
+      let first = subst (λ acts. find (opens s.mode_time acts) c.invocations-invocations.result.now ≡ Some some.0) c.as_slice-active.ensures some.1 in
+      let name : c.name_of-name.result ≡ name_of_task p some.0.task =
+      c.name_of-name.ensures ∙ ap (λ (q : GiottoProgram). name_of_task q c.in-Some-first_unfinished.task) c.program.ensures.tree ∙ ap (name_of_task p) (sym some.2) in
+      subst (λ r. StandsFor c.stop_with.new.self r completed)
+      (sym (halted p c.program-program.ensures.fits m.0 s.mode s.mode_time s.active.items s.active.room s.values.items shares s.next_tick m.1 row completed (subst (λ t. StandsFor t row completed) was st)
+      c.invocations-invocations.result.now (c.invocations-invocations.ensures.there m.0 m.1) (all_map (IsActiveIn p s.next_tick) (IsActiveOf p) s.active.items (λ a is. is.declared) fits.each) some.0 first c.name_of-name.result name))
+      (c.stop_with.ensures.step row completed st);
+  next_tick = search rules;
+  place = search rules;
+}
 
 pub invariant_of-self : goal.invariant_of-self
 invariant_of-self c =
@@ -111,29 +119,33 @@ invariant_of-self c =
           (subst (λ vs. FitsProgram p s.mode s.mode_time s.next_due c.drop_due.new.active.items vs shares s.next_tick) (sym written) fits_now);
     }
 
-pub returns-clause-step : goal.returns-clause-step
-returns-clause-step c = λ row completed st.
-    let s = c.self.inside in
-    let p = c.in-Some.checked in
-    let shares = map (option_map arc_value) s.shares.items in
-    let fits = subst (λ o. FitsIts o s.mode s.mode_time s.next_due s.active.items s.values.items shares s.next_tick) c.in-Some.is c.self.invariant.fits in
-    let m = its_mode p s.mode fits.mode_there in
-    let was : c.args.self.now ≡ standing_of s.place states.Running (Some p) s.mode s.mode_time s.active.items s.active.room s.values.items shares s.next_tick =
-    sym c.self.view_is ∙ (λ k. standing_of s.place (c.in-Running.is k) (c.in-Some.is k) s.mode s.mode_time s.active.items s.active.room s.values.items shares s.next_tick) in
-    let es = c.invocations-invocations.result.now in
-    let none = subst (λ acts. find (opens s.mode_time acts) es ≡ None) c.as_slice-active.ensures (map_none (λ (i : SlotInvocation). i.task) _ c.in_default-first_unfinished.ensures) in
-    let written = whole_slice s.values.len c.update_due.new.values s.values.items (omega (arith, c.as_mut_slice-values.ensures.len, c.end_due.auto.values, c.update_due.auto.values)) in
-    let each = c.invocations-invocations.ensures.there m.0 m.1 in
-    let room = c.drop_due.new.active.room in
-    let after = with_items s.values c.update_due.new.values in
-    let ended : valuation_of p c.end_due.new.values ≡ all_ended p (flat_map (group m.0 s.mode_time (map (active_of p) s.active.items)) m.0.invocations) (valuation_of p s.values.items) =
-    c.end_due.ensures m.0 each ∙ (λ k. all_ended p (flat_map (group m.0 s.mode_time (map (active_of p) (c.as_slice-active.ensures k))) m.0.invocations) (valuation_of p (c.as_mut_slice-values.ensures.value k))) in
-    let is : standing_of s.place s.state s.program s.mode s.mode_time c.drop_due.new.active.items room after.items shares s.next_tick
-    ≡ standing_of s.place states.Running (Some p) s.mode s.mode_time (kept s.mode_time es s.active.items) room c.update_due.new.values shares s.next_tick =
-    λ k. standing_of s.place (c.in-Running.is k) (c.in-Some.is k) s.mode s.mode_time (c.drop_due.ensures.items k) room (written k) shares s.next_tick in
-    subst (λ t. StandsFor t (first_half_of (unfinished_tasks completed row) row) completed) (sym is)
-    (finished p c.program-program.ensures.fits m.0 s.mode s.mode_time s.active.items s.active.room s.values.items shares s.next_tick m.1 row completed (subst (λ t. StandsFor t row completed) was st)
-    es each (all_map (IsActiveIn p s.next_tick) (IsActiveOf p) s.active.items (λ a is. is.declared) fits.each) none room c.end_due.new.values c.update_due.new.values ended (c.update_due.ensures.there m.0 m.1))
+pub returns-clause-half : goal.returns-clause-half
+returns-clause-half c = record {
+  step = λ row completed st.
+      let s = c.self.inside in
+      let p = c.in-Some.checked in
+      let shares = map (option_map arc_value) s.shares.items in
+      let fits = subst (λ o. FitsIts o s.mode s.mode_time s.next_due s.active.items s.values.items shares s.next_tick) c.in-Some.is c.self.invariant.fits in
+      let m = its_mode p s.mode fits.mode_there in
+      let was : c.args.self.now ≡ standing_of s.place states.Running (Some p) s.mode s.mode_time s.active.items s.active.room s.values.items shares s.next_tick =
+      sym c.self.view_is ∙ (λ k. standing_of s.place (c.in-Running.is k) (c.in-Some.is k) s.mode s.mode_time s.active.items s.active.room s.values.items shares s.next_tick) in
+      let es = c.invocations-invocations.result.now in
+      let none = subst (λ acts. find (opens s.mode_time acts) es ≡ None) c.as_slice-active.ensures (map_none (λ (i : SlotInvocation). i.task) _ c.in_default-first_unfinished.ensures) in
+      let written = whole_slice s.values.len c.update_due.new.values s.values.items (omega (arith, c.as_mut_slice-values.ensures.len, c.end_due.auto.values, c.update_due.auto.values)) in
+      let each = c.invocations-invocations.ensures.there m.0 m.1 in
+      let room = c.drop_due.new.active.room in
+      let after = with_items s.values c.update_due.new.values in
+      let ended : valuation_of p c.end_due.new.values ≡ all_ended p (flat_map (group m.0 s.mode_time (map (active_of p) s.active.items)) m.0.invocations) (valuation_of p s.values.items) =
+      c.end_due.ensures m.0 each ∙ (λ k. all_ended p (flat_map (group m.0 s.mode_time (map (active_of p) (c.as_slice-active.ensures k))) m.0.invocations) (valuation_of p (c.as_mut_slice-values.ensures.value k))) in
+      let is : standing_of s.place s.state s.program s.mode s.mode_time c.drop_due.new.active.items room after.items shares s.next_tick
+      ≡ standing_of s.place states.Running (Some p) s.mode s.mode_time (kept s.mode_time es s.active.items) room c.update_due.new.values shares s.next_tick =
+      λ k. standing_of s.place (c.in-Running.is k) (c.in-Some.is k) s.mode s.mode_time (c.drop_due.ensures.items k) room (written k) shares s.next_tick in
+      subst (λ t. StandsFor t (first_half_of (unfinished_tasks completed row) row) completed) (sym is)
+      (finished p c.program-program.ensures.fits m.0 s.mode s.mode_time s.active.items s.active.room s.values.items shares s.next_tick m.1 row completed (subst (λ t. StandsFor t row completed) was st)
+      es each (all_map (IsActiveIn p s.next_tick) (IsActiveOf p) s.active.items (λ a is. is.declared) fits.each) none room c.end_due.new.values c.update_due.new.values ended (c.update_due.ensures.there m.0 m.1));
+  next_tick = search rules;
+  place = search rules;
+}
 
 pub returns-clause-room : goal.returns-clause-room
 returns-clause-room c =

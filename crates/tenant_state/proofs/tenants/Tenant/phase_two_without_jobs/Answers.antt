@@ -124,14 +124,17 @@ invariant_of-self-2 c =
     let new = behind (read c) in
     rw c.in-Some.is (tenant_behind p c.program.ensures.fits c.match-switch.mode new.new new.there s.mode s.mode_time c.match-switch.time c.match-switch.next s.next_due _ _ s.next_tick _ _ _ _ _ _ (lasts (read c) c.index-modes-mode.result) is (happened c) new.quiet c.due_behind-self-inside.ensures)
 
-pub returns-clause-step : goal.returns-clause-step
-returns-clause-step c =
-    let s = c.self.inside in
-    let p = c.in-Some.checked in
-    let new = behind (read c) in
-    rw (← c.self.view_is, c.in-Running.is, c.in-Some.is)
-    (half_stands s.place p c.program.ensures.fits (its (read c)).0 s.mode s.mode_time s.next_tick s.active.room s.active.items s.values.items (map (option_map arc_value) s.shares.items) (its (read c)).1
-    c.match-switch.mode c.match-switch.time c.match-switch.next (readings (read c)) c.switch.new.values new _ c.invoke_due.new.active.room (lasts (read c) c.index-modes-mode.result) _ _ (happened c))
+pub returns-clause-half : goal.returns-clause-half
+returns-clause-half c = record {
+  step = let s = c.self.inside in
+      let p = c.in-Some.checked in
+      let new = behind (read c) in
+      rw (← c.self.view_is, c.in-Running.is, c.in-Some.is)
+      (half_stands s.place p c.program.ensures.fits (its (read c)).0 s.mode s.mode_time s.next_tick s.active.room s.active.items s.values.items (map (option_map arc_value) s.shares.items) (its (read c)).1
+      c.match-switch.mode c.match-switch.time c.match-switch.next (readings (read c)) c.switch.new.values new _ c.invoke_due.new.active.room (lasts (read c) c.index-modes-mode.result) _ _ (happened c));
+  next_tick = search rules;
+  place = search rules;
+}
 
 pub returns-clause-released : goal.returns-clause-released
 returns-clause-released c =

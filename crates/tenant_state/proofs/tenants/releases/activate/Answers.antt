@@ -13,13 +13,13 @@ pub returns-clause-fits : goal.returns-clause-fits
 returns-clause-fits c =
     let p = c.args.checked.now in
     let its = c.requires.its in
-    let t = its.2 in
-    let given = subst (λ es. AreEach (IsExpression p) its.1.arguments es) (sym c.as_slice.ensures.value) its.3.arguments in
-    let inputs = ap length (c.argument_values.ensures p its.1.arguments given c.requires.values) ∙ length-map its.1.arguments _ ∙ its.5 in
-    let states = ap length (c.state_values.ensures t its.4) ∙ length-map (own_ports t.name (names_of t.states)) _ ∙ length-map (names_of t.states) _ ∙ length-map t.states _ in
+    let t = its.task in
+    let given = subst (λ es. AreEach (IsExpression p) its.invocation.arguments es) (sym c.as_slice.ensures.value) its.is.arguments in
+    let inputs = ap length (c.argument_values.ensures p its.invocation.arguments given c.requires.values) ∙ length-map its.invocation.arguments _ ∙ its.as_many in
+    let states = ap length (c.state_values.ensures t its.there) ∙ length-map (own_ports t.name (names_of t.states)) _ ∙ length-map (names_of t.states) _ ∙ length-map t.states _ in
     let old = c.args.active.now in
     let a : Active = record old { task = c.args.invocation.now.task; release = c.args.release; inputs = c.argument_values.new.given; states = c.state_values.new.taken; completed = false } in
     record {
       early = omega arith;
-      declared = subst (λ o. IsSomeAnd o (IsActiveAs a)) (sym its.4) (record { inputs_fit = inputs; states_fit = states; result_fits = λ e. absurd (false≢true e) });
+      declared = subst (λ o. IsSomeAnd o (IsActiveAs a)) (sym its.there) (record { inputs_fit = inputs; states_fit = states; result_fits = λ e. absurd (false≢true e) });
     }

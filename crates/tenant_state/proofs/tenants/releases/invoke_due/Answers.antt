@@ -41,7 +41,7 @@ pub add_release-requires-clause-its : goal.add_release-requires-clause-its
 add_release-requires-clause-its c =
     let its = some_entry c.args.checked.now c.program-program.ensures.fits c.args.mode c.loop-invocation.invocation-index _ c.invocation-item.result c.loop-invocation-test.true c.invocation-item.is
     c.invocations-invocation-items.ensures.there c.invocations-invocation-items.ensures.none in
-    (its.0, its.2.invocation, its.2.task, its.2.is, its.2.there, its.2.arguments, its.2.few)
+    record { mode = its.0; invocation = its.2.invocation; task = its.2.task; is = its.2.is; there = its.2.there; as_many = its.2.arguments; few = its.2.few }
 
 pub add_release-requires-clause-room : goal.add_release-requires-clause-room
 add_release-requires-clause-room c =
