@@ -1,8 +1,8 @@
 -- The outstanding jobs, how many they are, and which they are in the definitions.
-use Rattle.std.proofs.Common.{◌≡◌, ℕ, zero, suc, ◌+◌, ◌<◌, Bool, not, List, [], ◌∷◌, ◌++◌, map, filter, length, get_or, set, take, refl, sym, ap, ◌∙◌, subst, arith, zero-add, append-nil, append_assoc, length-append}
+use Rattle.std.proofs.Common.{◌≡◌, ℕ, zero, suc, ◌+◌, ◌<◌, Bool, not, List, [], ◌∷◌, ◌++◌, map, filter, length, get_or, set, refl, sym, ap, ◌∙◌, subst, arith, zero-add, length-append}
 use Rattle.std.specs.List.{sum_by, flat_map, enumerate_from}
 use Rattle.std.specs.Prelude.{sum}
-use Rattle.std.proofs.lemmas.List.{length-map, length-take, take_more}
+use Rattle.std.proofs.lemmas.List.{length-map}
 use Rattle.std.proofs.lemmas.List.Sums.{sum-map, sum_by-cons}
 use Rattle.tenant_state.specs.declared.jobs.JobId.{JobId}
 use Rattle.rig_config.specs.declared.TenantConfig.{TenantConfig}
@@ -41,24 +41,6 @@ fewer_from (s ∷ ss) (suc i) x y lt at e =
 pub one_fewer_in : (xs : List Standing) (i : ℕ) (x y : Standing) → i < length xs → x ≡ get_or xs i x → number_outstanding x ≡ number_outstanding y + 1
     → length (outstanding_from 0 xs) ≡ length (outstanding_from 0 (set xs i y)) + 1
 one_fewer_in xs i x y lt at e = sym (counted_from 0 xs) ∙ (fewer_from xs i x y lt at e ∙ ap (λ n. n + 1) (counted_from 0 (set xs i y)))
-
-behind_all : (from : ℕ) (xs : List Standing) (s : Standing) → outstanding_from from (xs ++ s ∷ []) ≡ outstanding_from from xs ++ map (job_of (from + length xs)) (outstanding_tasks s)
-behind_all from [] s = ap (λ k. map (job_of k) (outstanding_tasks s) ++ []) (omega arith) ∙ append-nil (map (job_of (from + 0)) (outstanding_tasks s))
-behind_all from (x ∷ xs) s =
-    ap (λ js. map (job_of from) (outstanding_tasks x) ++ js) (behind_all (from + 1) xs s)
-    ∙ (sym (append_assoc (map (job_of from) (outstanding_tasks x)) (outstanding_from (from + 1) xs) (map (job_of (from + 1 + length xs)) (outstanding_tasks s)))
-    ∙ ap (λ k. (map (job_of from) (outstanding_tasks x) ++ outstanding_from (from + 1) xs) ++ map (job_of k) (outstanding_tasks s)) (omega arith))
-
--- the jobs of the next tenant stand behind those of the tenants before
-pub jobs_more : (i : ℕ) (xs : List Standing) (x : Standing) (old new : List JobId) → i < length xs → x ≡ get_or xs i x → x.place ≡ i
-    → new ≡ old ++ map (job_of x.place) (outstanding_tasks x) → old ≡ outstanding_from 0 (take i xs) → new ≡ outstanding_from 0 (take (i + 1) xs)
-jobs_more i xs x old new lt at own more before =
-    let place : 0 + length (take i xs) ≡ i = omega (arith, length-take i xs) in
-    more ∙ (ap (λ k. old ++ map (job_of k) (outstanding_tasks x)) own
-    ∙ (ap (λ js. js ++ map (job_of i) (outstanding_tasks x)) before
-    ∙ sym (ap (outstanding_from 0) (take_more xs i x lt) ∙ (behind_all 0 (take i xs) (get_or xs i x)
-    ∙ (ap (λ k. outstanding_from 0 (take i xs) ++ map (job_of k) (outstanding_tasks (get_or xs i x))) place
-    ∙ ap (λ y. outstanding_from 0 (take i xs) ++ map (job_of i) (outstanding_tasks y)) (sym at))))))
 
 -- what is found at the same places of two lists of one length
 places : {A B C : Type 0} (f : ℕ × A → List C) (g : ℕ × B → List C) (a : A) (b : B) (n : ℕ) (xs : List A) (ys : List B) → length xs ≡ length ys

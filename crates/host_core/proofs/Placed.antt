@@ -1,7 +1,6 @@
 -- Each tenant knows its place, as long as what is done with tenants keeps their places.
-use Rattle.std.proofs.Common.{◌≡◌, ℕ, ◌<◌, List, length, map, get_or, ap, ◌∙◌, arith}
+use Rattle.std.proofs.Common.{◌≡◌, ℕ, ◌<◌, List, length, map, ap, ◌∙◌, arith}
 use Rattle.std.specs.List.{All}
-use Rattle.std.proofs.lemmas.List.{get_or_default}
 use Rattle.host_core.specs.Halves.{AreStepped}
 use Rattle.host_core.specs.HostStanding.{ArePlaced, IsAt, tenant_at}
 use Rattle.tenant_state.specs.Standing.{Standing, at_rest, empty_standing}
@@ -10,10 +9,6 @@ use Rattle.host_core.proofs.AtRest.{same_at_rest, same_length, all_at_rest}
 pub placed_at_rest : (before after : List Standing) → map at_rest after ≡ map at_rest before → ArePlaced before → ArePlaced after
 placed_at_rest before after same placed t lt =
     ap (λ (s : Standing). s.place) (same_at_rest before after t (empty_standing 0 0) same) ∙ placed t (omega (arith, same_length before after same))
-
--- the tenant that stands at a place
-pub own_place : (tenants : List Standing) (i : ℕ) (x : Standing) → i < length tenants → x ≡ get_or tenants i x → ArePlaced tenants → x.place ≡ i
-own_place tenants i x lt here placed = ap (λ (s : Standing). s.place) (here ∙ get_or_default tenants i x (empty_standing 0 0) lt) ∙ placed i lt
 
 -- behind a step of all tenants
 pub placed_behind : (R : ℕ → Standing → Standing → Type 0) → ((t : ℕ) (s x : Standing) → R t s x → x.place ≡ s.place) → (before after : List Standing)

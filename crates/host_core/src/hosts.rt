@@ -263,20 +263,6 @@ impl Host {
         }
         outstanding
     }
-
-    /// The names of the outstanding jobs, tenant by tenant in the order of the roster.
-    ///
-    /// # Errors
-    /// Want of memory.
-    pub fn outstanding_jobs(&self) -> Result<Vec<JobId>, AllocError>
-        ensures { IfOk result (λ names. names.items ≡ outstanding_jobs self.now) }
-    {
-        let mut names = Vec::new(self.alloc);
-        for tenant in &self.tenants {
-            tenant.add_outstanding(&mut names)?;
-        }
-        Ok(names)
-    }
 }
 
 /// Computes the job of this name and takes its result, where its completion is awaited; else the completion is late and changes nothing.

@@ -1,6 +1,6 @@
 //! Jobs: the computations that an instant releases, and their results.
 
-ghost use Rattle.std.specs.Prelude.{◌≡◌, ◌<◌, ◌≤◌, ◌+◌, ◌-◌, [], ◌∷◌, ◌++◌, ◌↔◌, length, IsTrue, IsSome, IsOk, IfOk, option_to_list};
+ghost use Rattle.std.specs.Prelude.{◌≡◌, ◌<◌, ◌≤◌, ◌+◌, ◌-◌, [], ◌∷◌, ◌++◌, ◌↔◌, length, IsSome, IsOk, IfOk, option_to_list};
 ghost use Rattle.std.specs.Arc.{arc_value};
 ghost use Rattle.giotto_tasks.specs.Meaning.{outputs_of, states_of};
 ghost use Rattle.giotto_tasks.specs.Sound.{IsSound};
@@ -271,19 +271,5 @@ impl Jobs {
         ensures room { self.new.room ≡ self.old.room + length (option_to_list result) }
     {
         self.jobs.pop_front()
-    }
-
-    /// How many jobs there are.
-    pub fn len(&self) -> usize
-        ensures { result ≡ length self.now.jobs }
-    {
-        self.jobs.len()
-    }
-
-    /// Whether there is no job.
-    pub fn is_empty(&self) -> bool
-        ensures { IsTrue result ↔ (length self.now.jobs ≡ 0) }
-    {
-        self.jobs.is_empty()
     }
 }

@@ -7,7 +7,7 @@
 //! A tenant has one list of the values of its ports, by the slots of its checked program, and its tasks and its mode by
 //! their places in it. An instant goes down the timetables of the mode, by the steps of `tenant_slots`.
 //!
-//! The commands, the replies and their texts are those of `tenant_lines`, and stand here under their own names too.
+//! The commands and the replies are those of `tenant_lines`, and stand here under their own names too.
 #![tactic(auto)]
 
 pub mod grants;
@@ -17,5 +17,4 @@ pub mod trace;
 
 pub use tenant_lines::command_lines::{LineFault, command_of};
 pub use tenant_lines::commands::Command;
-pub use tenant_lines::replies::{Budget, Refusal, Reply, print_reply};
-pub use tenant_lines::texts::Text;
+pub use tenant_lines::replies::{Reply, print_reply};

@@ -1,6 +1,6 @@
 //! The jobs of a tenant whose completion is awaited.
 
-ghost use Rattle.std.specs.Prelude.{◌≡◌, ℕ, ◌<◌, ◌+◌, ◌↔◌, ◌||◌, ◌&&◌, not, nat_eq, Bool, filter, length, map, ◌++◌, IsTrue, IsOk, IfOk, IfSome, OnOk, None, Some, find, true, slice_get};
+ghost use Rattle.std.specs.Prelude.{◌≡◌, ℕ, ◌<◌, ◌+◌, ◌↔◌, ◌||◌, ◌&&◌, not, nat_eq, Bool, filter, length, map, IsTrue, IsOk, IfOk, IfSome, None, Some, find, true, slice_get};
 ghost use Rattle.std.specs.Arc.{arc_value};
 ghost use Rattle.std.specs.Bool.{OnTrue, OnFalse};
 ghost use Rattle.std.specs.List.{AllByRecursion};
@@ -20,7 +20,6 @@ use crate::tenants::{Active, Tenant};
 use giotto_check::Checked;
 use giotto_tasks::bodies::Body;
 use giotto_text::programs::Task;
-use rig_config::TenantId;
 use std::alloc::AllocError;
 use std::sync::Arc;
 
@@ -84,19 +83,6 @@ impl Tenant {
         compute_each(checked, &mut self.active)
     }
 
-    /// Adds the names of the outstanding jobs, in the order of their release.
-    ///
-    /// # Errors
-    /// Want of memory.
-    pub fn add_outstanding(&self, names: &mut Vec<JobId>) -> Result<(), AllocError>
-        ensures { OnOk result (names.new.items ≡ names.old.items ++ map (job_of self.now.place) (outstanding_tasks self.now)) }
-    {
-        let Some(checked) = &self.program else {
-            return Ok(());
-        };
-        add_names(checked, self.place, self.active.as_slice(), names)
-    }
-
     /// How many jobs are outstanding: their tasks are active, and not completed.
     pub fn outstanding(&self) -> usize
         ensures { result ≡ length (outstanding_tasks self.now) }
@@ -142,36 +128,6 @@ fn compute(checked: &Checked, active: &mut Active)
         &mut active.new_states,
     );
     active.completed = true;
-}
-
-// Adds the names of the jobs that have no result.
-fn add_names(
-    checked: &Checked,
-    tenant: TenantId,
-    active: &[Active],
-    names: &mut Vec<JobId>,
-) -> Result<(), AllocError>
-    requires { AllByRecursion (IsActiveOf checked.now) active.now }
-    ensures { OnOk result (names.new.items ≡ names.old.items ++ map (job_of tenant) (map (active_of checked.now) (filter (λ a. not (is_completed a)) active.now))) }
-{
-    for entry in active {
-        if is_awaited(entry) {
-            names.push(name_of(checked, tenant, entry))?;
-        }
-    }
-    Ok(())
-}
-
-// The name of an active task's job.
-fn name_of(checked: &Checked, tenant: TenantId, active: &Active) -> JobId
-    requires { IsActiveOf checked.now active.now }
-    ensures { result ≡ job_of tenant (active_of checked.now active.now) }
-{
-    JobId {
-        tenant,
-        tick: active.release,
-        task: declared(checked, active).name.copy(),
-    }
 }
 
 // The task of an active task.
