@@ -1,6 +1,6 @@
 //! Playing a list of events on a new host.
 
-ghost use Rattle.std.specs.Prelude.{◌≡◌, ◌≢◌, ◌<◌, ◌↔◌, ◌++◌, ◌∷◌, ◌||◌, ℕ, List, [], length, reverse, IfOk, OnOk, IsOk, IsTrue, Err, None};
+ghost use Rattle.std.specs.Prelude.{◌≡◌, ◌≢◌, ◌<◌, ◌++◌, ◌∷◌, ◌||◌, ℕ, List, [], length, reverse, IfOk, OnOk, IsOk, IsTrue, Err, None};
 ghost use Rattle.std.specs.List.{All, list_any};
 ghost use Rattle.host_core.specs.Legal.{may_follow};
 ghost use Rattle.host_core.specs.HostStanding.{awaited_in};
@@ -21,7 +21,7 @@ use rig_config::{Config, TenantId};
 use std::alloc::{AllocError, Global};
 use std::collections::BTreeSet;
 use tenant_lines::commands::Command;
-use tenant_lines::replies::{Refusal, Reply, print_reply};
+use tenant_lines::replies::{Reply, print_reply};
 use tenant_lines::texts::Text;
 use tenant_state::jobs::{JobId, Jobs};
 use thiserror::Error;
@@ -157,13 +157,6 @@ impl Stage {
     }
 }
 
-// Whether the reply is want of memory.
-fn is_memory(reply: &Reply) -> bool
-    ensures { IsTrue result ↔ (reply.now ≡ Reply.Refused Refusal.Memory) }
-{
-    matches!(reply, Reply::Refused(Refusal::Memory))
-}
-
 // No text of this many tenants.
 fn blank_texts(alloc: Global, number: usize) -> Result<Vec<Text>, AllocError>
     ensures many { IfOk result (λ texts. length texts.items ≡ number) }
@@ -180,7 +173,7 @@ fn blank_texts(alloc: Global, number: usize) -> Result<Vec<Text>, AllocError>
 fn add_answer(alloc: Global, text: &mut Text, reply: &Reply) -> Result<(), AllocError>
     ensures { OnOk result ((reply.now ≢ Reply.Refused Refusal.Memory) × (text.new ≡ text.old ++ (text_of_reply reply.now ++ 10 ∷ []))) }
 {
-    if is_memory(reply) {
+    if reply.is_memory() {
         return Err(AllocError);
     }
     add_line(alloc, text, reply)
