@@ -1,11 +1,12 @@
 -- How far a script has come: what was written is what the lines so far are answered.
-use Rattle.std.proofs.Common.{◌≡◌, ℕ, List, [], ◌∷◌, ◌++◌, Option, Some, None, Result, Ok, Err, OnOk, IfSome, IsSome, All, refl, sym, ap, ◌∙◌, subst, append_assoc, append-nil}
+use Rattle.std.proofs.Common.{◌≡◌, ℕ, ◌≤◌, ◌==◌, Bool, true, false, length, List, [], ◌∷◌, ◌++◌, Option, Some, None, Result, Ok, Err, OnOk, IfSome, IsSome, All, refl, sym, ap, ◌∙◌, subst, append_assoc, append-nil, arith}
 use Rattle.std.proofs.lemmas.List.Elements.{All-head, All-tail}
 use Rattle.std.proofs.KnownBytes.{Appends-trans, Appends-kept}
 use Rattle.std.specs.Io.KnownBytes.{Appends, Keeps}
 use Rattle.std.specs.List.{AllByRecursion}
 use Rattle.rig_script.specs.Answered.{IsText, answered, state_after}
-use Rattle.rig_script.specs.Lines.{text_of_line}
+use Rattle.tenant_lines.specs.Words.{joined_to_first}
+use Rattle.rig_script.specs.Lines.{cut, text_of_line}
 
 module _ {S : Type 0} (reply : S → List ℕ → List ℕ) (after : S → List ℕ → S) where
   -- one more line, behind lines that are text
@@ -82,3 +83,16 @@ pub where_known : {T E : Type 0} (r : Result T E) (known : Option (List ℕ)) (L
 where_known (Err e) known Left P Q left h f = tt
 where_known (Ok x) None Left P Q left h f = tt
 where_known (Ok x) (Some bytes) Left P Q left h f = f bytes (h bytes left)
+
+-- bytes have at most as many lines
+pub cut_short : (bytes : List ℕ) → length (cut bytes) ≤ length bytes
+cut_short [] = omega arith
+cut_short (c ∷ cs) = by (c == 10) refl (cut_short cs)
+  where
+    joined : (lines : List (List ℕ)) → length lines ≤ length cs → length (joined_to_first c lines) ≤ length (c ∷ cs)
+    joined [] short = omega arith
+    joined (l ∷ ls) short = omega (arith, short)
+
+    by : (b : Bool) → (c == 10) ≡ b → length (cut cs) ≤ length cs → length (cut (c ∷ cs)) ≤ length (c ∷ cs)
+    by true is short = rw is (omega (arith, short))
+    by false is short = rw is (joined (cut cs) short)

@@ -7,7 +7,7 @@ use Rattle.std.specs.List.{flat_map}
 use Rattle.std.specs.Str.{chars, is_utf8}
 use Rattle.giotto_text.proofs.Adder.{adder_text}
 use Rattle.host_core.proofs.Rig.{rig}
-use Rattle.rig_script.specs.Script.{script_text_of}
+use Rattle.rig_script.specs.Script.{script_text_of, memory_reply}
 
 -- lines, each with LF behind it
 abbrev lines : List (List ℕ) → List ℕ
@@ -43,3 +43,13 @@ speakers = refl
 no_text : script_text_of rig (lines (codes "alpha start" ∷ (0xff ∷ []) ∷ codes "alpha start" ∷ [])) ≡ lines (codes "alpha err not-loaded" ∷ codes "host bye bad-line" ∷ [])
 unfolding digits is_utf8 chars encode_utf8
 no_text = refl
+
+-- Where memory was refused, who would have answered says so.
+no_memory_for_a_tenant : memory_reply rig (codes "\talpha start") ≡ codes "alpha err memory" ++ 10 ∷ []
+no_memory_for_a_tenant = refl
+
+no_memory_for_the_operator : memory_reply rig (codes "op work") ≡ codes "op err memory" ++ 10 ∷ []
+no_memory_for_the_operator = refl
+
+no_memory_for_nobody : memory_reply rig (codes "nobody fly") ≡ codes "host err memory" ++ 10 ∷ []
+no_memory_for_nobody = refl

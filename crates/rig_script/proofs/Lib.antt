@@ -2,6 +2,7 @@ mod FirstScript
 mod LineRows
 pub mod AnsweredLines
 pub mod Completing
+pub mod CountedReads
 pub mod LineCuts
 pub mod NewScript
 pub mod NextLine

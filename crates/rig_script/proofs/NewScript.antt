@@ -1,5 +1,5 @@
 -- A script begins with a new host.
-use Rattle.std.proofs.Common.{◌≡◌, ℕ, List, [], ◌∷◌, ◌++◌, All, Option, Some, None, refl, sym, ap, subst, inr}
+use Rattle.std.proofs.Common.{◌≡◌, ◌≤◌, ◌+◌, ℕ, List, [], ◌∷◌, ◌++◌, length, All, Option, Some, None, refl, sym, ap, subst, inr, arith}
 use Rattle.std.specs.Prelude.{Result, Ok, Err, IfSome, IfErr, OnOk}
 use Rattle.host_core.specs.Base.{IsBase, new_base}
 use Rattle.host_core.specs.HostStanding.{HostStanding, Stands, new_host}
@@ -9,12 +9,12 @@ use Rattle.rig_config.specs.declared.Config.{Config}
 use Rattle.host_core.specs.Plays.{IsSettingOf}
 use Rattle.host_core.proofs.LaterBase.{new_is_base}
 use Rattle.host_core.proofs.NewHost.{new_stands}
-use Rattle.rig_script.specs.Answered.{IsBrokenOff, IsText}
+use Rattle.rig_script.specs.Answered.{IsText}
 use Rattle.rig_script.specs.HostAnswers.{IsHostAfter}
 use Rattle.rig_script.specs.Lines.{cut}
-use Rattle.rig_script.specs.Reading.{IsLeft}
+use Rattle.rig_script.specs.Reading.{IsLeft, reads_of}
 use Rattle.rig_script.specs.declared.lines.Lines.{Lines}
-use Rattle.rig_script.specs.Script.{reply_to_line, past_behind, script_from, script_text_of, IsScriptBrokenOff}
+use Rattle.rig_script.specs.Script.{script_from, script_text_of, AreBrokenOff, IsScriptBrokenOff, OfNewHost}
 use Rattle.rig_script.specs.declared.faults.ScriptFault.{ScriptFault}
 
 -- what a reader has is left of new lines
@@ -37,6 +37,12 @@ none_left (Err e) new later known after left h = tt
 none_left (Ok x) new later None after left h = tt
 none_left (Ok x) new later (Some bytes) after left h = λ all. nothing_left later after (h bytes (left bytes) all)
 
+-- a script that has as many reads has as many bytes
+pub many_bytes : (new : Lines) (known : Option (List ℕ)) → ((bytes : List ℕ) → IsLeft new (Some bytes) bytes) → reads_of new ≡ 0
+    → ((bytes : List ℕ) → IsLeft new known bytes → 1048576 ≤ reads_of new + length bytes) → IfSome known (λ bytes. 1048576 ≤ length bytes)
+many_bytes new None left none many = tt
+many_bytes new (Some bytes) left none many = let all = many bytes (left bytes) in omega (arith, none, all)
+
 module _ (host : HostStanding) (config : Config) (is : host ≡ new_host config 0) where
   starts : (setting : Setting) → IsSettingOf config setting → IsHostAfter setting host []
   starts setting of = record {
@@ -50,15 +56,15 @@ module _ (host : HostStanding) (config : Config) (is : host ≡ new_host config 
 
   pub all_written : {T E : Type 0} (r : Result T E) (known : Option (List ℕ)) (Left Written : List ℕ → Type 0) → IfSome known Left
       → OnOk r ((setting : Setting) (past : List Event) (bytes : List ℕ) → IsHostAfter setting host past → Left bytes → Written (script_from setting past (cut bytes)))
-      → OnOk r ((setting : Setting) → IsSettingOf config setting → IfSome known (λ bytes. Written (script_text_of setting bytes)))
+      → OnOk r (OfNewHost config known (λ setting bytes. Written (script_text_of setting bytes)))
   all_written (Err e) known Left Written left h = tt
   all_written (Ok x) None Left Written left h = λ setting of. tt
   all_written (Ok x) (Some bytes) Left Written left h = λ setting of. h setting [] bytes (starts setting of) left
 
   pub broken_off : {T : Type 0} (r : Result T ScriptFault) (known after : Option (List ℕ)) (Left Written : List ℕ → Type 0) → IfSome known Left
       → IfErr r (λ fault. (setting : Setting) (past : List Event) (bytes : List ℕ) → IsHostAfter setting host past → Left bytes
-      → IsBrokenOff (reply_to_line setting) (past_behind setting) past (cut bytes) Written fault)
-      → IfErr r (λ fault. (setting : Setting) → IsSettingOf config setting → IfSome known (λ bytes. IsScriptBrokenOff setting bytes after Written fault))
+      → AreBrokenOff Written fault setting past (cut bytes))
+      → IfErr r (λ fault. OfNewHost config known (IsScriptBrokenOff after Written fault))
   broken_off (Ok x) known after Left Written left h = tt
   broken_off (Err fault) None after Left Written left h = λ setting of. tt
   broken_off (Err fault) (Some bytes) after Left Written left h = λ setting of. inr (h setting [] bytes (starts setting of) left)

@@ -1,8 +1,7 @@
 -- What is written for the lines of a script, by who answers them.
-use Rattle.std.specs.Prelude.{◌≡◌, ℕ, List, [], ◌∷◌, ◌++◌, Option, Some, None, IsSome, codes}
+use Rattle.std.specs.Prelude.{◌≡◌, ◌⊎◌, ℕ, List, [], ◌∷◌, ◌++◌, Option, Some, None, IsSome, codes}
 use Rattle.std.specs.List.{AllByRecursion}
 use Rattle.std.specs.Option.{option_map}
-use Rattle.tenant_lines.specs.Words.{first_word_of}
 use Rattle.rig_script.specs.declared.faults.ScriptFault.{ScriptFault}
 use Rattle.rig_script.specs.declared.faults.ScriptFault.TheVariants.{Read, Write, Turns, Memory}
 use Rattle.rig_script.specs.Lines.{text_of_line}
@@ -15,9 +14,9 @@ reply_line who reply = who ++ (32 ∷ reply ++ 10 ∷ [])
 abbrev pub bye_bad_line : List ℕ
 bye_bad_line = reply_line (codes "host") (codes "bye bad-line")
 
--- what is written where a reply to a line found no memory
+-- what is written where a reply found no memory, by who is answered
 abbrev pub err_memory : List ℕ → List ℕ
-err_memory text = reply_line (first_word_of text) (codes "err memory")
+err_memory who = reply_line who (codes "err memory")
 
 -- a line of at most 16,384 bytes in UTF-8
 abbrev pub IsText : List ℕ → Type 0
@@ -45,12 +44,16 @@ module _ {S : Type 0} (reply : S → List ℕ → List ℕ) (after : S → List 
   abbrev pub AnsweredBefore : S → List (List ℕ) → (List ℕ → Type 0) → Type 0
   AnsweredBefore s lines Written = (before : List (List ℕ)) × (later : List (List ℕ)) × (lines ≡ before ++ later) × AllByRecursion IsText before × Written (answered s before)
 
-  -- What was written before a fault: the replies to the lines before it, and behind them that a reply found no memory.
-  -- Where a write failed nothing is said.
-  abbrev pub IsBrokenOff : S → List (List ℕ) → (List ℕ → Type 0) → ScriptFault → Type 0
-  IsBrokenOff s lines Written Read = AnsweredBefore s lines Written
-  IsBrokenOff s lines Written Write = Unit {0}
-  IsBrokenOff s lines Written Turns = AnsweredBefore s lines Written
-  IsBrokenOff s lines Written Memory =
+  -- What was written before a fault: the replies to the lines before it, and behind them that the reply to a line found no memory,
+  -- which `refused` says of its text. Where a write failed nothing is said.
+  abbrev pub IsBrokenOff : (List ℕ → List ℕ) → S → List (List ℕ) → (List ℕ → Type 0) → ScriptFault → Type 0
+  IsBrokenOff refused s lines Written Read = AnsweredBefore s lines Written
+  IsBrokenOff refused s lines Written Write = Unit {0}
+  IsBrokenOff refused s lines Written Turns = AnsweredBefore s lines Written
+  IsBrokenOff refused s lines Written Memory =
       (before : List (List ℕ)) × (line : List ℕ) × (text : List ℕ) × (later : List (List ℕ)) × (lines ≡ before ++ line ∷ later) × AllByRecursion IsText before
-      × (text_of_line line ≡ Some text) × Written (answered s before ++ err_memory text)
+      × (text_of_line line ≡ Some text) × Written (answered s before ++ refused text)
+
+-- why a line was not answered: a write failed, or the reply found no memory, and then `Said` holds
+abbrev pub IsUnanswered : ScriptFault → Type 0 → Type 0
+IsUnanswered fault Said = (fault ≡ Write) ⊎ ((fault ≡ Memory) × Said)

@@ -1,5 +1,5 @@
 -- What is left of a stream of lines: the bytes that were read and those that the reader still has.
-use Rattle.std.specs.Prelude.{◌≡◌, ℕ, Bool, true, List, [], ◌∷◌, ◌++◌, Option, Some, None, IsSomeAnd, Result, Ok, Err, String, string_bytes}
+use Rattle.std.specs.Prelude.{◌≡◌, ◌≤◌, ◌+◌, ◌*◌, ℕ, Bool, true, List, [], ◌∷◌, ◌++◌, length, Option, Some, None, IsSomeAnd, Result, Ok, Err, String, string_bytes}
 use Rattle.std.specs.declared.alloc.Global.{Global}
 use Rattle.tokio_util.specs.declared.codec.lines_codec.LinesCodec.{LinesCodec}
 use Rattle.tokio_util.specs.declared.codec.lines_codec.LinesCodecError.{LinesCodecError}
@@ -19,6 +19,28 @@ Found = Next LinesCodec (String Global) LinesCodecError
 abbrev pub IsReading : List ℕ → LinesCodec → List ℕ → Option (List ℕ) → Bool → Type 0
 IsReading bytes codec now rest at_end = IsSomeAnd rest (λ more.
     (at_end ≡ true → more ≡ []) × ((next : Found) → gives_lines codec (now ++ more) next → gives_lines (at_line_start 16384) bytes next))
+
+-- the same of what these lines have read
+abbrev pub IsReadingOf : Lines → Option (List ℕ) → List ℕ → Type 0
+IsReadingOf lines rest bytes = IsReading bytes lines.codec lines.buffer.items rest lines.at_end
+
+-- how many reads gave bytes
+abbrev pub reads_of : Lines → ℕ
+reads_of lines = lines.reads
+
+-- this many reads, each of which took 1 to 4,096 bytes from the front of `before`, left `after`
+pub record AreReads (count : ℕ) (before after : List ℕ) : Type 0 where
+  pub taken : List ℕ
+  pub split : before ≡ taken ++ after
+  pub least : count ≤ length taken
+  pub most : length taken ≤ 4096 * count
+
+-- From the number of reads `old` to the number `new`: each read that gave bytes was counted, and nothing else. What the reader
+-- had and what it has tells so, where it is known.
+abbrev pub AreCounted : ℕ → ℕ → Option (List ℕ) → Option (List ℕ) → Type 0
+AreCounted old new None after = old ≤ new
+AreCounted old new (Some before) None = ⊥
+AreCounted old new (Some before) (Some after) = (count : ℕ) × (new ≡ old + count) × AreReads count before after
 
 -- these bytes are left of the stream, and a line begins with them; `remaining` is what the reader still has, if that is known
 abbrev pub IsLeft : Lines → Option (List ℕ) → List ℕ → Type 0

@@ -1,5 +1,5 @@
 -- The text that a script is answered.
-use Rattle.std.specs.Prelude.{◌≡◌, ◌⊎◌, ℕ, ◌-◌, ◌^◌, nat_lt, not, ◌==◌, if◌then◌else◌, ℤ, List, [], ◌∷◌, ◌++◌, length, map, filter, reverse, Option, Some, None, Result, Ok, Err, String, string_bytes, codes}
+use Rattle.std.specs.Prelude.{◌≡◌, ◌⊎◌, ℕ, ◌-◌, ◌^◌, nat_lt, not, ◌==◌, if◌then◌else◌, ℤ, List, [], ◌∷◌, ◌++◌, length, map, filter, reverse, Option, Some, None, IfSome, Result, Ok, Err, String, string_bytes, codes}
 use Rattle.std.specs.declared.alloc.AllocError.{AllocError}
 use Rattle.std.specs.declared.alloc.Global.{Global}
 use Rattle.std.specs.List.{flat_map, enumerate_from}
@@ -21,13 +21,14 @@ use Rattle.tenant_lines.specs.Words.{words_of, first_word_of, behind_first_word,
 use Rattle.host_core.specs.Completions.{has_completion}
 use Rattle.tenant_state.specs.Jobs.{job_of}
 use Rattle.host_core.specs.Legal.{next_tick}
+use Rattle.host_core.specs.Plays.{IsSettingOf}
 use Rattle.host_core.specs.Setting.{Setting}
 use Rattle.host_core.specs.Views.{after_command, row_of}
 use Rattle.rig_script.specs.declared.speakers.Speaker.{Speaker}
 use Rattle.rig_script.specs.declared.speakers.Speaker.TheVariants.{Nobody, Operator, Tenant, Unknown}
 use Rattle.rig_script.specs.declared.faults.ScriptFault.{ScriptFault}
 use Rattle.rig_script.specs.declared.faults.ScriptFault.TheVariants.{Memory}
-use Rattle.rig_script.specs.Answered.{reply_line, answered, IsBrokenOff}
+use Rattle.rig_script.specs.Answered.{reply_line, err_memory, answered, state_after, IsBrokenOff}
 use Rattle.rig_script.specs.Lines.{cut}
 
 -- the word with which the operator's lines begin
@@ -48,6 +49,13 @@ speaker_of config line = by (first_word_of line)
 
 abbrev pub operator_refusal : List ℕ → List ℕ
 operator_refusal why = reply_line operator (codes "err " ++ why)
+
+-- who is answered to a line: its first word, by who speaks in it, and "host" where nobody has that name
+abbrev pub addressee_of : Speaker → List ℕ → List ℕ
+addressee_of Nobody line = first_word_of line
+addressee_of Operator line = first_word_of line
+addressee_of (Tenant t) line = first_word_of line
+addressee_of Unknown line = codes "host"
 
 abbrev pub err_who : List ℕ
 err_who = reply_line (codes "host") (codes "err who")
@@ -144,9 +152,17 @@ module _ (setting : Setting) where
   abbrev pub reply_to_line : List Event → List ℕ → List ℕ
   reply_to_line past line = (line_step past line).reply
 
+  -- what is written where the reply to a line found no memory
+  abbrev pub memory_reply : List ℕ → List ℕ
+  memory_reply line = err_memory (addressee_of (speaker_of setting.config line) line)
+
   -- the events behind a line, the newest first
   abbrev pub past_behind : List Event → List ℕ → List Event
   past_behind past line = (line_step past line).events ++ past
+
+  -- the events behind these lines, the newest first
+  abbrev pub past_after : List Event → List (List ℕ) → List Event
+  past_after past lines = state_after reply_to_line past_behind past lines
 
   -- what is written for these lines behind the events of the past
   abbrev pub script_from : List Event → List (List ℕ) → List ℕ
@@ -156,8 +172,23 @@ module _ (setting : Setting) where
   abbrev pub script_text_of : List ℕ → List ℕ
   script_text_of bytes = script_from [] (cut bytes)
 
-  -- What was written for these bytes before a fault, by what the reader has left: nothing, where there was no memory for the host and
-  -- nothing was read.
-  abbrev pub IsScriptBrokenOff : List ℕ → Option (List ℕ) → (List ℕ → Type 0) → ScriptFault → Type 0
-  IsScriptBrokenOff bytes left Written fault =
-      ((fault ≡ Memory) × (left ≡ Some bytes) × Written []) ⊎ IsBrokenOff reply_to_line past_behind [] (cut bytes) Written fault
+-- what was written for these lines behind the events of the past, before a fault
+abbrev pub AreBrokenOff : (List ℕ → Type 0) → ScriptFault → Setting → List Event → List (List ℕ) → Type 0
+AreBrokenOff Written fault setting past lines = IsBrokenOff (reply_to_line setting) (past_behind setting) (memory_reply setting) past lines Written fault
+
+-- What was written for these bytes before a fault, by what the reader has left: nothing, where there was no memory for the host and
+-- nothing was read.
+abbrev pub IsScriptBrokenOff : Option (List ℕ) → (List ℕ → Type 0) → ScriptFault → Setting → List ℕ → Type 0
+IsScriptBrokenOff left Written fault setting bytes = ((fault ≡ Memory) × (left ≡ Some bytes) × Written []) ⊎ AreBrokenOff Written fault setting [] (cut bytes)
+
+-- `Holds` of each rig and the events behind which it `Stands`
+abbrev pub WhereStands : (Setting → List Event → Type 0) → (Setting → List Event → Type 0) → Type 0
+WhereStands Stands Holds = (setting : Setting) (past : List Event) → Stands setting past → Holds setting past
+
+-- the same with the lines of the bytes that are `Left`
+abbrev pub WhereLeft : (Setting → List Event → Type 0) → (List ℕ → Type 0) → (Setting → List Event → List (List ℕ) → Type 0) → Type 0
+WhereLeft Stands Left Holds = (setting : Setting) (past : List Event) (bytes : List ℕ) → Stands setting past → Left bytes → Holds setting past (cut bytes)
+
+-- `Holds` of the setting of a new host with this configuration and of the bytes that a reader is known to have
+abbrev pub OfNewHost : Config → Option (List ℕ) → (Setting → List ℕ → Type 0) → Type 0
+OfNewHost config known Holds = (setting : Setting) → IsSettingOf config setting → IfSome known (Holds setting)

@@ -1,31 +1,35 @@
 //! A script's lines and who answers them.
 
-ghost use Rattle.std.specs.Prelude.{◌≡◌, ℕ, List, [], codes, All, IfErr, OnOk, ◌⊎◌};
+ghost use Rattle.std.specs.Prelude.{◌≡◌, ◌≤◌, ◌+◌, ℕ, List, [], All, Err, IfErr, OnOk, length};
 ghost use Rattle.std.specs.Io.KnownBytes.{Appends, Keeps};
 ghost use Rattle.host_core.specs.Setting.{Setting};
 ghost use Rattle.host_core.specs.declared.events.Event.{Event};
-ghost use Rattle.rig_script.specs.Answered.{reply_line, bye_bad_line, err_memory, IsText, state_after, IsBrokenOff};
+ghost use Rattle.rig_script.specs.Answered.{bye_bad_line, err_memory, IsText, IsUnanswered};
 ghost use Rattle.rig_script.specs.Lines.{cut};
-ghost use Rattle.rig_script.specs.Reading.{IsLeft};
-ghost use Rattle.rig_script.specs.Script.{IsStep, line_step, reply_to_line, past_behind, script_from};
+ghost use Rattle.rig_script.specs.Reading.{IsLeft, reads_of};
+ghost use Rattle.rig_script.specs.Script.{IsStep, WhereStands, WhereLeft, AreBrokenOff, speaker_of, line_step, memory_reply, reply_to_line, past_after, past_behind, script_from};
 
 use crate::faults::ScriptFault;
 use crate::lines::{Line, Lines};
+use crate::speakers::{Speaker, addressee};
 use std::alloc::{AllocError, Global};
 use std::io::{Read, Write};
-use tenant_lines::words;
 
 /// Who answers the lines of a script.
 pub trait Answers {
     // it stands for what these events, the newest first, make of a rig
     ghost stands: { Self → Setting → List Event → Type 0 };
 
+    /// Who speaks in a line.
+    fn speaker(&self, line: &str) -> Speaker
+        ensures { WhereStands (stands self.now) (λ setting past. result ≡ speaker_of setting.config line.now) };
+
     /// The bytes that are written for a line, and no byte for a line that has no reply.
     ///
     /// # Errors
     /// Where there is want of memory for the reply.
     fn answer(&mut self, alloc: Global, line: &str) -> Result<String, AllocError>
-        ensures { (setting : Setting) (past : List Event) → stands self.old setting past → IsStep (line_step setting past line.now) past result (stands self.new setting) };
+        ensures { WhereStands (stands self.old) (λ setting past. IsStep (line_step setting past line.now) past result (stands self.new setting)) };
 }
 
 /// Answers the lines, in their order, until the input ends or a line is too long or no text. Such a
@@ -35,7 +39,8 @@ pub trait Answers {
 ///
 /// # Errors
 /// `Read`, `Write` and `Turns` as `Lines::next_line`. `Memory` where there is want of memory for a
-/// reply: `err memory` behind the line's first word is written in its place.
+/// reply: `err memory` is written in its place, behind the line's first word, or behind `host` where
+/// nobody has that name.
 pub fn answer_lines<R: Read, W: Write, A: Answers>(
     alloc: Global,
     lines: &mut Lines,
@@ -43,14 +48,15 @@ pub fn answer_lines<R: Read, W: Write, A: Answers>(
     writer: &mut W,
     answers: &mut A,
 ) -> Result<(), ScriptFault>
-    ensures written { OnOk result ((setting : Setting) (past : List Event) (bytes : List ℕ) → A.stands answers.old setting past → IsLeft lines.old (R.remaining reader.old) bytes
-        → Appends (W.contents writer.old) (W.contents writer.new) (script_from setting past (cut bytes))) }
-    ensures state { OnOk result ((setting : Setting) (past : List Event) (bytes : List ℕ) → A.stands answers.old setting past → IsLeft lines.old (R.remaining reader.old) bytes
-        → A.stands answers.new setting (state_after (reply_to_line setting) (past_behind setting) past (cut bytes))) }
+    ensures written { OnOk result (WhereLeft (A.stands answers.old) (IsLeft lines.old (R.remaining reader.old)) (λ s past lines.
+        Appends (W.contents writer.old) (W.contents writer.new) (script_from s past lines))) }
+    ensures state { OnOk result (WhereLeft (A.stands answers.old) (IsLeft lines.old (R.remaining reader.old)) (λ setting past lines.
+        A.stands answers.new setting (past_after setting past lines))) }
     ensures end { OnOk result ((bytes : List ℕ) → IsLeft lines.old (R.remaining reader.old) bytes
         → All IsText (cut bytes) → IsLeft lines.new (R.remaining reader.new) []) }
-    ensures fault { IfErr result (λ fault. (setting : Setting) (past : List Event) (bytes : List ℕ) → A.stands answers.old setting past → IsLeft lines.old (R.remaining reader.old) bytes
-        → IsBrokenOff (reply_to_line setting) (past_behind setting) past (cut bytes) (Appends (W.contents writer.old) (W.contents writer.new)) fault) }
+    ensures fault { IfErr result (λ fault. WhereLeft (A.stands answers.old) (IsLeft lines.old (R.remaining reader.old))
+        (AreBrokenOff (Appends (W.contents writer.old) (W.contents writer.new)) fault)) }
+    ensures turns { result ≡ Err ScriptFault.Turns → (bytes : List ℕ) → IsLeft lines.old (R.remaining reader.old) bytes → 1048576 ≤ reads_of lines.old + length bytes }
 {
     for _line in 0..u64::MAX {
         match lines.next_line(reader, writer)? {
@@ -69,15 +75,16 @@ fn answer_line<W: Write, A: Answers>(
     answers: &mut A,
     line: &str,
 ) -> Result<(), ScriptFault>
-    ensures stands { OnOk result ((setting : Setting) (past : List Event) → A.stands answers.old setting past → A.stands answers.new setting (past_behind setting past line.now)) }
-    ensures written { OnOk result ((setting : Setting) (past : List Event) → A.stands answers.old setting past → Appends (W.contents writer.old) (W.contents writer.new) (reply_to_line setting past line.now)) }
-    ensures fault { IfErr result (λ fault. (fault ≡ ScriptFault.Write)
-        ⊎ ((fault ≡ ScriptFault.Memory) × Appends (W.contents writer.old) (W.contents writer.new) (err_memory line.now))) }
+    ensures stands { OnOk result (WhereStands (A.stands answers.old) (λ setting past. A.stands answers.new setting (past_behind setting past line.now))) }
+    ensures written { OnOk result (WhereStands (A.stands answers.old) (λ setting past. Appends (W.contents writer.old) (W.contents writer.new) (reply_to_line setting past line.now))) }
+    ensures fault { IfErr result (λ fault. IsUnanswered fault (WhereStands (A.stands answers.old) (λ setting past.
+        Appends (W.contents writer.old) (W.contents writer.new) (memory_reply setting line.now)))) }
 {
+    let speaker = answers.speaker(line);
     match answers.answer(alloc, line) {
         Ok(reply) => write(writer, reply.as_str().as_bytes()),
         Err(_) => {
-            say_memory(writer, words::first_word(line).as_bytes())?;
+            say_memory(writer, addressee(speaker, line).as_bytes())?;
             Err(ScriptFault::Memory)
         }
     }
@@ -92,9 +99,9 @@ fn say_bye<W: Write>(writer: &mut W) -> Result<(), ScriptFault>
     flush(writer)
 }
 
-// Writes that there is want of memory for a reply to who speaks.
+// Writes that there is want of memory for a reply, to who is answered.
 fn say_memory<W: Write>(writer: &mut W, who: &[u8]) -> Result<(), ScriptFault>
-    ensures written { OnOk result (Appends (W.contents writer.old) (W.contents writer.new) (reply_line who.now (codes "err memory"))) }
+    ensures written { OnOk result (Appends (W.contents writer.old) (W.contents writer.new) (err_memory who.now)) }
     ensures fault { IfErr result (λ fault. fault ≡ ScriptFault.Write) }
 {
     write(writer, who)?;

@@ -3,7 +3,7 @@
 ghost use Rattle.std.specs.Prelude.{◌≡◌, ◌≢◌, ◌≤◌, ◌+◌, ℕ, true, false, List, Option, Some, IfErr, OnOk, Err};
 ghost use Rattle.std.specs.Io.KnownBytes.{Keeps};
 ghost use Rattle.tokio_util.specs.Codec.Lines.{IsOutOfMemory};
-ghost use Rattle.rig_script.specs.Reading.{IsReading, IsLeft, IsNextLine};
+ghost use Rattle.rig_script.specs.Reading.{IsReadingOf, IsLeft, IsNextLine, AreCounted, reads_of};
 
 use crate::faults::ScriptFault;
 use bytes::BytesMut;
@@ -12,11 +12,11 @@ use std::io;
 use std::io::{Read, Write};
 use tokio_util::codec::{Decoder, LinesCodec, LinesCodecError};
 
-/// How many bytes a line may have before its LF.
-pub const MAX_LINE: usize = 16384;
+// How many bytes a line may have before its LF.
+const MAX_LINE: usize = 16384;
 
-/// How many reads may go by without the end of the input.
-pub const MAX_READS: u32 = 1048576;
+// How many reads may give bytes without the end of the input.
+const MAX_READS: u32 = 1048576;
 
 /// What the next line is.
 #[derive(Drop)]
@@ -43,7 +43,7 @@ impl Lines {
     /// The lines of a reader from which nothing was read yet.
     pub fn new(alloc: Global) -> Lines
         ensures left { (bytes : List ℕ) → IsLeft result (Some bytes) bytes }
-        ensures count { result.reads ≡ 0 }
+        ensures count { reads_of result ≡ 0 }
     {
         Lines {
             alloc,
@@ -54,12 +54,20 @@ impl Lines {
         }
     }
 
+    /// How many reads gave bytes so far.
+    pub fn reads(&self) -> u32
+        ensures { result ≡ reads_of self.now }
+    {
+        self.reads
+    }
+
     /// The next line. What the reader has is read only where no line is left of what was read
-    /// before, and the writer is flushed before each read.
+    /// before, and the writer is flushed before each read. A read that gives bytes is counted, and
+    /// nothing else.
     ///
     /// # Errors
     /// `Read` where a read failed or a line found no memory, `Write` where a flush failed, and
-    /// `Turns` where 1,048,576 reads went by and none of them found the end.
+    /// `Turns` where 1,048,576 reads gave bytes and none of them found the end.
     pub fn next_line<R: Read, W: Write>(
         &mut self,
         reader: &mut R,
@@ -67,7 +75,8 @@ impl Lines {
     ) -> Result<Line, ScriptFault>
         ensures line { (bytes : List ℕ) → IsLeft self.old (R.remaining reader.old) bytes → IsNextLine bytes result (IsLeft self.new (R.remaining reader.new)) }
         ensures faults { IfErr result (λ fault. fault ≢ ScriptFault.Memory) }
-        ensures turns { result ≡ Err ScriptFault.Turns → 1048576 ≤ self.new.reads }
+        ensures count { AreCounted (reads_of self.old) (reads_of self.new) (R.remaining reader.old) (R.remaining reader.new) }
+        ensures turns { result ≡ Err ScriptFault.Turns → 1048576 ≤ reads_of self.new }
         ensures written { Keeps (W.contents writer.old) (W.contents writer.new) }
     {
         for _read in 0..=MAX_READS {
@@ -90,8 +99,9 @@ impl Lines {
     // The next line where the reader has ended.
     fn last_line(&mut self) -> Result<Line, ScriptFault>
         requires { self.old.at_end ≡ true }
-        ensures line { (remaining : Option (List ℕ)) (bytes : List ℕ) → IsReading bytes self.old.codec self.old.buffer.items remaining self.old.at_end → IsNextLine bytes result (IsLeft self.new remaining) }
+        ensures line { (rest : Option (List ℕ)) (bytes : List ℕ) → IsReadingOf self.old rest bytes → IsNextLine bytes result (IsLeft self.new rest) }
         ensures faults { IfErr result (λ fault. fault ≡ ScriptFault.Read) }
+        ensures count { reads_of self.new ≡ reads_of self.old }
     {
         match self.codec.decode_eof(&mut self.buffer) {
             Ok(Some(text)) => Ok(Line::Whole(text)),
@@ -110,16 +120,16 @@ impl Lines {
     // Reads what there is, up to a page.
     fn fill<R: Read>(&mut self, reader: &mut R) -> Result<(), ScriptFault>
         requires { self.old.at_end ≡ false }
-        ensures filled { OnOk result ((bytes : List ℕ) → IsReading bytes self.old.codec self.old.buffer.items (R.remaining reader.old) false
-            → IsReading bytes self.new.codec self.new.buffer.items (R.remaining reader.new) self.new.at_end) }
+        ensures filled { OnOk result ((bytes : List ℕ) → IsReadingOf self.old (R.remaining reader.old) bytes → IsReadingOf self.new (R.remaining reader.new) bytes) }
         ensures faults { IfErr result (λ fault. fault ≢ ScriptFault.Memory) }
-        ensures count { OnOk result (self.new.reads ≡ self.old.reads + 1) }
-        ensures turns { result ≡ Err ScriptFault.Turns → 1048576 ≤ self.new.reads }
+        ensures count { AreCounted (reads_of self.old) (reads_of self.new) (R.remaining reader.old) (R.remaining reader.new) }
+        ensures further { OnOk result (self.new.at_end ≡ false → reads_of self.new ≡ reads_of self.old + 1) }
+        ensures stays { reads_of self.old ≤ reads_of self.new }
+        ensures turns { result ≡ Err ScriptFault.Turns → 1048576 ≤ reads_of self.new }
     {
-        if self.reads >= MAX_READS {
+        if self.reads() >= MAX_READS {
             return Err(ScriptFault::Turns);
         }
-        self.reads += 1;
         let mut page = [0u8; 4096];
         match reader.read(&mut page) {
             Err(_) => Err(ScriptFault::Read),
@@ -128,6 +138,7 @@ impl Lines {
                 Ok(())
             }
             Ok(len) => {
+                self.reads += 1;
                 let Ok(()) = self.buffer.extend_from_slice(&page[..len]) else {
                     return Err(ScriptFault::Read);
                 };

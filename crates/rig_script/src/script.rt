@@ -1,17 +1,14 @@
 //! A script: each line is answered before the next one is read.
 
-ghost use Rattle.std.specs.Prelude.{◌≡◌, ◌↔◌, [], ◌∷◌, ◌<◌, List, Some, codes, length, All, IsTrue, IfOk, IfErr, IfSome, OnOk, string_bytes};
+ghost use Rattle.std.specs.Prelude.{◌≡◌, [], ◌∷◌, ◌<◌, ◌≤◌, List, Some, Err, codes, length, All, IfOk, IfErr, IfSome, OnOk, string_bytes};
 ghost use Rattle.std.specs.Io.KnownBytes.{Appends};
 ghost use Rattle.host_core.specs.Setting.{Setting};
-ghost use Rattle.host_core.specs.Plays.{IsSettingOf};
 ghost use Rattle.host_core.specs.declared.events.Event.{Event};
-ghost use Rattle.tenant_lines.specs.declared.replies.Refusal.TheVariants as refusals;
-ghost use Rattle.tenant_lines.specs.declared.replies.Reply.TheVariants as code;
 ghost use Rattle.tenant_lines.specs.Words.{words_of};
 ghost use Rattle.rig_script.specs.Answered.{reply_line, IsText};
 ghost use Rattle.rig_script.specs.Lines.{cut};
 ghost use Rattle.rig_script.specs.HostAnswers.{IsHostAfter};
-ghost use Rattle.rig_script.specs.Script.{IsStep, tenant_step, operator_step, work_step, work_step_of, outstanding_after, script_text_of, IsScriptBrokenOff};
+ghost use Rattle.rig_script.specs.Script.{IsStep, tenant_step, operator_step, work_step, work_step_of, outstanding_after, script_text_of, IsScriptBrokenOff, OfNewHost};
 
 use crate::answers::{Answers, answer_lines};
 use crate::faults::ScriptFault;
@@ -23,11 +20,15 @@ use rig_config::{Config, TenantId};
 use std::alloc::{AllocError, Global};
 use std::io::{Read, Write};
 use tenant_lines::command_lines::{LineFault, command_of};
-use tenant_lines::replies::{Refusal, Reply, print_reply};
+use tenant_lines::replies::print_reply;
 use tenant_lines::words;
 
 impl Answers for Host {
     ghost stands = { λ host setting past. IsHostAfter setting host past };
+
+    fn speaker(&self, line: &str) -> Speaker {
+        who_speaks(self.config(), line)
+    }
 
     fn answer(&mut self, alloc: Global, line: &str) -> Result<String, AllocError> {
         let rest = words::behind_first_word(line);
@@ -47,19 +48,20 @@ impl Answers for Host {
 /// Nothing is left unread where each line is text of at most 16,384 bytes; another line ends the script.
 ///
 /// # Errors
-/// `Read`, `Write`, `Turns` and `Memory` as `answer_lines`; `Memory` also where there is want of memory for the host, and then nothing
-/// was read or written.
+/// `Read`, `Write`, `Turns` and `Memory` as `answer_lines`; `Turns` only where the input has 1,048,576 bytes or more. `Memory` also where
+/// there is want of memory for the host, and then nothing was read or written.
 pub fn script<R: Read, W: Write>(
     alloc: Global,
     reader: &mut R,
     writer: &mut W,
     config: &Config,
 ) -> Result<(), ScriptFault>
-    ensures written { OnOk result ((setting : Setting) → IsSettingOf config.now setting
-        → IfSome (R.remaining reader.old) (λ bytes. Appends (W.contents writer.old) (W.contents writer.new) (script_text_of setting bytes))) }
+    ensures written { OnOk result (OfNewHost config.now (R.remaining reader.old) (λ setting bytes.
+        Appends (W.contents writer.old) (W.contents writer.new) (script_text_of setting bytes))) }
     ensures end { OnOk result (IfSome (R.remaining reader.old) (λ bytes. All IsText (cut bytes) → R.remaining reader.new ≡ Some [])) }
-    ensures fault { IfErr result (λ fault. (setting : Setting) → IsSettingOf config.now setting
-        → IfSome (R.remaining reader.old) (λ bytes. IsScriptBrokenOff setting bytes (R.remaining reader.new) (Appends (W.contents writer.old) (W.contents writer.new)) fault)) }
+    ensures fault { IfErr result (λ fault. OfNewHost config.now (R.remaining reader.old)
+        (IsScriptBrokenOff (R.remaining reader.new) (Appends (W.contents writer.old) (W.contents writer.new)) fault)) }
+    ensures turns { result ≡ Err ScriptFault.Turns → IfSome (R.remaining reader.old) (λ bytes. 1048576 ≤ length bytes) }
 {
     let Ok(mut host) = Host::new(alloc, config, 0) else {
         return Err(ScriptFault::Memory);
@@ -86,18 +88,11 @@ fn tenant_line(
         Err(LineFault::Memory) => return Err(AllocError),
     };
     let reply = host.command(tenant, command);
-    if is_memory(&reply) {
+    if reply.is_memory() {
         return Err(AllocError);
     }
     let text = print_reply(alloc, &reply)?;
     reply_line(alloc, name, text.as_str())
-}
-
-// Whether the reply is that a command found no memory.
-fn is_memory(reply: &Reply) -> bool
-    ensures { IsTrue result ↔ (reply.now ≡ code.Refused refusals.Memory) }
-{
-    matches!(reply, Reply::Refused(Refusal::Memory))
 }
 
 // The step of an operator's line, which stands behind `op`.
@@ -166,11 +161,8 @@ fn complete_tenant(alloc: Global, host: &mut Host, name: &str) -> Result<String,
     format!(in alloc; "op ok work {number}\n")
 }
 
-/// A reply as it is written: who is answered, a space, the reply, and LF.
-///
-/// # Errors
-/// Want of memory.
-pub fn reply_line(alloc: Global, who: &str, reply: &str) -> Result<String, AllocError>
+// A reply as it is written: who is answered, a space, the reply, and LF.
+fn reply_line(alloc: Global, who: &str, reply: &str) -> Result<String, AllocError>
     ensures { IfOk result (λ line. string_bytes line ≡ reply_line who.now reply.now) }
 {
     format!(in alloc; "{who} {reply}\n")

@@ -1,7 +1,7 @@
 //! Who speaks in a line of a script.
 
 ghost use Rattle.std.specs.Prelude.{◌≡◌};
-ghost use Rattle.rig_script.specs.Script.{speaker_of};
+ghost use Rattle.rig_script.specs.Script.{addressee_of, speaker_of};
 
 use rig_config::{Config, TenantId};
 use tenant_lines::words;
@@ -33,5 +33,16 @@ pub fn who_speaks(config: &Config, line: &str) -> Speaker
     match config.place_of(word) {
         Some(tenant) => Speaker::Tenant(tenant),
         None => Speaker::Unknown,
+    }
+}
+
+/// Who is answered to a line, by who speaks in it: its first word, and `host` where nobody has
+/// that name.
+pub fn addressee(speaker: Speaker, line: &str) -> &str
+    ensures { result.now ≡ addressee_of speaker line.now }
+{
+    match speaker {
+        Speaker::Nobody | Speaker::Operator | Speaker::Tenant(_) => words::first_word(line),
+        Speaker::Unknown => "host",
     }
 }

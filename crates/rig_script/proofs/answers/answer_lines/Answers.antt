@@ -1,9 +1,10 @@
-use Rattle.std.proofs.Common.{ℕ, List, [], All, Some, ap, ◌∙◌, refl, sym}
+use Rattle.std.proofs.Common.{rules, ◌≡◌, ◌≤◌, ◌+◌, ℕ, List, [], ◌∷◌, All, Some, length, ap, ◌∙◌, refl, sym, arith}
 use Rattle.rig_script.specs.Answered.{IsText}
 use Rattle.rig_script.specs.Lines.{cut}
-use Rattle.rig_script.specs.Reading.{IsLeft}
+use Rattle.rig_script.specs.Reading.{IsLeft, reads_of}
 use Rattle.rig_script.specs.Script.{reply_to_line, past_behind}
-use Rattle.rig_script.proofs.AnsweredLines.{come_further, texts_further, bad_is_no_text, on_ok}
+use Rattle.rig_script.proofs.AnsweredLines.{come_further, texts_further, bad_is_no_text, on_ok, cut_short}
+use Rattle.rig_script.proofs.CountedReads.{both_counted, counted_left}
 use Rattle.rig_script.proofs.answers.answer_lines.Goals as goal
 
 pub returns-in-Bad-clause-end : goal.returns-in-Bad-clause-end
@@ -23,7 +24,12 @@ loop-line-preserved g c =
       reading = λ bytes left.
           let so_far = l.invariant.reading bytes left in
           let next = rw c.in-Whole.is at (c.in_ok-line.ensures.line so_far.0 so_far.1) in
-          (next.1, next.4, texts_further (cut bytes) (cut so_far.0) so_far.2 next.0 (cut next.1) next.2);
+          let fewer : length (cut so_far.0) ≡ length (next.0 ∷ cut next.1) = ap (λ (ls : List (List ℕ)). length ls) next.2 in
+          let few = so_far.3 in
+          (next.1, next.4, texts_further (cut bytes) (cut so_far.0) so_far.2 next.0 (cut next.1) next.2, omega (arith, fewer, few));
+      counted =
+          let left = g.R.Read.remaining in
+          both_counted (reads_of c.args.lines.now) (reads_of l.lines) (reads_of c.next_line.new.self) (left c.args.reader.now) (left l.reader) (left c.next_line.new.reader) l.invariant.counted c.in_ok-line.ensures.count;
       answering = λ setting past bytes stands left.
           let so_far = l.invariant.answering setting past bytes stands left in
           let next = rw c.in-Whole.is at (c.in_ok-line.ensures.line so_far.0 so_far.1) in
@@ -37,3 +43,20 @@ loop-line-preserved g c =
                 (next.3 ∙ ap (λ t. Some t) (sym c.as_str.ensures.value)) refl (done.written setting now so_far.3),
           );
     }
+
+-- as many lines have at least as many bytes
+pub returns-clause-turns : goal.returns-clause-turns
+returns-clause-turns g c = λ is bytes left.
+    let few = (c.loop-line.invariant.reading bytes left).3 in
+    let short = cut_short bytes in
+    omega (arith, few, short)
+
+pub returns-in_err-line-clause-turns : goal.returns-in_err-line-clause-turns
+returns-in_err-line-clause-turns g c = λ is bytes left.
+    let remaining = g.R.Read.remaining in
+    let l = c.loop-line in
+    let counted = both_counted (reads_of c.args.lines.now) (reads_of l.lines) (reads_of c.next_line.new.self) (remaining c.args.reader.now) (remaining l.reader) (remaining c.next_line.new.reader)
+    l.invariant.counted c.in_err-line.ensures.count in
+    let few = counted_left c.args.lines.now (remaining c.args.reader.now) bytes left (reads_of c.next_line.new.self) (remaining c.next_line.new.reader) counted in
+    let many : 1048576 ≤ reads_of c.next_line.new.self = c.in_err-line.ensures.turns (search rules) in
+    omega (arith, few, many)

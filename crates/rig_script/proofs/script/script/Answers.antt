@@ -1,6 +1,6 @@
 use Rattle.std.specs.Io.KnownBytes.{Appends}
 use Rattle.rig_script.specs.Reading.{IsLeft}
-use Rattle.rig_script.proofs.NewScript.{all_left, all_written, none_left, broken_off}
+use Rattle.rig_script.proofs.NewScript.{all_left, all_written, none_left, broken_off, many_bytes}
 use Rattle.rig_script.proofs.script.script.Goals as goal
 
 pub returns-clause-written : goal.returns-clause-written
@@ -16,3 +16,7 @@ returns-clause-fault g c =
 pub returns-clause-end : goal.returns-clause-end
 returns-clause-end g c =
     none_left c.answer_lines.result c.new-lines.result c.answer_lines.new.lines (g.R.Read.remaining c.args.reader.now) (g.R.Read.remaining c.answer_lines.new.reader) c.new-lines.ensures.left c.answer_lines.ensures.end
+
+pub returns-clause-turns : goal.returns-clause-turns
+returns-clause-turns g c = λ is.
+    many_bytes c.new-lines.result (g.R.Read.remaining c.args.reader.now) c.new-lines.ensures.left c.new-lines.ensures.count (c.answer_lines.ensures.turns is)
