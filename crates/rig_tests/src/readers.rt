@@ -5,6 +5,7 @@ use rig_script::answers::{Answers, answer_lines};
 use rig_script::faults::ScriptFault;
 use rig_script::lines::Lines;
 use rig_script::script::script;
+use rig_script::speakers::Speaker;
 use std::alloc::{AllocError, Global};
 use std::io;
 use std::io::Read;
@@ -67,29 +68,45 @@ fn lines_before_a_failing_read_are_answered(rt: HostRuntime) {
 
 // Has no memory for any reply.
 #[derive(Drop)]
-struct NoMemory;
+struct NoMemory {
+    is_unknown: bool,
+}
 
 impl Answers for NoMemory {
     // no host
     ghost stands = { λ it setting past. ⊥ };
+
+    fn speaker(&self, _line: &str) -> Speaker {
+        if self.is_unknown {
+            Speaker::Unknown
+        } else {
+            Speaker::Operator
+        }
+    }
 
     fn answer(&mut self, _alloc: Global, _line: &str) -> Result<String, AllocError> {
         Err(AllocError)
     }
 }
 
-#[test]
-fn want_of_memory_ends_the_script(rt: HostRuntime) {
-    let mut written = Vec::new(rt.alloc());
+// Whether a script without memory for a reply ends so, with this written.
+fn ends_without_memory(alloc: Global, is_unknown: bool, expected: &[u8]) -> bool {
+    let mut written = Vec::new(alloc);
     let mut reader = b"\talpha start\nbeta start\n".as_slice();
-    let mut lines = Lines::new(rt.alloc());
+    let mut lines = Lines::new(alloc);
     let ends = answer_lines(
-        rt.alloc(),
+        alloc,
         &mut lines,
         &mut reader,
         &mut written,
-        &mut NoMemory,
+        &mut NoMemory { is_unknown },
     );
-    assert!(rt; ends == Err(ScriptFault::Memory));
-    assert!(rt; written.as_slice() == b"alpha err memory\n".as_slice());
+    ends == Err(ScriptFault::Memory) && written.as_slice() == expected
+}
+
+#[test]
+fn want_of_memory_ends_the_script(rt: HostRuntime) {
+    let alloc = rt.alloc();
+    assert!(rt; ends_without_memory(alloc, false, b"alpha err memory\n".as_slice()));
+    assert!(rt; ends_without_memory(alloc, true, b"host err memory\n".as_slice()));
 }
