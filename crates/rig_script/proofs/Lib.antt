@@ -7,5 +7,6 @@ pub mod LineCuts
 pub mod NewScript
 pub mod NextLine
 pub mod Outstanding
+pub mod OwnReplies
 pub mod Speaking
 pub mod Steps

@@ -4,3 +4,4 @@ pub mod HostAnswers
 pub mod Lines
 pub mod Reading
 pub mod Script
+pub mod TenantReplies

@@ -11,6 +11,7 @@
 
 pub mod answers;
 pub mod faults;
+pub mod laws;
 pub mod lines;
 pub mod script;
 pub mod speakers;

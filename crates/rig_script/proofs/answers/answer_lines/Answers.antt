@@ -1,4 +1,4 @@
-use Rattle.std.proofs.Common.{rules, ◌≡◌, ◌≤◌, ◌+◌, ℕ, List, [], ◌∷◌, All, Some, length, ap, ◌∙◌, refl, sym, arith}
+use Rattle.std.proofs.Common.{rules, ◌≡◌, ◌≤◌, ℕ, List, [], ◌∷◌, All, Some, length, ap, ◌∙◌, refl, sym, arith}
 use Rattle.rig_script.specs.Answered.{IsText}
 use Rattle.rig_script.specs.Lines.{cut}
 use Rattle.rig_script.specs.Reading.{IsLeft, reads_of}
