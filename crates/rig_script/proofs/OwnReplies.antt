@@ -21,7 +21,7 @@ use Rattle.rig_script.specs.declared.speakers.Speaker.{Speaker}
 use Rattle.rig_script.specs.declared.speakers.Speaker.TheVariants.{Nobody, Operator, Tenant, Unknown}
 use Rattle.rig_script.specs.Answered.{reply_line}
 use Rattle.rig_script.specs.Lines.{text_of_line}
-use Rattle.rig_script.specs.Script.{Step, OperatorLine, tick, work, work_of, speaker_of, operator, operator_line_of, operator_refusal, operator_step, tick_step, work_step, work_step_of, tenant_step, line_step, only_answered, err_who, outstanding_at, outstanding_after, reply_to_line, past_behind, past_after}
+use Rattle.rig_script.specs.Script.{Step, OperatorLine, tick, work, work_of, speaker_of, operator, operator_line_of, operator_refusal, operator_step, tick_step, work_step, work_step_of, line_step, only_answered, err_who, outstanding_at, outstanding_after, reply_to_line, past_behind, past_after}
 use Rattle.rig_script.specs.TenantReplies.{is_own_command, own_reply, own_replies}
 
 module _ (setting : Setting) (t : ℕ) where
