@@ -239,6 +239,13 @@ class Sources:
         made.uses += self.types_in(text[: clauses.start()] if clauses else text, self.sources[path])
         return made
 
+    def public_of(self, path):
+        """The public functions of a file of src/, as calls."""
+        crate, file = path.split("/")[1], path.split("/", 2)[2]
+        public = set(re.findall(r"^ *pub fn (\w+)", read(path), re.M))
+        own = [it for it in Crate(os.path.join(TOP, "crates", crate)).functions(file) if it.name in public]
+        return [self.call("::".join(filter(None, [crate, it.type, it.name]))) for it in own]
+
     def below(self, calls):
         """All items that the calls rest on, in reading order: crate by crate, lowest first; in a crate its types, then its
         files of definitions, each behind those that it uses; in a file as they stand there."""
