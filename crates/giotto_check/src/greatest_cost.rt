@@ -5,7 +5,7 @@ ghost use Rattle.giotto_text.specs.ProgramTrees.{mode_of, update_of, switch_of, 
 ghost use Rattle.giotto_check.specs.Costs as costs;
 
 use giotto_tasks::bodies::{Body, Expr};
-use giotto_tasks::cost::{cost, driver_cost};
+use giotto_tasks::{cost, driver_cost};
 use giotto_text::programs::{Invocation, Mode, Program, Switch, Update};
 
 /// The greatest cost over the bodies and drivers of a program, in steps, or `u64::MAX` where it is greater.

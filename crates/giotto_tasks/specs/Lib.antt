@@ -6,6 +6,7 @@ pub mod Cost
 pub mod Depth
 pub mod DriverCode
 pub mod HasCode
+pub mod Layouts
 pub mod Meaning
 pub mod Names
 pub mod Places

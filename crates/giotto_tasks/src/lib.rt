@@ -2,7 +2,7 @@
 //!
 //! A body is a block of assignments, branches and counted repetitions over numbers of 64 bits that
 //! stop at the ends of their range. As a tree it is a [`bodies::Body`]; what it computes is
-//! [`evaluation::eval`], proved to be its meaning, in no more steps than its [`cost::cost`]. With
+//! [`evaluation::eval`], proved to be its meaning, in no more steps than its [`cost`]. With
 //! `body` for `o := i + 1;`, the input i and the output o:
 //!
 //! ```text
@@ -19,7 +19,7 @@
 
 pub mod bodies;
 pub mod code;
-pub mod cost;
+mod costs;
 pub mod evaluation;
 pub mod faults;
 pub mod index;
@@ -28,3 +28,5 @@ pub mod names;
 pub mod operators;
 pub mod steps;
 pub mod values;
+
+pub use costs::{cost, driver_cost};

@@ -2,7 +2,7 @@ use Rattle.std.proofs.Common.{◌≡◌, ◌≤◌, length, drop, arith}
 use Rattle.std.proofs.lemmas.List.{at_drop_all}
 use Rattle.giotto_tasks.specs.Cost.{cost_of}
 use Rattle.giotto_tasks.specs.Trees.{block_of}
-use Rattle.giotto_tasks.proofs.cost.+cost.Goals as goal
+use Rattle.giotto_tasks.proofs.costs.+cost.Goals as goal
 
 pub block_cost-returns : goal.block_cost-returns
 block_cost-returns t c =

@@ -1,7 +1,7 @@
 use Rattle.std.proofs.Common.{◌≡◌, ◌+◌, ◌-◌, ◌^◌, ◌<◌, min, drop}
 use Rattle.giotto_tasks.specs.Cost.{cost_of}
 use Rattle.giotto_tasks.specs.Trees.{block_of}
-use Rattle.giotto_tasks.proofs.cost.+cost.Given as goal
+use Rattle.giotto_tasks.proofs.costs.+cost.Given as goal
 
 abbrev pub invariant-block_cost-loop-s : goal.invariant-block_cost-loop-s
 invariant-block_cost-loop-s l = record {
