@@ -1,7 +1,7 @@
 //! Reads programs in Giotto from their texts, and prints them.
 //!
-//! [`reading::read`] reads a text as a [`Program`], or says in [`ReadFault`] why it spells none; [`printing::print`] gives
-//! the canonical text of a program, which reads as that program again:
+//! [`read`] reads a text as a [`Program`], or says in [`ReadFault`] why it spells none; [`print`] gives the canonical text of
+//! a program, which reads as that program again:
 //!
 //! ```text
 //! let program = read(alloc, "mode m period 02 { } start m;")?;
@@ -14,10 +14,11 @@
 //! `giotto_text/specs/Canonical`.
 #![tactic(auto)]
 
-pub mod printing;
+mod printing;
 mod reader;
-pub mod reading;
+mod reading;
 
 pub use giotto_text::faults::ReadFault;
 pub use giotto_text::programs::Program;
 pub use printing::print;
+pub use reading::read;

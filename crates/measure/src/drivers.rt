@@ -2,7 +2,7 @@
 
 use giotto_check::timetables::{SlotExpr, slot_value};
 use giotto_check::{Checked, check};
-use giotto_read::reading::read;
+use giotto_read::read;
 use giotto_tasks::operators::BinaryOperator;
 use std::alloc::{AllocError, Global};
 

@@ -8,8 +8,7 @@ mod turns;
 
 use crate::instants::Work;
 use giotto_check::check;
-use giotto_read::printing::print;
-use giotto_read::reading::read;
+use giotto_read::{print, read};
 use giotto_text::lexer::tokens;
 use std::alloc::Global;
 use std::io;

@@ -22,7 +22,7 @@ ghost use Rattle.tenant_state.specs.Standing.{StandsFor, IsOutcome, without_reco
 
 use crate::tenants::{Reason, State, Tenant};
 use giotto_check::{self, CheckFault, Checked};
-use giotto_read::reading;
+use giotto_read::read;
 use giotto_tasks::bodies::Body;
 use giotto_text::faults::ReadFault;
 use giotto_text::programs::{Actuator, Program, Sensor, Source, Task};
@@ -200,7 +200,7 @@ fn read_program(alloc: Global, text: &str) -> Result<Checked, Refusal>
     ensures checked { IfOk result (λ p. first_broken_rule p ≡ None) }
     ensures refused { IfErr result (λ r. r ≢ Refusal.Memory → (budgets : Budgets) (row : Row) → load_read budgets row (parsed text.now) ≡ refused row r) }
 {
-    let program = match reading::read(alloc, text) {
+    let program = match read(alloc, text) {
         Ok(program) => program,
         Err(fault) => return Err(refusal_of(fault)),
     };
