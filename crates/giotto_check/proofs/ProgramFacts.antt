@@ -20,8 +20,9 @@ use Rattle.giotto_rules.specs.Invocations.{has_arguments_for, argument_for_each_
 use Rattle.giotto_rules.specs.KeepsRules.{KeepsRules}
 use Rattle.giotto_rules.specs.Kinds.{kinds_of, task_uses, switch_uses, mode_uses}
 use Rattle.giotto_rules.specs.Names.{are_among}
+use Rattle.giotto_rules.specs.Rules.{declares_once, uses_right_kinds, bodies_use_own_ports, frequencies_divide, invokes_once, tasks_share_no_output, updates_once, arguments_fit, drivers_read_mode_ports, starts_in_a_mode}
 use Rattle.giotto_rules.specs.TaskPorts.{declares_own, uses_own_ports}
-use Rattle.giotto_rules.proofs.RulesKept.{declares_once_kept, uses_right_kinds_kept, bodies_use_own_ports_kept, frequencies_divide_kept, invokes_once_kept, tasks_share_no_output_kept, updates_once_kept, arguments_fit_kept, drivers_read_mode_ports_kept, starts_in_a_mode_kept}
+use Rattle.giotto_rules.proofs.RulesKept.{rule_kept}
 use Rattle.giotto_check.specs.Facts.{IsFrequencyOf, UpdateFits, SwitchFits, InvocationFits, ModeFits, TaskFits, ProgramFits}
 use Rattle.giotto_check.proofs.PortsOnce.{ports_different}
 use Rattle.giotto_check.proofs.SmallTasks.{small_if_printable}
@@ -108,9 +109,9 @@ module _ (p : GiottoProgram) (kept : KeepsRules p) where
   tasks_fit : list_all (λ t. is_small (body_of t)) p.tasks ≡ true → AllByRecursion (TaskFits p) p.tasks
   tasks_fit small =
       let few = passed (λ t. is_small (body_of t)) p.tasks small in
-      let outputs = passed _ p.tasks (and_parts _ _ (uses_right_kinds_kept p kept)).0 in
-      let own = passed _ p.tasks (and_parts _ _ (and_parts _ _ (declares_once_kept p kept)).0).1 in
-      let uses = passed _ p.tasks (bodies_use_own_ports_kept p kept) in
+      let outputs = passed _ p.tasks (and_parts _ _ (rule_kept p kept 2 uses_right_kinds refl)).0 in
+      let own = passed _ p.tasks (and_parts _ _ (and_parts _ _ (rule_kept p kept 1 declares_once refl)).0).1 in
+      let uses = passed _ p.tasks (rule_kept p kept 3 bodies_use_own_ports refl) in
       all_with _ _ (TaskFits p) (λ t a b. task_fits t a.0 a.1 b.0 b.1) p.tasks (all_zip _ _ p.tasks few outputs) (all_zip _ _ p.tasks own uses)
 
   -- a mode's ports are outputs
@@ -120,7 +121,7 @@ module _ (p : GiottoProgram) (kept : KeepsRules p) where
     where
       by : (o : Option TaskDeclaration) → task_named p x ≡ o → are_among (output_names p) (outputs_of_task p x) ≡ true
       by None e = rw e refl
-      by (Some t) e = rw e (found_passes (task_uses (kinds_of p)) (λ (t : TaskDeclaration). same_name t.name x) p.tasks t (and_parts _ _ (uses_right_kinds_kept p kept)).0 e)
+      by (Some t) e = rw e (found_passes (task_uses (kinds_of p)) (λ (t : TaskDeclaration). same_name t.name x) p.tasks t (and_parts _ _ (rule_kept p kept 2 uses_right_kinds refl)).0 e)
 
   ports_are_outputs : (is : List TaskInvocation) → are_among (output_names p) (flat_map (λ (i : TaskInvocation). outputs_of_task p i.task) is) ≡ true
   ports_are_outputs [] = refl
@@ -181,13 +182,13 @@ module _ (p : GiottoProgram) (kept : KeepsRules p) where
 
   modes_fit : list_all is_shallow_mode p.modes ≡ true → AllByRecursion (ModeFits p) p.modes
   modes_fit shallow =
-      let times = passed _ p.modes (frequencies_divide_kept p kept) in
-      let uses = passed _ p.modes (and_parts _ _ (uses_right_kinds_kept p kept)).1 in
-      let drivers = passed _ p.modes (drivers_read_mode_ports_kept p kept) in
-      let arguments = passed _ p.modes (arguments_fit_kept p kept) in
-      let tasks = passed _ p.modes (invokes_once_kept p kept) in
-      let actuators = passed _ p.modes (updates_once_kept p kept) in
-      let ports = passed _ p.modes (tasks_share_no_output_kept p kept) in
+      let times = passed _ p.modes (rule_kept p kept 4 frequencies_divide refl) in
+      let uses = passed _ p.modes (and_parts _ _ (rule_kept p kept 2 uses_right_kinds refl)).1 in
+      let drivers = passed _ p.modes (rule_kept p kept 9 drivers_read_mode_ports refl) in
+      let arguments = passed _ p.modes (rule_kept p kept 8 arguments_fit refl) in
+      let tasks = passed _ p.modes (rule_kept p kept 5 invokes_once refl) in
+      let actuators = passed _ p.modes (rule_kept p kept 7 updates_once refl) in
+      let ports = passed _ p.modes (rule_kept p kept 6 tasks_share_no_output refl) in
       let depths = passed is_shallow_mode p.modes shallow in
       all_with _ _ (ModeFits p) (λ m a b. mode_fits m a.0.0 a.0.1 a.1.0 a.1.1 b.0.0 b.0.1 b.1.0 b.1.1) p.modes
       (all_zip _ _ p.modes (all_zip _ _ p.modes times uses) (all_zip _ _ p.modes drivers arguments))
@@ -196,7 +197,7 @@ module _ (p : GiottoProgram) (kept : KeepsRules p) where
   -- A well-formed program that can be printed.
   pub program_fits : IsPrintable p → is_shallow_program p ≡ true → ProgramFits p
   program_fits printable shallow =
-      let declared = and_parts _ _ (declares_once_kept p kept) in
+      let declared = and_parts _ _ (rule_kept p kept 1 declares_once refl) in
       let once = and_parts _ _ declared.0 in
       record {
         declared_once = once.0;
@@ -204,5 +205,5 @@ module _ (p : GiottoProgram) (kept : KeepsRules p) where
         ports_once = ports_different p (names_have_no_dots p printable) once.0 once.1;
         tasks = tasks_fit (small_if_printable p printable);
         modes = modes_fit (and_parts (list_all is_shallow_task p.tasks) (list_all is_shallow_mode p.modes) shallow).1;
-        start = found_some (λ (m : ModeDeclaration). m.name) p.modes p.start (starts_in_a_mode_kept p kept);
+        start = found_some (λ (m : ModeDeclaration). m.name) p.modes p.start (rule_kept p kept 11 starts_in_a_mode refl);
       }

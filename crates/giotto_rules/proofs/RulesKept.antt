@@ -1,9 +1,11 @@
 -- A program breaks no rule where it keeps each, and only there.
-use Rattle.std.proofs.Common.{◌≡◌, ℕ, ◌+◌, Bool, true, false, cond, List, [], ◌∷◌, Option, Some, None, refl}
-use Rattle.std.specs.List.{AllByRecursion}
+use Rattle.std.proofs.Common.{◌≡◌, ℕ, ◌+◌, ◌-◌, Bool, true, false, cond, List, [], ◌∷◌, Option, Some, None, refl, subst}
+use Rattle.std.specs.List.{AllByRecursion, slice_get}
+use Rattle.std.proofs.lemmas.Option.{get_or_from_slice_get, slice_get_within}
+use Rattle.giotto_tasks.proofs.ListLemmas.{all_at}
 use Rattle.giotto_text.specs.Program.{GiottoProgram}
 use Rattle.giotto_rules.specs.KeepsRules.{KeepsRules}
-use Rattle.giotto_rules.specs.Rules.{declares_once, uses_right_kinds, bodies_use_own_ports, frequencies_divide, invokes_once, tasks_share_no_output, updates_once, arguments_fit, drivers_read_mode_ports, starts_in_a_mode, rules, first_broken, first_broken_rule}
+use Rattle.giotto_rules.specs.Rules.{rules, first_broken, first_broken_rule}
 
 abbrev Passes : GiottoProgram → List (GiottoProgram → Bool) → Type 0
 Passes p tests = AllByRecursion (λ (test : GiottoProgram → Bool). test p ≡ true) tests
@@ -33,34 +35,9 @@ none_kept p (test ∷ tests) n passes = none_first (test p) n (first_broken (n +
 pub none_broken : (p : GiottoProgram) → KeepsRules p → first_broken_rule p ≡ None
 none_broken p k = none_kept p rules 1 k.each
 
--- the single rules
-module _ (p : GiottoProgram) (keeps : KeepsRules p) where
-  pub declares_once_kept : declares_once p ≡ true
-  declares_once_kept = keeps.each.0
-
-  pub uses_right_kinds_kept : uses_right_kinds p ≡ true
-  uses_right_kinds_kept = keeps.each.1.0
-
-  pub bodies_use_own_ports_kept : bodies_use_own_ports p ≡ true
-  bodies_use_own_ports_kept = keeps.each.1.1.0
-
-  pub frequencies_divide_kept : frequencies_divide p ≡ true
-  frequencies_divide_kept = keeps.each.1.1.1.0
-
-  pub invokes_once_kept : invokes_once p ≡ true
-  invokes_once_kept = keeps.each.1.1.1.1.0
-
-  pub tasks_share_no_output_kept : tasks_share_no_output p ≡ true
-  tasks_share_no_output_kept = keeps.each.1.1.1.1.1.0
-
-  pub updates_once_kept : updates_once p ≡ true
-  updates_once_kept = keeps.each.1.1.1.1.1.1.0
-
-  pub arguments_fit_kept : arguments_fit p ≡ true
-  arguments_fit_kept = keeps.each.1.1.1.1.1.1.1.0
-
-  pub drivers_read_mode_ports_kept : drivers_read_mode_ports p ≡ true
-  drivers_read_mode_ports_kept = keeps.each.1.1.1.1.1.1.1.1.0
-
-  pub starts_in_a_mode_kept : starts_in_a_mode p ≡ true
-  starts_in_a_mode_kept = keeps.each.1.1.1.1.1.1.1.1.1.1.0
+-- the rule of this number, counted from 1
+pub rule_kept : (p : GiottoProgram) → KeepsRules p → (number : ℕ) (rule : GiottoProgram → Bool) → slice_get rules (number - 1) ≡ Some rule → rule p ≡ true
+rule_kept p keeps number rule at =
+    let place = number - 1 in
+    let here = all_at (λ (test : GiottoProgram → Bool). test p ≡ true) rules place rule (slice_get_within rules place rule at) keeps.each in
+    subst (λ (test : GiottoProgram → Bool). test p ≡ true) (get_or_from_slice_get rules place rule rule at) here
