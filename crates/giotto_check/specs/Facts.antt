@@ -1,21 +1,26 @@
 -- What follows from the rules for whoever runs a program: names stand once, frequencies divide, lists fit, and drivers are shallow.
-use Rattle.std.specs.Prelude.{◌≡◌, ℕ, ◌/◌, ◌%◌, ◌≤◌, length, IsTrue, IsSomeAnd, IsSome}
+use Rattle.std.specs.Prelude.{◌≡◌, ℕ, ◌/◌, ◌%◌, ◌≤◌, List, length, IsTrue, IsSomeAnd, IsSome}
 use Rattle.std.specs.List.{AllByRecursion}
+use Rattle.giotto_tasks.specs.declared.names.Name.{Name}
 use Rattle.giotto_tasks.specs.Names.{is_among}
 use Rattle.giotto_tasks.specs.Sound.{all_different, IsSound}
 use Rattle.giotto_text.specs.Depth.{is_shallow_update, is_shallow_switch, is_shallow_invocation}
 use Rattle.giotto_text.specs.Program.{TaskDeclaration, ActuatorUpdate, ModeSwitch, TaskInvocation, ModeDeclaration, GiottoProgram, body_of}
-use Rattle.giotto_rules.specs.Declarations.{actuator_names, output_names, declared_names, task_named, mode_named, invoked_tasks, updated_actuators, destinations_of, mode_ports, lines_written}
+use Rattle.giotto_rules.specs.Declarations.{actuator_names, output_names, driver_ports, declared_names, task_named, mode_named, invoked_tasks, updated_actuators, destinations_of, mode_ports, lines_written}
 use Rattle.giotto_rules.specs.Drivers.{readable_ports}
 use Rattle.giotto_rules.specs.Names.{are_among, all_different_numbers}
 use Rattle.giotto_rules.specs.Reads.{names_in_update, names_in_switch, names_in_invocation}
-use Rattle.giotto_check.specs.Slots.{port_names}
+use Rattle.giotto_check.specs.Slots.{PortNamesDiffer}
 
 -- a frequency that divides the mode's period into intervals of a tick at least
 pub record IsFrequencyOf (m : ModeDeclaration) (w : ℕ) : Type 0 where
   pub positive : 1 ≤ w
   pub divides : m.period % w ≡ 0
   pub interval : 1 ≤ m.period / w
+
+-- a driver may read the ports of these names
+abbrev pub DriversMayRead : GiottoProgram → List Name → Type 0
+DriversMayRead p names = IsTrue (are_among (driver_ports p) names)
 
 -- an update writes an actuator, reads ports of its mode, and is shallow
 pub record UpdateFits (p : GiottoProgram) (m : ModeDeclaration) (u : ActuatorUpdate) : Type 0 where
@@ -60,7 +65,7 @@ pub record TaskFits (p : GiottoProgram) (t : TaskDeclaration) : Type 0 where
 pub record ProgramFits (p : GiottoProgram) : Type 0 where
   pub declared_once : IsTrue (all_different (declared_names p))
   pub lines_once : IsTrue (all_different_numbers (lines_written p))
-  pub ports_once : IsTrue (all_different (port_names p))
+  pub ports_once : PortNamesDiffer p
   pub tasks : AllByRecursion (TaskFits p) p.tasks
   pub modes : AllByRecursion (ModeFits p) p.modes
   pub start : IsSome (mode_named p p.start)

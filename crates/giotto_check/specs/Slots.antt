@@ -54,13 +54,17 @@ slot_of p task x = position_from (is_port task x) 0 (ports_of p)
 abbrev pub port_names : GiottoProgram → List Name
 port_names p = map shown_name (ports_of p)
 
+-- no two ports of the program are shown alike
+abbrev pub PortNamesDiffer : GiottoProgram → Type 0
+PortNamesDiffer p = IsTrue (all_different (port_names p))
+
 -- the map from names to values for which a list of the values of all ports stands
 abbrev pub valuation_of : GiottoProgram → List ℤ → Valuation
 valuation_of p values = zip (port_names p) values
 
 -- the values of all ports of a program in which no two ports are shown alike
 pub record AreValuesOf (p : GiottoProgram) (values : List ℤ) : Type 0 where
-  pub ports_once : IsTrue (all_different (port_names p))
+  pub ports_once : PortNamesDiffer p
   pub long : length values ≡ slots_of p
 
 -- the port has this slot

@@ -75,12 +75,20 @@ pub record IsDestination (p : GiottoProgram) (d : Name × Expression) (entry : S
   pub output : slot_of p None d.0 ≡ Some entry.output
   pub value : IsExpression p d.1 entry.value
 
+-- the destinations of a switch, in text order
+abbrev pub AreDestinations : GiottoProgram → List (Name × Expression) → List SlotDestination → Type 0
+AreDestinations p ds entries = AreEach (IsDestination p) ds entries
+
 -- a switch of the mode
 pub record IsExit (p : GiottoProgram) (m : ModeDeclaration) (s : ModeSwitch) (entry : SlotExit) : Type 0 where
   pub interval : entry.interval ≡ m.period / s.frequency
   pub guard : IsGuard p s.guard entry.guard
   pub target : place_of_mode p s.target ≡ Some entry.target
-  pub destinations : AreEach (IsDestination p) s.destinations entry.destinations.items
+  pub destinations : AreDestinations p s.destinations entry.destinations.items
+
+-- the arguments of an invocation, in text order
+abbrev pub AreArguments : GiottoProgram → List Expression → List SlotExpr → Type 0
+AreArguments p es codes = AreEach (IsExpression p) es codes
 
 -- an invocation of the mode
 pub record IsInvocation (p : GiottoProgram) (m : ModeDeclaration) (i : TaskInvocation) (entry : SlotInvocation) : Type 0 where
@@ -88,7 +96,19 @@ pub record IsInvocation (p : GiottoProgram) (m : ModeDeclaration) (i : TaskInvoc
   pub guard : IsGuard p i.guard entry.guard
   pub task : place_of_task p i.task ≡ Some entry.task
   pub inputs : IsSomeAnd (task_named p i.task) (λ t. HaveSlotsFrom p t.name t.inputs entry.inputs)
-  pub arguments : AreEach (IsExpression p) i.arguments entry.arguments.items
+  pub arguments : AreArguments p i.arguments entry.arguments.items
+
+-- the updates of the mode, in text order
+abbrev pub AreUpdates : GiottoProgram → ModeDeclaration → List SlotUpdate → Type 0
+AreUpdates p m entries = AreEach (IsUpdate p m) m.updates entries
+
+-- the switches of the mode, in text order
+abbrev pub AreExits : GiottoProgram → ModeDeclaration → List SlotExit → Type 0
+AreExits p m entries = AreEach (IsExit p m) m.switches entries
+
+-- the invocations of the mode, in text order
+abbrev pub AreInvocations : GiottoProgram → ModeDeclaration → List SlotInvocation → Type 0
+AreInvocations p m entries = AreEach (IsInvocation p m) m.invocations entries
 
 -- a task's slots: those of its inputs, of its states, and of each output
 pub record AreTaskSlots (p : GiottoProgram) (t : TaskDeclaration) (entry : TaskSlots) : Type 0 where
@@ -96,11 +116,11 @@ pub record AreTaskSlots (p : GiottoProgram) (t : TaskDeclaration) (entry : TaskS
   pub states : HaveSlotsFrom p t.name (names_of t.states) entry.states
   pub outputs : map (slot_of p None) t.outputs ≡ map Some entry.outputs.items
 
--- the timetables of a mode: its updates, exits and invocations in text order
+-- the timetables of a mode: its updates, exits and invocations
 pub record IsTimetable (p : GiottoProgram) (m : ModeDeclaration) (table : Timetable) : Type 0 where
-  pub updates : AreEach (IsUpdate p m) m.updates table.updates.items
-  pub exits : AreEach (IsExit p m) m.switches table.exits.items
-  pub invocations : AreEach (IsInvocation p m) m.invocations table.invocations.items
+  pub updates : AreUpdates p m table.updates.items
+  pub exits : AreExits p m table.exits.items
+  pub invocations : AreInvocations p m table.invocations.items
 
 -- the whole program by number
 pub record IsNumbering (p : GiottoProgram) (n : Numbering) : Type 0 where

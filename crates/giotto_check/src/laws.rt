@@ -2,24 +2,23 @@
 //!
 //! The functions do nothing: each contract is a law.
 
-ghost use Rattle.std.specs.Prelude.{◌≡◌, ◌+◌, ℕ, ℤ, List, length, Some, IsTrue, slice_get, slice_range, slice_set};
+ghost use Rattle.std.specs.Prelude.{◌≡◌, ◌+◌, ℕ, ℤ, List, length, Some, slice_get, slice_range, slice_set};
 ghost use Rattle.giotto_tasks.specs.declared.names.Name.{Name};
 ghost use Rattle.giotto_tasks.specs.Names.{names_in, value_at, with_value};
-ghost use Rattle.giotto_tasks.specs.Sound.{all_different};
 ghost use Rattle.giotto_text.specs.PortNames.{with_values};
 ghost use Rattle.giotto_text.specs.Program.{GiottoProgram};
-ghost use Rattle.giotto_check.specs.Slots.{AreValuesOf, HasSlot, HaveSlots, ProgramPort, own_values, port_names, ports_of, shown_name, slots_of, valuation_of, with_own_values, with_range, with_slots};
+ghost use Rattle.giotto_check.specs.Slots.{AreValuesOf, HasSlot, HaveSlots, PortNamesDiffer, ProgramPort, own_values, port_names, ports_of, shown_name, slots_of, valuation_of, with_own_values, with_range, with_slots};
 ghost use Rattle.giotto_check.specs.Timetables.{AreInRow, HaveSlotsFrom};
 
 /// Ports are numbered in their order, and their names are those of the map.
 pub fn in_order()
-    ensures slots { (p : GiottoProgram) (k : ℕ) (port : ProgramPort) → IsTrue (all_different (port_names p)) → slice_get (ports_of p) k ≡ Some port → HasSlot p port k }
+    ensures slots { (p : GiottoProgram) (k : ℕ) (port : ProgramPort) → PortNamesDiffer p → slice_get (ports_of p) k ≡ Some port → HasSlot p port k }
     ensures names { (p : GiottoProgram) (values : List ℤ) → length values ≡ slots_of p → names_in (valuation_of p values) ≡ port_names p }
 {}
 
 /// The value of a port stands at its slot, and those of ports of a task that stand next to one another are a range.
 pub fn read_by_slot()
-    ensures value { (p : GiottoProgram) (vs : List ℤ) (port : ProgramPort) (k : ℕ) → IsTrue (all_different (port_names p)) → HasSlot p port k
+    ensures value { (p : GiottoProgram) (vs : List ℤ) (port : ProgramPort) (k : ℕ) → PortNamesDiffer p → HasSlot p port k
         → value_at (valuation_of p vs) (shown_name port) ≡ slice_get vs k }
     ensures range { (p : GiottoProgram) (vs : List ℤ) (t : Name) (xs : List Name) (k : ℕ) → AreValuesOf p vs → HaveSlotsFrom p t xs k
         → own_values p vs t xs ≡ slice_range vs k (k + length xs) }

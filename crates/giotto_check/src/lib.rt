@@ -24,7 +24,7 @@ ghost use Rattle.giotto_rules.specs.Rules.{first_broken_rule};
 ghost use Rattle.giotto_check.specs.Costs.{greatest_cost_of};
 ghost use Rattle.giotto_check.specs.Facts.{ProgramFits};
 ghost use Rattle.giotto_check.specs.Slots.{slot_of, slots_of};
-ghost use Rattle.giotto_check.specs.Timetables.{AreEach, AreTaskSlots, IsUpdate, IsExit, IsInvocation, IsTimetable};
+ghost use Rattle.giotto_check.specs.Timetables.{AreEach, AreExits, AreInvocations, AreTaskSlots, AreUpdates, IsTimetable};
 ghost use Rattle.giotto_check.specs.declared.CheckFault.{CheckFault};
 
 mod greatest_cost;
@@ -118,7 +118,7 @@ impl Checked {
 
     /// The updates of the mode at this place, in text order; none where there is no such mode.
     pub fn updates(&self, mode: usize) -> &[SlotUpdate]
-        ensures there { (m : ModeDeclaration) → slice_get self.now.modes mode ≡ Some m → AreEach (IsUpdate self.now m) m.updates result.now }
+        ensures there { (m : ModeDeclaration) → slice_get self.now.modes mode ≡ Some m → AreUpdates self.now m result.now }
         ensures none { length self.now.modes ≤ mode → result.now ≡ [] }
     {
         match self.timetable(mode) {
@@ -129,7 +129,7 @@ impl Checked {
 
     /// The exits of the mode at this place, in text order; none where there is no such mode.
     pub fn exits(&self, mode: usize) -> &[SlotExit]
-        ensures there { (m : ModeDeclaration) → slice_get self.now.modes mode ≡ Some m → AreEach (IsExit self.now m) m.switches result.now }
+        ensures there { (m : ModeDeclaration) → slice_get self.now.modes mode ≡ Some m → AreExits self.now m result.now }
         ensures none { length self.now.modes ≤ mode → result.now ≡ [] }
     {
         match self.timetable(mode) {
@@ -140,7 +140,7 @@ impl Checked {
 
     /// The invocations of the mode at this place, in text order; none where there is no such mode.
     pub fn invocations(&self, mode: usize) -> &[SlotInvocation]
-        ensures there { (m : ModeDeclaration) → slice_get self.now.modes mode ≡ Some m → AreEach (IsInvocation self.now m) m.invocations result.now }
+        ensures there { (m : ModeDeclaration) → slice_get self.now.modes mode ≡ Some m → AreInvocations self.now m result.now }
         ensures none { length self.now.modes ≤ mode → result.now ≡ [] }
     {
         match self.timetable(mode) {

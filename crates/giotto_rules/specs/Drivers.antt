@@ -26,6 +26,10 @@ abbrev pub switch_fits : GiottoProgram → List Name → ModeSwitch → Bool
 switch_fits p readable s = are_among readable (names_in_switch s)
     && gives_to_target p s && all_different (destinations_of s)
 
+-- Each of these switches fits, where it may read these names.
+abbrev pub switches_fit : GiottoProgram → List Name → List ModeSwitch → Bool
+switches_fit p readable ss = list_all (switch_fits p readable) ss
+
 -- Updates read these names alone.
 abbrev pub updates_read : List Name → List ActuatorUpdate → Bool
 updates_read names us = list_all (λ (u : ActuatorUpdate). are_among names (names_in_update u)) us
@@ -36,5 +40,5 @@ invocations_read names is = list_all (λ (i : TaskInvocation). are_among names (
 
 -- Updates read ports of their mode; switches and invocations read sensors too.
 abbrev pub drivers_fit : GiottoProgram → ModeDeclaration → Bool
-drivers_fit p m = updates_read (mode_ports p m) m.updates && list_all (switch_fits p (readable_ports p m)) m.switches
+drivers_fit p m = updates_read (mode_ports p m) m.updates && switches_fit p (readable_ports p m) m.switches
     && invocations_read (readable_ports p m) m.invocations

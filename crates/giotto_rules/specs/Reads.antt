@@ -23,6 +23,10 @@ names_in_destinations ds = flat_map (λ (d : Name × Expression). names_read d.1
 abbrev pub names_in_switch : ModeSwitch → List Name
 names_in_switch s = names_in_guard s.guard ++ names_in_destinations s.destinations
 
+-- what arguments read
+abbrev pub names_in_arguments : List Expression → List Name
+names_in_arguments es = flat_map names_read es
+
 -- what an invocation reads, in its guard and its arguments
 abbrev pub names_in_invocation : TaskInvocation → List Name
-names_in_invocation i = names_in_guard i.guard ++ flat_map names_read i.arguments
+names_in_invocation i = names_in_guard i.guard ++ names_in_arguments i.arguments

@@ -1,14 +1,13 @@
 //! Which names expressions, guards and the drivers of a mode read: its updates, switches and invocations.
 
 ghost use Rattle.std.specs.Prelude.{◌≡◌, map};
-ghost use Rattle.std.specs.List.{flat_map};
 ghost use Rattle.giotto_tasks.specs.Names as tasks;
 ghost use Rattle.giotto_tasks.specs.Sound as sound;
 ghost use Rattle.giotto_tasks.specs.Trees.{expression_of};
 ghost use Rattle.giotto_text.specs.ProgramTrees.{guard_of, update_of, switch_of, invocation_of, destination_of};
 ghost use Rattle.giotto_rules.specs.Declarations.{names_read, destinations_of};
 ghost use Rattle.giotto_rules.specs.Names.{are_among};
-ghost use Rattle.giotto_rules.specs.Reads.{names_in_guard, names_in_destinations, names_in_update, names_in_switch, names_in_invocation};
+ghost use Rattle.giotto_rules.specs.Reads.{names_in_guard, names_in_destinations, names_in_arguments, names_in_update, names_in_switch, names_in_invocation};
 
 use crate::scopes::Scope;
 use giotto_tasks::bodies::Expr;
@@ -85,7 +84,7 @@ fn destinations_read_only(names: &Scope, destinations: &[Destination]) -> bool
 }
 
 fn arguments_read_only(names: &Scope, arguments: &[Expr]) -> bool
-    ensures { result ≡ are_among names.now (flat_map names_read (map expression_of arguments.now)) }
+    ensures { result ≡ are_among names.now (names_in_arguments (map expression_of arguments.now)) }
 {
     for argument in arguments {
         if !reads_only(names, argument) {

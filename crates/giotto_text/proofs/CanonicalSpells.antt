@@ -12,7 +12,7 @@ use Rattle.giotto_text.specs.declared.tokens.Keyword.{Keyword}
 use Rattle.giotto_text.specs.declared.tokens.Keyword.TheVariants.{Mode, Period, ActFreq, ExitFreq, TaskFreq, Do, If}
 use Rattle.giotto_text.specs.declared.tokens.Token.{Token}
 use Rattle.giotto_text.specs.declared.tokens.Token.TheVariants as tokens
-use Rattle.giotto_text.specs.Canonical.{initial_tokens, operand_tokens, expression_tokens, with_commas, optional_list, in_braces, statement_tokens, block_tokens, source_tokens, line_tokens, sensor_tokens, actuator_tokens, output_tokens, task_tokens, guard_tokens, at_frequency, given_tokens, update_tokens, switch_tokens, invocation_tokens, mode_tokens, canonical_tokens, symbol as mark}
+use Rattle.giotto_text.specs.Canonical.{initial_tokens, operand_tokens, expression_tokens, argument_tokens, with_commas, optional_list, in_braces, statement_tokens, block_tokens, source_tokens, line_tokens, sensor_tokens, actuator_tokens, output_tokens, task_tokens, guard_tokens, at_frequency, given_tokens, update_tokens, switch_tokens, invocation_tokens, mode_tokens, canonical_tokens, symbol as mark}
 use Rattle.giotto_text.specs.Grammar.{Part, token, program, sensor, actuator, output, task, state, block, statement, mode, update, switch, destination, invocation, expression, operand, initial, int, keyword, name, symbol, separated, list_behind, written_source, written_line, written_guard, statements, IsWritten, a_program, a_sensor, an_actuator, an_output, a_task, a_state, a_block, an_assignment, a_branch, two_branches, a_repetition, a_mode, an_update, a_plain_switch, a_switch, a_destination, an_invocation, an_operand, a_unary, a_binary, a_number, a_port, in_parentheses, a_plain_initial, a_negative_initial, an_int}
 use Rattle.giotto_text.specs.declared.tokens.Symbol.TheVariants.{Becomes, Semicolon, OpenParenthesis, CloseParenthesis, OpenBrace, CloseBrace}
 use Rattle.giotto_text.specs.Program.{Source, from_line, from_grant, ModeSwitch, TaskInvocation, ModeDeclaration, GiottoProgram}
@@ -154,7 +154,7 @@ of_invocation i =
     let end : List Token = mark CloseParenthesis ∷ mark Semicolon ∷ [] in
     of_frequency TaskFreq i.frequency i.guard ((name i.task ∷ symbol OpenParenthesis ∷ arguments) ++ written_end)
     ∙ ap (λ l. front ++ (tokens.Name i.task ∷ mark OpenParenthesis ∷ l)) (flat_map-append tokens_of arguments written_end ∙ ap (λ l. l ++ end) (listed expression i.arguments))
-    ∙ sym (append_assoc front (tokens.Name i.task ∷ mark OpenParenthesis ∷ with_commas (map expression_tokens i.arguments)) end)
+    ∙ sym (append_assoc front (tokens.Name i.task ∷ mark OpenParenthesis ∷ argument_tokens i.arguments) end)
 
 of_mode : (m : ModeDeclaration) → flat_map tokens_of ((keyword Mode ∷ name m.name ∷ keyword Period ∷ int m.period ∷ symbol OpenBrace ∷ map update m.updates)
     ++ (map switch m.switches ++ (map invocation m.invocations ++ symbol CloseBrace ∷ []))) ≡ mode_tokens m

@@ -15,7 +15,7 @@ use Rattle.giotto_text.specs.declared.tokens.Keyword.TheVariants.{Output, Task, 
 use Rattle.giotto_text.specs.declared.tokens.Symbol.TheVariants.{Becomes, Semicolon, Comma, OpenParenthesis, CloseParenthesis, OpenBrace, CloseBrace}
 use Rattle.giotto_text.specs.declared.tokens.Token.{Token}
 use Rattle.giotto_text.specs.declared.tokens.Token.TheVariants as tokens
-use Rattle.giotto_text.specs.Canonical.{keyword, symbol, initial_tokens, operand_tokens, expression_tokens, with_commas, optional_list, in_braces, else_tokens, statement_tokens, block_tokens, sensor_tokens, actuator_tokens, output_tokens, task_tokens, guard_tokens, at_frequency, given_tokens, update_tokens, destination_tokens, switch_tokens, invocation_tokens, mode_tokens, canonical_tokens}
+use Rattle.giotto_text.specs.Canonical.{keyword, symbol, initial_tokens, name_tokens, state_tokens, argument_tokens, operand_tokens, expression_tokens, with_commas, optional_list, in_braces, else_tokens, statement_tokens, block_tokens, sensor_tokens, actuator_tokens, output_tokens, task_tokens, guard_tokens, at_frequency, given_tokens, update_tokens, destination_tokens, switch_tokens, invocation_tokens, mode_tokens, canonical_tokens}
 use Rattle.giotto_text.specs.Depth.{is_shallow, has_shallow_guard, is_shallow_update, is_shallow_switch, is_shallow_invocation, is_shallow_mode, is_shallow_task, is_shallow_program}
 use Rattle.giotto_text.specs.declared.tokens.PlacedToken.{PlacedToken}
 use Rattle.giotto_text.specs.Grammar as grammar
@@ -234,7 +234,7 @@ switch_within s =
 
 invocation_within : (i : TaskInvocation) → Within (invocation_tokens i) (is_shallow_invocation i ≡ true)
 invocation_within i =
-    let arguments = with_commas (map expression_tokens i.arguments) in
+    let arguments = argument_tokens i.arguments in
     let given = list_within is_shallow expression_tokens shallow_within i.arguments in
     let enclosed = in_parentheses arguments given in
     let end : Within (symbol Semicolon ∷ []) (Unit {0}) = alone (symbol Semicolon) (λ n. refl) in
@@ -285,9 +285,9 @@ each_part test f each (x ∷ xs) h =
 
 task_shallow : (t : TaskDeclaration) → nests_too_deep (task_tokens t) ≡ false → is_shallow_task t ≡ true
 task_shallow t h =
-    let inputs = with_commas (map (λ x. tokens.Name x ∷ []) t.inputs) in
-    let outputs = optional_list Output (map (λ x. tokens.Name x ∷ []) t.outputs) in
-    let states = optional_list State (map (λ (s : Name × ℤ). tokens.Name s.0 ∷ symbol Becomes ∷ initial_tokens s.1) t.states) in
+    let inputs = with_commas (map name_tokens t.inputs) in
+    let outputs = optional_list Output (map name_tokens t.outputs) in
+    let states = optional_list State (map state_tokens t.states) in
     let body = in_braces (block_tokens t.block) in
     let behind_name = (parts_of (keyword Task ∷ tokens.Name t.name ∷ symbol OpenParenthesis ∷ inputs) (symbol CloseParenthesis ∷ outputs ++ (states ++ body)) h).1 in
     let behind_outputs = (parts_of (symbol CloseParenthesis ∷ outputs) (states ++ body) behind_name).1 in

@@ -93,11 +93,18 @@ actuator_tokens a = declaration_tokens Actuator a.name a.initial ++ (line_tokens
 abbrev pub output_tokens : OutputDeclaration → List Token
 output_tokens o = declaration_tokens Output o.name o.initial ++ symbol Semicolon ∷ []
 
+abbrev pub name_tokens : Name → List Token
+name_tokens x = tokens.Name x ∷ []
+
+-- a state and its initial value
+abbrev pub state_tokens : Name × ℤ → List Token
+state_tokens s = tokens.Name s.0 ∷ symbol Becomes ∷ initial_tokens s.1
+
 abbrev pub task_tokens : TaskDeclaration → List Token
 task_tokens t =
-    keyword Task ∷ tokens.Name t.name ∷ symbol OpenParenthesis ∷ with_commas (map (λ x. tokens.Name x ∷ []) t.inputs) ++ (symbol CloseParenthesis
-    ∷ optional_list Output (map (λ x. tokens.Name x ∷ []) t.outputs)
-    ++ (optional_list State (map (λ s. tokens.Name s.0 ∷ symbol Becomes ∷ initial_tokens s.1) t.states)
+    keyword Task ∷ tokens.Name t.name ∷ symbol OpenParenthesis ∷ with_commas (map name_tokens t.inputs) ++ (symbol CloseParenthesis
+    ∷ optional_list Output (map name_tokens t.outputs)
+    ++ (optional_list State (map state_tokens t.states)
     ++ in_braces (block_tokens t.block)))
 
 abbrev pub guard_tokens : Option Expression → List Token
@@ -121,8 +128,11 @@ destination_tokens (d ∷ ds) = in_braces (flat_map (λ d. given_tokens d.0 d.1)
 abbrev pub switch_tokens : ModeSwitch → List Token
 switch_tokens s = at_frequency ExitFreq s.frequency s.guard ++ tokens.Name s.target ∷ destination_tokens s.destinations ++ symbol Semicolon ∷ []
 
+abbrev pub argument_tokens : List Expression → List Token
+argument_tokens es = with_commas (map expression_tokens es)
+
 abbrev pub invocation_tokens : TaskInvocation → List Token
-invocation_tokens i = at_frequency TaskFreq i.frequency i.guard ++ tokens.Name i.task ∷ symbol OpenParenthesis ∷ with_commas (map expression_tokens i.arguments) ++ symbol CloseParenthesis ∷ symbol Semicolon ∷ []
+invocation_tokens i = at_frequency TaskFreq i.frequency i.guard ++ tokens.Name i.task ∷ symbol OpenParenthesis ∷ argument_tokens i.arguments ++ symbol CloseParenthesis ∷ symbol Semicolon ∷ []
 
 abbrev pub mode_tokens : ModeDeclaration → List Token
 mode_tokens m =

@@ -1,15 +1,16 @@
 //! Switches by number.
 
 ghost use Rattle.std.specs.Prelude.{◌≡◌, Some, IfOk, IsTrue, IsSome, map};
-ghost use Rattle.std.specs.List.{flat_map, list_all, position_from};
+ghost use Rattle.std.specs.List.{list_all, position_from};
 ghost use Rattle.giotto_tasks.specs.Names.{is_among, same_name};
 ghost use Rattle.giotto_tasks.specs.Trees.{expression_of};
 ghost use Rattle.giotto_text.specs.Depth.{is_shallow};
 ghost use Rattle.giotto_text.specs.ProgramTrees.{mode_of, switch_of, destination_of};
-ghost use Rattle.giotto_rules.specs.Declarations as declared;
+ghost use Rattle.giotto_rules.specs.Declarations.{mode_named, names_read, output_names};
 ghost use Rattle.giotto_rules.specs.Names.{are_among};
-ghost use Rattle.giotto_check.specs.Facts.{ModeFits, ProgramFits, SwitchFits};
-ghost use Rattle.giotto_check.specs.Timetables.{AreEach, IsDestination, IsExit, place_of_mode};
+ghost use Rattle.giotto_rules.specs.Reads.{names_in_destinations};
+ghost use Rattle.giotto_check.specs.Facts.{DriversMayRead, ModeFits, ProgramFits, SwitchFits};
+ghost use Rattle.giotto_check.specs.Timetables.{AreDestinations, AreExits, IsDestination, IsExit, place_of_mode};
 
 use crate::numbering::numbered::Numbered;
 use crate::timetables::{SlotDestination, SlotExit};
@@ -21,7 +22,7 @@ impl Numbered<'_> {
     /// The switches of a mode, in text order.
     pub(crate) fn exits(&self, mode: &Mode) -> Result<Vec<SlotExit>, AllocError>
         requires { ModeFits self.now (mode_of mode.now) }
-        ensures { IfOk result (λ entries. AreEach (IsExit self.now (mode_of mode.now)) (mode_of mode.now).switches entries.items) }
+        ensures { IfOk result (λ entries. AreExits self.now (mode_of mode.now) entries.items) }
     {
         let mut entries = Vec::new(self.alloc);
         for switch in mode.switches.as_slice() {
@@ -46,7 +47,7 @@ impl Numbered<'_> {
 
     // The place of the mode of this name. Goes over the modes once.
     fn target(&self, name: &Name) -> usize
-        requires { IsSome (declared.mode_named self.now name.now) }
+        requires { IsSome (mode_named self.now name.now) }
         ensures { place_of_mode self.now name.now ≡ Some result }
     {
         match mode_place(self.program.modes(), name) {
@@ -56,10 +57,10 @@ impl Numbered<'_> {
     }
 
     fn destinations(&self, destinations: &[Destination]) -> Result<Vec<SlotDestination>, AllocError>
-        requires outputs { IsTrue (are_among (declared.output_names self.now) (map (λ d. d.0) (map destination_of destinations.now))) }
-        requires reads { IsTrue (are_among (declared.driver_ports self.now) (flat_map (λ d. declared.names_read d.1) (map destination_of destinations.now))) }
+        requires outputs { IsTrue (are_among (output_names self.now) (map (λ d. d.0) (map destination_of destinations.now))) }
+        requires reads { DriversMayRead self.now (names_in_destinations (map destination_of destinations.now)) }
         requires shallow { IsTrue (list_all (λ d. is_shallow d.1) (map destination_of destinations.now)) }
-        ensures { IfOk result (λ entries. AreEach (IsDestination self.now) (map destination_of destinations.now) entries.items) }
+        ensures { IfOk result (λ entries. AreDestinations self.now (map destination_of destinations.now) entries.items) }
     {
         let mut entries = Vec::new(self.alloc);
         for destination in destinations {
@@ -69,8 +70,8 @@ impl Numbered<'_> {
     }
 
     fn destination(&self, destination: &Destination) -> Result<SlotDestination, AllocError>
-        requires output { IsTrue (is_among (declared.output_names self.now) destination.now.output) }
-        requires reads { IsTrue (are_among (declared.driver_ports self.now) (declared.names_read (expression_of destination.now.value))) }
+        requires output { IsTrue (is_among (output_names self.now) destination.now.output) }
+        requires reads { DriversMayRead self.now (names_read (expression_of destination.now.value)) }
         requires shallow { IsTrue (is_shallow (expression_of destination.now.value)) }
         ensures { IfOk result (λ entry. IsDestination self.now (destination_of destination.now) entry) }
     {

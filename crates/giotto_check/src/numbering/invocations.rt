@@ -1,15 +1,15 @@
 //! Invocations by number.
 
 ghost use Rattle.std.specs.Prelude.{◌≡◌, Some, IfOk, IsTrue, IsSome, map};
-ghost use Rattle.std.specs.List.{flat_map, list_all, position_from};
+ghost use Rattle.std.specs.List.{list_all, position_from};
 ghost use Rattle.giotto_tasks.specs.Names.{same_name};
 ghost use Rattle.giotto_tasks.specs.Trees.{expression_of};
 ghost use Rattle.giotto_text.specs.Depth.{is_shallow};
 ghost use Rattle.giotto_text.specs.ProgramTrees.{mode_of, invocation_of};
-ghost use Rattle.giotto_rules.specs.Declarations as declared;
-ghost use Rattle.giotto_rules.specs.Names.{are_among};
-ghost use Rattle.giotto_check.specs.Facts.{ModeFits, InvocationFits};
-ghost use Rattle.giotto_check.specs.Timetables.{AreEach, AreTaskSlots, IsExpression, IsInvocation, place_of_task};
+ghost use Rattle.giotto_rules.specs.Declarations.{task_named};
+ghost use Rattle.giotto_rules.specs.Reads.{names_in_arguments};
+ghost use Rattle.giotto_check.specs.Facts.{DriversMayRead, InvocationFits, ModeFits};
+ghost use Rattle.giotto_check.specs.Timetables.{AreArguments, AreEach, AreInvocations, AreTaskSlots, IsInvocation, place_of_task};
 
 use crate::numbering::numbered::Numbered;
 use crate::timetables::{SlotExpr, SlotInvocation, TaskSlots};
@@ -27,7 +27,7 @@ impl Numbered<'_> {
     ) -> Result<Vec<SlotInvocation>, AllocError>
         requires tasks { AreEach (AreTaskSlots self.now) self.now.tasks tasks.now }
         requires mode { ModeFits self.now (mode_of mode.now) }
-        ensures { IfOk result (λ entries. AreEach (IsInvocation self.now (mode_of mode.now)) (mode_of mode.now).invocations entries.items) }
+        ensures { IfOk result (λ entries. AreInvocations self.now (mode_of mode.now) entries.items) }
     {
         let mut entries = Vec::new(self.alloc);
         for invocation in mode.invocations.as_slice() {
@@ -60,7 +60,7 @@ impl Numbered<'_> {
 
     // The place of the task of this name. Goes over the tasks once.
     fn task(&self, name: &Name) -> usize
-        requires { IsSome (declared.task_named self.now name.now) }
+        requires { IsSome (task_named self.now name.now) }
         ensures { place_of_task self.now name.now ≡ Some result }
     {
         match task_place(self.program.tasks(), name) {
@@ -70,9 +70,9 @@ impl Numbered<'_> {
     }
 
     fn arguments(&self, arguments: &[Expr]) -> Result<Vec<SlotExpr>, AllocError>
-        requires reads { IsTrue (are_among (declared.driver_ports self.now) (flat_map declared.names_read (map expression_of arguments.now))) }
+        requires reads { DriversMayRead self.now (names_in_arguments (map expression_of arguments.now)) }
         requires shallow { IsTrue (list_all is_shallow (map expression_of arguments.now)) }
-        ensures { IfOk result (λ codes. AreEach (IsExpression self.now) (map expression_of arguments.now) codes.items) }
+        ensures { IfOk result (λ codes. AreArguments self.now (map expression_of arguments.now) codes.items) }
     {
         let mut codes = Vec::new(self.alloc);
         for argument in arguments {

@@ -6,9 +6,8 @@ ghost use Rattle.giotto_tasks.specs.Trees.{expression_of};
 ghost use Rattle.giotto_text.specs.Depth.{is_shallow, has_shallow_guard};
 ghost use Rattle.giotto_text.specs.ProgramTrees.{guard_of};
 ghost use Rattle.giotto_rules.specs.Declarations.{driver_ports, names_read};
-ghost use Rattle.giotto_rules.specs.Names.{are_among};
 ghost use Rattle.giotto_rules.specs.Reads.{names_in_guard};
-ghost use Rattle.giotto_check.specs.Facts.{ProgramFits};
+ghost use Rattle.giotto_check.specs.Facts.{DriversMayRead, ProgramFits};
 ghost use Rattle.giotto_check.specs.Slots.{slot_of};
 ghost use Rattle.giotto_check.specs.Timetables.{IsExpression, IsGuard};
 
@@ -75,7 +74,7 @@ impl Numbered<'_> {
 
     /// The expression over slots.
     pub(crate) fn expression(&self, e: &Expr) -> Result<SlotExpr, AllocError>
-        requires reads { IsTrue (are_among (driver_ports self.now) (names_read (expression_of e.now))) }
+        requires reads { DriversMayRead self.now (names_read (expression_of e.now)) }
         requires shallow { IsTrue (is_shallow (expression_of e.now)) }
         ensures { IfOk result (λ c. IsExpression self.now (expression_of e.now) c) }
     {
@@ -88,7 +87,7 @@ impl Numbered<'_> {
 
     /// The guard over slots, if there is one.
     pub(crate) fn guard(&self, guard: &Option<Expr>) -> Result<Option<SlotExpr>, AllocError>
-        requires reads { IsTrue (are_among (driver_ports self.now) (names_in_guard (guard_of guard.now))) }
+        requires reads { DriversMayRead self.now (names_in_guard (guard_of guard.now)) }
         requires shallow { IsTrue (has_shallow_guard (guard_of guard.now)) }
         ensures { IfOk result (λ c. IsGuard self.now (guard_of guard.now) c) }
     {

@@ -3,7 +3,7 @@
 ghost use Rattle.std.specs.Prelude.{IfOk};
 ghost use Rattle.giotto_text.specs.ProgramTrees.{mode_of, update_of};
 ghost use Rattle.giotto_check.specs.Facts.{ModeFits, UpdateFits};
-ghost use Rattle.giotto_check.specs.Timetables.{AreEach, IsUpdate};
+ghost use Rattle.giotto_check.specs.Timetables.{AreUpdates, IsUpdate};
 
 use crate::numbering::numbered::Numbered;
 use crate::timetables::SlotUpdate;
@@ -14,7 +14,7 @@ impl Numbered<'_> {
     /// The updates of a mode, in text order.
     pub(crate) fn updates(&self, mode: &Mode) -> Result<Vec<SlotUpdate>, AllocError>
         requires { ModeFits self.now (mode_of mode.now) }
-        ensures { IfOk result (λ entries. AreEach (IsUpdate self.now (mode_of mode.now)) (mode_of mode.now).updates entries.items) }
+        ensures { IfOk result (λ entries. AreUpdates self.now (mode_of mode.now) entries.items) }
     {
         let mut entries = Vec::new(self.alloc);
         for update in mode.updates.as_slice() {

@@ -4,7 +4,7 @@
 ghost use Rattle.std.specs.Prelude.{◌≡◌, OnOk, map};
 ghost use Rattle.std.specs.List.{flat_map};
 ghost use Rattle.giotto_tasks.specs.Trees.{expression_of};
-ghost use Rattle.giotto_text.specs.Canonical.{at_frequency, destination_tokens, invocation_tokens, mode_tokens, switch_tokens, update_tokens, with_commas, expression_tokens};
+ghost use Rattle.giotto_text.specs.Canonical.{argument_tokens, at_frequency, destination_tokens, invocation_tokens, mode_tokens, switch_tokens, update_tokens};
 ghost use Rattle.giotto_text.specs.ProgramTrees.{destination_of, guard_of, invocation_of, mode_of, switch_of, update_of};
 ghost use Rattle.giotto_read.specs.Printing.{written};
 
@@ -112,7 +112,7 @@ impl Printer {
 
     // [expr {"," expr}]
     fn arguments(&mut self, arguments: &[Expr]) -> Result<(), AllocError>
-        ensures { OnOk result (self.new ≡ written self.old (with_commas (map expression_tokens (map expression_of arguments.now)))) }
+        ensures { OnOk result (self.new ≡ written self.old (argument_tokens (map expression_of arguments.now))) }
     {
         for i in 0..arguments.len() {
             self.comma_before(i)?;

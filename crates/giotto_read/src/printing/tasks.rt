@@ -1,14 +1,12 @@
 //! Tasks and their bodies.
 #![tactic(auto, using(crate::proofs::Writing::writing))]
 
-ghost use Rattle.std.specs.Prelude.{◌≡◌, [], ◌∷◌, OnOk, length, map};
+ghost use Rattle.std.specs.Prelude.{◌≡◌, OnOk, length, map};
 ghost use Rattle.std.specs.List.{flat_map, zip};
 ghost use Rattle.giotto_tasks.specs.Trees.{block_of, statement_of};
-ghost use Rattle.giotto_text.specs.Canonical.{block_tokens, else_tokens, in_braces, initial_tokens, optional_list, statement_tokens, symbol, task_tokens, with_commas};
+ghost use Rattle.giotto_text.specs.Canonical.{block_tokens, else_tokens, in_braces, name_tokens, optional_list, state_tokens, statement_tokens, task_tokens, with_commas};
 ghost use Rattle.giotto_text.specs.ProgramTrees.{task_of};
-ghost use Rattle.giotto_text.specs.declared.tokens.Keyword.TheVariants as keywords;
-ghost use Rattle.giotto_text.specs.declared.tokens.Symbol.TheVariants.{Becomes};
-ghost use Rattle.giotto_text.specs.declared.tokens.Token.TheVariants as tokens;
+ghost use Rattle.giotto_text.specs.declared.tokens.Keyword.TheVariants.{Output, State};
 ghost use Rattle.giotto_read.specs.Printing.{written};
 
 use super::Printer;
@@ -44,7 +42,7 @@ impl Printer {
 
     // [NAME {"," NAME}]
     fn names(&mut self, names: &[Name]) -> Result<(), AllocError>
-        ensures { OnOk result (self.new ≡ written self.old (with_commas (map (λ x. tokens.Name x ∷ []) names.now))) }
+        ensures { OnOk result (self.new ≡ written self.old (with_commas (map name_tokens names.now))) }
     {
         for i in 0..names.len() {
             self.comma_before(i)?;
@@ -55,7 +53,7 @@ impl Printer {
 
     // ["output" NAME {"," NAME}]
     fn task_outputs(&mut self, outputs: &[Name]) -> Result<(), AllocError>
-        ensures { OnOk result (self.new ≡ written self.old (optional_list keywords.Output (map (λ x. tokens.Name x ∷ []) outputs.now))) }
+        ensures { OnOk result (self.new ≡ written self.old (optional_list Output (map name_tokens outputs.now))) }
     {
         if outputs.is_empty() {
             return Ok(());
@@ -67,7 +65,7 @@ impl Printer {
     // ["state" state {"," state}]
     fn task_states(&mut self, names: &[Name], values: &[i64]) -> Result<(), AllocError>
         requires { length names.now ≡ length values.now }
-        ensures { OnOk result (self.new ≡ written self.old (optional_list keywords.State (map (λ s. tokens.Name s.0 ∷ symbol Becomes ∷ initial_tokens s.1) (zip names.now values.now)))) }
+        ensures { OnOk result (self.new ≡ written self.old (optional_list State (map state_tokens (zip names.now values.now)))) }
     {
         if names.is_empty() {
             return Ok(());
@@ -82,7 +80,7 @@ impl Printer {
 
     // state = NAME ":=" init
     fn state(&mut self, name: &Name, value: i64) -> Result<(), AllocError>
-        ensures { OnOk result (self.new ≡ written self.old (tokens.Name name.now ∷ symbol Becomes ∷ initial_tokens value)) }
+        ensures { OnOk result (self.new ≡ written self.old (state_tokens (name.now, value))) }
     {
         self.name(name)?;
         self.symbol(Symbol::Becomes)?;

@@ -2,7 +2,6 @@
 //! destinations are mode ports of its target, each once.
 
 ghost use Rattle.std.specs.Prelude.{◌≡◌, [], map, None, IfOk, IfSome};
-ghost use Rattle.std.specs.List.{list_all};
 ghost use Rattle.giotto_tasks.specs.Sound as sound;
 ghost use Rattle.giotto_text.specs.ProgramTrees.{mode_of, update_of, switch_of, invocation_of};
 ghost use Rattle.giotto_rules.specs.Declarations as declared;
@@ -97,9 +96,7 @@ fn switches_fit(
     switches: &[Switch],
 ) -> Result<bool, AllocError>
     requires { ports.now ≡ map (declared.mode_ports program.now) program.now.modes }
-    ensures { IfOk result
-        (λ holds. holds ≡ list_all (spec.switch_fits program.now sources.now)
-        (map switch_of switches.now)) }
+    ensures { IfOk result (λ holds. holds ≡ spec.switches_fit program.now sources.now (map switch_of switches.now)) }
 {
     for switch in switches {
         if !switch_fits(alloc, program, ports, sources, switch)? {

@@ -1,20 +1,13 @@
-use Rattle.std.proofs.Common.{◌≡◌, ℕ, ◌∷◌, ℤ, pos, length, get_or, map, refl, sym, ◌∙◌, ap, ◌<◌, List, arith, rules, w64, SFits}
+use Rattle.std.proofs.Common.{◌≡◌, ℕ, pos, length, get_or, map, refl, sym, ◌∙◌, ap, ◌<◌, List, arith, rules, w64, SFits}
 use Rattle.std.specs.List.{zip}
 use Rattle.std.proofs.lemmas.Int.{to_z-of_z}
 use Rattle.std.proofs.lemmas.List.{get_or_default, take_all}
 use Rattle.std.proofs.lemmas.Slice.Zip.{get_or-zip, length-zip}
-use Rattle.giotto_tasks.specs.declared.names.Name.{Name}
-use Rattle.giotto_text.specs.Canonical.{initial_tokens, keyword, symbol, with_commas}
+use Rattle.giotto_text.specs.Canonical.{keyword, state_tokens, with_commas}
 use Rattle.giotto_text.specs.declared.tokens.Keyword.TheVariants as keywords
-use Rattle.giotto_text.specs.declared.tokens.Symbol.TheVariants.{Becomes}
-use Rattle.giotto_text.specs.declared.tokens.Token.{Token}
-use Rattle.giotto_text.specs.declared.tokens.Token.TheVariants as tokens
 use Rattle.giotto_read.proofs.PrintingLemmas.{behind, commas_more, none_left, optional_some, some_left}
 use Rattle.giotto_read.proofs.Writing.{written_none}
 use Rattle.giotto_read.proofs.printing.Printer.task_states.Goals as goal
-
-abbrev state : Name × ℤ → List Token
-state s = tokens.Name s.0 ∷ symbol Becomes ∷ initial_tokens s.1
 
 pair_at : {X Y : Type 0} (xs : List X) (ys : List Y) (i : ℕ) (x : X) (y : Y) → i < length xs → i < length ys → x ≡ get_or xs i x → y ≡ get_or ys i y → (x, y) ≡ get_or (zip xs ys) i (x, y)
 pair_at {X} {Y} xs ys i x y a b p q =
@@ -36,7 +29,7 @@ loop-i-preserved c =
     let within : i < length values = omega (arith, c.loop-i-test.true, c.requires) in
     let size : i < length (zip names values) = omega (arith, length-zip names values, c.loop-i-test.true, within) in
     let pair = pair_at names values i c.index-names-i.result value c.loop-i-test.true within c.index-names-i.is (get_or_default values i (pos 0) value within) in
-    commas_more state c.keyword.new.self (zip names values) i (c.index-names-i.result, value) c.loop-i.self c.comma_before.new.self c.state.new.self size pair c.loop-i.invariant c.in_ok-comma_before.ensures after
+    commas_more state_tokens c.keyword.new.self (zip names values) i (c.index-names-i.result, value) c.loop-i.self c.comma_before.new.self c.state.new.self size pair c.loop-i.invariant c.in_ok-comma_before.ensures after
 
 pub returns : goal.returns
 returns c =
@@ -44,4 +37,4 @@ returns c =
     let size : length xs ≡ length c.args.names.now = omega (arith, length-zip c.args.names.now c.args.values.now, c.requires) in
     let some = some_left c.args.names.now c.is_empty.result c.is_empty.ensures c.if-is_empty.false in
     let all = take_all c.loop-i.i xs (rw size c.loop-i-test.false) in
-    rw (optional_some keywords.State state xs (rw size some), behind c.args.self.now c.keyword.new.self (keyword keywords.State) (with_commas (map state xs)) c.in_ok-keyword.ensures, c.loop-i.invariant, all) refl
+    rw (optional_some keywords.State state_tokens xs (rw size some), behind c.args.self.now c.keyword.new.self (keyword keywords.State) (with_commas (map state_tokens xs)) c.in_ok-keyword.ensures, c.loop-i.invariant, all) refl
