@@ -1,8 +1,9 @@
 -- Intervals of which none ends for a while.
-use Rattle.std.proofs.Common.{◌≡◌, ℕ, ◌+◌, ◌<◌, ◌≤◌, ◌%◌, ◌==◌, Bool, false, List, [], ◌∷◌, ◌++◌, length, take, get_or, Some, ⊎_elim, sym, ap, subst, ◌∙◌, arith}
+use Rattle.std.proofs.Common.{◌≡◌, ℕ, ◌+◌, ◌<◌, ◌≤◌, ◌-◌, ◌^◌, ◌%◌, ◌==◌, Bool, false, List, [], ◌∷◌, ◌++◌, length, take, get_or, Some, ⊎_elim, sym, ap, subst, ◌∙◌, arith}
 use Rattle.std.specs.Prelude.{min, slice_get}
 use Rattle.std.specs.List.{AllByRecursion}
-use Rattle.std.proofs.Math.Nat.{min-le_left, min-le_right}
+use Rattle.std.proofs.Math.Nat.{min-eq_left, min-eq_right, min-le_left, min-le_right}
+use Rattle.std.proofs.lemmas.Bool.{cases_lt}
 use Rattle.std.proofs.lemmas.List.{take_more}
 use Rattle.std.proofs.lemmas.Option.{slice_get_cases}
 use Rattle.giotto_text.specs.Program.{ActuatorUpdate, ModeSwitch, TaskInvocation, ModeDeclaration, GiottoProgram}
@@ -11,9 +12,8 @@ use Rattle.giotto_check.specs.Timetables.{AreEach, IsUpdate, IsExit, IsInvocatio
 use Rattle.giotto_check.specs.declared.timetables.SlotUpdate.{SlotUpdate}
 use Rattle.giotto_check.specs.declared.timetables.SlotExit.{SlotExit}
 use Rattle.giotto_check.specs.declared.timetables.SlotInvocation.{SlotInvocation}
-use Rattle.giotto_tasks.proofs.ListLemmas.{all_and_one}
-use Rattle.tenant_slots.specs.Due.{is_due_at}
-use Rattle.tenant_slots.specs.Due.{IsQuietUntil}
+use Rattle.giotto_tasks.proofs.ListLemmas.{all_and_one, all_middle}
+use Rattle.tenant_slots.specs.Due.{is_due_at, IsQuietAt, IsQuietUntil}
 use Rattle.tenant_slots.proofs.Numbered.{mode_fits_at, update_due, exit_due, invocation_due, update_intervals, exit_intervals, invocation_intervals}
 
 -- from this time on and before the next
@@ -26,6 +26,32 @@ quiet_more {E = E} interval es i x time next more least lt is quiet one e t from
     let P : E → Type 0 = λ e. (t % interval e == 0) ≡ false in
     subst (AllByRecursion P) (sym (take_more es i x lt ∙ ap (λ z. take i es ++ z ∷ []) (sym is)))
     (all_and_one P (take i es) x (quiet t from (omega (arith, before, e, min-le_left next more))) (one t from (omega (arith, before, e, min-le_right next more))))
+
+all_front : {E : Type 0} (P : E → Type 0) (xs ys : List E) → AllByRecursion P (xs ++ ys) → AllByRecursion P xs
+all_front P [] ys all = tt
+all_front P (x ∷ xs) ys all = (all.0, all_front P xs ys all.1)
+
+-- where none of them ends at the next, it is this last one
+abbrev pub AreDue : {E : Type 0} → (E → ℕ) → List E → ℕ → ℕ → Type 0
+AreDue interval es last next = AllByRecursion (λ e. (next % interval e == 0) ≡ false) es → next ≡ last
+
+pub due_more : {E : Type 0} (interval : E → ℕ) (es : List E) (i : ℕ) (x : E) (last next more least : ℕ) → i < length es → x ≡ get_or es i x → AreDue interval (take i es) last next
+    → ((more % interval x == 0) ≡ false → more ≡ 2 ^ 64 - 1) → next < 2 ^ 64 → least ≡ min next more → AreDue interval (take (i + 1) es) last least
+due_more {E = E} interval es i x last next more least lt is due one small e quiet =
+    let P : ℕ → E → Type 0 = λ t e. (t % interval e == 0) ≡ false in
+    let all = subst (AllByRecursion (P least)) (take_more es i x lt ∙ ap (λ z. take i es ++ z ∷ []) (sym is)) quiet in
+    ⊎_elim
+    (λ less. let same : least ≡ more = e ∙ min-eq_right (omega (arith, less)) in absurd (omega (arith, one (subst (λ t. P t x) same (all_middle (P least) (take i es) x [] all)), small, less)))
+    (λ not_less. let same : least ≡ next = e ∙ min-eq_left not_less in same ∙ due (subst (λ t. AllByRecursion (P t) (take i es)) same (all_front (P least) (take i es) (x ∷ []) all)))
+    (cases_lt more next)
+
+-- entries are quiet where the lines of the mode are
+pub quiet_entries : {L E : Type 0} (R : L → E → Type 0) (interval : E → ℕ) (due : L → Bool) (t : ℕ) → ((x : L) (e : E) → R x e → (t % interval e == 0) ≡ due x) → (xs : List L) (es : List E)
+    → AreEach R xs es → AllByRecursion (λ x. due x ≡ false) xs → AllByRecursion (λ e. (t % interval e == 0) ≡ false) es
+quiet_entries R interval due t same [] [] each quiet = tt
+quiet_entries R interval due t same [] (e ∷ es) each quiet = absurd each
+quiet_entries R interval due t same (x ∷ xs) [] each quiet = absurd each
+quiet_entries R interval due t same (x ∷ xs) (e ∷ es) each quiet = (same x e each.0 ∙ quiet.0, quiet_entries R interval due t same xs es each.1 quiet.1)
 
 -- lines of a mode are quiet where their entries are
 pub quiet_each : {L E : Type 0} (R : L → E → Type 0) (interval : E → ℕ) (due : L → Bool) (t : ℕ) → ((x : L) (e : E) → R x e → (t % interval e == 0) ≡ due x) → (xs : List L) (es : List E)
@@ -45,6 +71,17 @@ module _ (p : GiottoProgram) (fits : ProgramFits p) (mode : ℕ) where
     no_switch = quiet_each (IsExit p m) (λ (e : SlotExit). e.interval) (λ (s : ModeSwitch). is_due_at t m s.frequency) t (exit_due p fits t m) m.switches ss each_s (quiet_s t from (omega (arith, before, least)));
     no_invocation = quiet_each (IsInvocation p m) (λ (e : SlotInvocation). e.interval) (λ (i : TaskInvocation). is_due_at t m i.frequency) t (invocation_due p fits t m) m.invocations is each_i (quiet_i t from before);
   }
+
+  -- where nothing of the mode is due at the end, it is the last
+  pub due_at : (m : ModeDeclaration) (us : List SlotUpdate) (ss : List SlotExit) (is : List SlotInvocation) (first second next : ℕ) → AreEach (IsUpdate p m) m.updates us
+      → AreEach (IsExit p m) m.switches ss → AreEach (IsInvocation p m) m.invocations is → AreDue (λ (e : SlotUpdate). e.interval) us (2 ^ 64 - 1) first → AreDue (λ (e : SlotExit). e.interval) ss first second
+      → AreDue (λ (e : SlotInvocation). e.interval) is second next → IsQuietAt m next → next ≡ 2 ^ 64 - 1
+  due_at m us ss is first second next each_u each_s each_i due_u due_s due_i quiet =
+      let third : next ≡ second = due_i (quiet_entries (IsInvocation p m) (λ (e : SlotInvocation). e.interval) (λ (i : TaskInvocation). is_due_at next m i.frequency) next (invocation_due p fits next m) m.invocations is each_i quiet.no_invocation) in
+      let at_second = subst (IsQuietAt m) third quiet in
+      let before : second ≡ first = due_s (quiet_entries (IsExit p m) (λ (e : SlotExit). e.interval) (λ (s : ModeSwitch). is_due_at second m s.frequency) second (exit_due p fits second m) m.switches ss each_s at_second.no_switch) in
+      let at_first = subst (IsQuietAt m) before at_second in
+      third ∙ before ∙ due_u (quiet_entries (IsUpdate p m) (λ (e : SlotUpdate). e.interval) (λ (u : ActuatorUpdate). is_due_at first m u.frequency) first (update_due p fits first m) m.updates us each_u at_first.no_update)
 
   -- the intervals of a mode's entries are positive
   pub updates_positive : (es : List SlotUpdate) → ((m : ModeDeclaration) → slice_get p.modes mode ≡ Some m → AreEach (IsUpdate p m) m.updates es) → (length p.modes ≤ mode → es ≡ [])

@@ -1,5 +1,5 @@
 -- What is due at a mode time.
-use Rattle.std.specs.Prelude.{◌≡◌, ℕ, ◌/◌, ◌%◌, ◌==◌, ◌<◌, ◌≤◌, Bool, false}
+use Rattle.std.specs.Prelude.{◌≡◌, ℕ, ◌/◌, ◌%◌, ◌==◌, ◌<◌, ◌≤◌, ◌-◌, ◌^◌, Bool, false}
 use Rattle.std.specs.List.{AllByRecursion}
 use Rattle.giotto_text.specs.Program.{ActuatorUpdate, ModeSwitch, TaskInvocation, ModeDeclaration}
 
@@ -16,3 +16,9 @@ pub record IsQuietAt (m : ModeDeclaration) (time : ℕ) : Type 0 where
 -- nothing of the mode is due from this mode time on, before the next
 abbrev pub IsQuietUntil : ModeDeclaration → ℕ → ℕ → Type 0
 IsQuietUntil m time next = (t : ℕ) → time ≤ t → t < next → IsQuietAt m t
+
+-- the next mode time, from this one on, at which something of the mode is due; or the greatest of 64 bits, where that comes first
+pub record IsNextDue (m : ModeDeclaration) (time next : ℕ) : Type 0 where
+  pub from : time ≤ next
+  pub quiet : IsQuietUntil m time next
+  pub due : IsQuietAt m next → next ≡ 2 ^ 64 - 1

@@ -1,8 +1,8 @@
 //! What is due at a mode time.
 
-ghost use Rattle.std.specs.Prelude.{◌≡◌, ◌<◌, ◌≤◌, ◌%◌, ◌==◌, ℕ, false};
+ghost use Rattle.std.specs.Prelude.{◌≡◌, ◌<◌, ◌≤◌, ◌%◌, ◌-◌, ◌^◌, ◌==◌, ℕ, false, length};
 ghost use Rattle.giotto_text.specs.Program.{ModeDeclaration};
-ghost use Rattle.tenant_slots.specs.Due.{IsQuietUntil};
+ghost use Rattle.tenant_slots.specs.Due.{IsNextDue};
 ghost use Rattle.tenant_slots.specs.Places.{IsModeAt};
 
 use giotto_check::Checked;
@@ -52,9 +52,11 @@ impl Due {
     }
 }
 
-/// A mode time before which nothing of the mode at this place is due, from this time on.
+/// The next mode time at which something of the mode at this place is due, from this time on; the greatest number where there is no
+/// such mode, or nothing is due before it.
 pub fn next_due(checked: &Checked, mode: usize, time: u64) -> u64
-    ensures { (m : ModeDeclaration) → IsModeAt checked.now mode m → IsQuietUntil m time result }
+    ensures there { (m : ModeDeclaration) → IsModeAt checked.now mode m → IsNextDue m time result }
+    ensures none { length checked.now.modes ≤ mode → result ≡ 2 ^ 64 - 1 }
 {
     // Its frequencies are positive.
     let _program = checked.program();
@@ -71,10 +73,12 @@ pub fn next_due(checked: &Checked, mode: usize, time: u64) -> u64
     next
 }
 
-// No number from this time on and before it is a multiple of the interval.
+// The first multiple of the interval from this time on, or the greatest number where that comes first.
 fn next_multiple(time: u64, interval: u64) -> u64
     requires { 0 < interval }
-    ensures { (t : ℕ) → time ≤ t → t < result → (t % interval == 0) ≡ false }
+    ensures from { time ≤ result }
+    ensures quiet { (t : ℕ) → time ≤ t → t < result → (t % interval == 0) ≡ false }
+    ensures due { (result % interval == 0) ≡ false → result ≡ 2 ^ 64 - 1 }
 {
     match time % interval {
         0 => time,

@@ -1,16 +1,16 @@
 //! The values of a program's ports, each by its slot, and what an instant does with them.
 //!
 //! One list has the value of every port of a checked program, in the order of its numbering. Contracts read it as the map
-//! `valuation_of` from names to values. [`initial_values::initial_values`] begins it, [`initial_values::reset_ports`] begins
+//! `valuation_of` from names to values. [`beginning::initial_values`] begins it, [`beginning::reset_ports`] begins
 //! it anew in place, [`names::port_value`] reads a port by its name, and the others are steps of an instant: sensors are
 //! read, actuators updated or reset, a switch is taken, and tasks are given their inputs and write their results.
 //! [`due::Due`] tells what is due at a mode time, and [`due::next_due`] until when nothing is.
 #![tactic(auto)]
 
 pub mod actuators;
+pub mod beginning;
 pub mod drivers;
 pub mod due;
-pub mod initial_values;
 pub mod names;
 pub mod sensors;
 pub mod switches;

@@ -25,11 +25,12 @@ use Rattle.tenant_slots.specs.Places.{name_of_task}
 use Rattle.tenant_slots.specs.Updates.{all_updated}
 use Rattle.tenant_slots.proofs.Numbered.{invocation_due, mode_here, same_task}
 use Rattle.tenant_state.specs.declared.tenants.Active.{Active}
+use Rattle.tenant_state.specs.declared.tenants.State as code
 use Rattle.tenant_state.specs.declared.tenants.State.TheVariants as states
 use Rattle.tenant_state.specs.FirstHalf.{all_ended, due_tasks, names_due, still_active, unfinished_tasks, first_half_of, stopped_with}
 use Rattle.tenant_state.specs.Row.{overrun, ActiveTask, Row}
-use Rattle.tenant_state.specs.Standing.{StandsFor}
-use Rattle.tenant_state.specs.Tenants.{active_of, is_completed, is_another, all_different_releases, standing_of, IsActiveOf}
+use Rattle.tenant_state.specs.Standing.{Standing, StandsFor}
+use Rattle.tenant_state.specs.Tenants.{active_of, is_completed, is_another, all_different_releases, standing_of, FitsProgram, FitsIts, IsActiveIn, IsActiveOf, IsTenant}
 use Rattle.tenant_state.proofs.DueTasks.{group, ends, is_open, is_unfinished, names_of_tasks, none_passes, stay}
 use Rattle.tenant_state.proofs.FirstHalfOf.{Runs, due_are, goes_on, stops, unchanged}
 
@@ -186,6 +187,28 @@ tasks_within p m (i ∷ is) (e ∷ es) each = let within = place_within (λ (t :
 -- the mode at a place
 pub its_mode : (p : GiottoProgram) (k : ℕ) → k < length p.modes → (m : ModeDeclaration) × (slice_get p.modes k ≡ Some m)
 its_mode p k lt = ⊎_elim (λ found. (found.0, found.2)) (λ past. absurd (omega (arith, past.0, lt))) (slice_get_cases p.modes k).1
+
+-- a running tenant with this program, as its fields stand
+pub record IsRunning (tenant : Standing) (p : GiottoProgram) (place mode time next : ℕ) (active : List Active) (room : ℕ) (values : List ℤ) (shares : List (Option TaskBody)) (next_tick : ℕ) : Type 0 where
+  pub view : tenant ≡ standing_of place states.Running (Some p) mode time active room values shares next_tick
+  pub fits : FitsProgram p mode time next active values shares next_tick
+  pub declared : AllByRecursion (IsActiveOf p) active
+  pub its : ModeDeclaration
+  pub there : slice_get p.modes mode ≡ Some its
+
+pub as_running : {tenant : Standing} {state : code.State} {program : Option GiottoProgram} {p : GiottoProgram} {place mode time next : ℕ} {active : List Active} {room : ℕ} {values : List ℤ} {shares : List (Option TaskBody)} {next_tick : ℕ}
+    → standing_of place state program mode time active room values shares next_tick ≡ tenant → IsTenant program mode time next active values shares next_tick → state ≡ states.Running → program ≡ Some p
+    → IsRunning tenant p place mode time next active room values shares next_tick
+as_running {p = p} {place = place} {mode = mode} {time = time} {next = next} {active = active} {room = room} {values = values} {shares = shares} {next_tick = next_tick} view known running some =
+    let fits : FitsProgram p mode time next active values shares next_tick = subst (λ o. FitsIts o mode time next active values shares next_tick) some known.fits in
+    let m = its_mode p mode fits.mode_there in
+    record {
+      view = sym view ∙ (λ k. standing_of place (running k) (some k) mode time active room values shares next_tick);
+      fits = fits;
+      declared = all_map (IsActiveIn p next_tick) (IsActiveOf p) active (λ a is. is.declared) fits.each;
+      its = m.0;
+      there = m.1;
+    }
 
 pub different_filter : (p : GiottoProgram) (test : Active → Bool) (xs : List Active) → all_different_releases (map (active_of p) xs) ≡ true → all_different_releases (map (active_of p) (filter test xs)) ≡ true
 different_filter p test [] h = refl

@@ -7,7 +7,7 @@ use Rattle.giotto_text.specs.Program.{GiottoProgram, TaskDeclaration}
 use Rattle.giotto_text.specs.Parsing.{parsed}
 use Rattle.rig_config.specs.declared.Budgets.{Budgets}
 use Rattle.tenant_lines.specs.declared.replies.Budget.{Budget}
-use Rattle.tenant_lines.specs.declared.replies.Refusal.TheVariants.{Rule, Running}
+use Rattle.tenant_lines.specs.declared.replies.Refusal.TheVariants.{Running}
 use Rattle.tenant_state.specs.declared.tenants.Active.{Active}
 use Rattle.tenant_state.specs.declared.tenants.State as code
 use Rattle.giotto_rules.specs.Rules.{first_broken_rule}

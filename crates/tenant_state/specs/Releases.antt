@@ -17,9 +17,9 @@ pub record IsEntryOf (p : GiottoProgram) (entry : SlotInvocation) : Type 0 where
   pub as_many : length invocation.arguments ≡ length task.inputs
   pub few : length entry.arguments.items ≤ 16
 
--- this holds of whatever invocation and task the entry stands for
-abbrev pub HoldsOfIts : GiottoProgram → SlotInvocation → (TaskInvocation → TaskDeclaration → Type 0) → Type 0
-HoldsOfIts p entry P =
+-- this is true of each invocation that the entry may stand for, with its task
+abbrev pub IsTrueOfInvocation : GiottoProgram → SlotInvocation → (TaskInvocation → TaskDeclaration → Type 0) → Type 0
+IsTrueOfInvocation p entry P =
     (m : ModeDeclaration) (i : TaskInvocation) (t : TaskDeclaration) → IsInvocation p m i entry → slice_get p.tasks entry.task ≡ Some t → P i t
 
 -- what such an invocation makes active at this release, by the values in the slots

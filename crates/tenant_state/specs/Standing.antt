@@ -1,5 +1,5 @@
 -- What a tenant's code stands for: all of its row but the records, and which active tasks' computations are completed.
-use Rattle.std.specs.Prelude.{◌≡◌, ◌+◌, ◌≤◌, ◌<◌, ℕ, Bool, true, false, not, if◌then◌else◌, List, [], ◌∷◌, map, filter, length, max, take, drop, Option, None}
+use Rattle.std.specs.Prelude.{◌≡◌, ◌+◌, ◌≤◌, ◌<◌, ℕ, Bool, true, false, not, if◌then◌else◌, List, [], map, filter, length, max, take, drop, Option, None}
 use Rattle.std.specs.List.{AllByRecursion, find, zip}
 use Rattle.std.specs.Option.{option_and_then, option_map, option_map_or}
 use Rattle.giotto_tasks.specs.declared.names.Name.{Name}

@@ -32,7 +32,7 @@ use std::sync::Arc;
 use tenant_lines::commands::Command;
 use tenant_lines::ports::PortValue;
 use tenant_lines::replies::{Budget, Refusal, Reply};
-use tenant_slots::initial_values::{initial_values, reset_ports};
+use tenant_slots::beginning::{initial_values, reset_ports};
 use tenant_slots::names::start_place;
 
 /// What a loaded program begins with: the value of each port, by its slot, and a place for a share of each task's body.

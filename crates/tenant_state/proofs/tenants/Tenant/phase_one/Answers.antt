@@ -7,29 +7,24 @@ use Rattle.giotto_text.specs.Program.{GiottoProgram}
 use Rattle.tenant_slots.specs.Places.{name_of_task}
 use Rattle.giotto_check.specs.Slots.{valuation_of}
 use Rattle.giotto_check.specs.declared.timetables.SlotInvocation.{SlotInvocation}
-use Rattle.giotto_tasks.proofs.ListLemmas.{all_filter, all_map, filter_shorter, found_has, whole_slice}
+use Rattle.giotto_tasks.proofs.ListLemmas.{all_filter, filter_shorter, found_has, whole_slice}
 use Rattle.tenant_slots.proofs.Quiet.{invocations_positive}
 use Rattle.tenant_state.specs.declared.tenants.State.TheVariants as states
 use Rattle.tenant_state.specs.FirstHalf.{all_ended, unfinished_tasks, first_half_of}
 use Rattle.tenant_state.specs.Standing.{Standing, StandsFor, most_released}
 use Rattle.tenant_state.specs.Tenants.{active_of, standing_of, tasks_in, all_different_releases, FitsProgram, FitsIts, IsActiveIn, IsActiveOf}
 use Rattle.tenant_state.proofs.DueTasks.{group}
-use Rattle.tenant_state.proofs.EndedTasks.{different_filter, finished, halted, its_mode, kept, map_none, map_some, opens, quiet_stands, tasks_within}
+use Rattle.tenant_state.proofs.EndedTasks.{different_filter, finished, halted, as_running, kept, map_none, map_some, opens, quiet_stands, tasks_within}
 use Rattle.tenant_state.proofs.tenants.Tenant.phase_one.Goals as goal
 
 pub returns-then-time-self-clause-half : goal.returns-then-time-self-clause-half
 returns-then-time-self-clause-half c = record {
   step = λ row completed st.
       let s = c.self.inside in
-      let p = c.in-Some.checked in
-      let shares = map (option_map arc_value) s.shares.items in
-      let was : c.args.self.now ≡ standing_of s.place states.Running (Some p) s.mode s.mode_time s.active.items s.active.room s.values.items shares s.next_tick =
-      sym c.self.view_is ∙ (λ k. standing_of s.place (c.in-Running.is k) (c.in-Some.is k) s.mode s.mode_time s.active.items s.active.room s.values.items shares s.next_tick) in
-      let fits = subst (λ o. FitsIts o s.mode s.mode_time s.next_due s.active.items s.values.items shares s.next_tick) c.in-Some.is c.self.invariant.fits in
-      let m = its_mode p s.mode fits.mode_there in
-      subst (λ t. StandsFor t (first_half_of (unfinished_tasks completed row) row) completed) (sym was)
-      (quiet_stands p c.program-program.ensures.fits m.0 s.mode s.mode_time s.active.items s.active.room s.values.items shares s.next_tick m.1 row completed (subst (λ t. StandsFor t row completed) was st)
-      (fits.quiet m.0 m.1 s.mode_time (omega arith) c.if-time-self.true));
+      let run = as_running c.self.view_is c.self.invariant c.in-Running.is c.in-Some.is in
+      subst (λ t. StandsFor t (first_half_of (unfinished_tasks completed row) row) completed) (sym run.view)
+      (quiet_stands c.in-Some.checked c.program-program.ensures.fits run.its s.mode s.mode_time s.active.items s.active.room s.values.items (map (option_map arc_value) s.shares.items) s.next_tick run.there row completed
+      (subst (λ t. StandsFor t row completed) run.view st) (run.fits.quiet run.its run.there s.mode_time (omega arith) c.if-time-self.true));
   next_tick = search rules;
   place = search rules;
 }
@@ -48,27 +43,21 @@ end_due-requires-clause-positive c =
 
 pub end_due-requires-clause-there : goal.end_due-requires-clause-there
 end_due-requires-clause-there c =
-    let s = c.self.inside in
-    let p = c.in-Some.checked in
-    let fits = subst (λ o. FitsIts o s.mode s.mode_time s.next_due s.active.items s.values.items (map (option_map arc_value) s.shares.items) s.next_tick) c.in-Some.is c.self.invariant.fits in
-    let m = its_mode p s.mode fits.mode_there in
-    tasks_within p m.0 m.0.invocations _ (c.invocations-invocations.ensures.there m.0 m.1)
+    let run = as_running c.self.view_is c.self.invariant c.in-Running.is c.in-Some.is in
+    tasks_within c.in-Some.checked run.its run.its.invocations _ (c.invocations-invocations.ensures.there run.its run.there)
 
 pub end_due-requires-clause-active : goal.end_due-requires-clause-active
 end_due-requires-clause-active c =
-    let s = c.self.inside in
-    let p = c.in-Some.checked in
-    let fits = subst (λ o. FitsIts o s.mode s.mode_time s.next_due s.active.items s.values.items (map (option_map arc_value) s.shares.items) s.next_tick) c.in-Some.is c.self.invariant.fits in
-    subst (AllByRecursion (IsActiveOf p)) (sym c.as_slice-active.ensures) (all_map (IsActiveIn p s.next_tick) (IsActiveOf p) s.active.items (λ a is. is.declared) fits.each)
+    let run = as_running c.self.view_is c.self.invariant c.in-Running.is c.in-Some.is in
+    subst (AllByRecursion (IsActiveOf c.in-Some.checked)) (sym c.as_slice-active.ensures) run.declared
 
 pub name_of-name-requires : goal.name_of-name-requires
 name_of-name-requires c =
-    let s = c.self.inside in
     let p = c.in-Some.checked in
-    let fits = subst (λ o. FitsIts o s.mode s.mode_time s.next_due s.active.items s.values.items (map (option_map arc_value) s.shares.items) s.next_tick) c.in-Some.is c.self.invariant.fits in
-    let m = its_mode p s.mode fits.mode_there in
+    let run = as_running c.self.view_is c.self.invariant c.in-Running.is c.in-Some.is in
     let some = map_some (λ (i : SlotInvocation). i.task) _ c.in-Some-first_unfinished.task c.in-Some-first_unfinished.ensures in
-    let within = found_has (λ (e : SlotInvocation). e.task < length p.tasks) _ _ some.0 (tasks_within p m.0 m.0.invocations _ (c.invocations-invocations.ensures.there m.0 m.1)) some.1 in
+    let there = tasks_within p run.its run.its.invocations _ (c.invocations-invocations.ensures.there run.its run.there) in
+    let within = found_has (λ (e : SlotInvocation). e.task < length p.tasks) _ _ some.0 there some.1 in
     subst (λ (q : GiottoProgram). c.in-Some-first_unfinished.task < length q.tasks) (sym c.program.ensures.tree) (subst (λ k. k < length p.tasks) some.2 within)
 
 pub returns-in-Some-first_unfinished-clause-half : goal.returns-in-Some-first_unfinished-clause-half
@@ -76,18 +65,14 @@ returns-in-Some-first_unfinished-clause-half c = record {
   step = λ row completed st.
       let s = c.self.inside in
       let p = c.in-Some.checked in
-      let shares = map (option_map arc_value) s.shares.items in
-      let fits = subst (λ o. FitsIts o s.mode s.mode_time s.next_due s.active.items s.values.items shares s.next_tick) c.in-Some.is c.self.invariant.fits in
-      let m = its_mode p s.mode fits.mode_there in
-      let was : c.args.self.now ≡ standing_of s.place states.Running (Some p) s.mode s.mode_time s.active.items s.active.room s.values.items shares s.next_tick =
-      sym c.self.view_is ∙ (λ k. standing_of s.place (c.in-Running.is k) (c.in-Some.is k) s.mode s.mode_time s.active.items s.active.room s.values.items shares s.next_tick) in
+      let run = as_running c.self.view_is c.self.invariant c.in-Running.is c.in-Some.is in
       let some = map_some (λ (i : SlotInvocation). i.task) _ c.in-Some-first_unfinished.task c.in-Some-first_unfinished.ensures in
       let first = subst (λ acts. find (opens s.mode_time acts) c.invocations-invocations.result.now ≡ Some some.0) c.as_slice-active.ensures some.1 in
       let name : c.name_of-name.result ≡ name_of_task p some.0.task =
       c.name_of-name.ensures ∙ ap (λ (q : GiottoProgram). name_of_task q c.in-Some-first_unfinished.task) c.program.ensures.tree ∙ ap (name_of_task p) (sym some.2) in
       subst (λ r. StandsFor c.stop_with.new.self r completed)
-      (sym (halted p c.program-program.ensures.fits m.0 s.mode s.mode_time s.active.items s.active.room s.values.items shares s.next_tick m.1 row completed (subst (λ t. StandsFor t row completed) was st)
-      c.invocations-invocations.result.now (c.invocations-invocations.ensures.there m.0 m.1) (all_map (IsActiveIn p s.next_tick) (IsActiveOf p) s.active.items (λ a is. is.declared) fits.each) some.0 first c.name_of-name.result name))
+      (sym (halted p c.program-program.ensures.fits run.its s.mode s.mode_time s.active.items s.active.room s.values.items (map (option_map arc_value) s.shares.items) s.next_tick run.there row completed (subst (λ t. StandsFor t row completed) run.view st)
+      c.invocations-invocations.result.now (c.invocations-invocations.ensures.there run.its run.there) run.declared some.0 first c.name_of-name.result name))
       (c.stop_with.ensures.step row completed st);
   next_tick = search rules;
   place = search rules;
@@ -98,7 +83,7 @@ invariant_of-self c =
     let s = c.self.inside in
     let p = c.in-Some.checked in
     let shares = map (option_map arc_value) s.shares.items in
-    let fits = subst (λ o. FitsIts o s.mode s.mode_time s.next_due s.active.items s.values.items shares s.next_tick) c.in-Some.is c.self.invariant.fits in
+    let fits = (as_running c.self.view_is c.self.invariant c.in-Running.is c.in-Some.is).fits in
     let written = whole_slice s.values.len c.update_due.new.values s.values.items (omega (arith, c.as_mut_slice-values.ensures.len, c.end_due.auto.values, c.update_due.auto.values)) in
     let began = ap length c.as_mut_slice-values.ensures.value in
     let different : all_different_releases (map (active_of p) c.drop_due.new.active.items) ≡ true =
@@ -125,24 +110,21 @@ returns-clause-half c = record {
       let s = c.self.inside in
       let p = c.in-Some.checked in
       let shares = map (option_map arc_value) s.shares.items in
-      let fits = subst (λ o. FitsIts o s.mode s.mode_time s.next_due s.active.items s.values.items shares s.next_tick) c.in-Some.is c.self.invariant.fits in
-      let m = its_mode p s.mode fits.mode_there in
-      let was : c.args.self.now ≡ standing_of s.place states.Running (Some p) s.mode s.mode_time s.active.items s.active.room s.values.items shares s.next_tick =
-      sym c.self.view_is ∙ (λ k. standing_of s.place (c.in-Running.is k) (c.in-Some.is k) s.mode s.mode_time s.active.items s.active.room s.values.items shares s.next_tick) in
+      let run = as_running c.self.view_is c.self.invariant c.in-Running.is c.in-Some.is in
       let es = c.invocations-invocations.result.now in
       let none = subst (λ acts. find (opens s.mode_time acts) es ≡ None) c.as_slice-active.ensures (map_none (λ (i : SlotInvocation). i.task) _ c.in_default-first_unfinished.ensures) in
       let written = whole_slice s.values.len c.update_due.new.values s.values.items (omega (arith, c.as_mut_slice-values.ensures.len, c.end_due.auto.values, c.update_due.auto.values)) in
-      let each = c.invocations-invocations.ensures.there m.0 m.1 in
+      let each = c.invocations-invocations.ensures.there run.its run.there in
       let room = c.drop_due.new.active.room in
       let after = with_items s.values c.update_due.new.values in
-      let ended : valuation_of p c.end_due.new.values ≡ all_ended p (flat_map (group m.0 s.mode_time (map (active_of p) s.active.items)) m.0.invocations) (valuation_of p s.values.items) =
-      c.end_due.ensures m.0 each ∙ (λ k. all_ended p (flat_map (group m.0 s.mode_time (map (active_of p) (c.as_slice-active.ensures k))) m.0.invocations) (valuation_of p (c.as_mut_slice-values.ensures.value k))) in
+      let ended : valuation_of p c.end_due.new.values ≡ all_ended p (flat_map (group run.its s.mode_time (map (active_of p) s.active.items)) run.its.invocations) (valuation_of p s.values.items) =
+      c.end_due.ensures run.its each ∙ (λ k. all_ended p (flat_map (group run.its s.mode_time (map (active_of p) (c.as_slice-active.ensures k))) run.its.invocations) (valuation_of p (c.as_mut_slice-values.ensures.value k))) in
       let is : standing_of s.place s.state s.program s.mode s.mode_time c.drop_due.new.active.items room after.items shares s.next_tick
       ≡ standing_of s.place states.Running (Some p) s.mode s.mode_time (kept s.mode_time es s.active.items) room c.update_due.new.values shares s.next_tick =
       λ k. standing_of s.place (c.in-Running.is k) (c.in-Some.is k) s.mode s.mode_time (c.drop_due.ensures.items k) room (written k) shares s.next_tick in
       subst (λ t. StandsFor t (first_half_of (unfinished_tasks completed row) row) completed) (sym is)
-      (finished p c.program-program.ensures.fits m.0 s.mode s.mode_time s.active.items s.active.room s.values.items shares s.next_tick m.1 row completed (subst (λ t. StandsFor t row completed) was st)
-      es each (all_map (IsActiveIn p s.next_tick) (IsActiveOf p) s.active.items (λ a is. is.declared) fits.each) none room c.end_due.new.values c.update_due.new.values ended (c.update_due.ensures.there m.0 m.1));
+      (finished p c.program-program.ensures.fits run.its s.mode s.mode_time s.active.items s.active.room s.values.items shares s.next_tick run.there row completed (subst (λ t. StandsFor t row completed) run.view st)
+      es each run.declared none room c.end_due.new.values c.update_due.new.values ended (c.update_due.ensures.there run.its run.there));
   next_tick = search rules;
   place = search rules;
 }

@@ -5,4 +5,4 @@ pub returns-then-time-next : goal.returns-then-time-next
 returns-then-time-next c m at quiet t from before = quiet t (omega (arith, from, c.if-behind-time.false)) before
 
 pub returns : goal.returns
-returns c m at quiet t from before = c.next_due.ensures m at t from before
+returns c m at quiet = (c.next_due.ensures.there m at).quiet

@@ -9,7 +9,7 @@ use Rattle.giotto_text.specs.ProgramTrees.{task_of}
 use Rattle.giotto_check.specs.Slots.{with_range}
 use Rattle.tenant_slots.proofs.InitialValues.{task_values, task_long}
 use Rattle.tenant_slots.proofs.WrittenRanges.{range_is, zeros_are}
-use Rattle.tenant_slots.proofs.initial_values.reset_own.Goals as goal
+use Rattle.tenant_slots.proofs.beginning.reset_own.Goals as goal
 
 pub slice_bounds-copy_from_slice-end : goal.slice_bounds-copy_from_slice-end
 slice_bounds-copy_from_slice-end c =

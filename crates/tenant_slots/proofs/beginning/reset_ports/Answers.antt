@@ -11,7 +11,7 @@ use Rattle.giotto_text.specs.declared.programs.Output.{Output}
 use Rattle.tenant_slots.specs.Ports.{initial_of_task, initial_ports}
 use Rattle.tenant_slots.proofs.InitialValues.{values_in, values_of_task, values_long, ports_are, next_task, all_counted, all_values}
 use Rattle.tenant_slots.proofs.WrittenRanges.{next_value, none_written, range_more, whole_range, begin_none, begin_more}
-use Rattle.tenant_slots.proofs.initial_values.reset_ports.Goals as goal
+use Rattle.tenant_slots.proofs.beginning.reset_ports.Goals as goal
 
 pub loop-sensor-preserved : goal.loop-sensor-preserved
 loop-sensor-preserved c =

@@ -6,7 +6,7 @@ use Rattle.giotto_text.specs.declared.programs.Actuator.{Actuator}
 use Rattle.giotto_text.specs.declared.programs.Output.{Output}
 use Rattle.giotto_check.specs.Slots.{with_range}
 use Rattle.tenant_slots.proofs.InitialValues.{values_of_task}
-use Rattle.tenant_slots.proofs.initial_values.reset_ports.Given as goal
+use Rattle.tenant_slots.proofs.beginning.reset_ports.Given as goal
 
 abbrev pub invariant-loop-sensor : goal.invariant-loop-sensor
 invariant-loop-sensor l = record {
