@@ -6,7 +6,7 @@ use Rattle.std.proofs.lemmas.List.{get_or-set_same, get_or-set_other, get_or_def
 use Rattle.std.proofs.lemmas.List.Sums.{sum_by-append, sum_by-cons, sum_by-drop_more, get_or-le-sum_by}
 use Rattle.host_core.specs.HostStanding.{ArePlaced, IsAt, Stands, released_from, tenant_at}
 use Rattle.tenant_state.specs.Halves.{IsFirstHalf}
-use Rattle.host_core.specs.Halves.{AreStepped, IsKnownBehind, most_of}
+use Rattle.host_core.specs.Halves.{AreSecondHalves, AreStepped, IsSecondHalfAndKnown, most_of}
 use Rattle.host_core.specs.Host.{after_event}
 use Rattle.host_core.specs.declared.events.Event.TheVariants.{Tick}
 use Rattle.host_core.specs.HostState.{HostState}
@@ -28,7 +28,7 @@ pub record AreSteppedTo (step : ℕ → Standing → Standing → Type 0) (n : �
   pub others : (t : ℕ) → n ≤ t → tenant_at now t ≡ tenant_at before t
 
 abbrev pub AreSecondHalvesTo : Config → List ℤ → ℕ → List Standing → List Standing → Type 0
-AreSecondHalvesTo config frame = AreSteppedTo (λ t. IsKnownBehind (budgets_at config t).reads frame)
+AreSecondHalvesTo config frame = AreSteppedTo (λ t. IsSecondHalfAndKnown (budgets_at config t).reads frame)
 
 -- at the loop's end
 pub stepped_all : (R : ℕ → Standing → Standing → Type 0) (n : ℕ) (before now : List Standing) → length before ≤ n → AreSteppedTo R n before now → AreStepped R before now
@@ -57,11 +57,11 @@ stepped_more R i before now x s lt here steps one = record {
 
 -- a second half, for the tenant's own budgets
 pub second_more : (config : Config) (frame : List ℤ) (i : ℕ) (before now : List Standing) (x s : Standing) (tenants : List TenantConfig) (t : TenantConfig) → i < length before → x ≡ get_or now i x
-    → length before ≡ length config.tenants → tenants ≡ config.tenants → AreSecondHalvesTo config frame i before now → IsKnownBehind (get_or tenants i t).budgets.reads frame x s
+    → length before ≡ length config.tenants → tenants ≡ config.tenants → AreSecondHalvesTo config frame i before now → IsSecondHalfAndKnown (get_or tenants i t).budgets.reads frame x s
     → AreSecondHalvesTo config frame (i + 1) before (set now i s)
 second_more config frame i before now x s tenants t lt here long same steps one =
-    stepped_more (λ t. IsKnownBehind (budgets_at config t).reads frame) i before now x s lt here steps
-    (subst (λ (b : Budgets). IsKnownBehind b.reads frame x s)
+    stepped_more (λ t. IsSecondHalfAndKnown (budgets_at config t).reads frame) i before now x s lt here steps
+    (subst (λ (b : Budgets). IsSecondHalfAndKnown b.reads frame x s)
     (ap (λ (xs : List TenantConfig). (get_or xs i t).budgets) same ∙ sym (budgets_here config i t (omega (arith, long)))) one)
 
 -- how many jobs the tenants left can release
@@ -124,9 +124,9 @@ module _ {long clock : ℕ} (before : List Standing) {ready middle : List Standi
     pub stands : (setting : Setting) (state : HostState) → Stands setting (record { config = config; tenants = map at_rest before; clock = clock }) state
         → Stands setting (record { config = config; tenants = map at_rest after; clock = clock + 1 }) (after_event setting state (Tick frame))
 
-  pub is_instant : (config : Config) (frame : List ℤ) (after : List Standing) → AreStepped (λ t. IsKnownBehind (budgets_at config t).reads frame) middle after → IsInstant config frame after
+  pub is_instant : (config : Config) (frame : List ℤ) (after : List Standing) → AreSecondHalves config frame middle after → IsInstant config frame after
   is_instant config frame after second = record {
-    later = (second.as_many ∙ first.as_many ∙ kept.0, each, placed_behind (λ t. IsKnownBehind (budgets_at config t).reads frame) (λ t s x both. both.half.place) middle after second placed_middle);
+    later = (second.as_many ∙ first.as_many ∙ kept.0, each, placed_behind (λ t. IsSecondHalfAndKnown (budgets_at config t).reads frame) (λ t s x both. both.half.place) middle after second placed_middle);
     stands = λ setting state stands.
         let inside = stands_at_rest setting (record { config = config; tenants = map at_rest before; clock = clock }) state ready (rest ∙ sym (rest_twice before)) stands in
         stands_outside setting (record { config = config; tenants = after; clock = clock + 1 }) (after_event setting state (Tick frame))

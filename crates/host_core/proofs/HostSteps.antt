@@ -15,7 +15,7 @@ use Rattle.rig_config.specs.declared.TenantConfig.{TenantConfig}
 use Rattle.tenant_lines.specs.declared.commands.Command.{Command}
 use Rattle.tenant_state.specs.declared.jobs.JobId.{JobId}
 use Rattle.tenant_state.specs.Halves.{IsFirstHalf}
-use Rattle.host_core.specs.Halves.{AreStepped, IsKnownBehind}
+use Rattle.host_core.specs.Halves.{AreSecondHalves, AreStepped, IsSecondHalfAndKnown}
 use Rattle.host_core.specs.Host.{instant_of, with_rows, after_event}
 use Rattle.host_core.specs.HostState.{HostState, is_counted, row_at, awaits}
 use Rattle.host_core.specs.HostStanding.{HostStanding, IsAt, tenant_at, Stands, awaited_in}
@@ -140,7 +140,7 @@ module _ (setting : Setting) where
       (stands : Stands setting host state)
       (known : All (IsAt host.clock) host.tenants)
       (first : AreStepped (λ t. IsFirstHalf) host.tenants middle)
-      (second : AreStepped (λ t. IsKnownBehind (budgets_at host.config t).reads frame) middle after) where
+      (second : AreSecondHalves host.config frame middle after) where
     abbrev rows_behind : List Row
     rows_behind = map (λ (place : ℕ × Row). after_instant (instant_of setting state frame place.0) place.1) (enumerate_from 0 state.rows)
 
@@ -157,7 +157,7 @@ module _ (setting : Setting) where
       one : IsFirstHalf (tenant_at host.tenants t) (tenant_at middle t)
       one = first.each t (omega (arith, stands.as_many))
 
-      two : IsKnownBehind (budgets_at host.config t).reads frame (tenant_at middle t) (tenant_at after t)
+      two : IsSecondHalfAndKnown (budgets_at host.config t).reads frame (tenant_at middle t) (tenant_at after t)
       two = second.each t (omega (arith, stands.as_many, first.as_many))
 
       half_stands : StandsFor (tenant_at middle t) half completed

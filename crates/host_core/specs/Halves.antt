@@ -2,6 +2,8 @@
 use Rattle.std.specs.Prelude.{◌≡◌, ◌<◌, ℕ, true, ℤ, List, map, length}
 use Rattle.std.specs.List.{sum_by}
 use Rattle.host_core.specs.HostStanding.{tenant_at}
+use Rattle.rig_config.specs.declared.Config.{Config}
+use Rattle.rig_config.specs.Roster.{budgets_at}
 use Rattle.tenant_state.specs.Halves.{IsSecondHalf}
 use Rattle.tenant_state.specs.Standing.{Standing, HasRoom, HasShares, IsKnown, most_released}
 
@@ -14,8 +16,8 @@ pub record IsReady (s : Standing) : Type 0 where
 abbrev pub most_of : List Standing → ℕ
 most_of tenants = sum_by (λ (s : Standing). most_released s.row) tenants
 
--- a tenant that may read these lines, before and behind its second half, and what is known of it there
-pub record IsKnownBehind (reads : List ℕ) (frame : List ℤ) (before after : Standing) : Type 0 where
+-- the second half of a tenant that may read these lines, and what is known of it behind that
+pub record IsSecondHalfAndKnown (reads : List ℕ) (frame : List ℤ) (before after : Standing) : Type 0 where
   pub half : IsSecondHalf reads frame before after
   pub known : IsKnown after.row
 
@@ -29,3 +31,7 @@ pub record IsCompleted (before after : Standing) : Type 0 where
 pub record AreStepped (step : ℕ → Standing → Standing → Type 0) (before after : List Standing) : Type 0 where
   pub as_many : length after ≡ length before
   pub each : (t : ℕ) → t < length before → step t (tenant_at before t) (tenant_at after t)
+
+-- the second half of all tenants, each with the lines that it may read
+abbrev pub AreSecondHalves : Config → List ℤ → List Standing → List Standing → Type 0
+AreSecondHalves config frame before after = AreStepped (λ t. IsSecondHalfAndKnown (budgets_at config t).reads frame) before after

@@ -5,7 +5,8 @@ use Rattle.std.specs.Option.{option_and_then}
 use Rattle.rig_config.specs.declared.Config.{Config}
 use Rattle.rig_config.specs.declared.TenantConfig.{TenantConfig}
 use Rattle.tenant_state.specs.declared.jobs.JobId.{JobId}
-use Rattle.host_core.specs.Host.{after_event}
+use Rattle.host_core.specs.Completions.{with_completions}
+use Rattle.host_core.specs.Host.{after_event, host_after}
 use Rattle.host_core.specs.declared.events.Event.{Event}
 use Rattle.host_core.specs.HostState.{HostState, row_at, is_counted}
 use Rattle.host_core.specs.Setting.{Setting}
@@ -39,9 +40,18 @@ pub record Stands (setting : Setting) (host : HostStanding) (state : HostState) 
   -- what is counted was released before the next instant
   pub early : (j : JobId) → is_counted state j ≡ true → j.tick < state.clock
 
--- a host goes on as this event says: whatever state it stood for, it stands for the state behind the event
-abbrev pub IsStep : Event → HostStanding → HostStanding → Type 0
-IsStep e before after = (setting : Setting) (state : HostState) → Stands setting before state → Stands setting after (after_event setting state e)
+-- `Holds` in each setting of each state that the host stands for there
+abbrev pub ForEachState : HostStanding → (Setting → HostState → Type 0) → Type 0
+ForEachState host Holds = (setting : Setting) (state : HostState) → Stands setting host state → Holds setting state
+
+-- a host takes this event: whatever state it stood for, it stands for the state behind the event
+abbrev pub TakesEvent : Event → HostStanding → HostStanding → Type 0
+TakesEvent e before after = ForEachState before (λ setting state. Stands setting after (after_event setting state e))
+
+-- a host takes the completions of these jobs: whatever events it stood behind, it stands behind those and the completions
+abbrev pub TakesCompletions : List JobId → HostStanding → HostStanding → Type 0
+TakesCompletions jobs before after = (setting : Setting) (past : List Event) → Stands setting before (host_after setting past)
+    → Stands setting after (host_after setting (with_completions jobs past))
 
 -- what is known of each tenant of a host whose next instant has this number
 abbrev pub IsAt : ℕ → Standing → Type 0

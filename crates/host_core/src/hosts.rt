@@ -2,13 +2,9 @@
 
 ghost use Rattle.std.specs.Prelude.{◌≡◌, ◌≢◌, ◌<◌, ◌≤◌, ◌+◌, ◌-◌, ◌^◌, ◌↔◌, ℕ, ◌++◌, List, length, map, is_some, false, if◌then◌else◌, IsOk, IsSome, IfOk, IfSome, OnOk, OnErr, OnSome, Ok, Err, Some, None};
 ghost use Rattle.std.specs.List.{All};
-ghost use Rattle.host_core.specs.Halves.{AreStepped, IsKnownBehind, IsReady, IsCompleted, most_of};
-ghost use Rattle.host_core.specs.Completions.{with_completions};
-ghost use Rattle.host_core.specs.Host.{after_event, host_after};
-ghost use Rattle.host_core.specs.HostState.{HostState, row_at, awaits};
-ghost use Rattle.host_core.specs.HostStanding.{Stands, ArePlaced, IsOwn, IsStep, new_host, tenant_at, awaited_in, released_from, outstanding_from, outstanding_jobs, outstanding_of};
-ghost use Rattle.host_core.specs.Setting.{Setting};
-ghost use Rattle.rig_config.specs.Roster.{budgets_at};
+ghost use Rattle.host_core.specs.Halves.{AreSecondHalves, AreStepped, IsReady, IsCompleted, most_of};
+ghost use Rattle.host_core.specs.HostState.{row_at, awaits};
+ghost use Rattle.host_core.specs.HostStanding.{ArePlaced, ForEachState, IsOwn, TakesCompletions, TakesEvent, new_host, tenant_at, awaited_in, released_from, outstanding_from, outstanding_jobs, outstanding_of};
 ghost use Rattle.tenant_state.specs.Commands.{takes_memory};
 ghost use Rattle.tenant_state.specs.Halves.{IsFirstHalf};
 ghost use Rattle.tenant_state.specs.Standing.{Standing, at_rest, IsKnown};
@@ -105,10 +101,9 @@ impl Host {
         ensures memory { result ≡ Reply.Refused Refusal.Memory → self.new ≡ self.old }
         ensures room { takes_memory command (tenant_at self.old.tenants tenant).row ≡ false → result ≢ Reply.Refused Refusal.Memory }
         ensures config { self.new.config ≡ self.old.config }
-        ensures reply { (setting : Setting) (state : HostState) → Stands setting self.old state
-            → result ≢ Reply.Refused Refusal.Memory → result ≡ (after_command setting tenant command (row_at state tenant)).reply }
-        ensures step { (setting : Setting) (state : HostState) → Stands setting self.old state
-            → result ≢ Reply.Refused Refusal.Memory → Stands setting self.new (after_event setting state (Event.Own tenant command)) }
+        ensures reply { result ≢ Reply.Refused Refusal.Memory
+            → ForEachState self.old (λ setting state. result ≡ (after_command setting tenant command (row_at state tenant)).reply) }
+        ensures step { result ≢ Reply.Refused Refusal.Memory → TakesEvent (Event.Own tenant command) self.old self.new }
     {
         let budgets = &self.config.tenants.as_slice()[tenant].budgets;
         let tenant = &mut self.tenants[tenant];
@@ -124,7 +119,7 @@ impl Host {
     /// `BadFrame` where the frame has not one value for each line, else `ClockEnded` where the instant's number would be `u64::MAX`, else
     /// `Memory`, but never where the instant can release no task. Nothing has changed then.
     pub fn tick(&mut self, frame: &[i64]) -> Result<Jobs, TickFault>
-        ensures step { OnOk result (IsStep (Event.Tick frame.now) self.old self.new) }
+        ensures step { OnOk result (TakesEvent (Event.Tick frame.now) self.old self.new) }
         ensures jobs { IfOk result (λ jobs. jobs.jobs ≡ released_from self.old.clock 0 self.new.tenants) }
         ensures refused { OnErr result (self.new ≡ self.old) }
         ensures bad_frame { result ≡ Err TickFault.BadFrame ↔ length frame.now ≢ self.old.config.lines }
@@ -150,7 +145,7 @@ impl Host {
     /// # Errors
     /// As `tick`. Nothing has changed then.
     pub fn instant(&mut self, frame: &[i64]) -> Result<(), TickFault>
-        ensures step { OnOk result (IsStep (Event.Tick frame.now) self.old self.new) }
+        ensures step { OnOk result (TakesEvent (Event.Tick frame.now) self.old self.new) }
         ensures refused { OnErr result (self.new ≡ self.old) }
         ensures bad_frame { result ≡ Err TickFault.BadFrame ↔ length frame.now ≢ self.old.config.lines }
         ensures clock_ended { result ≡ Err TickFault.ClockEnded ↔ ((length frame.now ≡ self.old.config.lines) × (self.old.clock ≡ 2 ^ 64 - 1)) }
@@ -188,9 +183,9 @@ impl Host {
     pub fn done(&mut self, done: Done) -> Counted
         ensures counted { result ≡ Counted.Counted ↔ awaited_in self.old done.id ≡ Some done }
         ensures late { result ≡ Counted.Late → self.new ≡ self.old }
-        ensures answer { IsOwn self.old done → (setting : Setting) (state : HostState) → Stands setting self.old state
-            → result ≡ (if awaits state done.id then Counted.Counted else Counted.Late) }
-        ensures step { IsOwn self.old done → IsStep (Event.Done done.id) self.old self.new }
+        ensures answer { IsOwn self.old done
+            → ForEachState self.old (λ setting state. result ≡ (if awaits state done.id then Counted.Counted else Counted.Late)) }
+        ensures step { IsOwn self.old done → TakesEvent (Event.Done done.id) self.old self.new }
         ensures left { result ≡ Counted.Counted → length (outstanding_jobs self.old) ≡ length (outstanding_jobs self.new) + 1 }
     {
         let place = done.id().tenant;
@@ -207,8 +202,7 @@ impl Host {
     /// Computes and counts all outstanding jobs, in the order of the roster, and says how many they were. Takes no memory.
     pub fn complete_all(&mut self) -> u128
         ensures number { result ≡ length (outstanding_jobs self.old) }
-        ensures step { (setting : Setting) (past : List Event) → Stands setting self.old (host_after setting past)
-            → Stands setting self.new (host_after setting (with_completions (outstanding_jobs self.old) past)) }
+        ensures step { TakesCompletions (outstanding_jobs self.old) self.old self.new }
     {
         complete_each(&mut self.tenants)
     }
@@ -217,8 +211,7 @@ impl Host {
     pub fn complete_tenant(&mut self, tenant: TenantId) -> usize
         requires { tenant < length self.old.config.tenants }
         ensures number { result ≡ length (outstanding_of self.old tenant) }
-        ensures step { (setting : Setting) (past : List Event) → Stands setting self.old (host_after setting past)
-            → Stands setting self.new (host_after setting (with_completions (outstanding_of self.old tenant) past)) }
+        ensures step { TakesCompletions (outstanding_of self.old tenant) self.old self.new }
     {
         let tenant = &mut self.tenants[tenant];
         tenant.complete_all()
@@ -230,7 +223,7 @@ impl Host {
     /// A share of the task's body is refused, which is asked for only where the completion is awaited.
     pub fn job(&self, id: &JobId) -> Result<Option<Job>, AllocError>
         ensures job { IfOk result (λ job. job ≡ awaited_in self.now id.now) }
-        ensures awaited { IfOk result (λ job. (setting : Setting) (state : HostState) → Stands setting self.now state → is_some job ≡ awaits state id.now) }
+        ensures awaited { IfOk result (λ job. ForEachState self.now (λ setting state. is_some job ≡ awaits state id.now)) }
         ensures never_refused { awaited_in self.now id.now ≡ None → IsOk result }
     {
         if id.tenant >= self.tenants.len() {
@@ -271,7 +264,7 @@ impl Host {
 /// A share of the task's body is refused, which is asked for only where the completion is awaited. Nothing has changed then.
 pub fn complete(host: &mut Host, id: &JobId) -> Result<Counted, AllocError>
     ensures counted { IfOk result (λ c. c ≡ Counted.Counted ↔ awaited_in host.old id.now ≢ None) }
-    ensures step { OnOk result (IsStep (Event.Done id.now) host.old host.new) }
+    ensures step { OnOk result (TakesEvent (Event.Done id.now) host.old host.new) }
     ensures left { result ≡ Ok Counted.Counted → length (outstanding_jobs host.old) ≡ length (outstanding_jobs host.new) + 1 }
     ensures memory { OnErr result (host.new ≡ host.old) }
     ensures never_refused { awaited_in host.old id.now ≡ None → IsOk result }
@@ -319,7 +312,7 @@ fn second_halves(tenants: &mut Vec<Tenant>, config: &Config, frame: &[i64], jobs
     requires placed { ArePlaced tenants.old.items }
     requires ready { All IsReady tenants.old.items }
     requires jobs { most_of tenants.old.items ≤ jobs.old.room }
-    ensures halves { AreStepped (λ t. IsKnownBehind (budgets_at config.now t).reads frame.now) tenants.old.items tenants.new.items }
+    ensures halves { AreSecondHalves config.now frame.now tenants.old.items tenants.new.items }
     ensures jobs { (n : ℕ) → All (λ (s : Standing). s.row.next_tick ≡ n) tenants.old.items → jobs.new.jobs ≡ jobs.old.jobs ++ released_from n 0 tenants.new.items }
 {
     for i in 0..tenants.len() {
@@ -335,7 +328,7 @@ fn second_halves_without_jobs(tenants: &mut Vec<Tenant>, config: &Config, frame:
     requires tenants { length tenants.old.items ≡ length config.now.tenants }
     requires counts { All (λ (s : Standing). s.row.next_tick < 2 ^ 64 - 1) tenants.old.items }
     requires ready { All IsReady tenants.old.items }
-    ensures { AreStepped (λ t. IsKnownBehind (budgets_at config.now t).reads frame.now) tenants.old.items tenants.new.items }
+    ensures { AreSecondHalves config.now frame.now tenants.old.items tenants.new.items }
 {
     for i in 0..tenants.len() {
         let budgets = &config.tenants.as_slice()[i].budgets;

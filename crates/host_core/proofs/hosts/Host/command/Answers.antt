@@ -11,7 +11,7 @@ use Rattle.host_core.proofs.HostSteps.{stands_after_command, own_outcome}
 use Rattle.host_core.proofs.hosts.Host.command.Goals as goal
 
 pub returns-clause-reply : goal.returns-clause-reply
-returns-clause-reply c = λ setting state stands given.
+returns-clause-reply c = λ given setting state stands.
     let host : HostStanding = record { config = c.self.inside.config; tenants = c.self.inside.tenants.items; clock = c.self.inside.clock } in
     let inside : Stands setting host state = stands_inside setting host state (subst (λ h. Stands setting h state) (sym c.self.view_is) stands) in
     let within : c.args.tenant < length host.config.tenants = subst (λ (h : HostStanding). c.args.tenant < length h.config.tenants) (sym c.self.view_is) c.requires in
@@ -19,7 +19,7 @@ returns-clause-reply c = λ setting state stands given.
     c.index_mut-tenant.ensures.value (ap (λ (xs : List TenantConfig). get_or xs c.args.tenant c.index-as_slice-tenant.result) c.as_slice.ensures) c.command-reply.ensures.step given).same_reply
 
 pub returns-clause-step : goal.returns-clause-step
-returns-clause-step c = λ setting state stands given.
+returns-clause-step c = λ given setting state stands.
     let host : HostStanding = record { config = c.self.inside.config; tenants = c.self.inside.tenants.items; clock = c.self.inside.clock } in
     let inside : Stands setting host state = stands_inside setting host state (subst (λ h. Stands setting h state) (sym c.self.view_is) stands) in
     let within : c.args.tenant < length host.config.tenants = subst (λ (h : HostStanding). c.args.tenant < length h.config.tenants) (sym c.self.view_is) c.requires in
