@@ -152,5 +152,5 @@ fn run_script(rt: &HostRuntime) -> Result<(), ScriptFault> {
     ) else {
         return Err(ScriptFault::Memory);
     };
-    script::script(rt.alloc(), &mut rt.reader(), &mut writer, &config)
+    script(rt.alloc(), &mut rt.reader(), &mut writer, &config)
 }

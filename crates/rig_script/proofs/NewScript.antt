@@ -14,7 +14,7 @@ use Rattle.rig_script.specs.HostAnswers.{IsHostAfter}
 use Rattle.rig_script.specs.Lines.{cut}
 use Rattle.rig_script.specs.Reading.{IsLeft, reads_of}
 use Rattle.rig_script.specs.declared.lines.Lines.{Lines}
-use Rattle.rig_script.specs.Script.{script_from, script_text_of, AreBrokenOff, IsScriptBrokenOff, OfNewHost}
+use Rattle.rig_script.specs.Script.{script_from, script_text_of, AreBrokenOff, IsScriptBrokenOff, ForNewHostReading}
 use Rattle.rig_script.specs.declared.faults.ScriptFault.{ScriptFault}
 
 -- what a reader has is left of new lines
@@ -56,7 +56,7 @@ module _ (host : HostStanding) (config : Config) (is : host ≡ new_host config 
 
   pub all_written : {T E : Type 0} (r : Result T E) (known : Option (List ℕ)) (Left Written : List ℕ → Type 0) → IfSome known Left
       → OnOk r ((setting : Setting) (past : List Event) (bytes : List ℕ) → IsHostAfter setting host past → Left bytes → Written (script_from setting past (cut bytes)))
-      → OnOk r (OfNewHost config known (λ setting bytes. Written (script_text_of setting bytes)))
+      → OnOk r (ForNewHostReading config known (λ setting bytes. Written (script_text_of setting bytes)))
   all_written (Err e) known Left Written left h = tt
   all_written (Ok x) None Left Written left h = λ setting of. tt
   all_written (Ok x) (Some bytes) Left Written left h = λ setting of. h setting [] bytes (starts setting of) left
@@ -64,7 +64,7 @@ module _ (host : HostStanding) (config : Config) (is : host ≡ new_host config 
   pub broken_off : {T : Type 0} (r : Result T ScriptFault) (known after : Option (List ℕ)) (Left Written : List ℕ → Type 0) → IfSome known Left
       → IfErr r (λ fault. (setting : Setting) (past : List Event) (bytes : List ℕ) → IsHostAfter setting host past → Left bytes
       → AreBrokenOff Written fault setting past (cut bytes))
-      → IfErr r (λ fault. OfNewHost config known (IsScriptBrokenOff after Written fault))
+      → IfErr r (λ fault. ForNewHostReading config known (IsScriptBrokenOff after Written fault))
   broken_off (Ok x) known after Left Written left h = tt
   broken_off (Err fault) None after Left Written left h = λ setting of. tt
   broken_off (Err fault) (Some bytes) after Left Written left h = λ setting of. inr (h setting [] bytes (starts setting of) left)

@@ -26,11 +26,11 @@ use Rattle.host_core.proofs.AloneAlong.{same_rows, same_clock}
 use Rattle.tenant_lines.proofs.WordLemmas.{words_first, words_none}
 use Rattle.rig_script.specs.Answered.{reply_line}
 use Rattle.rig_script.specs.HostAnswers.{IsHostAfter}
-use Rattle.rig_script.specs.Script.{Step, IsStep, work_of, operator, operator_line_of, operator_step, work_step, work_step_of, outstanding_at, tenant_step, only_answered}
+use Rattle.rig_script.specs.Script.{Step, IsCarriedOut, work_of, operator, operator_line_of, operator_step, work_step, work_step_of, outstanding_at, tenant_step, only_answered}
 
 -- this text was answered, and the events have happened
 pub step_done : (step : Step) (past : List Event) (r : Result (String Global) AllocError) (After : List Event → Type 0) (text : List ℕ)
-    → IfOk r (λ t. string_bytes t ≡ text) → text ≡ step.reply → After (step.events ++ past) → IsStep step past r After
+    → IfOk r (λ t. string_bytes t ≡ text) → text ≡ step.reply → After (step.events ++ past) → IsCarriedOut step past r After
 step_done step past (Ok t) After text given is after = (given ∙ is, after)
 step_done step past (Err e) After text given is after = tt
 
@@ -92,7 +92,7 @@ module _ (setting : Setting) (past : List Event) (host later : HostStanding) (h 
   -- a command was carried out
   pub command_done : (t : ℕ) (name line : List ℕ) (command : Command) (reply : Reply) → t < length host.config.tenants → command_of_line line ≡ Some command
       → reply ≡ (after_command setting t command (row_at (host_after setting past) t)).reply → Stands setting later (after_event setting (host_after setting past) (Own t command))
-      → IfOk r (λ text. string_bytes text ≡ reply_line name (text_of_reply reply)) → IsStep (tenant_step setting past t name line) past r (IsHostAfter setting later)
+      → IfOk r (λ text. string_bytes text ≡ reply_line name (text_of_reply reply)) → IsCarriedOut (tenant_step setting past t name line) past r (IsHostAfter setting later)
   command_done t name line command reply lt spelled answered after given =
       let same = h.stands.same_config in
       let within : t < length setting.config.tenants = subst (λ (c : Config). t < length c.tenants) same lt in
@@ -100,39 +100,39 @@ module _ (setting : Setting) (past : List Event) (host later : HostStanding) (h 
       let row = same_rows setting h.base past t h.legal is in
       let step : Step = record { events = Own t command ∷ []; reply = reply_line name (text_of_reply (after_command setting t command (row_of setting past t)).reply) } in
       let steps : tenant_step setting past t name line ≡ step = rw spelled refl in
-      subst (λ (s : Step). IsStep s past r (IsHostAfter setting later)) (sym steps)
+      subst (λ (s : Step). IsCarriedOut s past r (IsHostAfter setting later)) (sym steps)
       (step_done step past r (IsHostAfter setting later) (reply_line name (text_of_reply reply)) given
       (ap (λ p. reply_line name (text_of_reply p)) (answered ∙ ap (λ w. (after_command setting t command w).reply) row))
       (record { base = h.base; legal = and_from (is_tenant setting.config t) (is_legal setting past) is h.legal; stands = after }))
 
   -- a line of no form
   pub operator_refused : (words : List (List ℕ)) → operator_line_of words ≡ None → later ≡ host → IfOk r (λ text. string_bytes text ≡ reply_line operator (codes "err bad-command"))
-      → IsStep (operator_step setting past words) past r (IsHostAfter setting later)
+      → IsCarriedOut (operator_step setting past words) past r (IsHostAfter setting later)
   operator_refused words none kept given =
       let step : Step = only_answered (reply_line operator (codes "err bad-command")) in
       let steps : operator_step setting past words ≡ step = rw none refl in
-      subst (λ (s : Step). IsStep s past r (IsHostAfter setting later)) (sym steps)
+      subst (λ (s : Step). IsCarriedOut s past r (IsHostAfter setting later)) (sym steps)
       (step_done step past r (IsHostAfter setting later) (reply_line operator (codes "err bad-command")) given refl (subst (λ s. IsHostAfter setting s past) (sym kept) h))
 
   -- `work` of one tenant
-  pub tenant_worked : (words : List (List ℕ)) (x : List ℕ) → operator_line_of words ≡ Some (work_of x) → IsStep (work_step_of setting past x) past r (IsHostAfter setting later)
-      → IsStep (operator_step setting past words) past r (IsHostAfter setting later)
+  pub tenant_worked : (words : List (List ℕ)) (x : List ℕ) → operator_line_of words ≡ Some (work_of x) → IsCarriedOut (work_step_of setting past x) past r (IsHostAfter setting later)
+      → IsCarriedOut (operator_step setting past words) past r (IsHostAfter setting later)
   tenant_worked words x is given =
       let steps : operator_step setting past words ≡ work_step_of setting past x = rw is refl in
-      subst (λ (s : Step). IsStep s past r (IsHostAfter setting later)) (sym steps) given
+      subst (λ (s : Step). IsCarriedOut s past r (IsHostAfter setting later)) (sym steps) given
 
   -- of a tenant of the roster
-  pub tenant_found : (x : List ℕ) (t : ℕ) → place_of setting.config x ≡ Some t → IsStep (work_step (outstanding_at setting past t)) past r (IsHostAfter setting later)
-      → IsStep (work_step_of setting past x) past r (IsHostAfter setting later)
+  pub tenant_found : (x : List ℕ) (t : ℕ) → place_of setting.config x ≡ Some t → IsCarriedOut (work_step (outstanding_at setting past t)) past r (IsHostAfter setting later)
+      → IsCarriedOut (work_step_of setting past x) past r (IsHostAfter setting later)
   tenant_found x t is given =
       let steps : work_step_of setting past x ≡ work_step (outstanding_at setting past t) = rw is refl in
-      subst (λ (s : Step). IsStep s past r (IsHostAfter setting later)) (sym steps) given
+      subst (λ (s : Step). IsCarriedOut s past r (IsHostAfter setting later)) (sym steps) given
 
   module _ (words : List (List ℕ)) (frame : List ℤ) (values : values_of_words words ≡ Some frame) where
     -- an instant happened
     pub tick_done : (n : ℕ) → n ≡ host.clock → n < 2 ^ 64 → ((length frame ≡ host.config.lines → ⊥) → ⊥) → ((length frame ≡ host.config.lines) × (host.clock ≡ 2 ^ 64 - 1) → ⊥)
         → Stands setting later (after_event setting (host_after setting past) (Tick frame))
-        → IfOk r (λ text. string_bytes text ≡ reply_line operator (codes "ok tick " ++ decimal n)) → IsStep (operator_step setting past (codes "tick" ∷ words)) past r (IsHostAfter setting later)
+        → IfOk r (λ text. string_bytes text ≡ reply_line operator (codes "ok tick " ++ decimal n)) → IsCarriedOut (operator_step setting past (codes "tick" ∷ words)) past r (IsHostAfter setting later)
     tick_done n is fits whole goes_on after given =
         let long : length frame ≡ host.config.lines = decided (length frame) host.config.lines whole in
         let lines : length frame ≡ setting.config.lines = long ∙ ap (λ (c : Config). c.lines) h.stands.same_config in
@@ -143,7 +143,7 @@ module _ (setting : Setting) (past : List Event) (host later : HostStanding) (h 
         let clock_fits : nat_lt (next_tick setting past) (2 ^ 64 - 1) ≡ true = subst (λ k. nat_lt k (2 ^ 64 - 1) ≡ true) next (grind (arith, nat_tests, low)) in
         let step : Step = record { events = Tick frame ∷ []; reply = reply_line operator (codes "ok tick " ++ decimal (next_tick setting past)) } in
         let steps : operator_step setting past (codes "tick" ∷ words) ≡ step = rw (values, lines_fit, clock_fits) refl in
-        subst (λ (s : Step). IsStep s past r (IsHostAfter setting later)) (sym steps)
+        subst (λ (s : Step). IsCarriedOut s past r (IsHostAfter setting later)) (sym steps)
         (step_done step past r (IsHostAfter setting later) (reply_line operator (codes "ok tick " ++ decimal n)) given (ap (λ k. reply_line operator (codes "ok tick " ++ decimal k)) next)
         (record { base = h.base; legal = and_from (may_follow setting past (Tick frame)) (is_legal setting past) (and_from _ _ lines_fit clock_fits) h.legal; stands = after }))
       where
@@ -152,7 +152,7 @@ module _ (setting : Setting) (past : List Event) (host later : HostStanding) (h 
 
     -- the clock has ended
     pub tick_ended : length frame ≡ host.config.lines → host.clock ≡ 2 ^ 64 - 1 → later ≡ host
-        → IfOk r (λ text. string_bytes text ≡ reply_line operator (codes "err clock-ended")) → IsStep (operator_step setting past (codes "tick" ∷ words)) past r (IsHostAfter setting later)
+        → IfOk r (λ text. string_bytes text ≡ reply_line operator (codes "err clock-ended")) → IsCarriedOut (operator_step setting past (codes "tick" ∷ words)) past r (IsHostAfter setting later)
     tick_ended long ended kept given =
         let lines : length frame ≡ setting.config.lines = long ∙ ap (λ (c : Config). c.lines) h.stands.same_config in
         let next : next_tick setting past ≡ 2 ^ 64 - 1 = sym (h.stands.same_clock ∙ same_clock setting past) ∙ ended in
@@ -160,5 +160,5 @@ module _ (setting : Setting) (past : List Event) (host later : HostStanding) (h 
         let clock_ends : nat_lt (next_tick setting past) (2 ^ 64 - 1) ≡ false = subst (λ k. nat_lt k (2 ^ 64 - 1) ≡ false) (sym next) refl in
         let step : Step = only_answered (reply_line operator (codes "err clock-ended")) in
         let steps : operator_step setting past (codes "tick" ∷ words) ≡ step = rw (values, lines_fit, clock_ends) refl in
-        subst (λ (s : Step). IsStep s past r (IsHostAfter setting later)) (sym steps)
+        subst (λ (s : Step). IsCarriedOut s past r (IsHostAfter setting later)) (sym steps)
         (step_done step past r (IsHostAfter setting later) (reply_line operator (codes "err clock-ended")) given refl (subst (λ s. IsHostAfter setting s past) (sym kept) h))

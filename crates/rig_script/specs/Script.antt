@@ -28,8 +28,10 @@ use Rattle.rig_script.specs.declared.speakers.Speaker.{Speaker}
 use Rattle.rig_script.specs.declared.speakers.Speaker.TheVariants.{Nobody, Operator, Tenant, Unknown}
 use Rattle.rig_script.specs.declared.faults.ScriptFault.{ScriptFault}
 use Rattle.rig_script.specs.declared.faults.ScriptFault.TheVariants.{Memory}
+use Rattle.rig_script.specs.declared.lines.Lines.{Lines}
 use Rattle.rig_script.specs.Answered.{reply_line, err_memory, answered, state_after, IsBrokenOff}
 use Rattle.rig_script.specs.Lines.{cut}
+use Rattle.rig_script.specs.Reading.{IsLeft}
 
 -- the word with which the operator's lines begin
 abbrev pub operator : List ℕ
@@ -87,10 +89,10 @@ pub record Step : Type 0 where
   pub events : List Event
   pub reply : List ℕ
 
--- The step's reply was given, and behind its events `Stands` holds. Want of memory says nothing.
-abbrev pub IsStep : Step → List Event → Result (String Global) AllocError → (List Event → Type 0) → Type 0
-IsStep step past (Ok text) Stands = (string_bytes text ≡ step.reply) × Stands (step.events ++ past)
-IsStep step past (Err e) Stands = Unit {0}
+-- The step is carried out behind these events: its reply is given, and `Stands` holds behind its own events. Want of memory says nothing.
+abbrev pub IsCarriedOut : Step → List Event → Result (String Global) AllocError → (List Event → Type 0) → Type 0
+IsCarriedOut step past (Ok text) Stands = (string_bytes text ≡ step.reply) × Stands (step.events ++ past)
+IsCarriedOut step past (Err e) Stands = Unit {0}
 
 abbrev pub only_answered : List ℕ → Step
 only_answered reply = record { events = []; reply = reply }
@@ -181,14 +183,14 @@ AreBrokenOff Written fault setting past lines = IsBrokenOff (reply_to_line setti
 abbrev pub IsScriptBrokenOff : Option (List ℕ) → (List ℕ → Type 0) → ScriptFault → Setting → List ℕ → Type 0
 IsScriptBrokenOff left Written fault setting bytes = ((fault ≡ Memory) × (left ≡ Some bytes) × Written []) ⊎ AreBrokenOff Written fault setting [] (cut bytes)
 
--- `Holds` of each rig and the events behind which it `Stands`
-abbrev pub WhereStands : (Setting → List Event → Type 0) → (Setting → List Event → Type 0) → Type 0
-WhereStands Stands Holds = (setting : Setting) (past : List Event) → Stands setting past → Holds setting past
+-- `Holds` in each setting of all events, the newest first, behind which one `Stands` there
+abbrev pub ForEachPast : (Setting → List Event → Type 0) → (Setting → List Event → Type 0) → Type 0
+ForEachPast Stands Holds = (setting : Setting) (past : List Event) → Stands setting past → Holds setting past
 
--- the same with the lines of the bytes that are `Left`
-abbrev pub WhereLeft : (Setting → List Event → Type 0) → (List ℕ → Type 0) → (Setting → List Event → List (List ℕ) → Type 0) → Type 0
-WhereLeft Stands Left Holds = (setting : Setting) (past : List Event) (bytes : List ℕ) → Stands setting past → Left bytes → Holds setting past (cut bytes)
+-- the same, and of the lines that are left, where it is known what the reader still has
+abbrev pub ForEachPastAndLines : (Setting → List Event → Type 0) → Lines → Option (List ℕ) → (Setting → List Event → List (List ℕ) → Type 0) → Type 0
+ForEachPastAndLines Stands lines remaining Holds = (setting : Setting) (past : List Event) (bytes : List ℕ) → Stands setting past → IsLeft lines remaining bytes → Holds setting past (cut bytes)
 
--- `Holds` of the setting of a new host with this configuration and of the bytes that a reader is known to have
-abbrev pub OfNewHost : Config → Option (List ℕ) → (Setting → List ℕ → Type 0) → Type 0
-OfNewHost config known Holds = (setting : Setting) → IsSettingOf config setting → IfSome known (Holds setting)
+-- `Holds` in the setting of a new host with this configuration, of the bytes that a reader is known to have
+abbrev pub ForNewHostReading : Config → Option (List ℕ) → (Setting → List ℕ → Type 0) → Type 0
+ForNewHostReading config known Holds = (setting : Setting) → IsSettingOf config setting → IfSome known (Holds setting)

@@ -7,7 +7,7 @@ ghost use Rattle.host_core.specs.declared.events.Event.{Event};
 ghost use Rattle.rig_script.specs.Answered.{bye_bad_line, err_memory, IsText, IsUnanswered};
 ghost use Rattle.rig_script.specs.Lines.{cut};
 ghost use Rattle.rig_script.specs.Reading.{IsLeft, reads_of};
-ghost use Rattle.rig_script.specs.Script.{IsStep, WhereStands, WhereLeft, AreBrokenOff, speaker_of, line_step, memory_reply, reply_to_line, past_after, past_behind, script_from};
+ghost use Rattle.rig_script.specs.Script.{IsCarriedOut, ForEachPast, ForEachPastAndLines, AreBrokenOff, speaker_of, line_step, memory_reply, reply_to_line, past_after, past_behind, script_from};
 
 use crate::faults::ScriptFault;
 use crate::lines::{Line, Lines};
@@ -22,14 +22,14 @@ pub trait Answers {
 
     /// Who speaks in a line.
     fn speaker(&self, line: &str) -> Speaker
-        ensures { WhereStands (stands self.now) (λ setting past. result ≡ speaker_of setting.config line.now) };
+        ensures { ForEachPast (stands self.now) (λ setting past. result ≡ speaker_of setting.config line.now) };
 
     /// The bytes that are written for a line, and no byte for a line that has no reply.
     ///
     /// # Errors
     /// Where there is want of memory for the reply.
     fn answer(&mut self, alloc: Global, line: &str) -> Result<String, AllocError>
-        ensures { WhereStands (stands self.old) (λ setting past. IsStep (line_step setting past line.now) past result (stands self.new setting)) };
+        ensures { ForEachPast (stands self.old) (λ setting past. IsCarriedOut (line_step setting past line.now) past result (stands self.new setting)) };
 }
 
 /// Answers the lines, in their order, until the input ends or a line is too long or no text. Such a
@@ -48,13 +48,13 @@ pub fn answer_lines<R: Read, W: Write, A: Answers>(
     writer: &mut W,
     answers: &mut A,
 ) -> Result<(), ScriptFault>
-    ensures written { OnOk result (WhereLeft (A.stands answers.old) (IsLeft lines.old (R.remaining reader.old)) (λ s past lines.
+    ensures written { OnOk result (ForEachPastAndLines (A.stands answers.old) lines.old (R.remaining reader.old) (λ s past lines.
         Appends (W.contents writer.old) (W.contents writer.new) (script_from s past lines))) }
-    ensures state { OnOk result (WhereLeft (A.stands answers.old) (IsLeft lines.old (R.remaining reader.old)) (λ setting past lines.
+    ensures state { OnOk result (ForEachPastAndLines (A.stands answers.old) lines.old (R.remaining reader.old) (λ setting past lines.
         A.stands answers.new setting (past_after setting past lines))) }
     ensures end { OnOk result ((bytes : List ℕ) → IsLeft lines.old (R.remaining reader.old) bytes
         → All IsText (cut bytes) → IsLeft lines.new (R.remaining reader.new) []) }
-    ensures fault { IfErr result (λ fault. WhereLeft (A.stands answers.old) (IsLeft lines.old (R.remaining reader.old))
+    ensures fault { IfErr result (λ fault. ForEachPastAndLines (A.stands answers.old) lines.old (R.remaining reader.old)
         (AreBrokenOff (Appends (W.contents writer.old) (W.contents writer.new)) fault)) }
     ensures turns { result ≡ Err ScriptFault.Turns → (bytes : List ℕ) → IsLeft lines.old (R.remaining reader.old) bytes → 1048576 ≤ reads_of lines.old + length bytes }
 {
@@ -75,9 +75,9 @@ fn answer_line<W: Write, A: Answers>(
     answers: &mut A,
     line: &str,
 ) -> Result<(), ScriptFault>
-    ensures stands { OnOk result (WhereStands (A.stands answers.old) (λ setting past. A.stands answers.new setting (past_behind setting past line.now))) }
-    ensures written { OnOk result (WhereStands (A.stands answers.old) (λ setting past. Appends (W.contents writer.old) (W.contents writer.new) (reply_to_line setting past line.now))) }
-    ensures fault { IfErr result (λ fault. IsUnanswered fault (WhereStands (A.stands answers.old) (λ setting past.
+    ensures stands { OnOk result (ForEachPast (A.stands answers.old) (λ setting past. A.stands answers.new setting (past_behind setting past line.now))) }
+    ensures written { OnOk result (ForEachPast (A.stands answers.old) (λ setting past. Appends (W.contents writer.old) (W.contents writer.new) (reply_to_line setting past line.now))) }
+    ensures fault { IfErr result (λ fault. IsUnanswered fault (ForEachPast (A.stands answers.old) (λ setting past.
         Appends (W.contents writer.old) (W.contents writer.new) (memory_reply setting line.now)))) }
 {
     let speaker = answers.speaker(line);

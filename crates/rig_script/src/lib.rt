@@ -5,13 +5,15 @@
 //! ```
 //!
 //! [`lines`] cuts what a reader gives, [`speakers`] tells who speaks in a line, [`answers`] has whoever answers lines, and
-//! [`script`](script::script) is a host that answers them. `specs/Lines.antt` says how bytes are cut, `specs/Script.antt` what a
+//! [`script`] is a host that answers them. `specs/Lines.antt` says how bytes are cut, `specs/Script.antt` what a
 //! script is answered.
 #![tactic(auto)]
 
 pub mod answers;
 pub mod faults;
+mod host_answers;
 pub mod laws;
 pub mod lines;
-pub mod script;
 pub mod speakers;
+
+pub use host_answers::script;

@@ -4,7 +4,7 @@ use rig_config::built_in;
 use rig_script::answers::{Answers, answer_lines};
 use rig_script::faults::ScriptFault;
 use rig_script::lines::Lines;
-use rig_script::script::script;
+use rig_script::script;
 use rig_script::speakers::Speaker;
 use std::alloc::{AllocError, Global};
 use std::io;

@@ -7,7 +7,7 @@ use Rattle.rig_script.specs.Script.{outstanding_at, work_step}
 use Rattle.rig_script.proofs.Completing.{completed_at, names_at}
 use Rattle.rig_script.proofs.Speaking.{place_within}
 use Rattle.rig_script.proofs.Steps.{step_done, tenant_found}
-use Rattle.rig_script.proofs.script.complete_tenant.Goals as goal
+use Rattle.rig_script.proofs.host_answers.complete_tenant.Goals as goal
 
 pub complete_tenant-number-requires : goal.complete_tenant-number-requires
 complete_tenant-number-requires c =

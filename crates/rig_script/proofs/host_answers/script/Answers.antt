@@ -1,7 +1,7 @@
 use Rattle.std.specs.Io.KnownBytes.{Appends}
 use Rattle.rig_script.specs.Reading.{IsLeft}
 use Rattle.rig_script.proofs.NewScript.{all_left, all_written, none_left, broken_off, many_bytes}
-use Rattle.rig_script.proofs.script.script.Goals as goal
+use Rattle.rig_script.proofs.host_answers.script.Goals as goal
 
 pub returns-clause-written : goal.returns-clause-written
 returns-clause-written g c =

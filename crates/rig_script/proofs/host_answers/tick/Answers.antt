@@ -2,7 +2,7 @@ use Rattle.std.proofs.Common.{rules, ◌≡◌, ◌<◌, ◌^◌, Some, Err, ap,
 use Rattle.host_core.specs.Host.{host_after}
 use Rattle.tenant_lines.specs.Words.{words_of, values_of_words}
 use Rattle.rig_script.proofs.Steps.{tick_done, tick_ended}
-use Rattle.rig_script.proofs.script.tick.Goals as goal
+use Rattle.rig_script.proofs.host_answers.tick.Goals as goal
 
 pub returns-in-Ok : goal.returns-in-Ok
 returns-in-Ok c = λ setting past h.

@@ -4,16 +4,16 @@ use Rattle.giotto_text.specs.Bytes.{is_name}
 use Rattle.tenant_lines.specs.Words.{words_of, first_word_of, behind_first_word}
 use Rattle.tenant_lines.proofs.WordLemmas.{words_none}
 use Rattle.rig_script.specs.HostAnswers.{IsHostAfter}
-use Rattle.rig_script.specs.Script.{IsStep, operator_step, work_step_of}
+use Rattle.rig_script.specs.Script.{IsCarriedOut, operator_step, work_step_of}
 use Rattle.rig_script.proofs.Steps.{work_with_name, work_with_no_name, work_with_more, tenant_worked, operator_refused}
-use Rattle.rig_script.proofs.script.work.Goals as goal
-use Rattle.rig_script.proofs.script.work.Goals.{else-is_name-via-then-is_name+else-is_empty-2, else-is_name-via-else-is_name}
+use Rattle.rig_script.proofs.host_answers.work.Goals as goal
+use Rattle.rig_script.proofs.host_answers.work.Goals.{else-is_name-via-then-is_name+else-is_empty-2, else-is_name-via-else-is_name}
 
 pub returns-then-is_empty : goal.returns-then-is_empty
 returns-then-is_empty c = λ setting past h.
     let short : length c.first_word-name.result.now ≡ 0 = grind (arith, nat_tests, c.is_empty.ensures, c.if-is_empty.true) in
     let none : words_of c.args.line.now ≡ [] = words_none c.args.line.now (ap (λ (l : List ℕ). length l) (sym c.first_word-name.ensures) ∙ short) in
-    subst (λ ws. IsStep (operator_step setting past (codes "work" ∷ ws)) past c.complete_all.result (IsHostAfter setting c.complete_all.new.host)) (sym none) (c.complete_all.ensures setting past h)
+    subst (λ ws. IsCarriedOut (operator_step setting past (codes "work" ∷ ws)) past c.complete_all.result (IsHostAfter setting c.complete_all.new.host)) (sym none) (c.complete_all.ensures setting past h)
 
 pub returns-then-is_empty-2 : goal.returns-then-is_empty-2
 returns-then-is_empty-2 c = λ setting past h.
@@ -24,7 +24,7 @@ returns-then-is_empty-2 c = λ setting past h.
     let short : length c.first_word.result.now ≡ 0 = grind (arith, nat_tests, c.is_empty-then-is_name.ensures, c.if-is_empty-2.true) in
     let alone : length (first_word_of (behind_first_word line)) ≡ 0 = ap (λ (l : List ℕ). length l) (sym (c.first_word.ensures ∙ ap first_word_of c.behind_first_word.ensures)) ∙ short in
     tenant_worked setting past c.args.host.now c.complete_tenant.new.host h c.complete_tenant.result (codes "work" ∷ words_of line) (first_word_of line) (work_with_name line some name alone)
-    (subst (λ x. IsStep (work_step_of setting past x) past c.complete_tenant.result (IsHostAfter setting c.complete_tenant.new.host)) c.first_word-name.ensures (c.complete_tenant.ensures setting past h))
+    (subst (λ x. IsCarriedOut (work_step_of setting past x) past c.complete_tenant.result (IsHostAfter setting c.complete_tenant.new.host)) c.first_word-name.ensures (c.complete_tenant.ensures setting past h))
 
 pub returns : goal.returns
 returns c = λ setting past h.

@@ -4,7 +4,7 @@ use Rattle.tenant_lines.specs.declared.replies.Refusal.TheVariants.{Memory}
 use Rattle.tenant_lines.specs.declared.replies.Reply.TheVariants.{Refused}
 use Rattle.rig_script.specs.Answered.{reply_line}
 use Rattle.rig_script.proofs.Steps.{command_done}
-use Rattle.rig_script.proofs.script.tenant_line.Goals as goal
+use Rattle.rig_script.proofs.host_answers.tenant_line.Goals as goal
 
 pub returns : goal.returns
 returns c = λ setting past h.
@@ -14,4 +14,4 @@ returns c = λ setting past h.
     let some : c.command-reply.result ≡ Refused Memory → ⊥ = λ memory. let is = c.is_memory.ensures.1 memory in let no = c.if-is_memory.false in absurd (cc) in
     let text = subst (λ bytes. IfOk c.reply_line-2.result (λ line. string_bytes line ≡ reply_line c.args.name.now bytes)) (c.as_str.ensures.value ∙ c.in_ok-text.ensures) c.reply_line-2.ensures in
     command_done setting past c.args.host.now c.command-reply.new.self h c.reply_line-2.result c.args.tenant c.args.name.now c.args.line.now command c.command-reply.result
-    c.requires c.in-Ok.ensures.command (given.reply setting host h.stands some) (given.step setting host h.stands some) text
+    c.requires c.in-Ok.ensures.command (given.reply some setting host h.stands) (given.step some setting host h.stands) text

@@ -1,14 +1,12 @@
-//! A script: each line is answered before the next one is read.
+//! A host that answers the lines of a script.
 
 ghost use Rattle.std.specs.Prelude.{◌≡◌, [], ◌∷◌, ◌<◌, ◌≤◌, List, Some, Err, codes, length, All, IfOk, IfErr, IfSome, OnOk, string_bytes};
 ghost use Rattle.std.specs.Io.KnownBytes.{Appends};
-ghost use Rattle.host_core.specs.Setting.{Setting};
-ghost use Rattle.host_core.specs.declared.events.Event.{Event};
 ghost use Rattle.tenant_lines.specs.Words.{words_of};
 ghost use Rattle.rig_script.specs.Answered.{reply_line, IsText};
 ghost use Rattle.rig_script.specs.Lines.{cut};
-ghost use Rattle.rig_script.specs.HostAnswers.{IsHostAfter};
-ghost use Rattle.rig_script.specs.Script.{IsStep, tenant_step, operator_step, work_step, work_step_of, outstanding_after, script_text_of, IsScriptBrokenOff, OfNewHost};
+ghost use Rattle.rig_script.specs.HostAnswers.{CarriesOut, IsHostAfter};
+ghost use Rattle.rig_script.specs.Script.{tenant_step, operator_step, work_step, work_step_of, outstanding_after, script_text_of, IsScriptBrokenOff, ForNewHostReading};
 
 use crate::answers::{Answers, answer_lines};
 use crate::faults::ScriptFault;
@@ -56,10 +54,10 @@ pub fn script<R: Read, W: Write>(
     writer: &mut W,
     config: &Config,
 ) -> Result<(), ScriptFault>
-    ensures written { OnOk result (OfNewHost config.now (R.remaining reader.old) (λ setting bytes.
+    ensures written { OnOk result (ForNewHostReading config.now (R.remaining reader.old) (λ setting bytes.
         Appends (W.contents writer.old) (W.contents writer.new) (script_text_of setting bytes))) }
     ensures end { OnOk result (IfSome (R.remaining reader.old) (λ bytes. All IsText (cut bytes) → R.remaining reader.new ≡ Some [])) }
-    ensures fault { IfErr result (λ fault. OfNewHost config.now (R.remaining reader.old)
+    ensures fault { IfErr result (λ fault. ForNewHostReading config.now (R.remaining reader.old)
         (IsScriptBrokenOff (R.remaining reader.new) (Appends (W.contents writer.old) (W.contents writer.new)) fault)) }
     ensures turns { result ≡ Err ScriptFault.Turns → IfSome (R.remaining reader.old) (λ bytes. 1048576 ≤ length bytes) }
 {
@@ -79,8 +77,7 @@ fn tenant_line(
     line: &str,
 ) -> Result<String, AllocError>
     requires { tenant < length host.old.config.tenants }
-    ensures { (setting : Setting) (past : List Event) → IsHostAfter setting host.old past
-        → IsStep (tenant_step setting past tenant name.now line.now) past result (IsHostAfter setting host.new) }
+    ensures { CarriesOut (λ setting past. tenant_step setting past tenant name.now line.now) host.old host.new result }
 {
     let command = match command_of(alloc, line) {
         Ok(command) => command,
@@ -97,8 +94,7 @@ fn tenant_line(
 
 // The step of an operator's line, which stands behind `op`.
 fn operator_line(alloc: Global, host: &mut Host, line: &str) -> Result<String, AllocError>
-    ensures { (setting : Setting) (past : List Event) → IsHostAfter setting host.old past
-        → IsStep (operator_step setting past (words_of line.now)) past result (IsHostAfter setting host.new) }
+    ensures { CarriesOut (λ setting past. operator_step setting past (words_of line.now)) host.old host.new result }
 {
     let rest = words::behind_first_word(line);
     match words::first_word(line) {
@@ -110,8 +106,7 @@ fn operator_line(alloc: Global, host: &mut Host, line: &str) -> Result<String, A
 
 // The step of `tick` with these words behind it.
 fn tick(alloc: Global, host: &mut Host, line: &str) -> Result<String, AllocError>
-    ensures { (setting : Setting) (past : List Event) → IsHostAfter setting host.old past
-        → IsStep (operator_step setting past (codes "tick" ∷ words_of line.now)) past result (IsHostAfter setting host.new) }
+    ensures { CarriesOut (λ setting past. operator_step setting past (codes "tick" ∷ words_of line.now)) host.old host.new result }
 {
     let Some(frame) = words::values_of_words(alloc, line)? else {
         return reply_line(alloc, "op", "err bad-command");
@@ -127,8 +122,7 @@ fn tick(alloc: Global, host: &mut Host, line: &str) -> Result<String, AllocError
 
 // The step of `work` with these words behind it.
 fn work(alloc: Global, host: &mut Host, line: &str) -> Result<String, AllocError>
-    ensures { (setting : Setting) (past : List Event) → IsHostAfter setting host.old past
-        → IsStep (operator_step setting past (codes "work" ∷ words_of line.now)) past result (IsHostAfter setting host.new) }
+    ensures { CarriesOut (λ setting past. operator_step setting past (codes "work" ∷ words_of line.now)) host.old host.new result }
 {
     let name = words::first_word(line);
     if name.is_empty() {
@@ -142,8 +136,7 @@ fn work(alloc: Global, host: &mut Host, line: &str) -> Result<String, AllocError
 
 // Runs and completes all outstanding jobs, and says how many they were.
 fn complete_all(alloc: Global, host: &mut Host) -> Result<String, AllocError>
-    ensures { (setting : Setting) (past : List Event) → IsHostAfter setting host.old past
-        → IsStep (work_step (outstanding_after setting past)) past result (IsHostAfter setting host.new) }
+    ensures { CarriesOut (λ setting past. work_step (outstanding_after setting past)) host.old host.new result }
 {
     let number = host.complete_all();
     format!(in alloc; "op ok work {number}\n")
@@ -151,8 +144,7 @@ fn complete_all(alloc: Global, host: &mut Host) -> Result<String, AllocError>
 
 // Runs and completes the outstanding jobs of the tenant of this name, and says how many they were.
 fn complete_tenant(alloc: Global, host: &mut Host, name: &str) -> Result<String, AllocError>
-    ensures { (setting : Setting) (past : List Event) → IsHostAfter setting host.old past
-        → IsStep (work_step_of setting past name.now) past result (IsHostAfter setting host.new) }
+    ensures { CarriesOut (λ setting past. work_step_of setting past name.now) host.old host.new result }
 {
     let Some(tenant) = host.config().place_of(name) else {
         return reply_line(alloc, "op", "err who");

@@ -4,7 +4,7 @@ use Rattle.rig_script.specs.HostAnswers.{IsHostAfter}
 use Rattle.rig_script.specs.Script.{outstanding_after, work_step}
 use Rattle.rig_script.proofs.Completing.{all_completed, names_are}
 use Rattle.rig_script.proofs.Steps.{step_done}
-use Rattle.rig_script.proofs.script.complete_all.Goals as goal
+use Rattle.rig_script.proofs.host_answers.complete_all.Goals as goal
 
 pub returns : goal.returns
 returns c = λ setting past h.
