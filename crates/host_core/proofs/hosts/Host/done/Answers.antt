@@ -2,15 +2,26 @@ use Rattle.std.proofs.Common.{◌≡◌, ◌<◌, ◌≤◌, ◌+◌, List, ◌�
 use Rattle.std.specs.Prelude.{is_some, slice_get}
 use Rattle.std.specs.Option.{option_and_then}
 use Rattle.std.proofs.Math.Seq.{map-set_same}
-use Rattle.host_core.specs.HostStanding.{HostStanding, Stands, awaited_in, outstanding_jobs}
+use Rattle.host_core.specs.HostStanding.{HostStanding, Stands, IsOwn, awaited_in, outstanding_jobs}
+use Rattle.host_core.specs.HostState.{HostState}
+use Rattle.host_core.specs.Setting.{Setting}
+use Rattle.host_core.specs.declared.hosts.Counted.TheVariants as became
+use Rattle.host_core.specs.declared.hosts.Host.TheInside.{Inside}
 use Rattle.tenant_state.specs.declared.jobs.JobId.{JobId}
 use Rattle.tenant_state.specs.Standing.{at_rest, awaited_job}
 use Rattle.host_core.proofs.AtRest.{awaited_here, stands_inside, stands_outside, outstanding_at_rest}
-use Rattle.host_core.proofs.Completion.{comes_to, past_roster}
+use Rattle.host_core.proofs.Completion.{ComesTo, comes_to, past_roster}
 use Rattle.host_core.proofs.HostSteps.{done_counts}
 use Rattle.host_core.proofs.Outstanding.{one_fewer_in}
 use Rattle.host_core.proofs.hosts.Host.done.Goals as goal
 use Rattle.host_core.proofs.hosts.Host.done.Goals.{then-complete, else-complete}
+
+-- the host as its code has it, and as the clauses see it behind the completion
+abbrev standing : Inside → HostStanding
+standing h = record { config = h.config; tenants = h.tenants.items; clock = h.clock }
+
+abbrev behind : goal.Joined-complete → HostStanding
+behind c = record (standing c.self.inside) { tenants = map at_rest (set c.self.inside.tenants.items c.id.result.now.tenant c.complete.new.self) }
 
 pub returns-clause-counted : goal.returns-clause-counted
 returns-clause-counted c =
@@ -32,53 +43,46 @@ returns-clause-late c = λ late. elim c.if-complete.branch [
       (λ k. record { config = c.self.inside.config; tenants = same k; clock = c.self.inside.clock }) ∙ c.self.view_is
 ]
 
-pub returns-then-place-len-clause-answer : goal.returns-then-place-len-clause-answer
-returns-then-place-len-clause-answer c = λ own setting state stands.
-    let host : HostStanding = record { config = c.self.inside.config; tenants = c.self.inside.tenants.items; clock = c.self.inside.clock } in
+-- a tenant beyond the roster: the answer, and what stands behind the completion
+beyond : (c : goal.After-drop-done-inside) (setting : Setting) (state : HostState) (stands : Stands setting c.args.self.now state)
+    → ComesTo setting (standing c.self.inside) c.args.self.now state c.self.invariant.1 c.self.view_is stands c.args.done became.Late c.args.self.now
+beyond c setting state stands =
+    let host : HostStanding = standing c.self.inside in
     let place : c.id.result.now.tenant ≡ c.args.done.id.tenant = ap (λ (i : JobId). i.tenant) c.id.ensures in
     let past : length host.tenants ≤ c.args.done.id.tenant = omega (arith, place, c.if-place-len.true) in
-    (past_roster setting host c.args.self.now state c.self.invariant.1 c.self.view_is stands c.args.done past).answer
+    past_roster setting host c.args.self.now state c.self.invariant.1 c.self.view_is stands c.args.done past
+
+pub returns-then-place-len-clause-answer : goal.returns-then-place-len-clause-answer
+returns-then-place-len-clause-answer c = λ own setting state stands. (beyond c setting state stands).answer
 
 pub returns-then-place-len-clause-step : goal.returns-then-place-len-clause-step
-returns-then-place-len-clause-step c = λ own setting state stands.
-    let host : HostStanding = record { config = c.self.inside.config; tenants = c.self.inside.tenants.items; clock = c.self.inside.clock } in
-    let place : c.id.result.now.tenant ≡ c.args.done.id.tenant = ap (λ (i : JobId). i.tenant) c.id.ensures in
-    let past : length host.tenants ≤ c.args.done.id.tenant = omega (arith, place, c.if-place-len.true) in
-    (past_roster setting host c.args.self.now state c.self.invariant.1 c.self.view_is stands c.args.done past).step
+returns-then-place-len-clause-step c = λ own setting state stands. (beyond c setting state stands).step
+
+-- a tenant of the roster: the answer, and what stands behind the completion
+within_roster : (c : goal.Joined-complete) (setting : Setting) (state : HostState) (stands : Stands setting c.args.self.now state) → IsOwn c.args.self.now c.args.done
+    → ComesTo setting (standing c.self.inside) c.args.self.now state c.self.invariant.1 c.self.view_is stands c.args.done c.if-complete.result (behind c)
+within_roster c setting state stands own =
+    let host : HostStanding = standing c.self.inside in
+    let inside : Stands setting host state = stands_inside setting host state (subst (λ h. Stands setting h state) (sym c.self.view_is) stands) in
+    let within : c.id.result.now.tenant < length host.tenants = omega (arith, c.if-place-len.false) in
+    comes_to setting host c.args.self.now state c.self.invariant.1 c.self.view_is stands c.args.done c.if-complete.result (behind c) (returns-clause-counted c) (returns-clause-late c)
+    (λ counted. elim c.if-complete.branch [
+      | then-complete w ↦
+          stands_outside setting (record host { tenants = set host.tenants c.id.result.now.tenant c.complete.new.self }) (record state { counted = c.args.done.id ∷ state.counted })
+          (done_counts setting host state c.args.done.id c.id.result.now.tenant c.index_mut.result.now c.complete.new.self (ap (λ (i : JobId). i.tenant) c.id.ensures) inside within c.index_mut.ensures.value
+          c.self.invariant.1 (ap is_some (w.if-complete.ensures.counted.0 refl)) w.if-complete.ensures.step)
+      | else-complete w ↦ absurd (cc)
+    ]) own
 
 pub returns-clause-answer : goal.returns-clause-answer
-returns-clause-answer c = λ own setting state stands.
-    let host : HostStanding = record { config = c.self.inside.config; tenants = c.self.inside.tenants.items; clock = c.self.inside.clock } in
-    let inside : Stands setting host state = stands_inside setting host state (subst (λ h. Stands setting h state) (sym c.self.view_is) stands) in
-    let within : c.id.result.now.tenant < length host.tenants = omega (arith, c.if-place-len.false) in
-    (comes_to setting host c.args.self.now state c.self.invariant.1 c.self.view_is stands c.args.done _
-    (record host { tenants = map at_rest (set host.tenants c.id.result.now.tenant c.complete.new.self) }) (returns-clause-counted c) (returns-clause-late c)
-    (λ counted. elim c.if-complete.branch [
-      | then-complete w ↦
-          stands_outside setting (record host { tenants = set host.tenants c.id.result.now.tenant c.complete.new.self }) (record state { counted = c.args.done.id ∷ state.counted })
-          (done_counts setting host state c.args.done.id c.id.result.now.tenant c.index_mut.result.now c.complete.new.self (ap (λ (i : JobId). i.tenant) c.id.ensures) inside within c.index_mut.ensures.value
-          c.self.invariant.1 (ap is_some (w.if-complete.ensures.counted.0 refl)) w.if-complete.ensures.step)
-      | else-complete w ↦ absurd (cc)
-    ]) own).answer
+returns-clause-answer c = λ own setting state stands. (within_roster c setting state stands own).answer
 
 pub returns-clause-step : goal.returns-clause-step
-returns-clause-step c = λ own setting state stands.
-    let host : HostStanding = record { config = c.self.inside.config; tenants = c.self.inside.tenants.items; clock = c.self.inside.clock } in
-    let inside : Stands setting host state = stands_inside setting host state (subst (λ h. Stands setting h state) (sym c.self.view_is) stands) in
-    let within : c.id.result.now.tenant < length host.tenants = omega (arith, c.if-place-len.false) in
-    (comes_to setting host c.args.self.now state c.self.invariant.1 c.self.view_is stands c.args.done _
-    (record host { tenants = map at_rest (set host.tenants c.id.result.now.tenant c.complete.new.self) }) (returns-clause-counted c) (returns-clause-late c)
-    (λ counted. elim c.if-complete.branch [
-      | then-complete w ↦
-          stands_outside setting (record host { tenants = set host.tenants c.id.result.now.tenant c.complete.new.self }) (record state { counted = c.args.done.id ∷ state.counted })
-          (done_counts setting host state c.args.done.id c.id.result.now.tenant c.index_mut.result.now c.complete.new.self (ap (λ (i : JobId). i.tenant) c.id.ensures) inside within c.index_mut.ensures.value
-          c.self.invariant.1 (ap is_some (w.if-complete.ensures.counted.0 refl)) w.if-complete.ensures.step)
-      | else-complete w ↦ absurd (cc)
-    ]) own).step
+returns-clause-step c = λ own setting state stands. (within_roster c setting state stands own).step
 
 pub returns-clause-left : goal.returns-clause-left
 returns-clause-left c = λ counted.
-    let host : HostStanding = record { config = c.self.inside.config; tenants = c.self.inside.tenants.items; clock = c.self.inside.clock } in
+    let host : HostStanding = standing c.self.inside in
     let within : c.id.result.now.tenant < length host.tenants = omega (arith, c.if-place-len.false) in
     elim c.if-complete.branch [
       | then-complete w ↦
