@@ -1,9 +1,9 @@
 //! The replies to a tenant's commands.
 
-ghost use Rattle.std.specs.Prelude.{◌≡◌, ◌↔◌, ◌++◌, codes, IfOk, IsTrue, string_bytes};
+ghost use Rattle.std.specs.Prelude.{◌≡◌, ◌↔◌, ◌++◌, codes, IfOk, IsErr, IsTrue, string_bytes};
 ghost use Rattle.std.specs.Fmt.{signed_decimal};
 ghost use Rattle.std.specs.List.{flat_map};
-ghost use Rattle.tenant_lines.specs.Replies.{word_of_budget, text_of_port, text_of_refusal, text_of_reply, text_of_status, text_of_value};
+ghost use Rattle.tenant_lines.specs.Replies.{lists_ports, word_of_budget, text_of_port, text_of_refusal, text_of_reply, text_of_status, text_of_value};
 
 use crate::ports::PortValue;
 use giotto_tasks::lists::List;
@@ -105,7 +105,8 @@ impl Reply {
     /// # Errors
     /// Want of memory.
     pub fn copy(&self, alloc: Global) -> Result<Reply, AllocError>
-        ensures { IfOk result (λ r. r ≡ self.now) }
+        ensures same { IfOk result (λ r. r ≡ self.now) }
+        ensures memory { IsErr result → IsTrue (lists_ports self.now) }
     {
         Ok(match self {
             Reply::Loaded => Reply::Loaded,
