@@ -11,7 +11,7 @@ use Rattle.tenant_state.specs.declared.jobs.JobId.{JobId}
 use Rattle.tenant_state.specs.declared.tenants.Active.{Active}
 use Rattle.tenant_state.specs.Jobs.{job_in, job_of, same_job}
 use Rattle.tenant_state.specs.Row.{ActiveTask}
-use Rattle.tenant_state.specs.Tenants.{active_of, is_completed, tasks_in, is_another, all_different_releases, IsTenant}
+use Rattle.tenant_state.specs.Tenants.{active_of, is_completed, tasks_in, is_another, all_different_releases, IsTenant, awaits_job, is_of_job}
 use Rattle.tenant_state.proofs.JobNames.{same_job_is, same_job_self}
 use Rattle.giotto_tasks.proofs.NameLemmas.{same_name_self}
 use Rattle.giotto_tasks.proofs.ListLemmas.{map_same, all_pass, all_at}
@@ -30,13 +30,6 @@ abbrev pub outstanding_of : List ActiveTask → List Active → List ActiveTask
 outstanding_of active tasks = map (λ (x : ActiveTask × Bool). x.0) (filter (λ (x : ActiveTask × Bool). not x.1) (zip active (map is_completed tasks)))
 
 module _ (p : GiottoProgram) where
-  -- the release of this name
-  abbrev pub is_named : JobId → Active → Bool
-  is_named j a = nat_eq a.release j.tick && same_name (name_of_task p a.task) j.task
-
-  abbrev pub is_awaited : JobId → Active → Bool
-  is_awaited j a = not (is_completed a) && is_named j a
-
   abbrev pub outstanding_in : List Active → List ActiveTask
   outstanding_in tasks = outstanding_of (map (active_of p) tasks) tasks
 
@@ -44,20 +37,20 @@ module _ (p : GiottoProgram) where
   outstanding_are [] = refl
   outstanding_are (a ∷ tasks) = let rest = outstanding_are tasks in grind arith
 
-  named_so : (j : JobId) (a : Active) → same_job (job_of j.tenant (active_of p a)) j ≡ is_named j a
+  named_so : (j : JobId) (a : Active) → same_job (job_of j.tenant (active_of p a)) j ≡ is_of_job p j a
   named_so j a = ap (λ b. (b && nat_eq a.release j.tick) && same_name (name_of_task p a.task) j.task) (eq-eqb j.tenant j.tenant refl)
 
-  pub named_is : (j : JobId) (a : Active) → is_named j a ≡ true → job_of j.tenant (active_of p a) ≡ j
+  pub named_is : (j : JobId) (a : Active) → is_of_job p j a ≡ true → job_of j.tenant (active_of p a) ≡ j
   named_is j a named = same_job_is (job_of j.tenant (active_of p a)) j (named_so j a ∙ named)
 
-  found_awaited : (j : JobId) (tasks : List Active) → find (λ a. same_job (job_of j.tenant a) j) (map (active_of p) (awaited_of tasks)) ≡ option_map (active_of p) (find (is_awaited j) tasks)
+  found_awaited : (j : JobId) (tasks : List Active) → find (λ a. same_job (job_of j.tenant a) j) (map (active_of p) (awaited_of tasks)) ≡ option_map (active_of p) (find (awaits_job p j) tasks)
   found_awaited j [] = refl
   found_awaited j (a ∷ tasks) = let rest = found_awaited j tasks in let same = named_so j a in grind arith
 
   -- the job of this name is that of the task that is found
   pub job_found : (j : JobId) (tasks : List Active) → option_map (job_in p j.tenant) (find (λ a. same_job (job_of j.tenant a) j) (outstanding_in tasks))
-      ≡ option_map (λ a. job_in p j.tenant (active_of p a)) (find (is_awaited j) tasks)
-  job_found j tasks = rw (outstanding_are tasks, found_awaited j tasks) (elim (find (is_awaited j) tasks) as (λ o. option_map (job_in p j.tenant) (option_map (active_of p) o) ≡ option_map (λ a. job_in p j.tenant (active_of p a)) o) [ None ↦ refl | (Some a) ↦ refl ])
+      ≡ option_map (λ a. job_in p j.tenant (active_of p a)) (find (awaits_job p j) tasks)
+  job_found j tasks = rw (outstanding_are tasks, found_awaited j tasks) (elim (find (awaits_job p j) tasks) as (λ o. option_map (job_in p j.tenant) (option_map (active_of p) o) ≡ option_map (λ a. job_in p j.tenant (active_of p a)) o) [ None ↦ refl | (Some a) ↦ refl ])
 
 pub outstanding_count : {mode time next count : ℕ} {tasks : List Active} {values : List ℤ} {shares : List (Option TaskBody)} (o : Option GiottoProgram) → IsTenant o mode time next tasks values shares count
     → length (awaited_of tasks) ≡ length (outstanding_of (tasks_in o tasks) tasks)

@@ -21,8 +21,8 @@ use Rattle.tenant_state.specs.declared.tenants.Active.{Active}
 use Rattle.tenant_state.specs.Jobs.{JobValue, body_in, job_in, job_of, same_job}
 use Rattle.tenant_state.specs.Row.{ActiveTask, Row}
 use Rattle.tenant_state.specs.Standing.{Standing, StandsFor}
-use Rattle.tenant_state.specs.Tenants.{active_of, is_completed, all_different_releases, IsResultOf, IsActiveAs, IsActiveOf, IsActiveIn, IsTenant}
-use Rattle.tenant_state.proofs.AwaitedTasks.{awaited_of, is_named, is_awaited, outstanding_in, outstanding_are, job_found, named_is, marks_with, marked}
+use Rattle.tenant_state.specs.Tenants.{active_of, is_completed, all_different_releases, IsResultOf, IsActiveAs, IsActiveOf, IsActiveIn, IsTenant, is_of_job, awaits_job}
+use Rattle.tenant_state.proofs.AwaitedTasks.{awaited_of, outstanding_in, outstanding_are, job_found, named_is, marks_with, marked}
 use Rattle.giotto_tasks.proofs.ListLemmas.{filter_set, find_passes, all_at, all_set, some_same}
 use Rattle.tenant_state.proofs.TenantFacts.{body_of_task}
 
@@ -90,12 +90,12 @@ module _ (p : GiottoProgram) (tasks : List Active) (i : ℕ) (a : Active) (lt : 
         let early = (so_there tasks i a lt at (IsActiveIn p n) all).early in
         all_set (IsActiveIn p n) tasks i b (record { early = subst (λ (x : ActiveTask). x.release < n) (sym same) early; declared = of }) all
 
-  module _ (j : JobId) (found : find (is_awaited p j) tasks ≡ slice_get tasks i) where
-    found_is : find (is_awaited p j) tasks ≡ Some a
+  module _ (j : JobId) (found : find (awaits_job p j) tasks ≡ slice_get tasks i) where
+    found_is : find (awaits_job p j) tasks ≡ Some a
     found_is = found ∙ slice_get_read tasks (length tasks) i a refl lt at
 
-    parts : (not (is_completed a) ≡ true) × (is_named p j a ≡ true)
-    parts = and_parts (not (is_completed a)) (is_named p j a) (find_passes (is_awaited p j) tasks a found_is)
+    parts : (not (is_completed a) ≡ true) × (is_of_job p j a ≡ true)
+    parts = and_parts (not (is_completed a)) (is_of_job p j a) (find_passes (awaits_job p j) tasks a found_is)
 
     -- its job
     module _ (fits : ProgramFits p) (t : Task) (task : slice_get p.tasks a.task ≡ Some (trees.task_of t)) where

@@ -27,6 +27,7 @@ use Rattle.tenant_slots.proofs.Numbered.{invocation_due, mode_here, same_task}
 use Rattle.tenant_state.specs.declared.tenants.Active.{Active}
 use Rattle.tenant_state.specs.declared.tenants.State as code
 use Rattle.tenant_state.specs.declared.tenants.State.TheVariants as states
+use Rattle.tenant_state.specs.EntryTable.{is_left_open}
 use Rattle.tenant_state.specs.FirstHalf.{all_ended, due_tasks, names_due, still_active, unfinished_tasks, first_half_of, stopped_with}
 use Rattle.tenant_state.specs.Row.{overrun, ActiveTask, Row}
 use Rattle.tenant_state.specs.Standing.{Standing, StandsFor}
@@ -85,15 +86,11 @@ not_here test xs k x lt is e = by (test x) (sym (found_from test xs k x (test x)
     by true e = absurd (cc)
     by false e = refl
 
--- whether an invocation is due whose task has an active entry that isn't completed
-abbrev pub opens : ℕ → List Active → SlotInvocation → Bool
-opens time active i = (time % i.interval == 0) && list_any (λ a. nat_eq a.task i.task && not (is_completed a)) active
-
 -- where all are completed none is open
-pub all_closed : (time : ℕ) (active : List Active) → list_all is_completed active ≡ true → (es : List SlotInvocation) → find (opens time active) es ≡ None
+pub all_closed : (time : ℕ) (active : List Active) → list_all is_completed active ≡ true → (es : List SlotInvocation) → find (is_left_open time active) es ≡ None
 all_closed time active h [] = refl
 all_closed time active h (e ∷ es) =
-    ap (λ b. cond ((time % e.interval == 0) && b) (Some e) (find (opens time active) es)) (none active h) ∙ ap (λ b. cond b (Some e) (find (opens time active) es)) (and_false _) ∙ all_closed time active h es
+    ap (λ b. cond ((time % e.interval == 0) && b) (Some e) (find (is_left_open time active) es)) (none active h) ∙ ap (λ b. cond b (Some e) (find (is_left_open time active) es)) (and_false _) ∙ all_closed time active h es
   where
     none : (xs : List Active) → list_all is_completed xs ≡ true → list_any (λ a. nat_eq a.task e.task && not (is_completed a)) xs ≡ false
     none [] h = refl
@@ -267,12 +264,12 @@ module _ {place : ℕ} (p : GiottoProgram) (fits : ProgramFits p) (m : ModeDecla
       record { same_row = st.same_row ∙ sym same; same_marks = st.same_marks ∙ ap (λ (r : Row). map completed r.active) (sym same) }
 
   module _ (es : List SlotInvocation) (each : AreEach (IsInvocation p m) m.invocations es) (all : AllByRecursion (IsActiveOf p) items) where
-    found : FoundAlike (IsInvocation p m) (find (is_open m row.mode_time row.active completed) m.invocations) (find (opens time items) es)
-    found = subst (λ o. FoundAlike (IsInvocation p m) o (find (opens time items) es)) (λ k. find (is_open m (same_time k) (same_active k) completed) m.invocations)
-        (find_alike (IsInvocation p m) (is_open m time (map (active_of p) items) completed) (opens time items) (open_alike p fits m time completed items all marks) m.invocations es each)
+    found : FoundAlike (IsInvocation p m) (find (is_open m row.mode_time row.active completed) m.invocations) (find (is_left_open time items) es)
+    found = subst (λ o. FoundAlike (IsInvocation p m) o (find (is_left_open time items) es)) (λ k. find (is_open m (same_time k) (same_active k) completed) m.invocations)
+        (find_alike (IsInvocation p m) (is_open m time (map (active_of p) items) completed) (is_left_open time items) (open_alike p fits m time completed items all marks) m.invocations es each)
 
     -- no due task is left open
-    pub finished : find (opens time items) es ≡ None → (room : ℕ) (ended after : List ℤ)
+    pub finished : find (is_left_open time items) es ≡ None → (room : ℕ) (ended after : List ℤ)
         → valuation_of p ended ≡ all_ended p (flat_map (group m time (map (active_of p) items)) m.invocations) (valuation_of p values)
         → valuation_of p after ≡ all_updated m time m.updates (valuation_of p ended)
         → StandsFor (standing_of place states.Running (Some p) mode time (kept time es items) room after shares count) (first_half_of (unfinished_tasks completed row) row) completed
@@ -297,7 +294,7 @@ module _ {place : ℕ} (p : GiottoProgram) (fits : ProgramFits p) (m : ModeDecla
         by_none (Some i) h = absurd h
 
     -- the first task that is left open stops the tenant
-    pub halted : (e : SlotInvocation) → find (opens time items) es ≡ Some e → (x : Name) → x ≡ name_of_task p e.task → first_half_of (unfinished_tasks completed row) row ≡ stopped_with (overrun x) row
+    pub halted : (e : SlotInvocation) → find (is_left_open time items) es ≡ Some e → (x : Name) → x ≡ name_of_task p e.task → first_half_of (unfinished_tasks completed row) row ≡ stopped_with (overrun x) row
     halted e first x named = by _ refl (subst (FoundAlike (IsInvocation p m) _) first found)
       where
         by : (o : Option TaskInvocation) → find (is_open m row.mode_time row.active completed) m.invocations ≡ o → FoundAlike (IsInvocation p m) o (Some e)

@@ -31,18 +31,17 @@ use Rattle.tenant_state.specs.declared.tenants.State.TheVariants as states
 use Rattle.tenant_state.specs.FirstHalf.{names_due}
 use Rattle.tenant_state.specs.Jobs.{job_of, same_job}
 use Rattle.tenant_state.specs.Row.{ActiveTask, Row}
-use Rattle.tenant_state.specs.Tenants.{active_of, standing_of, IsActiveOf}
-use Rattle.tenant_state.proofs.AwaitedTasks.{is_named}
+use Rattle.tenant_state.specs.Tenants.{active_of, standing_of, IsActiveOf, is_of_job}
 use Rattle.tenant_state.proofs.DueTasks as tasks
 use Rattle.tenant_state.proofs.DueTasks.{group, ends, names_of_tasks}
 use Rattle.tenant_state.proofs.EndedTasks.{any_alike, some_of}
 use Rattle.tenant_state.proofs.FirstHalfOf.{Runs, due_are}
 
 -- a job's task is active
-pub job_active : (p : GiottoProgram) (j : JobId) (items : List Active) → list_any (is_named p j) items ≡ list_any (λ a. same_job (job_of j.tenant a) j) (map (active_of p) items)
+pub job_active : (p : GiottoProgram) (j : JobId) (items : List Active) → list_any (is_of_job p j) items ≡ list_any (λ a. same_job (job_of j.tenant a) j) (map (active_of p) items)
 job_active p j [] = refl
 job_active p j (a ∷ items) =
-    let here : is_named p j a ≡ same_job (job_of j.tenant (active_of p a)) j =
+    let here : is_of_job p j a ≡ same_job (job_of j.tenant (active_of p a)) j =
     sym (ap (λ b. (b && nat_eq a.release j.tick) && same_name (name_of_task p a.task) j.task) (eq-eqb j.tenant j.tenant refl)) in
     let rest = job_active p j items in
     rw (here, rest) refl

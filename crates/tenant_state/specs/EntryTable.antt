@@ -1,21 +1,33 @@
 -- The active entries, and what is due, by the places of the tasks.
-use Rattle.std.specs.Prelude.{◌≡◌, ◌<◌, ◌≤◌, ◌-◌, ◌%◌, ◌==◌, ◌&&◌, ℕ, ℤ, nat_eq, Bool, false, List, map, filter, get_or, take, drop}
+use Rattle.std.specs.Prelude.{◌≡◌, ◌<◌, ◌≤◌, ◌-◌, ◌%◌, ◌==◌, ◌&&◌, ℕ, ℤ, nat_eq, Bool, not, false, List, map, filter, get_or, take, drop}
 use Rattle.std.specs.List.{list_any}
 use Rattle.giotto_check.specs.Slots.{valuation_of}
 use Rattle.giotto_check.specs.declared.timetables.SlotInvocation.{SlotInvocation}
 use Rattle.giotto_text.specs.Program.{GiottoProgram, ModeDeclaration}
 use Rattle.tenant_state.specs.declared.tenants.Active.{Active}
 use Rattle.tenant_state.specs.FirstHalf.{all_ended, due_among}
-use Rattle.tenant_state.specs.Tenants.{active_of}
+use Rattle.tenant_state.specs.Tenants.{active_of, is_completed}
+
+-- the active entries of the task at this place
+abbrev pub entries_at : ℕ → List Active → List Active
+entries_at task active = filter (λ (a : Active). nat_eq a.task task) active
 
 -- of the first entries each task has at most one: the table has its number from 1, or 0 where there is none
 abbrev pub IsTableOf : ℕ → List Active → List ℕ → Type 0
 IsTableOf count active table =
-    (t : ℕ) → t < 64 → (get_or table t 0 ≤ count) × (filter (λ (a : Active). nat_eq a.task t) (take count active) ≡ take (get_or table t 0 - (get_or table t 0 - 1)) (drop (get_or table t 0 - 1) active))
+    (t : ℕ) → t < 64 → (get_or table t 0 ≤ count) × (entries_at t (take count active) ≡ take (get_or table t 0 - (get_or table t 0 - 1)) (drop (get_or table t 0 - 1) active))
 
 -- whether the task at a place is due
 abbrev pub is_among_due : ℕ → ℕ → List SlotInvocation → Bool
 is_among_due time task invocations = list_any (λ (i : SlotInvocation). nat_eq task i.task && (time % i.interval == 0)) invocations
+
+-- whether an active entry of the task at this place isn't completed
+abbrev pub is_task_open : List Active → ℕ → Bool
+is_task_open active task = list_any (λ (a : Active). nat_eq a.task task && not (is_completed a)) active
+
+-- whether the invocation's task is due, and left open
+abbrev pub is_left_open : ℕ → List Active → SlotInvocation → Bool
+is_left_open time active i = (time % i.interval == 0) && is_task_open active i.task
 
 -- each mark says whether its task is due
 abbrev pub MarksDue : List SlotInvocation → ℕ → List Bool → Type 0

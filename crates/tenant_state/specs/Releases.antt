@@ -1,11 +1,12 @@
 -- What an entry of a mode's timetable stands for, where its task is released.
-use Rattle.std.specs.Prelude.{◌≡◌, ◌≤◌, ℕ, ℤ, List, Some, length, slice_get}
+use Rattle.std.specs.Prelude.{◌≡◌, ◌≤◌, ℕ, ℤ, List, length}
 use Rattle.giotto_check.specs.Slots.{valuation_of}
 use Rattle.giotto_check.specs.Timetables.{IsInvocation}
 use Rattle.giotto_check.specs.declared.timetables.SlotInvocation.{SlotInvocation}
 use Rattle.giotto_text.specs.Program.{GiottoProgram, ModeDeclaration, TaskDeclaration, TaskInvocation}
 use Rattle.tenant_state.specs.Row.{ActiveTask}
 use Rattle.tenant_state.specs.SecondHalf.{released}
+use Rattle.tenant_slots.specs.Places.{IsTaskAt}
 
 -- the entry stands for an invocation in one of the modes, with as many arguments as its task has inputs, at most 16
 pub record IsEntryOf (p : GiottoProgram) (entry : SlotInvocation) : Type 0 where
@@ -13,14 +14,14 @@ pub record IsEntryOf (p : GiottoProgram) (entry : SlotInvocation) : Type 0 where
   pub invocation : TaskInvocation
   pub task : TaskDeclaration
   pub is : IsInvocation p mode invocation entry
-  pub there : slice_get p.tasks entry.task ≡ Some task
+  pub there : IsTaskAt p entry.task task
   pub as_many : length invocation.arguments ≡ length task.inputs
   pub few : length entry.arguments.items ≤ 16
 
 -- this is true of each invocation that the entry may stand for, with its task
 abbrev pub IsTrueOfInvocation : GiottoProgram → SlotInvocation → (TaskInvocation → TaskDeclaration → Type 0) → Type 0
 IsTrueOfInvocation p entry P =
-    (m : ModeDeclaration) (i : TaskInvocation) (t : TaskDeclaration) → IsInvocation p m i entry → slice_get p.tasks entry.task ≡ Some t → P i t
+    (m : ModeDeclaration) (i : TaskInvocation) (t : TaskDeclaration) → IsInvocation p m i entry → IsTaskAt p entry.task t → P i t
 
 -- what such an invocation makes active at this release, by the values in the slots
 abbrev pub released_by : GiottoProgram → ℕ → List ℤ → TaskInvocation → TaskDeclaration → ActiveTask

@@ -7,9 +7,10 @@ use Rattle.giotto_text.specs.Program.{GiottoProgram, ModeDeclaration, ModeSwitch
 use Rattle.giotto_check.specs.Costs.{greatest}
 use Rattle.giotto_rules.specs.Declarations.{mode_named}
 use Rattle.tenant_state.specs.declared.jobs.JobId.{JobId}
+use Rattle.tenant_lines.specs.declared.replies.Refusal.{Refusal}
 use Rattle.tenant_lines.specs.declared.replies.Reply.{Reply}
 use Rattle.tenant_slots.specs.Due.{is_due_at}
-use Rattle.tenant_state.specs.Commands.{Outcome}
+use Rattle.tenant_state.specs.Commands.{Outcome, refused}
 use Rattle.tenant_state.specs.Jobs.{JobValue, job_in, job_of, same_job}
 use Rattle.tenant_state.specs.Row.{ActiveTask, Row, empty_row, is_running}
 
@@ -59,6 +60,22 @@ most_released row = if is_running row then option_map_or (λ p. option_map_or (�
 pub record IsOutcome (outcome : Outcome) (reply : Reply) (standing : Standing) (completed : ActiveTask → Bool) : Type 0 where
   pub same_reply : reply ≡ outcome.reply
   pub stands : StandsFor standing outcome.row completed
+
+-- this holds of each row for which the tenant stands, and of the active tasks completed there
+abbrev pub HoldsOfRow : Standing → (Row → (ActiveTask → Bool) → Type 0) → Type 0
+HoldsOfRow standing P = (row : Row) (completed : ActiveTask → Bool) → StandsFor standing row completed → P row completed
+
+-- whatever row the tenant stood for, now it stands for the row behind this step
+abbrev pub IsBehind : Standing → (Row → Row) → Standing → Type 0
+IsBehind before step after = HoldsOfRow before (λ row completed. StandsFor after (step row) completed)
+
+-- whatever row the tenant stood for, this reply is that of the step, and now it stands for the row behind the step
+abbrev pub IsAnswered : Standing → (Row → Outcome) → Reply → Standing → Type 0
+IsAnswered before step reply after = HoldsOfRow before (λ row completed. IsOutcome (step row) reply after completed)
+
+-- whatever row the tenant stands for, the step refuses it so
+abbrev pub IsRefused : Standing → (Row → Outcome) → Refusal → Type 0
+IsRefused standing step r = (row : Row) → standing.row ≡ without_records row → step row ≡ refused row r
 
 -- the outstanding tasks: active, and not completed
 abbrev pub outstanding_tasks : Standing → List ActiveTask

@@ -12,7 +12,8 @@ use Rattle.giotto_check.specs.Slots.{slots_of, valuation_of}
 use Rattle.giotto_check.specs.Timetables.{AreEach}
 use Rattle.tenant_slots.specs.Due.{IsQuietUntil}
 use Rattle.tenant_slots.specs.Switches.{switch_taken, with_destinations}
-use Rattle.tenant_slots.specs.Places.{name_of_task, name_of_mode}
+use Rattle.tenant_slots.specs.Places.{name_of_task, name_of_mode, IsModeAt}
+use Rattle.tenant_state.specs.declared.jobs.JobId.{JobId}
 use Rattle.tenant_state.specs.declared.tenants.Active.{Active}
 use Rattle.tenant_state.specs.declared.tenants.switches.Entry.{Entry}
 use Rattle.tenant_state.specs.declared.tenants.Reason.{Reason}
@@ -42,6 +43,14 @@ active_of p a = record { task = name_of_task p a.task; release = a.release; inpu
 -- whether its computation is completed
 abbrev pub is_completed : Active → Bool
 is_completed a = a.completed
+
+-- whether it is the job's of this name: the job's task, of the job's release
+abbrev pub is_of_job : GiottoProgram → JobId → Active → Bool
+is_of_job p j a = nat_eq a.release j.tick && same_name (name_of_task p a.task) j.task
+
+-- whether it awaits the completion of this job
+abbrev pub awaits_job : GiottoProgram → JobId → Active → Bool
+awaits_job p j a = not (is_completed a) && is_of_job p j a
 
 -- the active tasks, the mode and the ports for which places and slots stand; none without a program
 abbrev pub tasks_in : Option GiottoProgram → List Active → List ActiveTask
@@ -118,7 +127,7 @@ pub record IsEntered (p : GiottoProgram) (m : ModeDeclaration) (time : ℕ) (act
   pub target : ModeDeclaration
   pub taken : switch_taken m time ports ≡ Some switch
   pub named : mode_named p switch.target ≡ Some target
-  pub there : slice_get p.modes entry.mode ≡ Some target
+  pub there : IsModeAt p entry.mode target
   pub begins : entry.time ≡ entry_time m target time active
   pub given : valuation_of p values ≡ with_destinations switch ports
 
@@ -136,7 +145,7 @@ IsShareOf t share = IfSome share (λ b. b ≡ body_of t)
 pub record FitsProgram (p : GiottoProgram) (mode time next : ℕ) (active : List Active) (values : List ℤ) (shares : List (Option TaskBody)) (next_tick : ℕ) : Type 0 where
   pub long : length values ≡ slots_of p
   pub mode_there : mode < length p.modes
-  pub quiet : (m : ModeDeclaration) → slice_get p.modes mode ≡ Some m → IsQuietUntil m time next
+  pub quiet : (m : ModeDeclaration) → IsModeAt p mode m → IsQuietUntil m time next
   pub each : AllByRecursion (IsActiveIn p next_tick) active
   pub share_each : AreEach IsShareOf p.tasks shares
 

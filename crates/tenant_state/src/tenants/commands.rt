@@ -1,6 +1,6 @@
 //! What a tenant's commands do.
 
-ghost use Rattle.std.specs.Prelude.{◌≡◌, ◌≢◌, ◌&&◌, ℕ, Bool, true, false, Ok, Err, None, IfOk, IfErr, OnOk, OnErr, if◌then◌else◌, Some, length, map};
+ghost use Rattle.std.specs.Prelude.{◌≡◌, ◌≢◌, ◌&&◌, ℕ, true, false, Ok, Err, None, IfOk, IfErr, OnOk, OnErr, if◌then◌else◌, Some, length, map};
 ghost use Rattle.rig_config.specs.declared.Budgets.{Budgets};
 ghost use Rattle.tenant_lines.specs.declared.replies.Budget.{Budget};
 ghost use Rattle.std.specs.Arc.{arc_value};
@@ -17,8 +17,8 @@ ghost use Rattle.giotto_check.specs.declared.CheckFault.{CheckFault};
 ghost use Rattle.rig_config.specs.Roster.{may_use};
 ghost use Rattle.tenant_slots.specs.Ports.{initial_ports};
 ghost use Rattle.tenant_state.specs.Commands.{at_beginning, commanded, takes_memory, refusal_of, load_kept, load_read, refused, broken_budget};
-ghost use Rattle.tenant_state.specs.Row.{ActiveTask, Row, is_running, loaded};
-ghost use Rattle.tenant_state.specs.Standing.{StandsFor, IsOutcome, without_records};
+ghost use Rattle.tenant_state.specs.Row.{Row, is_running, loaded};
+ghost use Rattle.tenant_state.specs.Standing.{HoldsOfRow, IsAnswered, IsBehind, IsOutcome, IsRefused, without_records};
 
 use crate::tenants::{Reason, State, Tenant};
 use giotto_check::{self, CheckFault, Checked};
@@ -50,8 +50,8 @@ impl Tenant {
         ensures room { takes_memory command self.old.row ≡ false → result ≢ Reply.Refused Refusal.Memory }
         ensures place { self.new.place ≡ self.old.place }
         ensures next_tick { self.new.row.next_tick ≡ self.old.row.next_tick }
-        ensures step { (row : Row) (completed : ActiveTask → Bool) → StandsFor self.old row completed
-            → result ≢ Reply.Refused Refusal.Memory → IsOutcome (commanded budgets.now command row) result self.new completed }
+        ensures step { HoldsOfRow self.old (λ row completed. result ≢ Reply.Refused Refusal.Memory
+            → IsOutcome (commanded budgets.now command row) result self.new completed) }
     {
         match command {
             Command::Load(text) => match self.load(budgets, text.as_str()) {
@@ -89,10 +89,8 @@ impl Tenant {
         ensures unchanged { OnErr result (self.new ≡ self.old) }
         ensures place { self.new.place ≡ self.old.place }
         ensures next_tick { self.new.row.next_tick ≡ self.old.row.next_tick }
-        ensures refused { IfErr result (λ r. r ≢ Refusal.Memory → (row : Row) → self.old.row ≡ without_records row
-            → commanded budgets.now (Command.Load text.now) row ≡ refused row r) }
-        ensures loaded { OnOk result ((row : Row) (completed : ActiveTask → Bool) → StandsFor self.old row completed
-            → IsOutcome (commanded budgets.now (Command.Load text.now) row) Reply.Loaded self.new completed) }
+        ensures refused { IfErr result (λ r. r ≢ Refusal.Memory → IsRefused self.old (commanded budgets.now (Command.Load text.now)) r) }
+        ensures loaded { OnOk result (IsAnswered self.old (commanded budgets.now (Command.Load text.now)) Reply.Loaded self.new) }
     {
         let program = read_program(self.alloc, text)?;
         match self.beginning(budgets, &program) {
@@ -109,7 +107,7 @@ impl Tenant {
 
     // What a program that may be loaded begins with.
     fn beginning(&self, budgets: &Budgets, program: &Checked) -> Result<Beginning, Refusal>
-        ensures refused { IfErr result (λ r. r ≢ Refusal.Memory → (row : Row) → self.now.row ≡ without_records row → load_kept budgets.now program.now row ≡ refused row r) }
+        ensures refused { IfErr result (λ r. r ≢ Refusal.Memory → IsRefused self.now (load_kept budgets.now program.now) r) }
         ensures loaded { OnOk result ((row : Row) → self.now.row ≡ without_records row
             → load_kept budgets.now program.now row ≡ record { row = at_beginning loaded program.now row; reply = Reply.Loaded }) }
         ensures long { IfOk result (λ b. length b.values.items ≡ slots_of program.now) }
@@ -138,8 +136,7 @@ impl Tenant {
         requires shares { map (option_map arc_value) beginning.shares.items ≡ map (λ t. None) program.tasks }
         ensures place { self.new.place ≡ self.old.place }
         ensures next_tick { self.new.row.next_tick ≡ self.old.row.next_tick }
-        ensures step { (row : Row) (completed : ActiveTask → Bool) → StandsFor self.old row completed
-            → StandsFor self.new (at_beginning loaded program row) completed }
+        ensures step { IsBehind self.old (at_beginning loaded program) self.new }
     {
         self.state = State::Loaded;
         self.mode = start_place(&program);
@@ -157,9 +154,8 @@ impl Tenant {
         ensures place { self.new.place ≡ self.old.place }
         ensures next_tick { self.new.row.next_tick ≡ self.old.row.next_tick }
         ensures room { result ≢ Err Refusal.Memory }
-        ensures refused { IfErr result (λ r. (budgets : Budgets) (row : Row) → self.old.row ≡ without_records row → commanded budgets Command.Start row ≡ refused row r) }
-        ensures started { OnOk result ((budgets : Budgets) (row : Row) (completed : ActiveTask → Bool) → StandsFor self.old row completed
-            → IsOutcome (commanded budgets Command.Start row) Reply.Started self.new completed) }
+        ensures refused { IfErr result (λ r. (budgets : Budgets) → IsRefused self.old (commanded budgets Command.Start) r) }
+        ensures started { OnOk result ((budgets : Budgets) → IsAnswered self.old (commanded budgets Command.Start) Reply.Started self.new) }
     {
         if self.is_running() {
             return Err(Refusal::Running);
@@ -182,9 +178,8 @@ impl Tenant {
         ensures place { self.new.place ≡ self.old.place }
         ensures next_tick { self.new.row.next_tick ≡ self.old.row.next_tick }
         ensures room { result ≢ Err Refusal.Memory }
-        ensures refused { IfErr result (λ r. (budgets : Budgets) (row : Row) → self.old.row ≡ without_records row → commanded budgets Command.Stop row ≡ refused row r) }
-        ensures stopped { OnOk result ((budgets : Budgets) (row : Row) (completed : ActiveTask → Bool) → StandsFor self.old row completed
-            → IsOutcome (commanded budgets Command.Stop row) Reply.Stopped self.new completed) }
+        ensures refused { IfErr result (λ r. (budgets : Budgets) → IsRefused self.old (commanded budgets Command.Stop) r) }
+        ensures stopped { OnOk result ((budgets : Budgets) → IsAnswered self.old (commanded budgets Command.Stop) Reply.Stopped self.new) }
     {
         if !self.is_running() {
             return Err(Refusal::NotRunning);

@@ -1,17 +1,15 @@
 //! The jobs of a tenant whose completion is awaited.
 
-ghost use Rattle.std.specs.Prelude.{◌≡◌, ℕ, ◌<◌, ◌+◌, ◌↔◌, ◌||◌, ◌&&◌, not, nat_eq, Bool, filter, length, map, IsTrue, IsOk, IfOk, IfSome, None, Some, find, true, slice_get};
+ghost use Rattle.std.specs.Prelude.{◌≡◌, ℕ, ◌<◌, ◌+◌, ◌↔◌, ◌||◌, not, filter, length, map, IsTrue, IsOk, IfOk, IfSome, None, Some, find, true, slice_get};
 ghost use Rattle.std.specs.Arc.{arc_value};
 ghost use Rattle.std.specs.Bool.{OnTrue, OnFalse};
 ghost use Rattle.std.specs.List.{AllByRecursion};
 ghost use Rattle.std.specs.Option.{option_and_then};
 ghost use Rattle.giotto_text.specs.ProgramTrees.{task_of};
-ghost use Rattle.tenant_slots.specs.Places.{name_of_task};
-ghost use Rattle.giotto_tasks.specs.Names.{same_name};
+ghost use Rattle.tenant_slots.specs.Places.{IsTaskAt};
 ghost use Rattle.tenant_state.specs.Jobs.{job_of, same_job};
-ghost use Rattle.tenant_state.specs.Row.{ActiveTask, Row};
-ghost use Rattle.tenant_state.specs.Standing.{StandsFor, outstanding_tasks, awaited_job};
-ghost use Rattle.tenant_state.specs.Tenants.{IsActiveIn, IsActiveOf, active_of, is_completed};
+ghost use Rattle.tenant_state.specs.Standing.{HoldsOfRow, StandsFor, outstanding_tasks, awaited_job};
+ghost use Rattle.tenant_state.specs.Tenants.{IsActiveIn, IsActiveOf, active_of, awaits_job, is_completed};
 ghost use Rattle.giotto_check.specs.Facts.{ProgramFits};
 
 use crate::jobs::{Done, Job, JobId, put_results};
@@ -53,8 +51,7 @@ impl Tenant {
         ensures row { self.new.row ≡ self.old.row }
         ensures late { OnFalse result (self.new ≡ self.old) }
         ensures left { OnTrue result (length (outstanding_tasks self.old) ≡ length (outstanding_tasks self.new) + 1) }
-        ensures step { OnTrue result ((row : Row) (completed : ActiveTask → Bool) → StandsFor self.old row completed
-            → StandsFor self.new row (λ a. same_job done.id (job_of done.id.tenant a) || completed a)) }
+        ensures step { OnTrue result (HoldsOfRow self.old (λ row completed. StandsFor self.new row (λ a. same_job done.id (job_of done.id.tenant a) || completed a))) }
     {
         let Some(checked) = &self.program else {
             return false;
@@ -133,7 +130,7 @@ fn compute(checked: &Checked, active: &mut Active)
 // The task of an active task.
 fn declared<'a>(checked: &'a Checked, active: &Active) -> &'a Task
     requires { IsActiveOf checked.now active.now }
-    ensures task { slice_get checked.now.tasks active.now.task ≡ Some (task_of result.now) }
+    ensures task { IsTaskAt checked.now active.now.task (task_of result.now) }
     ensures fits { ProgramFits checked.now }
 {
     &checked.program().tasks()[active.task]
@@ -163,7 +160,7 @@ fn is_awaited(active: &Active) -> bool
 fn place_of(checked: &Checked, active: &[Active], id: &JobId) -> Option<usize>
     requires { AllByRecursion (IsActiveOf checked.now) active.now }
     ensures within { IfSome result (λ place. place < length active.now) }
-    ensures found { find (λ a. not (is_completed a) && (nat_eq a.release id.now.tick && same_name (name_of_task checked.now a.task) id.now.task)) active.now ≡ option_and_then (slice_get active.now) result }
+    ensures found { find (awaits_job checked.now id.now) active.now ≡ option_and_then (slice_get active.now) result }
 {
     for (place, entry) in active.iter().enumerate() {
         if is_named(checked, entry, id) {
@@ -176,7 +173,7 @@ fn place_of(checked: &Checked, active: &[Active], id: &JobId) -> Option<usize>
 // Whether an active task's job has this name and no result.
 fn is_named(checked: &Checked, active: &Active, id: &JobId) -> bool
     requires { IsActiveOf checked.now active.now }
-    ensures { result ≡ not (is_completed active.now) && (nat_eq active.now.release id.now.tick && same_name (name_of_task checked.now active.now.task) id.now.task) }
+    ensures { result ≡ awaits_job checked.now id.now active.now }
 {
     is_awaited(active) && active.release == id.tick && declared(checked, active).name == id.task
 }

@@ -1,14 +1,13 @@
 //! The first half of an instant: due tasks end, and due actuators are updated.
 
-ghost use Rattle.std.specs.Prelude.{◌≡◌, ◌<◌, ◌≤◌, ◌%◌, ◌==◌, ◌&&◌, not, true, false, ◌∷◌, [], nat_eq, length, map, filter, Some, None, IfSome, ◌⊎◌};
-ghost use Rattle.std.specs.List.{find, list_all, list_any, AllByRecursion};
+ghost use Rattle.std.specs.Prelude.{◌≡◌, ◌<◌, ◌≤◌, not, true, false, ◌∷◌, [], length, map, filter, Some, None, IfSome, ◌⊎◌};
+ghost use Rattle.std.specs.List.{find, list_all, AllByRecursion};
 ghost use Rattle.std.specs.Option.{option_map};
 ghost use Rattle.giotto_text.specs.Program.{ModeDeclaration};
 ghost use Rattle.giotto_check.specs.Slots.{slots_of, valuation_of};
 ghost use Rattle.giotto_check.specs.Timetables.{AreEach, IsInvocation};
-ghost use Rattle.giotto_check.specs.declared.timetables.SlotInvocation.{SlotInvocation};
 ghost use Rattle.tenant_slots.specs.Places.{name_of_task};
-ghost use Rattle.tenant_state.specs.EntryTable.{IsTableOf, AreDueEnded, MarksDue};
+ghost use Rattle.tenant_state.specs.EntryTable.{IsTableOf, AreDueEnded, MarksDue, entries_at, is_among_due, is_left_open, is_task_open};
 ghost use Rattle.tenant_state.specs.FirstHalf.{all_ended};
 ghost use Rattle.tenant_state.specs.Halves.{IsFirstHalf};
 ghost use Rattle.tenant_state.specs.Standing.{most_released};
@@ -76,7 +75,7 @@ fn all_completed(active: &[Active]) -> bool
 
 // Whether an active task at this place of the program isn't completed.
 fn is_unfinished(active: &[Active], task: usize) -> bool
-    ensures { result ≡ list_any (λ a. nat_eq a.task task && not (is_completed a)) active.now }
+    ensures { result ≡ is_task_open active.now task }
 {
     active.iter().any(|a| a.task == task && !a.completed)
 }
@@ -102,7 +101,7 @@ fn entry_table(active: &[Active]) -> Option<[u8; 64]>
 // Active entries, among which are all of the task at this place. By the table only these.
 fn entries_of<'a>(active: &'a [Active], table: &Option<[u8; 64]>, task: usize) -> &'a [Active]
     requires { IfSome table.now (IsTableOf (length active.now) active.now) }
-    ensures { (result.now ≡ active.now) ⊎ (result.now ≡ filter (λ a. nat_eq a.task task) active.now) }
+    ensures { (result.now ≡ active.now) ⊎ (result.now ≡ entries_at task active.now) }
 {
     let Some(table) = table else {
         return active;
@@ -123,7 +122,7 @@ fn first_unfinished(
 ) -> Option<usize>
     requires positive { AllByRecursion (λ i. 0 < i.interval) invocations.now }
     requires table { IfSome table.now (IsTableOf (length active.now) active.now) }
-    ensures { result ≡ option_map (λ i. i.task) (find (λ i. (time % i.interval == 0) && list_any (λ a. nat_eq a.task i.task && not (is_completed a)) active.now) invocations.now) }
+    ensures { result ≡ option_map (λ i. i.task) (find (is_left_open time active.now) invocations.now) }
 {
     if all_completed(active) {
         return None;
@@ -152,7 +151,7 @@ fn end_due(
     requires positive { AllByRecursion (λ i. 0 < i.interval) invocations.now }
     requires there { AllByRecursion (λ i. i.task < length checked.now.tasks) invocations.now }
     requires table { IfSome table.now (IsTableOf (length active.now) active.now) }
-    requires completed { find (λ i. (time % i.interval == 0) && list_any (λ a. nat_eq a.task i.task && not (is_completed a)) active.now) invocations.now ≡ None }
+    requires completed { find (is_left_open time active.now) invocations.now ≡ None }
     ensures { (m : ModeDeclaration) → AreEach (IsInvocation checked.now m) m.invocations invocations.now
         → AreDueEnded checked.now m time active.now values.old values.new }
 {
@@ -171,9 +170,9 @@ fn end_each(checked: &Checked, active: &[Active], task: usize, values: &mut [i64
     requires there { task < length checked.now.tasks }
     requires values { length values.old ≡ slots_of checked.now }
     requires active { AllByRecursion (IsActiveOf checked.now) active.now }
-    requires completed { list_any (λ a. nat_eq a.task task && not (is_completed a)) active.now ≡ false }
+    requires completed { is_task_open active.now task ≡ false }
     ensures { valuation_of checked.now values.new
-        ≡ all_ended checked.now (map (active_of checked.now) (filter (λ a. nat_eq a.task task) active.now)) (valuation_of checked.now values.old) }
+        ≡ all_ended checked.now (map (active_of checked.now) (entries_at task active.now)) (valuation_of checked.now values.old) }
 {
     for a in active {
         if a.task == task {
@@ -218,7 +217,7 @@ fn due_marks(invocations: &[SlotInvocation], time: u64) -> [bool; 64]
 fn is_task_due(invocations: &[SlotInvocation], time: u64, marks: &[bool; 64], task: usize) -> bool
     requires positive { AllByRecursion (λ i. 0 < i.interval) invocations.now }
     requires marks { MarksDue invocations.now time marks.now }
-    ensures { result ≡ list_any (λ i. nat_eq task i.task && (time % i.interval == 0)) invocations.now }
+    ensures { result ≡ is_among_due time task invocations.now }
 {
     if task < 64 {
         return marks[task];
@@ -234,7 +233,7 @@ fn is_task_due(invocations: &[SlotInvocation], time: u64, marks: &[bool; 64], ta
 // The due tasks are active no longer. Those that go on keep their order; one is moved up where another ends before it.
 fn drop_due(invocations: &[SlotInvocation], time: u64, active: &mut ActiveTasks)
     requires { AllByRecursion (λ i. 0 < i.interval) invocations.now }
-    ensures items { active.new.items ≡ filter (λ a. not (list_any (λ (i : SlotInvocation). nat_eq a.task i.task && (time % i.interval == 0)) invocations.now)) active.old.items }
+    ensures items { active.new.items ≡ filter (λ a. not (is_among_due time a.task invocations.now)) active.old.items }
     ensures room { active.old.room ≤ active.new.room }
 {
     let marks = due_marks(invocations, time);

@@ -1,6 +1,6 @@
 //! The second half of an instant: sensors are read, a switch is taken, tasks are released, and the mode time moves on.
 
-ghost use Rattle.std.specs.Prelude.{◌≡◌, ◌<◌, ◌≤◌, ◌+◌, ◌-◌, ◌^◌, ◌++◌, length, map, true, is_some, IsTrue, Some, slice_get};
+ghost use Rattle.std.specs.Prelude.{◌≡◌, ◌<◌, ◌≤◌, ◌+◌, ◌-◌, ◌^◌, ◌++◌, length, map, true, is_some, IsTrue};
 ghost use Rattle.std.specs.Arc.{arc_value};
 ghost use Rattle.std.specs.List.{AllByRecursion, list_all};
 ghost use Rattle.std.specs.Option.{option_map};
@@ -8,7 +8,7 @@ ghost use Rattle.giotto_check.specs.Timetables.{AreEach};
 ghost use Rattle.giotto_tasks.specs.Sound.{all_different};
 ghost use Rattle.giotto_text.specs.Program.{ModeDeclaration};
 ghost use Rattle.tenant_slots.specs.Due.{IsQuietUntil};
-ghost use Rattle.tenant_slots.specs.Places.{name_of_task};
+ghost use Rattle.tenant_slots.specs.Places.{name_of_task, IsModeAt};
 ghost use Rattle.tenant_state.specs.Halves.{IsSecondHalf};
 ghost use Rattle.tenant_state.specs.Jobs.{IsComputable, body_in, job_in, released_at};
 ghost use Rattle.tenant_state.specs.Standing.{AreReleased, HasRoom, HasShares, most_released};
@@ -95,7 +95,7 @@ impl Tenant {
 
 // A mode time before which nothing is due, from the mode time behind an instant on; `next` is one from the instant's on.
 fn due_behind(checked: &Checked, mode: usize, time: u64, behind: u64, next: u64) -> u64
-    ensures { (m : ModeDeclaration) → slice_get checked.now.modes mode ≡ Some m → IsQuietUntil m time next → IsQuietUntil m behind result }
+    ensures { (m : ModeDeclaration) → IsModeAt checked.now mode m → IsQuietUntil m time next → IsQuietUntil m behind result }
 {
     if behind <= time {
         return 0;

@@ -10,7 +10,7 @@ ghost use Rattle.tenant_slots.specs.Places.{name_of_task};
 ghost use Rattle.tenant_state.specs.FirstHalf.{names_due};
 ghost use Rattle.tenant_state.specs.Jobs.{is_active};
 ghost use Rattle.tenant_state.specs.Readers.{actuator_value};
-ghost use Rattle.tenant_state.specs.Tenants.{IsActiveOf};
+ghost use Rattle.tenant_state.specs.Tenants.{IsActiveOf, is_of_job};
 
 use crate::jobs::JobId;
 use crate::tenants::{Active, State, Tenant};
@@ -85,7 +85,7 @@ fn active_place(checked: &Checked, active: &[Active], name: &str) -> Option<usiz
 // Whether an active task has this job's name and release.
 fn has_release(checked: &Checked, active: &[Active], id: &JobId) -> bool
     requires { AllByRecursion (IsActiveOf checked.now) active.now }
-    ensures { result ≡ list_any (λ a. nat_eq a.release id.now.tick && same_name (name_of_task checked.now a.task) id.now.task) active.now }
+    ensures { result ≡ list_any (is_of_job checked.now id.now) active.now }
 {
     for entry in active {
         if entry.release == id.tick && is_named(checked, entry.task, id.task.as_str()) {

@@ -1,6 +1,6 @@
 //! What an instant needs, made before it begins.
 
-ghost use Rattle.std.specs.Prelude.{◌≡◌, map, is_some, true, IsOk, IfOk, OnOk, Some, slice_get};
+ghost use Rattle.std.specs.Prelude.{◌≡◌, map, is_some, true, IsOk, IfOk, OnOk};
 ghost use Rattle.std.specs.Arc.{arc_value};
 ghost use Rattle.std.specs.List.{list_all};
 ghost use Rattle.std.specs.Option.{option_map};
@@ -9,6 +9,7 @@ ghost use Rattle.giotto_text.specs.Program.{ModeDeclaration};
 ghost use Rattle.giotto_text.specs.ProgramTrees.{task_of};
 ghost use Rattle.tenant_state.specs.Standing.{HasRoom, HasShares, most_at, most_released};
 ghost use Rattle.tenant_state.specs.Tenants.{IsShareOf};
+ghost use Rattle.tenant_slots.specs.Places.{IsModeAt};
 
 use crate::tenants::{State, Tenant};
 use giotto_check::Checked;
@@ -55,7 +56,7 @@ impl Tenant {
 
 // The most tasks that an instant in the mode at this place can release.
 fn most_at(checked: &Checked, mode: usize, time: u64) -> usize
-    ensures { (m : ModeDeclaration) → slice_get checked.now.modes mode ≡ Some m → result ≡ most_at checked.now m time }
+    ensures { (m : ModeDeclaration) → IsModeAt checked.now mode m → result ≡ most_at checked.now m time }
 {
     // Its frequencies are positive, and its switches go to modes.
     let _program = checked.program();

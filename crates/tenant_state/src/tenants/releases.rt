@@ -1,6 +1,6 @@
 //! Releases: what an instant makes active.
 
-ghost use Rattle.std.specs.Prelude.{◌≡◌, ◌≤◌, ◌<◌, ◌+◌, ◌++◌, ◌∷◌, [], false, Some, length, map, filter, slice_get};
+ghost use Rattle.std.specs.Prelude.{◌≡◌, ◌≤◌, ◌<◌, ◌+◌, ◌++◌, ◌∷◌, [], false, length, map, filter};
 ghost use Rattle.std.specs.List.{AllByRecursion};
 ghost use Rattle.giotto_check.specs.Slots.{slots_of, valuation_of};
 ghost use Rattle.giotto_text.specs.Program.{ModeDeclaration, TaskInvocation};
@@ -8,6 +8,7 @@ ghost use Rattle.tenant_slots.specs.Due.{is_due_at, IsQuietUntil};
 ghost use Rattle.tenant_state.specs.Releases.{IsEntryOf, IsTrueOfInvocation, released_by};
 ghost use Rattle.tenant_state.specs.SecondHalf.{with_inputs};
 ghost use Rattle.tenant_state.specs.Tenants.{active_of, is_completed, AreInvoked, IsActiveIn};
+ghost use Rattle.tenant_slots.specs.Places.{IsModeAt};
 
 use crate::tenants::Active;
 use crate::tenants::active_tasks::ActiveTasks;
@@ -28,12 +29,12 @@ pub(crate) fn invoke_due(
     values: &mut [i64],
     active: &mut ActiveTasks,
 )
-    requires quiet { (m : ModeDeclaration) → slice_get checked.now.modes mode ≡ Some m → IsQuietUntil m time next }
+    requires quiet { (m : ModeDeclaration) → IsModeAt checked.now mode m → IsQuietUntil m time next }
     requires values { length values.old ≡ slots_of checked.now }
-    requires room { (m : ModeDeclaration) → slice_get checked.now.modes mode ≡ Some m
+    requires room { (m : ModeDeclaration) → IsModeAt checked.now mode m
         → length (filter (λ (i : TaskInvocation). is_due_at time m i.frequency) m.invocations) ≤ active.old.room }
     requires each { AllByRecursion (IsActiveIn checked.now (release + 1)) active.old.items }
-    ensures { (m : ModeDeclaration) → slice_get checked.now.modes mode ≡ Some m
+    ensures { (m : ModeDeclaration) → IsModeAt checked.now mode m
         → AreInvoked checked.now m time release (valuation_of checked.now values.old) active.old.items active.new.items values.new }
 {
     if time < next {

@@ -8,9 +8,9 @@ ghost use Rattle.tenant_lines.specs.declared.ports.PortName.{PortName};
 ghost use Rattle.tenant_lines.specs.declared.ports.PortValue.{PortValue};
 ghost use Rattle.tenant_lines.specs.declared.replies.Refusal.{Refusal};
 ghost use Rattle.tenant_lines.specs.declared.replies.Reply.{Reply};
-ghost use Rattle.tenant_state.specs.Commands.{port_with_value, refused, show_all, show_port, status_of};
+ghost use Rattle.tenant_state.specs.Commands.{port_with_value, show_all, show_port, status_of};
 ghost use Rattle.tenant_state.specs.Row.{Row};
-ghost use Rattle.tenant_state.specs.Standing.{without_records};
+ghost use Rattle.tenant_state.specs.Standing.{IsRefused, without_records};
 
 use crate::tenants::{Reason, State, Tenant};
 use giotto_check::Checked;
@@ -50,7 +50,7 @@ impl Tenant {
     // The value of a port of the program.
     pub(crate) fn port_value(&self, port: &PortName) -> Result<i64, Refusal>
         ensures room { result ≢ Err Refusal.Memory }
-        ensures refused { IfErr result (λ r. (row : Row) → self.now.row ≡ without_records row → show_port port.now row row.program ≡ refused row r) }
+        ensures refused { IfErr result (λ r. IsRefused self.now (λ row. show_port port.now row row.program) r) }
         ensures shown { IfOk result (λ z. (row : Row) → self.now.row ≡ without_records row
             → show_port port.now row row.program ≡ record { row = row; reply = Reply.Port (record { port = port.now; value = z }) }) }
     {
@@ -68,7 +68,7 @@ impl Tenant {
     // The values of all ports of the program. Takes no memory where there is none.
     pub(crate) fn all_values(&self) -> Result<List<PortValue>, Refusal>
         ensures room { is_some self.now.row.program ≡ false → result ≢ Err Refusal.Memory }
-        ensures refused { IfErr result (λ r. r ≢ Refusal.Memory → (row : Row) → self.now.row ≡ without_records row → show_all row row.program ≡ refused row r) }
+        ensures refused { IfErr result (λ r. r ≢ Refusal.Memory → IsRefused self.now (λ row. show_all row row.program) r) }
         ensures shown { IfOk result (λ all. (row : Row) → self.now.row ≡ without_records row → show_all row row.program ≡ record { row = row; reply = Reply.All all }) }
     {
         let Some(checked) = &self.program else {

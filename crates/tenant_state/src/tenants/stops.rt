@@ -1,9 +1,8 @@
 //! A stop: of a tenant that asks for it, or of one whose due task isn't completed.
 
-ghost use Rattle.std.specs.Prelude.{◌≡◌, ◌≤◌, Bool};
+ghost use Rattle.std.specs.Prelude.{◌≡◌, ◌≤◌};
 ghost use Rattle.tenant_state.specs.FirstHalf.{stopped_with};
-ghost use Rattle.tenant_state.specs.Row.{ActiveTask, Row};
-ghost use Rattle.tenant_state.specs.Standing.{StandsFor, most_released};
+ghost use Rattle.tenant_state.specs.Standing.{IsBehind, most_released};
 ghost use Rattle.tenant_state.specs.Tenants.{reason_of};
 
 use crate::tenants::{Reason, State, Tenant};
@@ -12,8 +11,7 @@ use tenant_slots::actuators::reset_actuators;
 impl Tenant {
     // Stops the tenant: its actuators are initial, and no task is active.
     pub(crate) fn stop_with(&mut self, reason: Reason)
-        ensures step { (row : Row) (completed : ActiveTask → Bool) → StandsFor self.old row completed
-            → StandsFor self.new (stopped_with (reason_of reason) row) completed }
+        ensures step { IsBehind self.old (stopped_with (reason_of reason)) self.new }
         ensures room { self.old.room ≤ self.new.room }
         ensures shared { self.new.shared ≡ self.old.shared }
         ensures fewer { most_released self.new.row ≡ 0 }

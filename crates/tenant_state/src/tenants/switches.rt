@@ -1,13 +1,13 @@
 //! Switches: the mode that an instant enters, and the mode time there.
 
-ghost use Rattle.std.specs.Prelude.{◌≡◌, ◌<◌, ◌≤◌, ◌*◌, ◌^◌, [], ◌∷◌, Option, Some, None, length, map, nat_eq, slice_get};
+ghost use Rattle.std.specs.Prelude.{◌≡◌, ◌<◌, ◌≤◌, ◌*◌, ◌^◌, [], ◌∷◌, Option, None, length, map, nat_eq};
 ghost use Rattle.std.specs.List.{find, filter_map, AllByRecursion};
 ghost use Rattle.std.specs.Option.{option_map};
 ghost use Rattle.giotto_rules.specs.Declarations.{period_of_task};
 ghost use Rattle.giotto_check.specs.Slots.{slots_of, valuation_of};
 ghost use Rattle.giotto_text.specs.Program.{ModeDeclaration};
 ghost use Rattle.tenant_slots.specs.Due.{IsQuietUntil};
-ghost use Rattle.tenant_slots.specs.Places.{name_of_task};
+ghost use Rattle.tenant_slots.specs.Places.{name_of_task, IsModeAt};
 ghost use Rattle.tenant_state.specs.CommonPeriods.{IsCommonPeriod, IsLeastCommonMultiple};
 ghost use Rattle.tenant_state.specs.Row.{ActiveTask};
 ghost use Rattle.tenant_state.specs.SecondHalf.{entry_time};
@@ -37,10 +37,10 @@ pub(crate) fn switch(
     active: &[Active],
     values: &mut [i64],
 ) -> Option<Entry>
-    requires quiet { (m : ModeDeclaration) → slice_get checked.now.modes mode ≡ Some m → IsQuietUntil m time next }
+    requires quiet { (m : ModeDeclaration) → IsModeAt checked.now mode m → IsQuietUntil m time next }
     requires values { length values.old ≡ slots_of checked.now }
     requires active { AllByRecursion (IsActiveOf checked.now) active.now }
-    ensures { (m : ModeDeclaration) → slice_get checked.now.modes mode ≡ Some m
+    ensures { (m : ModeDeclaration) → IsModeAt checked.now mode m
         → IsSwitched checked.now m time (map (active_of checked.now) active.now) (valuation_of checked.now values.old) result values.new }
 {
     if time < next {
@@ -60,7 +60,7 @@ pub(crate) fn switch(
 fn entry_time(checked: &Checked, from: usize, target: usize, time: u64, active: &[Active]) -> u64
     requires target { target < length checked.now.modes }
     requires active { AllByRecursion (IsActiveOf checked.now) active.now }
-    ensures { (m t : ModeDeclaration) → slice_get checked.now.modes from ≡ Some m → slice_get checked.now.modes target ≡ Some t
+    ensures { (m t : ModeDeclaration) → IsModeAt checked.now from m → IsModeAt checked.now target t
         → result ≡ entry_time m t time (map (active_of checked.now) active.now) }
 {
     match common_period(checked, from, active) {
@@ -75,7 +75,7 @@ fn entry_time(checked: &Checked, from: usize, target: usize, time: u64, active: 
 // The least common multiple of these tasks' periods in the mode at this place, in ticks; none where it invokes none of them.
 fn common_period(checked: &Checked, mode: usize, active: &[Active]) -> Option<u64>
     requires active { AllByRecursion (IsActiveOf checked.now) active.now }
-    ensures there { (m : ModeDeclaration) → slice_get checked.now.modes mode ≡ Some m
+    ensures there { (m : ModeDeclaration) → IsModeAt checked.now mode m
         → IsCommonPeriod (filter_map (λ (a : ActiveTask). period_of_task m a.task) (map (active_of checked.now) active.now)) result }
     ensures none { length checked.now.modes ≤ mode → result ≡ None }
 {
@@ -96,7 +96,7 @@ fn common_period(checked: &Checked, mode: usize, active: &[Active]) -> Option<u6
 // How many ticks lie between two invocations of the task in the mode, if the mode invokes it; both by their places.
 fn period_of(checked: &Checked, mode: usize, task: usize) -> Option<u64>
     requires task { task < length checked.now.tasks }
-    ensures there { (m : ModeDeclaration) → slice_get checked.now.modes mode ≡ Some m → result ≡ period_of_task m (name_of_task checked.now task) }
+    ensures there { (m : ModeDeclaration) → IsModeAt checked.now mode m → result ≡ period_of_task m (name_of_task checked.now task) }
     ensures none { length checked.now.modes ≤ mode → result ≡ None }
 {
     // It is well-formed.

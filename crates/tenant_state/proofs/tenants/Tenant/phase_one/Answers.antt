@@ -14,7 +14,8 @@ use Rattle.tenant_state.specs.FirstHalf.{all_ended, unfinished_tasks, first_half
 use Rattle.tenant_state.specs.Standing.{Standing, StandsFor, most_released}
 use Rattle.tenant_state.specs.Tenants.{active_of, standing_of, tasks_in, all_different_releases, FitsProgram, FitsIts, IsActiveIn, IsActiveOf}
 use Rattle.tenant_state.proofs.DueTasks.{group}
-use Rattle.tenant_state.proofs.EndedTasks.{different_filter, finished, halted, as_running, kept, map_none, map_some, opens, quiet_stands, tasks_within}
+use Rattle.tenant_state.proofs.EndedTasks.{different_filter, finished, halted, as_running, kept, map_none, map_some, quiet_stands, tasks_within}
+use Rattle.tenant_state.specs.EntryTable.{is_left_open}
 use Rattle.tenant_state.proofs.tenants.Tenant.phase_one.Goals as goal
 
 pub returns-then-time-self-clause-half : goal.returns-then-time-self-clause-half
@@ -67,7 +68,7 @@ returns-in-Some-first_unfinished-clause-half c = record {
       let p = c.in-Some.checked in
       let run = as_running c.self.view_is c.self.invariant c.in-Running.is c.in-Some.is in
       let some = map_some (λ (i : SlotInvocation). i.task) _ c.in-Some-first_unfinished.task c.in-Some-first_unfinished.ensures in
-      let first = subst (λ acts. find (opens s.mode_time acts) c.invocations-invocations.result.now ≡ Some some.0) c.as_slice-active.ensures some.1 in
+      let first = subst (λ acts. find (is_left_open s.mode_time acts) c.invocations-invocations.result.now ≡ Some some.0) c.as_slice-active.ensures some.1 in
       let name : c.name_of-name.result ≡ name_of_task p some.0.task =
       c.name_of-name.ensures ∙ ap (λ (q : GiottoProgram). name_of_task q c.in-Some-first_unfinished.task) c.program.ensures.tree ∙ ap (name_of_task p) (sym some.2) in
       subst (λ r. StandsFor c.stop_with.new.self r completed)
@@ -112,7 +113,7 @@ returns-clause-half c = record {
       let shares = map (option_map arc_value) s.shares.items in
       let run = as_running c.self.view_is c.self.invariant c.in-Running.is c.in-Some.is in
       let es = c.invocations-invocations.result.now in
-      let none = subst (λ acts. find (opens s.mode_time acts) es ≡ None) c.as_slice-active.ensures (map_none (λ (i : SlotInvocation). i.task) _ c.in_default-first_unfinished.ensures) in
+      let none = subst (λ acts. find (is_left_open s.mode_time acts) es ≡ None) c.as_slice-active.ensures (map_none (λ (i : SlotInvocation). i.task) _ c.in_default-first_unfinished.ensures) in
       let written = whole_slice s.values.len c.update_due.new.values s.values.items (omega (arith, c.as_mut_slice-values.ensures.len, c.end_due.auto.values, c.update_due.auto.values)) in
       let each = c.invocations-invocations.ensures.there run.its run.there in
       let room = c.drop_due.new.active.room in

@@ -9,7 +9,8 @@ use Rattle.tenant_slots.proofs.Updates.{each_item}
 use Rattle.tenant_state.specs.FirstHalf.{all_ended}
 use Rattle.tenant_state.specs.Tenants.{active_of, is_completed, IsActiveOf}
 use Rattle.tenant_state.proofs.DueTasks.{group}
-use Rattle.tenant_state.proofs.EndedTasks.{end_due, end_none, left_none, not_here, opens}
+use Rattle.tenant_state.proofs.EndedTasks.{end_due, end_none, left_none, not_here}
+use Rattle.tenant_state.specs.EntryTable.{is_left_open}
 use Rattle.tenant_state.proofs.EntryTables.{each_found, same_entries, same_open}
 use Rattle.tenant_state.proofs.tenants.phase_one.end_due.Goals as goal
 use Rattle.tenant_state.proofs.tenants.phase_one.end_due.Goals.{then-is_due, else-is_due}
@@ -29,7 +30,7 @@ loop-invocation-preserved c =
       long = c.if-is_due.auto.values ∙ before.long;
       positive = (subst (AllByRecursion (λ (i : SlotInvocation). 0 < i.interval)) rest before.positive).1;
       there = (subst (AllByRecursion (λ (i : SlotInvocation). i.task < length p.tasks)) rest before.there).1;
-      completed = left_none (opens c.args.time items) es k e c.loop-invocation-test.true before.completed;
+      completed = left_none (is_left_open c.args.time items) es k e c.loop-invocation-test.true before.completed;
       value = λ m each.
           let item = each_item (IsInvocation p m) m.invocations es k e each c.loop-invocation-test.true c.invocation-item.is in
           elim c.if-is_due.branch [
@@ -50,7 +51,7 @@ end_each-requires-clause-completed c =
     let before = c.loop-invocation.invariant in
     let now : (c.args.time % e.interval == 0) ≡ true = ap (λ (t : ℕ). t % e.interval == 0) (sym before.time) ∙ sym c.is_due.ensures.due ∙ c.if-is_due.true in
     same_open e.task items c.entries_of.result.now c.entries_of.ensures ∙ ap (λ b. b && list_any (λ a. nat_eq a.task e.task && not (is_completed a)) items) (sym now)
-    ∙ not_here (opens c.args.time items) c.args.invocations.now c.loop-invocation.invocation-index e c.loop-invocation-test.true c.invocation-item.is before.completed
+    ∙ not_here (is_left_open c.args.time items) c.args.invocations.now c.loop-invocation.invocation-index e c.loop-invocation-test.true c.invocation-item.is before.completed
 
 pub returns : goal.returns
 returns c = λ m each.

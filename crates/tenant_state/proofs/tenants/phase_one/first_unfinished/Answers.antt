@@ -4,7 +4,8 @@ use Rattle.std.specs.Option.{option_map}
 use Rattle.std.proofs.lemmas.Bool.{and_from, and_left, and_right}
 use Rattle.std.proofs.lemmas.List.{drop_more}
 use Rattle.giotto_check.specs.declared.timetables.SlotInvocation.{SlotInvocation}
-use Rattle.tenant_state.proofs.EndedTasks.{all_closed, found_from, opens}
+use Rattle.tenant_state.proofs.EndedTasks.{all_closed, found_from}
+use Rattle.tenant_state.specs.EntryTable.{is_left_open}
 use Rattle.tenant_state.proofs.EntryTables.{same_open}
 use Rattle.tenant_state.proofs.tenants.phase_one.first_unfinished.Goals as goal
 use Rattle.tenant_state.proofs.tenants.phase_one.first_unfinished.Goals.{else-is_due-via-then-is_due+else-is_unfinished, else-is_due-via-else-is_due}
@@ -18,7 +19,7 @@ pub returns-then-is_unfinished : goal.returns-then-is_unfinished
 returns-then-is_unfinished c =
     let e = c.invocation-item.result in
     let now : (c.args.time % e.interval == 0) ≡ c.is_due.result = ap (λ (t : ℕ). t % e.interval == 0) (sym c.loop-invocation.invariant.time) ∙ sym c.is_due.ensures.due in
-    let here = found_from (opens c.args.time c.args.active.now) c.args.invocations.now c.loop-invocation.invocation-index e true c.loop-invocation-test.true c.invocation-item.is
+    let here = found_from (is_left_open c.args.time c.args.active.now) c.args.invocations.now c.loop-invocation.invocation-index e true c.loop-invocation-test.true c.invocation-item.is
     (and_from _ _ (now ∙ c.if-is_due.true) (sym (same_open e.task c.args.active.now c.entries_of.result.now c.entries_of.ensures) ∙ sym c.is_unfinished.ensures ∙ c.if-is_unfinished.true)) in
     ap (option_map (λ (i : SlotInvocation). i.task)) (sym here ∙ c.loop-invocation.invariant.left)
 
@@ -28,12 +29,12 @@ loop-invocation-preserved c =
     let es = c.args.invocations.now in
     let k = c.loop-invocation.invocation-index in
     let now : (c.args.time % e.interval == 0) ≡ c.is_due.result = ap (λ (t : ℕ). t % e.interval == 0) (sym c.loop-invocation.invariant.time) ∙ sym c.is_due.ensures.due in
-    let closed : opens c.args.time c.args.active.now e ≡ false = elim c.else-is_due.branch [
+    let closed : is_left_open c.args.time c.args.active.now e ≡ false = elim c.else-is_due.branch [
       | else-is_due-via-then-is_due+else-is_unfinished w ↦ and_right _ _ (sym (same_open e.task c.args.active.now w.entries_of.result.now w.entries_of.ensures) ∙ sym w.is_unfinished.ensures ∙ w.if-is_unfinished.false)
       | else-is_due-via-else-is_due w ↦ and_left _ _ (now ∙ w.if-is_due.false)
     ] in
     record {
       time = c.is_due.ensures.time ∙ c.loop-invocation.invariant.time;
       positive = (subst (AllByRecursion (λ (i : SlotInvocation). 0 < i.interval)) (drop_more es k e c.loop-invocation-test.true) c.loop-invocation.invariant.positive).1;
-      left = sym (found_from (opens c.args.time c.args.active.now) es k e false c.loop-invocation-test.true c.invocation-item.is closed) ∙ c.loop-invocation.invariant.left;
+      left = sym (found_from (is_left_open c.args.time c.args.active.now) es k e false c.loop-invocation-test.true c.invocation-item.is closed) ∙ c.loop-invocation.invariant.left;
     }
