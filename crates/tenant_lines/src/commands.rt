@@ -1,6 +1,7 @@
 //! The commands of a tenant.
 
-ghost use Rattle.std.specs.Prelude.{◌≡◌, IfOk};
+ghost use Rattle.std.specs.Prelude.{◌≡◌, IsTrue, IsErr, IfOk};
+ghost use Rattle.tenant_lines.specs.CommandLine.{has_text};
 
 use crate::ports::PortName;
 use crate::texts::Text;
@@ -27,9 +28,10 @@ impl Command {
     /// An equal command. Takes memory for the text of `load` alone.
     ///
     /// # Errors
-    /// Want of memory.
+    /// Want of memory for the text of `load`.
     pub fn copy(&self, alloc: Global) -> Result<Command, AllocError>
-        ensures { IfOk result (λ c. c ≡ self.now) }
+        ensures same { IfOk result (λ c. c ≡ self.now) }
+        ensures memory { IsErr result → IsTrue (has_text self.now) }
     {
         Ok(match self {
             Command::Load(text) => Command::Load(text.copy(alloc)?),
