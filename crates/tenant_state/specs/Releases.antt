@@ -5,7 +5,7 @@ use Rattle.giotto_check.specs.Timetables.{IsInvocation}
 use Rattle.giotto_check.specs.declared.timetables.SlotInvocation.{SlotInvocation}
 use Rattle.giotto_text.specs.Program.{GiottoProgram, ModeDeclaration, TaskDeclaration, TaskInvocation}
 use Rattle.tenant_state.specs.Row.{ActiveTask}
-use Rattle.tenant_state.specs.SecondHalf.{released}
+use Rattle.tenant_state.specs.SecondHalf.{released, with_inputs}
 use Rattle.tenant_slots.specs.Places.{IsTaskAt}
 
 -- the entry stands for an invocation in one of the modes, with as many arguments as its task has inputs, at most 16
@@ -18,11 +18,15 @@ pub record IsEntryOf (p : GiottoProgram) (entry : SlotInvocation) : Type 0 where
   pub as_many : length invocation.arguments ≡ length task.inputs
   pub few : length entry.arguments.items ≤ 16
 
--- this is true of each invocation that the entry may stand for, with its task
-abbrev pub IsTrueOfInvocation : GiottoProgram → SlotInvocation → (TaskInvocation → TaskDeclaration → Type 0) → Type 0
-IsTrueOfInvocation p entry P =
+-- this holds of each invocation that the entry may stand for, and its task
+abbrev pub ForItsInvocation : GiottoProgram → SlotInvocation → (TaskInvocation → TaskDeclaration → Type 0) → Type 0
+ForItsInvocation p entry P =
     (m : ModeDeclaration) (i : TaskInvocation) (t : TaskDeclaration) → IsInvocation p m i entry → IsTaskAt p entry.task t → P i t
 
 -- what such an invocation makes active at this release, by the values in the slots
 abbrev pub released_by : GiottoProgram → ℕ → List ℤ → TaskInvocation → TaskDeclaration → ActiveTask
 released_by p release values i t = released release i (valuation_of p values) t
+
+-- the values in the slots before and behind such a release: the task's inputs have the values of the arguments
+abbrev pub AreInputsGiven : GiottoProgram → SlotInvocation → List ℤ → List ℤ → Type 0
+AreInputsGiven p entry before after = ForItsInvocation p entry (λ i t. valuation_of p after ≡ with_inputs i (valuation_of p before) t)

@@ -5,8 +5,7 @@ ghost use Rattle.std.specs.List.{AllByRecursion};
 ghost use Rattle.giotto_check.specs.Slots.{slots_of, valuation_of};
 ghost use Rattle.giotto_text.specs.Program.{ModeDeclaration, TaskInvocation};
 ghost use Rattle.tenant_slots.specs.Due.{is_due_at, IsQuietUntil};
-ghost use Rattle.tenant_state.specs.Releases.{IsEntryOf, IsTrueOfInvocation, released_by};
-ghost use Rattle.tenant_state.specs.SecondHalf.{with_inputs};
+ghost use Rattle.tenant_state.specs.Releases.{IsEntryOf, AreInputsGiven, ForItsInvocation, released_by};
 ghost use Rattle.tenant_state.specs.Tenants.{active_of, is_completed, AreInvoked, IsActiveIn};
 ghost use Rattle.tenant_slots.specs.Places.{IsModeAt};
 
@@ -61,10 +60,10 @@ fn add_release(
     requires its { IsEntryOf checked.now invocation.now }
     requires room { 0 < active.old.room }
     requires each { AllByRecursion (IsActiveIn checked.now (release + 1)) active.old.items }
-    ensures tasks { IsTrueOfInvocation checked.now invocation.now (λ i t. map (active_of checked.now) active.new.items
+    ensures tasks { ForItsInvocation checked.now invocation.now (λ i t. map (active_of checked.now) active.new.items
         ≡ map (active_of checked.now) active.old.items ++ released_by checked.now release values.old i t ∷ []) }
     ensures marks { map is_completed active.new.items ≡ map is_completed active.old.items ++ false ∷ [] }
-    ensures ports { IsTrueOfInvocation checked.now invocation.now (λ i t. valuation_of checked.now values.new ≡ with_inputs i (valuation_of checked.now values.old) t) }
+    ensures ports { AreInputsGiven checked.now invocation.now values.old values.new }
     ensures each { AllByRecursion (IsActiveIn checked.now (release + 1)) active.new.items }
     ensures room { active.new.room + 1 ≡ active.old.room }
 {
@@ -90,8 +89,8 @@ fn activate(
 )
     requires values { length values.old ≡ slots_of checked.now }
     requires its { IsEntryOf checked.now invocation.now }
-    ensures active { IsTrueOfInvocation checked.now invocation.now (λ i t. active_of checked.now active.new ≡ released_by checked.now release values.old i t) }
-    ensures ports { IsTrueOfInvocation checked.now invocation.now (λ i t. valuation_of checked.now values.new ≡ with_inputs i (valuation_of checked.now values.old) t) }
+    ensures active { ForItsInvocation checked.now invocation.now (λ i t. active_of checked.now active.new ≡ released_by checked.now release values.old i t) }
+    ensures ports { AreInputsGiven checked.now invocation.now values.old values.new }
     ensures fits { IsActiveIn checked.now (release + 1) active.new }
     ensures open { active.new.completed ≡ false }
 {
