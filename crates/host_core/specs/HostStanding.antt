@@ -81,6 +81,10 @@ outstanding_from from tenants = flat_map (λ (place : ℕ × Standing). map (job
 abbrev pub outstanding_jobs : HostStanding → List JobId
 outstanding_jobs host = outstanding_from 0 host.tenants
 
+-- how many they are
+abbrev pub outstanding_count : HostStanding → ℕ
+outstanding_count host = length (outstanding_jobs host)
+
 -- those of the tenant at place t
 abbrev pub outstanding_of : HostStanding → ℕ → List JobId
 outstanding_of host t = map (job_of t) (outstanding_tasks (tenant_at host.tenants t))

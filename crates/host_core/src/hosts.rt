@@ -1,10 +1,10 @@
 //! The host of a rig: all its tenants, on one clock.
 
-ghost use Rattle.std.specs.Prelude.{◌≡◌, ◌≢◌, ◌<◌, ◌≤◌, ◌+◌, ◌-◌, ◌^◌, ◌↔◌, ℕ, ◌++◌, List, length, map, is_some, false, if◌then◌else◌, IsOk, IsSome, IfOk, IfSome, OnOk, OnErr, OnSome, Ok, Err, Some, None};
+ghost use Rattle.std.specs.Prelude.{◌≡◌, ◌≢◌, ◌<◌, ◌≤◌, ◌+◌, ◌-◌, ◌^◌, ◌↔◌, ℕ, ◌++◌, length, map, is_some, false, if◌then◌else◌, IsOk, IsSome, IfOk, IfSome, OnOk, OnErr, OnSome, Ok, Err, Some, None};
 ghost use Rattle.std.specs.List.{All};
 ghost use Rattle.host_core.specs.Halves.{AreSecondHalves, AreStepped, IsReady, IsCompleted, most_of};
 ghost use Rattle.host_core.specs.HostState.{row_at, awaits};
-ghost use Rattle.host_core.specs.HostStanding.{ArePlaced, ForEachState, IsOwn, TakesCompletions, TakesEvent, new_host, tenant_at, awaited_in, released_from, outstanding_from, outstanding_jobs, outstanding_of};
+ghost use Rattle.host_core.specs.HostStanding.{ArePlaced, ForEachState, IsOwn, TakesCompletions, TakesEvent, new_host, tenant_at, awaited_in, released_from, outstanding_count, outstanding_from, outstanding_jobs, outstanding_of};
 ghost use Rattle.tenant_state.specs.Commands.{takes_memory};
 ghost use Rattle.tenant_state.specs.Halves.{IsFirstHalf};
 ghost use Rattle.tenant_state.specs.Standing.{Standing, at_rest, IsKnown};
@@ -186,7 +186,7 @@ impl Host {
         ensures answer { IsOwn self.old done
             → ForEachState self.old (λ setting state. result ≡ (if awaits state done.id then Counted.Counted else Counted.Late)) }
         ensures step { IsOwn self.old done → TakesEvent (Event.Done done.id) self.old self.new }
-        ensures left { result ≡ Counted.Counted → length (outstanding_jobs self.old) ≡ length (outstanding_jobs self.new) + 1 }
+        ensures left { result ≡ Counted.Counted → outstanding_count self.old ≡ outstanding_count self.new + 1 }
     {
         let place = done.id().tenant;
         if place >= self.tenants.len() {
@@ -201,7 +201,7 @@ impl Host {
 
     /// Computes and counts all outstanding jobs, in the order of the roster, and says how many they were. Takes no memory.
     pub fn complete_all(&mut self) -> u128
-        ensures number { result ≡ length (outstanding_jobs self.old) }
+        ensures number { result ≡ outstanding_count self.old }
         ensures step { TakesCompletions (outstanding_jobs self.old) self.old self.new }
     {
         complete_each(&mut self.tenants)
@@ -248,7 +248,7 @@ impl Host {
 
     /// How many jobs are outstanding: their tasks are active, and not completed. Takes no memory.
     pub fn outstanding(&self) -> u128
-        ensures { result ≡ length (outstanding_jobs self.now) }
+        ensures { result ≡ outstanding_count self.now }
     {
         let mut outstanding: u128 = 0;
         for tenant in &self.tenants {
@@ -265,7 +265,7 @@ impl Host {
 pub fn complete(host: &mut Host, id: &JobId) -> Result<Counted, AllocError>
     ensures counted { IfOk result (λ c. c ≡ Counted.Counted ↔ awaited_in host.old id.now ≢ None) }
     ensures step { OnOk result (TakesEvent (Event.Done id.now) host.old host.new) }
-    ensures left { result ≡ Ok Counted.Counted → length (outstanding_jobs host.old) ≡ length (outstanding_jobs host.new) + 1 }
+    ensures left { result ≡ Ok Counted.Counted → outstanding_count host.old ≡ outstanding_count host.new + 1 }
     ensures memory { OnErr result (host.new ≡ host.old) }
     ensures never_refused { awaited_in host.old id.now ≡ None → IsOk result }
 {

@@ -11,5 +11,6 @@ pub mod Readers
 pub mod Releases
 pub mod Row
 pub mod SecondHalf
+pub mod ShownPorts
 pub mod Standing
 pub mod Tenants

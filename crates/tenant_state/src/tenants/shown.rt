@@ -1,15 +1,14 @@
 //! What a tenant shows: its status, and the values of its ports.
 
-ghost use Rattle.std.specs.Prelude.{◌≡◌, ◌≢◌, ℤ, ◌++◌, Err, None, Some, false, is_some, length, map, IfOk, IfErr, OnOk};
+ghost use Rattle.std.specs.Prelude.{◌≡◌, ◌≢◌, ◌++◌, Err, None, Some, false, is_some, length, map, IfOk, IfErr, OnOk};
 ghost use Rattle.std.specs.List.{zip};
-ghost use Rattle.giotto_check.specs.Slots.{ProgramPort, ports_of, slots_of, valuation_of};
-ghost use Rattle.giotto_tasks.specs.declared.names.Name.{Name};
-ghost use Rattle.tenant_lines.specs.declared.ports.PortName.{PortName};
+ghost use Rattle.giotto_check.specs.Slots.{ports_of, slots_of, valuation_of};
 ghost use Rattle.tenant_lines.specs.declared.ports.PortValue.{PortValue};
 ghost use Rattle.tenant_lines.specs.declared.replies.Refusal.{Refusal};
 ghost use Rattle.tenant_lines.specs.declared.replies.Reply.{Reply};
 ghost use Rattle.tenant_state.specs.Commands.{port_with_value, show_all, show_port, status_of};
 ghost use Rattle.tenant_state.specs.Row.{Row};
+ghost use Rattle.tenant_state.specs.ShownPorts.{name_of_port, name_of_own_port, name_of_shared_port, with_its_value};
 ghost use Rattle.tenant_state.specs.Standing.{IsRefused, without_records};
 
 use crate::tenants::{Reason, State, Tenant};
@@ -100,7 +99,7 @@ fn ports_with_values(
     names: &[PortName],
     values: &[i64],
 ) -> Result<Vec<PortValue>, AllocError>
-    ensures { IfOk result (λ all. all.items ≡ map (λ (v : PortName × ℤ). record { port = v.0; value = v.1 }) (zip names.now values.now)) }
+    ensures { IfOk result (λ all. all.items ≡ map with_its_value (zip names.now values.now)) }
 {
     let mut all = Vec::new(alloc);
     for (name, value) in names.iter().zip(values) {
@@ -114,7 +113,7 @@ fn ports_with_values(
 
 // The names of all ports: sensors, actuators, outputs, then for each task its inputs and its states, each in text order.
 fn port_names(alloc: Global, program: &Program) -> Result<Vec<PortName>, AllocError>
-    ensures { IfOk result (λ names. names.items ≡ map (λ (x : ProgramPort). record { task = x.task; name = x.name }) (ports_of program.now)) }
+    ensures { IfOk result (λ names. names.items ≡ map name_of_port (ports_of program.now)) }
 {
     let mut names = Vec::new(alloc);
     for sensor in program.sensors() {
@@ -136,7 +135,7 @@ fn port_names(alloc: Global, program: &Program) -> Result<Vec<PortName>, AllocEr
 
 // The name of a sensor, an actuator or an output.
 fn shared_port(name: &Name) -> PortName
-    ensures { result ≡ record { task = None; name = name.now } }
+    ensures { result ≡ name_of_shared_port name.now }
 {
     PortName {
         task: None,
@@ -146,7 +145,7 @@ fn shared_port(name: &Name) -> PortName
 
 // Adds the names of these inputs or states of a task.
 fn add_own_ports(names: &mut Vec<PortName>, task: &Name, own: &[Name]) -> Result<(), AllocError>
-    ensures { OnOk result (names.new.items ≡ names.old.items ++ map (λ (x : Name). record { task = Some task.now; name = x }) own.now) }
+    ensures { OnOk result (names.new.items ≡ names.old.items ++ map (name_of_own_port task.now) own.now) }
 {
     for name in own {
         names.push(PortName {
