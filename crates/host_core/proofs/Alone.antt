@@ -10,11 +10,12 @@ use Rattle.giotto_tasks.specs.Names.{same_name}
 use Rattle.giotto_text.specs.Program.{TaskInvocation}
 use Rattle.host_core.specs.declared.events.Event.{Event}
 use Rattle.host_core.specs.declared.events.Event.TheVariants.{Own}
-use Rattle.tenant_state.specs.declared.jobs.JobId.{JobId}
+use Rattle.tenant_jobs.specs.declared.jobs.JobId.{JobId}
 use Rattle.tenant_lines.specs.declared.commands.Command.{Command}
 use Rattle.giotto_rules.specs.Declarations.{mode_named}
 use Rattle.rig_config.specs.Roster.{budgets_at}
-use Rattle.tenant_state.specs.Jobs.{job_of, same_job, is_active}
+use Rattle.tenant_jobs.specs.Jobs.{same_job}
+use Rattle.tenant_state.specs.Jobs.{job_of, is_active}
 use Rattle.tenant_state.specs.Row.{ActiveTask, Row, empty_row, is_running}
 use Rattle.tenant_state.specs.FirstHalf.{due_in_mode, due_in_program, due_tasks}
 use Rattle.tenant_slots.specs.Due.{is_due_at}
@@ -27,7 +28,8 @@ use Rattle.host_core.specs.Setting.{Setting}
 use Rattle.host_core.specs.Views.{after_command, readings_of, run_of, view_of, row_of}
 use Rattle.tenant_state.proofs.ActiveTasks.{Keeps, kept_by_command}
 use Rattle.host_core.proofs.Histories.{own_row, releases}
-use Rattle.tenant_state.proofs.JobNames.{same_job_is, own_jobs_active}
+use Rattle.tenant_jobs.proofs.JobNames.{same_job_is}
+use Rattle.tenant_state.proofs.JobNames.{own_jobs_active}
 use Rattle.giotto_tasks.proofs.ListLemmas.{all_filter, all_flat, all_if, all_map, all_option, all_zip, any_of_filter}
 
 -- due tasks are active tasks

@@ -12,9 +12,10 @@ use Rattle.host_core.specs.declared.events.Event.{Event}
 use Rattle.host_core.specs.declared.events.Event.TheVariants.{Own, Tick, Done}
 use Rattle.rig_config.specs.declared.TenantConfig.{TenantConfig}
 use Rattle.tenant_state.specs.declared.grants.Bind.{Bind}
-use Rattle.tenant_state.specs.declared.jobs.JobId.{JobId}
+use Rattle.tenant_jobs.specs.declared.jobs.JobId.{JobId}
 use Rattle.rig_config.specs.Roster.{is_tenant, place_of, name_at}
-use Rattle.tenant_state.specs.Jobs.{job_of, same_job, is_active}
+use Rattle.tenant_jobs.specs.Jobs.{same_job}
+use Rattle.tenant_state.specs.Jobs.{job_of, is_active}
 use Rattle.tenant_state.specs.Row.{ActiveTask, Row, empty_row}
 use Rattle.tenant_state.specs.FirstHalf.{unfinished_tasks, due_tasks, first_half_of}
 use Rattle.tenant_state.specs.Readers.{actuator_value}
@@ -31,7 +32,8 @@ use Rattle.tenant_state.proofs.ActiveTasks.{kept_by_instant}
 use Rattle.host_core.proofs.NewHost.{no_tenant}
 use Rattle.host_core.proofs.Alone.{Agrees, all_due, marks_after, known_after, own_event}
 use Rattle.host_core.proofs.Histories.{unfinished_of, own_instant, releases, completed_is_early}
-use Rattle.tenant_state.proofs.JobNames.{same_job_is, own_jobs_active}
+use Rattle.tenant_jobs.proofs.JobNames.{same_job_is}
+use Rattle.tenant_state.proofs.JobNames.{own_jobs_active}
 use Rattle.std.proofs.lemmas.Bool.{and_from, and_parts, false_from_ne_true}
 use Rattle.giotto_tasks.proofs.TestLemmas.{either, or_true}
 use Rattle.giotto_tasks.proofs.ListLemmas.{all_map, all_of, all_zip, same_filter, same_filter_map}

@@ -10,7 +10,7 @@ use Rattle.std.proofs.lemmas.List.{length-map, get_or_default}
 use Rattle.std.proofs.lemmas.List.Sums.{sum-map}
 use Rattle.std.proofs.lemmas.Simd.{map-map}
 use Rattle.std.proofs.lemmas.Option.{slice_get-get_or, slice_get-map}
-use Rattle.tenant_state.specs.declared.jobs.JobId.{JobId}
+use Rattle.tenant_jobs.specs.declared.jobs.JobId.{JobId}
 use Rattle.host_core.specs.Halves.{most_of}
 use Rattle.host_core.specs.HostStanding.{HostStanding, IsAt, Stands, tenant_at, awaited_in, outstanding_from, outstanding_of}
 use Rattle.host_core.specs.HostState.{HostState}

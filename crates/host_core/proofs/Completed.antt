@@ -8,7 +8,7 @@ use Rattle.std.proofs.lemmas.List.Folds.{list_any-append}
 use Rattle.std.proofs.lemmas.Map.Views.{any-filter_same}
 use Rattle.std.proofs.lemmas.Simd.{map-map}
 use Rattle.rig_config.specs.declared.TenantConfig.{TenantConfig}
-use Rattle.tenant_state.specs.declared.jobs.JobId.{JobId}
+use Rattle.tenant_jobs.specs.declared.jobs.JobId.{JobId}
 use Rattle.host_core.specs.declared.events.Event.{Event}
 use Rattle.host_core.specs.declared.events.Event.TheVariants.{Done}
 use Rattle.host_core.specs.Halves.{AreStepped, IsCompleted}
@@ -16,7 +16,8 @@ use Rattle.host_core.specs.Host.{after_event, host_after}
 use Rattle.host_core.specs.HostState.{HostState, row_at, is_counted, awaits}
 use Rattle.host_core.specs.HostStanding.{HostStanding, IsAt, Stands, tenant_at, outstanding_jobs, outstanding_of}
 use Rattle.host_core.specs.Setting.{Setting}
-use Rattle.tenant_state.specs.Jobs.{job_of, same_job, is_active}
+use Rattle.tenant_jobs.specs.Jobs.{same_job}
+use Rattle.tenant_state.specs.Jobs.{job_of, is_active}
 use Rattle.tenant_state.specs.Row.{ActiveTask, Row, empty_row}
 use Rattle.tenant_state.specs.Standing.{Standing, IsKnown, empty_standing}
 use Rattle.giotto_tasks.proofs.ListLemmas.{all_map, all_of, all_flat, all_filtered, any_if_all, any_map, map_same}
@@ -24,7 +25,8 @@ use Rattle.giotto_tasks.proofs.TestLemmas.{absorbed, either, or_assoc, or_true, 
 use Rattle.host_core.proofs.HostSteps.{early_active}
 use Rattle.host_core.proofs.Outstanding.{jobs_at, all_jobs, awaited_at, code_awaits}
 use Rattle.host_core.proofs.Placed.{IsWhole, placed_behind}
-use Rattle.tenant_state.proofs.JobNames.{same_job_is, own_jobs_active}
+use Rattle.tenant_jobs.proofs.JobNames.{same_job_is}
+use Rattle.tenant_state.proofs.JobNames.{own_jobs_active}
 
 moved : (a b c : Bool) → (a || (b || c)) ≡ ((b || a) || c)
 moved a b c = or_assoc a b c ∙ ap (λ x. x || c) (or_turned a b)

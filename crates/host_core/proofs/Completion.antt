@@ -6,8 +6,9 @@ use Rattle.std.specs.Option.{option_and_then}
 use Rattle.std.proofs.Math.ListN.{get_or-eq_default}
 use Rattle.std.proofs.lemmas.Bool.{cases_lt}
 use Rattle.std.proofs.lemmas.Option.{slice_get_past}
-use Rattle.tenant_state.specs.declared.jobs.JobId.{JobId}
-use Rattle.tenant_state.specs.Jobs.{JobValue, is_active}
+use Rattle.tenant_jobs.specs.declared.jobs.JobId.{JobId}
+use Rattle.tenant_jobs.specs.Jobs.{JobValue}
+use Rattle.tenant_state.specs.Jobs.{is_active}
 use Rattle.tenant_state.specs.Row.{Row, empty_row}
 use Rattle.tenant_state.specs.Standing.{at_rest, awaited_job, empty_standing}
 use Rattle.host_core.specs.declared.events.Event.TheVariants.{Done}

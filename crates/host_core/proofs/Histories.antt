@@ -6,10 +6,11 @@ use Rattle.std.proofs.Math.ListN.{get_or-eq_default}
 use Rattle.giotto_tasks.specs.declared.names.Name.{Name}
 use Rattle.host_core.specs.declared.events.Event.{Event}
 use Rattle.host_core.specs.declared.events.Event.TheVariants.{Own, Tick, Done}
-use Rattle.tenant_state.specs.declared.jobs.JobId.{JobId}
+use Rattle.tenant_jobs.specs.declared.jobs.JobId.{JobId}
 use Rattle.tenant_lines.specs.declared.commands.Command.{Command}
 use Rattle.rig_config.specs.Roster.{budgets_at}
-use Rattle.tenant_state.specs.Jobs.{job_of, same_job, is_active}
+use Rattle.tenant_jobs.specs.Jobs.{same_job}
+use Rattle.tenant_state.specs.Jobs.{job_of, is_active}
 use Rattle.tenant_state.specs.Row.{ActiveTask, Row, empty_row}
 use Rattle.host_core.specs.Grants.{granted_to}
 use Rattle.tenant_state.specs.FirstHalf.{unfinished_tasks, first_half_of}
@@ -21,7 +22,7 @@ use Rattle.host_core.specs.Setting.{Setting}
 use Rattle.host_core.specs.Views.{command, after_command, readings_of, run_of, view_of, row_of}
 use Rattle.tenant_state.specs.Instants.{LocalInstant}
 use Rattle.tenant_state.proofs.ActiveTasks.{Keeps, kept_by_instant, kept_by_command}
-use Rattle.tenant_state.proofs.JobNames.{same_job_is}
+use Rattle.tenant_jobs.proofs.JobNames.{same_job_is}
 use Rattle.giotto_tasks.proofs.TestLemmas.{either}
 use Rattle.giotto_tasks.proofs.ListLemmas.{all_map}
 

@@ -15,7 +15,8 @@ use Rattle.rig_config.specs.declared.Budgets.{Budgets}
 use Rattle.rig_config.specs.declared.Config.{Config}
 use Rattle.rig_config.specs.declared.TenantConfig.{TenantConfig}
 use Rattle.rig_config.specs.Roster.{budgets_at}
-use Rattle.tenant_state.specs.Jobs.{JobValue, released_at}
+use Rattle.tenant_jobs.specs.Jobs.{JobValue}
+use Rattle.tenant_state.specs.Jobs.{released_at}
 use Rattle.tenant_state.specs.Standing.{Standing, at_rest, empty_standing, most_released}
 use Rattle.host_core.proofs.AtRest.{rest_twice, same_most, stands_at_rest, stands_outside}
 use Rattle.host_core.proofs.HostSteps.{budgets_here, stands_after_tick}

@@ -13,7 +13,7 @@ use Rattle.host_core.specs.declared.events.Event.TheVariants.{Own, Tick, Done}
 use Rattle.rig_config.specs.declared.Config.{Config}
 use Rattle.rig_config.specs.declared.TenantConfig.{TenantConfig}
 use Rattle.tenant_lines.specs.declared.commands.Command.{Command}
-use Rattle.tenant_state.specs.declared.jobs.JobId.{JobId}
+use Rattle.tenant_jobs.specs.declared.jobs.JobId.{JobId}
 use Rattle.tenant_state.specs.Halves.{IsFirstHalf}
 use Rattle.host_core.specs.Halves.{AreSecondHalves, AreStepped, IsSecondHalfAndKnown}
 use Rattle.host_core.specs.Host.{instant_of, with_rows, after_event}
@@ -29,7 +29,8 @@ use Rattle.tenant_state.specs.Instants.{after_instant}
 use Rattle.host_core.specs.Grants.{granted_along, granted_to}
 use Rattle.rig_config.specs.Roster.{budgets_at, no_budgets}
 use Rattle.tenant_state.specs.FirstHalf.{unfinished_tasks, first_half_of}
-use Rattle.tenant_state.specs.Jobs.{JobValue, job_of, job_in, same_job, is_active}
+use Rattle.tenant_jobs.specs.Jobs.{JobValue, same_job}
+use Rattle.tenant_state.specs.Jobs.{job_of, job_in, is_active}
 use Rattle.tenant_state.specs.Row.{ActiveTask, Row, empty_row}
 use Rattle.tenant_state.specs.SecondHalf.{second_half_of}
 use Rattle.tenant_slots.specs.Readings.{readings_within}
@@ -37,7 +38,8 @@ use Rattle.tenant_state.specs.Standing.{Standing, at_rest, empty_standing, IsKno
 use Rattle.host_core.proofs.Alone.{counted_of_active}
 use Rattle.host_core.proofs.AtRest.{stands_inside}
 use Rattle.host_core.proofs.AloneAlong.{unfinished_at}
-use Rattle.tenant_state.proofs.JobNames.{same_job_is, own_jobs_active}
+use Rattle.tenant_jobs.proofs.JobNames.{same_job_is}
+use Rattle.tenant_state.proofs.JobNames.{own_jobs_active}
 use Rattle.giotto_tasks.proofs.TestLemmas.{and_turned, either}
 use Rattle.giotto_tasks.proofs.ListLemmas.{all_map, all_of, any_of_filter, find_is_any, find_passes, is_some-option_map, map_same}
 

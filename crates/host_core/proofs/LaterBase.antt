@@ -6,7 +6,7 @@ use Rattle.std.proofs.lemmas.List.{length-map, get_or-map}
 use Rattle.std.proofs.Math.ListN.{get_or-eq_default}
 use Rattle.rig_config.specs.declared.Config.{Config}
 use Rattle.rig_config.specs.declared.TenantConfig.{TenantConfig}
-use Rattle.tenant_state.specs.declared.jobs.JobId.{JobId}
+use Rattle.tenant_jobs.specs.declared.jobs.JobId.{JobId}
 use Rattle.host_core.specs.declared.events.Event.{Event}
 use Rattle.host_core.specs.declared.events.Event.TheVariants.{Own, Tick, Done}
 use Rattle.host_core.specs.Base.{IsBase, new_base}
@@ -14,13 +14,14 @@ use Rattle.host_core.specs.Host.{host_after}
 use Rattle.host_core.specs.HostState.{HostState, row_at, is_counted, awaits}
 use Rattle.host_core.specs.Legal.{next_tick, is_legal}
 use Rattle.host_core.specs.Setting.{Setting}
-use Rattle.tenant_state.specs.Jobs.{same_job, is_active}
+use Rattle.tenant_jobs.specs.Jobs.{same_job}
+use Rattle.tenant_state.specs.Jobs.{is_active}
 use Rattle.tenant_state.specs.Row.{ActiveTask, Row, empty_row}
 use Rattle.host_core.proofs.Alone.{Agrees}
 use Rattle.host_core.proofs.AloneAlong.{agrees_along, same_clock}
 use Rattle.host_core.proofs.Histories.{releases}
 use Rattle.host_core.proofs.NewHost.{no_tenant}
-use Rattle.tenant_state.proofs.JobNames.{same_job_is}
+use Rattle.tenant_jobs.proofs.JobNames.{same_job_is}
 use Rattle.giotto_tasks.proofs.TestLemmas.{either}
 
 -- a name among the jobs that pass a test passes it

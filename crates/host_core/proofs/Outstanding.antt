@@ -4,7 +4,7 @@ use Rattle.std.specs.List.{sum_by, flat_map, enumerate_from}
 use Rattle.std.specs.Prelude.{sum}
 use Rattle.std.proofs.lemmas.List.{length-map}
 use Rattle.std.proofs.lemmas.List.Sums.{sum-map, sum_by-cons}
-use Rattle.tenant_state.specs.declared.jobs.JobId.{JobId}
+use Rattle.tenant_jobs.specs.declared.jobs.JobId.{JobId}
 use Rattle.rig_config.specs.declared.TenantConfig.{TenantConfig}
 use Rattle.host_core.specs.HostStanding.{HostStanding, Stands, tenant_at, outstanding_from, outstanding_jobs}
 use Rattle.host_core.specs.HostState.{HostState, row_at, is_counted}

@@ -12,7 +12,7 @@ use Rattle.host_core.specs.declared.events.Event.{Event}
 use Rattle.host_core.specs.declared.events.Event.TheVariants.{Own, Tick, Done}
 use Rattle.rig_config.specs.declared.Config.{Config}
 use Rattle.tenant_lines.specs.declared.commands.Command.{Command}
-use Rattle.tenant_state.specs.declared.jobs.JobId.{JobId}
+use Rattle.tenant_jobs.specs.declared.jobs.JobId.{JobId}
 use Rattle.tenant_lines.specs.declared.replies.Reply.{Reply}
 use Rattle.std.proofs.Math.ListN.{get_or-eq_default}
 use Rattle.host_core.specs.Answers.{answers_along, answers_of}
@@ -27,7 +27,8 @@ use Rattle.host_core.specs.Setting.{Setting}
 use Rattle.host_core.specs.Views.{after_command, readings_of, run_of, view_of, row_of}
 use Rattle.rig_config.specs.Roster.{budgets_at, is_tenant}
 use Rattle.tenant_state.specs.FirstHalf.{first_half_of}
-use Rattle.tenant_state.specs.Jobs.{JobValue, job_of, job_in, same_job, is_active, released_at}
+use Rattle.tenant_jobs.specs.Jobs.{JobValue, same_job}
+use Rattle.tenant_state.specs.Jobs.{job_of, job_in, is_active, released_at}
 use Rattle.tenant_lines.specs.Replies.{text_of_reply}
 use Rattle.tenant_state.specs.Row.{ActiveTask, Row, empty_row}
 use Rattle.tenant_state.specs.SecondHalf.{second_half_of}
@@ -37,7 +38,7 @@ use Rattle.host_core.proofs.AloneAlong.{same_rows, same_clock}
 use Rattle.host_core.proofs.Histories.{unfinished_of, own_instant, own_row, releases}
 use Rattle.host_core.proofs.LaterBase.{new_is_base, new_row}
 use Rattle.host_core.proofs.NewHost.{new_stands}
-use Rattle.tenant_state.proofs.JobNames.{same_job_is}
+use Rattle.tenant_jobs.proofs.JobNames.{same_job_is}
 use Rattle.giotto_tasks.proofs.TestLemmas.{absorbed, either, or_true, same_answers}
 use Rattle.giotto_tasks.proofs.ListLemmas.{all_if_any, any_if_all}
 

@@ -6,9 +6,9 @@ use Rattle.std.specs.List.{list_any}
 use Rattle.std.specs.Ordering.{is_eq, nat_cmp, ordering_then}
 use Rattle.std.specs.declared.cmp.Ordering.{Ordering}
 use Rattle.std.specs.declared.cmp.Ordering.TheVariants.{Less, Equal, Greater}
-use Rattle.tenant_state.specs.declared.jobs.JobId.{JobId}
-use Rattle.tenant_state.specs.Jobs.{JobValue, same_job}
-use Rattle.tenant_state.proofs.JobNames.{same_job_is, same_job_self}
+use Rattle.tenant_jobs.specs.declared.jobs.JobId.{JobId}
+use Rattle.tenant_jobs.specs.Jobs.{JobValue, same_job}
+use Rattle.tenant_jobs.proofs.JobNames.{same_job_is, same_job_self}
 use Rattle.giotto_tasks.proofs.TestLemmas.{or_assoc, or_turned, same_answers}
 
 abbrev pub job_cmp : JobId → JobId → Ordering

@@ -3,7 +3,7 @@ use Rattle.std.specs.Prelude.{◌≡◌, ◌<◌, ℕ, true, [], map, length}
 use Rattle.std.specs.List.{AllByRecursion}
 use Rattle.rig_config.specs.declared.Config.{Config}
 use Rattle.rig_config.specs.declared.TenantConfig.{TenantConfig}
-use Rattle.tenant_state.specs.declared.jobs.JobId.{JobId}
+use Rattle.tenant_jobs.specs.declared.jobs.JobId.{JobId}
 use Rattle.tenant_state.specs.Jobs.{is_active}
 use Rattle.tenant_state.specs.Row.{ActiveTask, empty_row}
 use Rattle.host_core.specs.HostState.{HostState, row_at, is_counted}

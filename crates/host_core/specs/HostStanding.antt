@@ -4,13 +4,14 @@ use Rattle.std.specs.List.{flat_map, enumerate_from}
 use Rattle.std.specs.Option.{option_and_then}
 use Rattle.rig_config.specs.declared.Config.{Config}
 use Rattle.rig_config.specs.declared.TenantConfig.{TenantConfig}
-use Rattle.tenant_state.specs.declared.jobs.JobId.{JobId}
+use Rattle.tenant_jobs.specs.declared.jobs.JobId.{JobId}
 use Rattle.host_core.specs.Completions.{with_completions}
 use Rattle.host_core.specs.Host.{after_event, host_after}
 use Rattle.host_core.specs.declared.events.Event.{Event}
 use Rattle.host_core.specs.HostState.{HostState, row_at, is_counted}
 use Rattle.host_core.specs.Setting.{Setting}
-use Rattle.tenant_state.specs.Jobs.{JobValue, job_of, released_at}
+use Rattle.tenant_jobs.specs.Jobs.{JobValue}
+use Rattle.tenant_state.specs.Jobs.{job_of, released_at}
 use Rattle.tenant_state.specs.Standing.{Standing, empty_standing, at_rest, IsKnown, StandsFor, outstanding_tasks, awaited_job}
 
 -- the host as its code has it

@@ -1,8 +1,9 @@
 -- What the host is at one place of a history.
 use Rattle.std.specs.Prelude.{ℕ, Bool, not, ◌&&◌, List, slice_index_or}
 use Rattle.std.specs.List.{list_any}
-use Rattle.tenant_state.specs.declared.jobs.JobId.{JobId}
-use Rattle.tenant_state.specs.Jobs.{same_job, is_active}
+use Rattle.tenant_jobs.specs.declared.jobs.JobId.{JobId}
+use Rattle.tenant_jobs.specs.Jobs.{same_job}
+use Rattle.tenant_state.specs.Jobs.{is_active}
 use Rattle.tenant_state.specs.Row.{Row, empty_row}
 
 -- a row for each tenant, by its place; the jobs that were completed and are still active; and the number of the next instant

@@ -5,14 +5,14 @@ use Rattle.host_core.specs.declared.events.Event.{Event}
 use Rattle.host_core.specs.declared.events.Event.TheVariants.{Own, Tick, Done}
 use Rattle.host_core.specs.declared.plays.Stage.{Stage}
 use Rattle.rig_config.specs.declared.Config.{Config}
-use Rattle.tenant_state.specs.declared.jobs.JobId.{JobId}
+use Rattle.tenant_jobs.specs.declared.jobs.JobId.{JobId}
 use Rattle.host_core.specs.Answers.{answers_of}
 use Rattle.host_core.specs.Base.{IsBase}
 use Rattle.host_core.specs.Host.{host_after}
 use Rattle.host_core.specs.HostStanding.{HostStanding, Stands, awaited_in}
 use Rattle.host_core.specs.Legal.{may_follow, was_released, is_legal}
 use Rattle.host_core.specs.Setting.{Setting}
-use Rattle.tenant_state.specs.Jobs.{same_job}
+use Rattle.tenant_jobs.specs.Jobs.{same_job}
 
 -- The host, each tenant's text and the names of the released jobs are those behind these events, the newest first.
 pub record IsPlayed (setting : Setting) (past : List Event) (host : HostStanding) (texts : List (List ℕ)) (released : List JobId) : Type 0 where

@@ -2,8 +2,8 @@
 
 use giotto_tasks::lists::List;
 use rig_config::TenantId;
+use tenant_jobs::jobs::JobId;
 use tenant_lines::commands::Command;
-use tenant_state::jobs::JobId;
 
 /// An event of the host.
 #[derive(Drop)]

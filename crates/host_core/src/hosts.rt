@@ -18,9 +18,9 @@ ghost use Rattle.host_core.specs.declared.hosts.Counted.{Counted};
 use rig_config::{Config, TenantId};
 use std::alloc::{AllocError, Global};
 use std::marker::Model;
+use tenant_jobs::jobs::{Done, Job, JobId, Jobs, run_job};
 use tenant_lines::commands::Command;
 use tenant_lines::replies::Reply;
-use tenant_state::jobs::{Done, Job, JobId, Jobs, run_job};
 use tenant_state::tenants::Tenant;
 use thiserror::Error;
 

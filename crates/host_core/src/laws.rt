@@ -1,7 +1,7 @@
 //! Laws of the definitions, each a function without a body that carries it.
 
 ghost use Rattle.std.specs.Prelude.{◌≡◌, ℕ, List, true};
-ghost use Rattle.tenant_state.specs.declared.jobs.JobId.{JobId};
+ghost use Rattle.tenant_jobs.specs.declared.jobs.JobId.{JobId};
 ghost use Rattle.rig_config.specs.Roster.{is_tenant};
 ghost use Rattle.rig_config.specs.declared.Config.{Config};
 ghost use Rattle.host_core.specs.Base.{IsBase, new_base};

@@ -7,8 +7,8 @@ ghost use Rattle.host_core.specs.HostStanding.{awaited_in};
 ghost use Rattle.host_core.specs.Playing.{IsStage, IsPlayedOn, IsLate, HasPlace};
 ghost use Rattle.host_core.specs.Plays.{IsSettingOf, AreAnswers, IsLeastIllegal};
 ghost use Rattle.host_core.specs.Setting.{Setting};
-ghost use Rattle.tenant_state.specs.Jobs.{JobValue, same_job};
-ghost use Rattle.tenant_state.specs.declared.jobs.JobId.{JobId};
+ghost use Rattle.tenant_jobs.specs.Jobs.{JobValue, same_job};
+ghost use Rattle.tenant_jobs.specs.declared.jobs.JobId.{JobId};
 ghost use Rattle.tenant_lines.specs.Replies.{text_of_reply};
 ghost use Rattle.host_core.specs.declared.events.Event.{Event};
 ghost use Rattle.host_core.specs.declared.plays.PlayFault.{PlayFault};
@@ -20,10 +20,10 @@ use crate::hosts::{Host, complete};
 use rig_config::{Config, TenantId};
 use std::alloc::{AllocError, Global};
 use std::collections::BTreeSet;
+use tenant_jobs::jobs::{JobId, Jobs};
 use tenant_lines::commands::Command;
 use tenant_lines::replies::{Reply, print_reply};
 use tenant_lines::texts::Text;
-use tenant_state::jobs::{JobId, Jobs};
 use thiserror::Error;
 
 /// Why a list of events isn't played to its end.

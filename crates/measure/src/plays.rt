@@ -6,9 +6,9 @@ use giotto_tasks::names::Name;
 use host_core::events::Event;
 use host_core::plays::play;
 use std::alloc::{AllocError, Global};
+use tenant_jobs::jobs::JobId;
 use tenant_lines::commands::Command;
 use tenant_lines::texts::Text;
-use tenant_state::jobs::JobId;
 
 /// Plays so many instants, each with the completion of the job that it releases. How many bytes one tenant was answered; -1 where
 /// the events are refused.

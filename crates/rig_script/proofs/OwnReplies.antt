@@ -6,7 +6,7 @@ use Rattle.std.specs.Fmt.{decimal}
 use Rattle.giotto_tasks.specs.declared.names.Name.{Name}
 use Rattle.host_core.specs.declared.events.Event.{Event}
 use Rattle.host_core.specs.declared.events.Event.TheVariants.{Own, Tick, Done}
-use Rattle.tenant_state.specs.declared.jobs.JobId.{JobId}
+use Rattle.tenant_jobs.specs.declared.jobs.JobId.{JobId}
 use Rattle.tenant_lines.specs.declared.commands.Command.{Command}
 use Rattle.tenant_lines.specs.CommandLine.{command_of_line}
 use Rattle.tenant_lines.specs.Replies.{text_of_reply}

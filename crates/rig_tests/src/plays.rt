@@ -6,9 +6,9 @@ use host_core::events::Event;
 use host_core::plays::play;
 use rig_config::built_in;
 use std::alloc::{AllocError, Global};
+use tenant_jobs::jobs::JobId;
 use tenant_lines::commands::Command;
 use tenant_lines::texts::Text;
-use tenant_state::jobs::JobId;
 
 // Reads a sensor, adds 1, and drives an actuator with the sum, with a period of 2 ticks.
 const ADDER: &str =

@@ -20,7 +20,8 @@ use Rattle.tenant_slots.specs.Places.{name_of_task}
 use Rattle.tenant_slots.proofs.Numbered.{task_here, task_fits_at}
 use Rattle.tenant_state.proofs.EndedTasks.{some_of}
 use Rattle.tenant_state.specs.declared.tenants.Active.{Active}
-use Rattle.tenant_state.specs.Jobs.{IsComputable, job_in, body_in}
+use Rattle.tenant_jobs.specs.Jobs.{IsComputable}
+use Rattle.tenant_state.specs.Jobs.{job_in, body_in}
 use Rattle.tenant_state.specs.Tenants.{active_of, IsActiveAs, IsActiveOf, IsShareOf}
 
 -- the body of the task at a place

@@ -7,12 +7,13 @@ use Rattle.giotto_tasks.specs.Names.{same_name}
 use Rattle.giotto_tasks.specs.Syntax.{TaskBody}
 use Rattle.giotto_text.specs.Program.{GiottoProgram}
 use Rattle.tenant_slots.specs.Places.{name_of_task}
-use Rattle.tenant_state.specs.declared.jobs.JobId.{JobId}
+use Rattle.tenant_jobs.specs.declared.jobs.JobId.{JobId}
 use Rattle.tenant_state.specs.declared.tenants.Active.{Active}
-use Rattle.tenant_state.specs.Jobs.{job_in, job_of, same_job}
+use Rattle.tenant_jobs.specs.Jobs.{same_job}
+use Rattle.tenant_state.specs.Jobs.{job_in, job_of}
 use Rattle.tenant_state.specs.Row.{ActiveTask}
 use Rattle.tenant_state.specs.Tenants.{active_of, is_completed, tasks_in, is_another, all_different_releases, IsTenant, awaits_job, is_of_job}
-use Rattle.tenant_state.proofs.JobNames.{same_job_is, same_job_self}
+use Rattle.tenant_jobs.proofs.JobNames.{same_job_is, same_job_self}
 use Rattle.giotto_tasks.proofs.NameLemmas.{same_name_self}
 use Rattle.giotto_tasks.proofs.ListLemmas.{map_same, all_pass, all_at}
 

@@ -16,9 +16,10 @@ use Rattle.giotto_text.specs.ProgramTrees as trees
 use Rattle.giotto_text.specs.declared.programs.Task.{Task}
 use Rattle.giotto_check.specs.Facts.{ProgramFits}
 use Rattle.tenant_slots.proofs.Numbered.{task_here, task_fits_at}
-use Rattle.tenant_state.specs.declared.jobs.JobId.{JobId}
+use Rattle.tenant_jobs.specs.declared.jobs.JobId.{JobId}
 use Rattle.tenant_state.specs.declared.tenants.Active.{Active}
-use Rattle.tenant_state.specs.Jobs.{JobValue, body_in, job_in, job_of, same_job}
+use Rattle.tenant_jobs.specs.Jobs.{JobValue, same_job}
+use Rattle.tenant_state.specs.Jobs.{body_in, job_in, job_of}
 use Rattle.tenant_state.specs.Row.{ActiveTask, Row}
 use Rattle.tenant_state.specs.Standing.{Standing, StandsFor}
 use Rattle.tenant_state.specs.Tenants.{active_of, is_completed, all_different_releases, IsResultOf, IsActiveAs, IsActiveOf, IsActiveIn, IsTenant, is_of_job, awaits_job}

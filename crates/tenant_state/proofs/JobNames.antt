@@ -1,27 +1,12 @@
--- Two names of jobs that the test tells equal are one.
-use Rattle.std.proofs.Common.{◌≡◌, ℕ, true, ◌&&◌, ◌||◌, eqb, List, [], ◌∷◌, refl, ap, ◌∙◌}
+-- The jobs of the active tasks are active.
+use Rattle.std.proofs.Common.{◌≡◌, ℕ, true, ◌||◌, List, [], ◌∷◌, ap, ◌∙◌}
 use Rattle.std.specs.List.{list_any, AllByRecursion}
-use Rattle.giotto_tasks.specs.Names.{same_name}
-use Rattle.tenant_state.specs.declared.jobs.JobId.{JobId}
-use Rattle.tenant_state.specs.Jobs.{job_of, same_job, is_active}
+use Rattle.tenant_jobs.specs.Jobs.{same_job}
+use Rattle.tenant_state.specs.Jobs.{job_of, is_active}
 use Rattle.tenant_state.specs.Row.{ActiveTask, Row}
-use Rattle.giotto_tasks.proofs.NameLemmas.{same_name_is, same_name_self}
-use Rattle.std.proofs.lemmas.Bool.{and_parts, and_from, eqb-true, eq-eqb}
 use Rattle.giotto_tasks.proofs.TestLemmas.{or_true}
 use Rattle.giotto_tasks.proofs.ListLemmas.{all_map}
-
-pub same_job_is : (i j : JobId) → same_job i j ≡ true → i ≡ j
-same_job_is i j e =
-    let outer = and_parts (eqb i.tenant j.tenant && eqb i.tick j.tick) (same_name i.task j.task) e in
-    let inner = and_parts (eqb i.tenant j.tenant) (eqb i.tick j.tick) outer.0 in
-    let tenant = eqb-true i.tenant j.tenant inner.0 in
-    let tick = eqb-true i.tick j.tick inner.1 in
-    let task = same_name_is i.task j.task outer.1 in
-    λ k. record { tenant = tenant k; tick = tick k; task = task k }
-
-pub same_job_self : (j : JobId) → same_job j j ≡ true
-same_job_self j =
-    and_from _ _ (and_from _ _ (eq-eqb j.tenant j.tenant refl) (eq-eqb j.tick j.tick refl)) (same_name_self j.task)
+use Rattle.tenant_jobs.proofs.JobNames.{same_job_self}
 
 -- each active task's own job is active
 all_found : (t : ℕ) (xs : List ActiveTask) → AllByRecursion (λ a. list_any (λ (b : ActiveTask). same_job (job_of t b) (job_of t a)) xs ≡ true) xs

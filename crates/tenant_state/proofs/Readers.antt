@@ -25,11 +25,12 @@ use Rattle.giotto_check.proofs.Valuations.{value_at_place}
 use Rattle.tenant_slots.specs.Due.{is_due_at}
 use Rattle.tenant_slots.specs.Places.{name_of_task}
 use Rattle.tenant_slots.proofs.Numbered.{invocation_due, mode_here, same_task}
-use Rattle.tenant_state.specs.declared.jobs.JobId.{JobId}
+use Rattle.tenant_jobs.specs.declared.jobs.JobId.{JobId}
 use Rattle.tenant_state.specs.declared.tenants.Active.{Active}
 use Rattle.tenant_state.specs.declared.tenants.State.TheVariants as states
 use Rattle.tenant_state.specs.FirstHalf.{names_due}
-use Rattle.tenant_state.specs.Jobs.{job_of, same_job}
+use Rattle.tenant_jobs.specs.Jobs.{same_job}
+use Rattle.tenant_state.specs.Jobs.{job_of}
 use Rattle.tenant_state.specs.Row.{ActiveTask, Row}
 use Rattle.tenant_state.specs.Tenants.{active_of, standing_of, IsActiveOf, is_of_job}
 use Rattle.tenant_state.proofs.DueTasks as tasks

@@ -1,7 +1,7 @@
 -- The active tasks of a tenant's code.
 use Rattle.std.specs.Prelude.{ℕ, true, List}
 use Rattle.giotto_tasks.specs.Meaning.{outputs_of, states_of}
-use Rattle.tenant_state.specs.Jobs.{JobValue}
+use Rattle.tenant_jobs.specs.Jobs.{JobValue}
 use Rattle.tenant_state.specs.declared.tenants.Active.{Active}
 
 -- the active tasks in the order of their release, and how many more there is room for

@@ -1,40 +1,22 @@
--- Jobs: the computations that an instant releases.
-use Rattle.std.specs.Prelude.{◌≡◌, ℕ, Bool, ◌&&◌, ◌==◌, ℤ, List, [], map, filter, length}
+-- Which jobs the active tasks of a tenant have.
+use Rattle.std.specs.Prelude.{ℕ, Bool, ◌==◌, List, [], map, filter}
 use Rattle.std.specs.List.{list_any}
 use Rattle.std.specs.Option.{option_map_or}
 use Rattle.giotto_tasks.specs.declared.names.Name.{Name}
-use Rattle.giotto_tasks.specs.Sound.{IsSound}
 use Rattle.giotto_tasks.specs.Syntax.{TaskBody, finished}
 use Rattle.giotto_text.specs.Program.{GiottoProgram, body_of}
 use Rattle.giotto_rules.specs.Declarations.{task_named}
-use Rattle.giotto_tasks.specs.Names.{same_name}
-use Rattle.tenant_state.specs.declared.jobs.JobId.{JobId}
+use Rattle.tenant_jobs.specs.declared.jobs.JobId.{JobId}
 use Rattle.tenant_state.specs.Row.{ActiveTask, Row}
+use Rattle.tenant_jobs.specs.Jobs.{JobValue, same_job}
 
 -- the job of an active task of the tenant at place t
 abbrev pub job_of : ℕ → ActiveTask → JobId
 job_of t a = record { tenant = t; tick = a.release; task = a.task }
 
--- whether two names of jobs are one: tenant, release and task are the same
-abbrev pub same_job : JobId → JobId → Bool
-same_job i j = i.tenant == j.tenant && i.tick == j.tick && same_name i.task j.task
-
 -- the job's task is active, with the job's release
 abbrev pub is_active : Row → JobId → Bool
 is_active row j = list_any (λ (a : ActiveTask). same_job (job_of j.tenant a) j) row.active
-
--- a job: its name, the body, and what its task was given at its release
-pub record JobValue : Type 0 where
-  pub id : JobId
-  pub body : TaskBody
-  pub inputs : List ℤ
-  pub states : List ℤ
-
--- a job that can be computed
-pub record IsComputable (j : JobValue) : Type 0 where
-  pub inputs : length j.inputs ≡ length j.body.inputs
-  pub states : length j.states ≡ length j.body.states
-  pub sound : IsSound j.body
 
 -- the body of a program's task; an empty one where it has no such task
 abbrev pub body_in : GiottoProgram → Name → TaskBody

@@ -5,7 +5,6 @@ pub mod EntryTable
 pub mod FirstHalf
 pub mod Halves
 pub mod Instants
-pub mod JobLists
 pub mod Jobs
 pub mod Readers
 pub mod Releases

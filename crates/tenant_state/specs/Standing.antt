@@ -6,12 +6,13 @@ use Rattle.giotto_tasks.specs.declared.names.Name.{Name}
 use Rattle.giotto_text.specs.Program.{GiottoProgram, ModeDeclaration, ModeSwitch, TaskInvocation}
 use Rattle.giotto_check.specs.Costs.{greatest}
 use Rattle.giotto_rules.specs.Declarations.{mode_named}
-use Rattle.tenant_state.specs.declared.jobs.JobId.{JobId}
+use Rattle.tenant_jobs.specs.declared.jobs.JobId.{JobId}
 use Rattle.tenant_lines.specs.declared.replies.Refusal.{Refusal}
 use Rattle.tenant_lines.specs.declared.replies.Reply.{Reply}
 use Rattle.tenant_slots.specs.Due.{is_due_at}
 use Rattle.tenant_state.specs.Commands.{Outcome, refused}
-use Rattle.tenant_state.specs.Jobs.{JobValue, job_in, job_of, same_job}
+use Rattle.tenant_jobs.specs.Jobs.{JobValue, same_job}
+use Rattle.tenant_state.specs.Jobs.{job_in, job_of}
 use Rattle.tenant_state.specs.Row.{ActiveTask, Row, empty_row, is_running}
 
 -- what a tenant's code keeps: its place in the roster, a row without records, and marks; and what it has ready for the next instant

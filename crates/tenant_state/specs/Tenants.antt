@@ -13,7 +13,7 @@ use Rattle.giotto_check.specs.Timetables.{AreEach}
 use Rattle.tenant_slots.specs.Due.{IsQuietUntil}
 use Rattle.tenant_slots.specs.Switches.{switch_taken, with_destinations}
 use Rattle.tenant_slots.specs.Places.{name_of_task, name_of_mode, IsModeAt}
-use Rattle.tenant_state.specs.declared.jobs.JobId.{JobId}
+use Rattle.tenant_jobs.specs.declared.jobs.JobId.{JobId}
 use Rattle.tenant_state.specs.declared.tenants.Active.{Active}
 use Rattle.tenant_state.specs.declared.tenants.switches.Entry.{Entry}
 use Rattle.tenant_state.specs.declared.tenants.Reason.{Reason}

@@ -11,7 +11,6 @@
 #![tactic(auto)]
 
 pub mod grants;
-pub mod jobs;
 pub mod tenants;
 pub mod trace;
 

@@ -4,11 +4,11 @@ ghost use Rattle.std.specs.Prelude.{◌≡◌, ◌<◌, ◌≤◌, ◌+◌, [], 
 ghost use Rattle.tenant_state.specs.declared.tenants.Active.{Active};
 ghost use Rattle.tenant_state.specs.ActiveTasks.{computed};
 
-use crate::jobs::Done;
 use crate::tenants::Active;
 use giotto_tasks::values::Values;
 use std::alloc::{AllocError, Global};
 use std::marker::Model;
+use tenant_jobs::jobs::Done;
 
 /// The active tasks of a tenant, in the order of their release, and entries that wait to be used again.
 #[derive(Drop)]

@@ -7,12 +7,12 @@ ghost use Rattle.std.specs.List.{AllByRecursion};
 ghost use Rattle.std.specs.Option.{option_and_then};
 ghost use Rattle.giotto_text.specs.ProgramTrees.{task_of};
 ghost use Rattle.tenant_slots.specs.Places.{IsTaskAt};
-ghost use Rattle.tenant_state.specs.Jobs.{job_of, same_job};
+ghost use Rattle.tenant_jobs.specs.Jobs.{same_job};
+ghost use Rattle.tenant_state.specs.Jobs.{job_of};
 ghost use Rattle.tenant_state.specs.Standing.{HoldsOfRow, StandsFor, outstanding_tasks, awaited_job};
 ghost use Rattle.tenant_state.specs.Tenants.{IsActiveIn, IsActiveOf, active_of, awaits_job, is_completed};
 ghost use Rattle.giotto_check.specs.Facts.{ProgramFits};
 
-use crate::jobs::{Done, Job, JobId, put_results};
 use crate::tenants::active_tasks::ActiveTasks;
 use crate::tenants::{Active, Tenant};
 use giotto_check::Checked;
@@ -20,6 +20,7 @@ use giotto_tasks::bodies::Body;
 use giotto_text::programs::Task;
 use std::alloc::AllocError;
 use std::sync::Arc;
+use tenant_jobs::jobs::{Done, Job, JobId, put_results};
 
 impl Tenant {
     /// The job of this name, where its completion is awaited: its task is active with this release and not completed.

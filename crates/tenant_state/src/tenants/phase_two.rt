@@ -10,11 +10,11 @@ ghost use Rattle.giotto_text.specs.Program.{ModeDeclaration};
 ghost use Rattle.tenant_slots.specs.Due.{IsQuietUntil};
 ghost use Rattle.tenant_slots.specs.Places.{name_of_task, IsModeAt};
 ghost use Rattle.tenant_state.specs.Halves.{IsSecondHalf};
-ghost use Rattle.tenant_state.specs.Jobs.{IsComputable, body_in, job_in, released_at};
+ghost use Rattle.tenant_jobs.specs.Jobs.{IsComputable};
+ghost use Rattle.tenant_state.specs.Jobs.{body_in, job_in, released_at};
 ghost use Rattle.tenant_state.specs.Standing.{AreReleased, HasRoom, HasShares, most_released};
 ghost use Rattle.tenant_state.specs.Tenants.{active_of, IsActiveOf, IsShareOf};
 
-use crate::jobs::{Job, JobId, Jobs};
 use crate::tenants::releases::invoke_due;
 use crate::tenants::switches::switch;
 use crate::tenants::{Active, State, Tenant};
@@ -24,6 +24,7 @@ use giotto_text::programs::Program;
 use rig_config::{Budgets, TenantId};
 use std::alloc::Global;
 use std::sync::Arc;
+use tenant_jobs::jobs::{Job, JobId, Jobs};
 use tenant_slots::due::next_due;
 use tenant_slots::sensors::sense;
 

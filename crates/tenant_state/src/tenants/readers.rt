@@ -12,11 +12,11 @@ ghost use Rattle.tenant_state.specs.Jobs.{is_active};
 ghost use Rattle.tenant_state.specs.Readers.{actuator_value};
 ghost use Rattle.tenant_state.specs.Tenants.{IsActiveOf, is_of_job};
 
-use crate::jobs::JobId;
 use crate::tenants::{Active, State, Tenant};
 use giotto_check::Checked;
 use giotto_check::timetables::SlotInvocation;
 use giotto_text::programs::Actuator;
+use tenant_jobs::jobs::JobId;
 use tenant_slots::due::Due;
 
 impl Tenant {

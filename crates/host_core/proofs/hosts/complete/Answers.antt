@@ -3,8 +3,8 @@ use Rattle.std.specs.Prelude.{IfSome}
 use Rattle.host_core.specs.declared.events.Event.TheVariants.{Done}
 use Rattle.host_core.specs.Host.{after_event}
 use Rattle.host_core.specs.HostStanding.{Stands, awaited_in}
-use Rattle.tenant_state.specs.declared.jobs.JobId.{JobId}
-use Rattle.tenant_state.specs.Jobs.{JobValue}
+use Rattle.tenant_jobs.specs.declared.jobs.JobId.{JobId}
+use Rattle.tenant_jobs.specs.Jobs.{JobValue}
 use Rattle.host_core.proofs.HostSteps.{awaited_name_in}
 use Rattle.host_core.proofs.hosts.complete.Goals as goal
 

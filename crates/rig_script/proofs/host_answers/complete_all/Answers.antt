@@ -1,5 +1,5 @@
 use Rattle.std.proofs.Common.{◌≡◌, List, length, refl, ap, ◌∙◌}
-use Rattle.tenant_state.specs.declared.jobs.JobId.{JobId}
+use Rattle.tenant_jobs.specs.declared.jobs.JobId.{JobId}
 use Rattle.rig_script.specs.HostAnswers.{IsHostAfter}
 use Rattle.rig_script.specs.Script.{outstanding_after, work_step}
 use Rattle.rig_script.proofs.Completing.{all_completed, names_are}

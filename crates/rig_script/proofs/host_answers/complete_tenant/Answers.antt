@@ -1,7 +1,7 @@
 use Rattle.std.proofs.Common.{◌≡◌, ◌<◌, List, Some, length, refl, sym, ap, ◌∙◌}
 use Rattle.rig_config.specs.Roster.{place_of}
 use Rattle.rig_config.specs.declared.Config.{Config}
-use Rattle.tenant_state.specs.declared.jobs.JobId.{JobId}
+use Rattle.tenant_jobs.specs.declared.jobs.JobId.{JobId}
 use Rattle.rig_script.specs.HostAnswers.{IsHostAfter}
 use Rattle.rig_script.specs.Script.{outstanding_at, work_step}
 use Rattle.rig_script.proofs.Completing.{completed_at, names_at}

@@ -7,7 +7,7 @@ use Rattle.host_core.specs.HostState.{HostState}
 use Rattle.host_core.specs.Setting.{Setting}
 use Rattle.host_core.specs.declared.hosts.Counted.TheVariants as became
 use Rattle.host_core.specs.declared.hosts.Host.TheInside.{Inside}
-use Rattle.tenant_state.specs.declared.jobs.JobId.{JobId}
+use Rattle.tenant_jobs.specs.declared.jobs.JobId.{JobId}
 use Rattle.tenant_state.specs.Standing.{at_rest, awaited_job}
 use Rattle.host_core.proofs.AtRest.{awaited_here, stands_inside, stands_outside, outstanding_at_rest}
 use Rattle.host_core.proofs.Completion.{ComesTo, comes_to, past_roster}

@@ -1,7 +1,7 @@
 use Rattle.std.proofs.Common.{List, map, ap, sym, subst, ◌++◌, ◌∙◌, arith, refl}
 use Rattle.std.proofs.lemmas.List.Elements.{All-map}
 use Rattle.host_core.specs.HostStanding.{HostStanding, Stands, released_from}
-use Rattle.tenant_state.specs.Jobs.{JobValue}
+use Rattle.tenant_jobs.specs.Jobs.{JobValue}
 use Rattle.tenant_state.specs.Standing.{Standing, at_rest, IsKnown}
 use Rattle.host_core.proofs.AtRest.{gathered_at_rest}
 use Rattle.host_core.proofs.HostLoops.{counts_middle, placed_middle, is_instant}

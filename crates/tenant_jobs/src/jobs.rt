@@ -4,7 +4,7 @@ ghost use Rattle.std.specs.Prelude.{◌≡◌, ◌<◌, ◌≤◌, ◌+◌, ◌-
 ghost use Rattle.std.specs.Arc.{arc_value};
 ghost use Rattle.giotto_tasks.specs.Meaning.{outputs_of, states_of};
 ghost use Rattle.giotto_tasks.specs.Sound.{IsSound};
-ghost use Rattle.tenant_state.specs.Jobs.{IsComputable};
+ghost use Rattle.tenant_jobs.specs.Jobs.{IsComputable};
 
 use giotto_tasks::bodies::Body;
 use giotto_tasks::evaluation::eval_into;
@@ -52,7 +52,7 @@ pub struct Job {
 
 impl Model for Job {
     ghost use Rattle.std.specs.Arc.{arc_value};
-    ghost use Rattle.tenant_state.specs.Jobs.{JobValue, IsComputable};
+    ghost use Rattle.tenant_jobs.specs.Jobs.{JobValue, IsComputable};
     ghost use Rattle.std.specs.Coded.{codes};
     ghost use Rattle.giotto_tasks.specs.Codes.{body_code};
 
@@ -76,7 +76,7 @@ pub struct Done {
 impl Model for Done {
     ghost use Rattle.std.specs.Prelude.{◌≡◌};
     ghost use Rattle.giotto_tasks.specs.Meaning.{outputs_of, states_of};
-    ghost use Rattle.tenant_state.specs.Jobs.{JobValue};
+    ghost use Rattle.tenant_jobs.specs.Jobs.{JobValue};
     ghost use Rattle.std.specs.Coded.{codes};
     ghost use Rattle.giotto_tasks.specs.Codes.{body_code};
 
@@ -92,7 +92,7 @@ impl Model for Done {
 impl Job {
     /// The job of this name. Its inputs and states are as many as its body has, and its body is sound: at most 16 inputs,
     /// outputs and states each, all of different names, and a block that reads only these and assigns only outputs and states.
-    pub(crate) fn new(id: JobId, body: Arc<Body, Global>, inputs: Values, states: Values) -> Job
+    pub fn new(id: JobId, body: Arc<Body, Global>, inputs: Values, states: Values) -> Job
         requires { IsComputable (record { id = id; body = arc_value body; inputs = inputs; states = states }) }
         ensures { result ≡ record { id = id; body = arc_value body; inputs = inputs; states = states } }
     {
@@ -184,7 +184,7 @@ pub fn run_job(job: Job) -> Done
 }
 
 // Puts the new outputs and states of a body in place of what these held before. Its steps are counted by a counter that nobody reads.
-pub(crate) fn put_results(
+pub fn put_results(
     body: &Body,
     inputs: &Values,
     states: &Values,
@@ -230,7 +230,7 @@ pub struct Jobs {
 impl Model for Jobs {
     ghost use Rattle.std.specs.Prelude.{◌-◌};
     ghost use Rattle.std.specs.VecDeque.{deque_len, deque_capacity};
-    ghost use Rattle.tenant_state.specs.JobLists.{JobList};
+    ghost use Rattle.tenant_jobs.specs.JobLists.{JobList};
     ghost use Rattle.std.specs.Coded.{codes};
     ghost use Rattle.giotto_tasks.specs.Codes.{body_code};
 

@@ -1,0 +1,8 @@
+//! Jobs: the computations that an instant releases, and their results.
+//!
+//! A [`jobs::Job`] is one computation of a task with what the task was given at its release. It can be run anywhere, and at any time until
+//! its deadline. [`jobs::run_job`] gives its [`jobs::Done`], whose values are those of the computation. Which completion counts is said by
+//! the tenant and its host.
+#![tactic(auto)]
+
+pub mod jobs;
