@@ -1,5 +1,6 @@
 -- Two names of jobs that the test tells equal are one.
-use Rattle.std.proofs.Common.{◌≡◌, true, ◌&&◌, eqb, refl}
+use Rattle.std.proofs.Math.Bool.{and_assoc}
+use Rattle.std.proofs.Common.{◌≡◌, true, ◌&&◌, eqb, refl, sym}
 use Rattle.giotto_tasks.specs.Names.{same_name}
 use Rattle.tenant_jobs.specs.declared.jobs.JobId.{JobId}
 use Rattle.tenant_jobs.specs.Jobs.{same_job}
@@ -18,3 +19,7 @@ same_job_is i j e =
 pub same_job_self : (j : JobId) → same_job j j ≡ true
 same_job_self j =
     and_from _ _ (and_from _ _ (eq-eqb j.tenant j.tenant refl) (eq-eqb j.tick j.tick refl)) (same_name_self j.task)
+
+-- the test as `==` makes it
+pub same_job_eq : (i j : JobId) → (eqb i.tenant j.tenant && (eqb i.tick j.tick && same_name i.task j.task)) ≡ same_job i j
+same_job_eq i j = sym (and_assoc (eqb i.tenant j.tenant) (eqb i.tick j.tick) (same_name i.task j.task))

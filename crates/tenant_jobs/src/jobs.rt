@@ -48,6 +48,8 @@ pub struct Job {
     body: Arc<Body, Global>,
     inputs: Values,
     states: Values,
+    // Where its entry stands in the table of the active tasks: 0 until it is entered. No more than a hint.
+    key: usize,
 }
 
 impl Model for Job {
@@ -101,7 +103,20 @@ impl Job {
             body,
             inputs,
             states,
+            key: 0,
         }
+    }
+
+    // The key of its entry.
+    pub(crate) fn key(&self) -> usize {
+        self.key
+    }
+
+    // Notes the key of its entry.
+    pub(crate) fn set_key(&mut self, key: usize)
+        ensures { self.new ≡ self.old }
+    {
+        self.key = key;
     }
 
     /// The name of the job.
@@ -253,6 +268,13 @@ impl Jobs {
     {
         let jobs = VecDeque::with_capacity(alloc, room)?;
         Ok(Jobs { jobs })
+    }
+
+    /// How many jobs there are.
+    pub fn len(&self) -> usize
+        ensures { result ≡ length self.now.jobs }
+    {
+        self.jobs.len()
     }
 
     /// Adds a job behind the others. Takes no memory.

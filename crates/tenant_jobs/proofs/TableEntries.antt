@@ -1,0 +1,63 @@
+-- The entry of a name in a list of entries where no two have one name.
+use Rattle.std.proofs.Common.{◌≡◌, ℕ, ◌+◌, ◌≤◌, Bool, true, false, cond, List, [], ◌∷◌, ◌++◌, Option, Some, None, count_by, find, option_to_list, refl, sym, ap, ◌∙◌, arith}
+use Rattle.std.proofs.lemmas.List.Sums.{sum_by-cons, sum_by-append}
+use Rattle.std.proofs.lemmas.List.Folds.{find-append}
+use Rattle.slab.specs.Slab.{Slab, get, values}
+use Rattle.tenant_jobs.specs.declared.jobs.JobId.{JobId}
+use Rattle.tenant_jobs.specs.Jobs.{same_job}
+use Rattle.tenant_jobs.specs.Finished.{TableEntry, NamesDiffer}
+use Rattle.tenant_jobs.proofs.Slots.{one_slot, stored}
+
+abbrev pub weight_of : Bool → ℕ
+weight_of b = cond b 1 0
+
+pub weigh : {b d : Bool} → b ≡ d → weight_of b ≡ weight_of d
+weigh e = ap weight_of e
+
+module _ {X : Type 0} (p : X → Bool) where
+  pub count-middle : (x : X) (front back : List X) → count_by p (front ++ x ∷ back) ≡ count_by p (front ++ back) + cond (p x) 1 0
+  count-middle x front back =
+      let weight : X → ℕ = λ y. cond (p y) 1 0 in
+      omega (arith, sum_by-append weight front (x ∷ back), sum_by-append weight front back, sum_by-cons weight x back)
+
+  pub find_none : (xs : List X) → count_by p xs ≡ 0 → find p xs ≡ None
+  find_none [] none = refl
+  find_none (x ∷ xs) none = by_first (find_none xs) (p x) refl
+    where
+      by_first : (count_by p xs ≡ 0 → find p xs ≡ None) → (b : Bool) → p x ≡ b → find p (x ∷ xs) ≡ None
+      by_first later true e = absurd (omega (arith, none, sum_by-cons (λ y. cond (p y) 1 0) x xs, weigh e))
+      by_first later false e = rw e (later (omega (arith, none, sum_by-cons (λ y. cond (p y) 1 0) x xs)))
+
+  pub count_none : (xs : List X) → find p xs ≡ None → count_by p xs ≡ 0
+  count_none [] none = refl
+  count_none (x ∷ xs) none = by_first (count_none xs) (p x) refl
+    where
+      by_first : (find p xs ≡ None → count_by p xs ≡ 0) → (b : Bool) → p x ≡ b → count_by p (x ∷ xs) ≡ 0
+      by_first later true e = absurd (cc (rw e at none))
+      by_first later false e = omega (arith, sum_by-cons (λ y. cond (p y) 1 0) x xs, weigh e, later (rw e at none))
+
+  pub find_past : (x : X) (xs : List X) → p x ≡ false → find p (x ∷ xs) ≡ find p xs
+  find_past x xs not_it = rw not_it refl
+
+  pub find_other : (x : X) (front back : List X) → p x ≡ false → find p (front ++ x ∷ back) ≡ find p (front ++ back)
+  find_other x front back not_it = find-append p front (x ∷ back) ∙ (rw not_it (sym (find-append p front back)))
+
+  pub find_middle : (x : X) (front back : List X) → p x ≡ true → count_by p (front ++ x ∷ back) ≤ 1
+      → (find p (front ++ x ∷ back) ≡ Some x) × (find p (front ++ back) ≡ None)
+  find_middle x front back it one =
+      let weight : X → ℕ = λ y. cond (p y) 1 0 in
+      let here : weight_of (p x) ≡ weight_of true = weigh it in
+      let middle = count-middle x front back in
+      let split = sum_by-append weight front back in
+      let before : find p front ≡ None = find_none front (omega (arith, one, here, middle, split)) in (
+        find-append p front (x ∷ back) ∙ rw (before, it) refl,
+        find_none (front ++ back) (omega (arith, one, here, middle)),
+      )
+
+-- the entry under a key is the one that is found by its name
+pub found_at : (s : Slab TableEntry) (key : ℕ) (e : TableEntry) (j : JobId) → NamesDiffer (values s) → get s key ≡ Some e → same_job e.id j ≡ true → find (λ d. same_job d.id j) (values s) ≡ Some e
+found_at s key e j differ at same =
+    let split = one_slot key s.slots s.slots (λ _ _. refl) in
+    let here : stored s.slots ≡ split.0 ++ e ∷ split.1 = split.2 ∙ ap (λ (o : Option TableEntry). split.0 ++ (option_to_list o ++ split.1)) at in
+    let one : count_by (λ (d : TableEntry). same_job d.id j) (split.0 ++ e ∷ split.1) ≤ 1 = rw here at (differ j) in
+    ap (find (λ (d : TableEntry). same_job d.id j)) here ∙ (find_middle (λ (d : TableEntry). same_job d.id j) e split.0 split.1 same one).0

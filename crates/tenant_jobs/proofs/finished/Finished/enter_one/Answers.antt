@@ -1,0 +1,22 @@
+use Rattle.std.proofs.Common.{◌≡◌, false, sym, ◌∙◌, subst, find, is_some}
+use Rattle.slab.specs.Slab.{values}
+use Rattle.tenant_jobs.specs.Finished.{TaskTable, is_entered}
+use Rattle.tenant_jobs.proofs.TableChanges.{IsEntered, is_entered_at, is_of}
+use Rattle.tenant_jobs.proofs.finished.Finished.enter_one.Goals as goal
+
+entered : (c : goal.After-insert_reserved) → IsEntered (values c.self.inside.entries) (values c.insert_reserved.new.self) c.args.id
+entered c =
+    let not_yet : is_some (find (is_of c.args.id) (values c.self.inside.entries)) ≡ false = subst (λ (t : TaskTable). is_entered t c.args.id ≡ false) (sym c.self.view_is) c.requires.new in
+    is_entered_at c.self.inside.entries c.insert_reserved.new.self c.insert_reserved.result c.args.id c.insert_reserved.ensures.updates c.insert_reserved.ensures.was_vacant c.self.invariant.0 not_yet
+
+pub invariant_of-self : goal.invariant_of-self
+invariant_of-self c = ((entered c).differ, c.self.invariant.1 ∙ sym (entered c).results)
+
+pub returns-clause-entries : goal.returns-clause-entries
+returns-clause-entries c j = rw (← c.self.view_is) ((entered c).found j)
+
+pub returns-clause-results : goal.returns-clause-results
+returns-clause-results c = rw (← c.self.view_is) (entered c).results
+
+pub returns-clause-count : goal.returns-clause-count
+returns-clause-count c = rw (← c.self.view_is) (entered c).more
