@@ -6,7 +6,7 @@ use Rattle.std.proofs.lemmas.Bool.Decides.{nat_tests}
 use Rattle.std.proofs.lemmas.List.{drop_more, map-append, take-append-drop, take_more}
 use Rattle.std.proofs.lemmas.Option.{slice_get-get_or, slice_get_within}
 use Rattle.giotto_tasks.proofs.ListLemmas.{all_mapped_at}
-use Rattle.giotto_check.specs.Timetables.{AreEach}
+use Rattle.giotto_check.specs.inner.Timetables.{AreEach}
 
 pub each_long : {A B : Type 0} (R : A → B → Type 0) (xs : List A) (ys : List B) → AreEach R xs ys → length xs ≡ length ys
 each_long R [] [] all = omega arith

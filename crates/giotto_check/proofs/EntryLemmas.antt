@@ -6,7 +6,7 @@ use Rattle.std.proofs.lemmas.Bool.{false≢true}
 use Rattle.std.proofs.lemmas.List.{length-append, length-map}
 use Rattle.std.proofs.lemmas.Option.{slice_get-get_or}
 use Rattle.giotto_tasks.specs.declared.names.Name.{Name}
-use Rattle.giotto_tasks.specs.DriverCode.{driver_value}
+use Rattle.giotto_tasks.specs.inner.DriverCode.{driver_value}
 use Rattle.giotto_tasks.specs.Meaning.{value_of}
 use Rattle.giotto_tasks.specs.Names.{same_name, is_among}
 use Rattle.giotto_tasks.specs.Syntax.{Expression}
@@ -17,9 +17,10 @@ use Rattle.giotto_text.specs.declared.programs.Mode.{Mode}
 use Rattle.giotto_text.specs.declared.programs.Task.{Task}
 use Rattle.giotto_text.specs.ProgramTrees as trees
 use Rattle.giotto_rules.specs.Declarations.{driver_ports, names_read, mode_named, task_named, mode_ports, output_names, destinations_of}
-use Rattle.giotto_check.specs.Facts.{ModeFits, ProgramFits}
-use Rattle.giotto_check.specs.Slots.{shared_port, shown_name, slot_of, slots_of, ports_of_task}
-use Rattle.giotto_check.specs.Timetables.{AreEach, AreTaskSlots, HaveSlotsFrom, IsDestination, IsExpression, place_of_mode, place_of_task}
+use Rattle.giotto_check.specs.inner.Facts.{ModeFits, ProgramFits}
+use Rattle.giotto_check.specs.Slots.{shared_port, shown_name, slot_of, ports_of_task}
+use Rattle.giotto_check.specs.inner.Slots.{slots_of}
+use Rattle.giotto_check.specs.inner.Timetables.{AreEach, AreTaskSlots, HaveSlotsFrom, IsDestination, IsExpression, place_of_mode, place_of_task}
 use Rattle.giotto_check.specs.declared.timetables.SlotDestination.{SlotDestination}
 use Rattle.giotto_check.specs.declared.timetables.SlotExpr.{SlotExpr}
 use Rattle.giotto_check.specs.declared.timetables.TaskSlots.{TaskSlots}

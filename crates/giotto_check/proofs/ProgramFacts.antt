@@ -17,13 +17,13 @@ use Rattle.giotto_rules.specs.Declarations.{sensor_names, actuator_names, output
 use Rattle.giotto_rules.specs.Drivers.{readable_ports, ports_of_target, switch_fits, drivers_fit}
 use Rattle.giotto_rules.specs.Frequencies.{divides, frequencies_divide_in}
 use Rattle.giotto_rules.specs.Invocations.{has_arguments_for, argument_for_each_input}
-use Rattle.giotto_rules.specs.KeepsRules.{KeepsRules}
+use Rattle.giotto_rules.specs.inner.KeepsRules.{KeepsRules}
 use Rattle.giotto_rules.specs.Kinds.{kinds_of, task_uses, switch_uses, mode_uses}
 use Rattle.giotto_rules.specs.Names.{are_among}
 use Rattle.giotto_rules.specs.Rules.{declares_once, uses_right_kinds, bodies_use_own_ports, frequencies_divide, invokes_once, tasks_share_no_output, updates_once, arguments_fit, drivers_read_mode_ports, starts_in_a_mode}
 use Rattle.giotto_rules.specs.TaskPorts.{declares_own, uses_own_ports}
 use Rattle.giotto_rules.proofs.RulesKept.{rule_kept}
-use Rattle.giotto_check.specs.Facts.{IsFrequencyOf, UpdateFits, SwitchFits, InvocationFits, ModeFits, TaskFits, ProgramFits}
+use Rattle.giotto_check.specs.inner.Facts.{IsFrequencyOf, UpdateFits, SwitchFits, InvocationFits, ModeFits, TaskFits, ProgramFits}
 use Rattle.giotto_check.proofs.PortsOnce.{ports_different}
 use Rattle.giotto_check.proofs.SmallTasks.{small_if_printable}
 use Rattle.giotto_check.proofs.SoundNames.{names_have_no_dots}

@@ -8,8 +8,9 @@ use Rattle.giotto_text.specs.Parsing.{parsed}
 use Rattle.giotto_text.specs.Program.{from_line, TaskDeclaration, ActuatorUpdate, ModeSwitch, TaskInvocation, ModeDeclaration, GiottoProgram}
 use Rattle.giotto_text.proofs.Adder.{adder}
 use Rattle.giotto_rules.specs.Rules.{first_broken_rule}
-use Rattle.giotto_check.specs.Slots.{port_names, slot_of, slots_of, valuation_of}
-use Rattle.giotto_check.specs.Timetables.{HaveSlotsFrom, IsExit, IsInvocation, IsUpdate}
+use Rattle.giotto_check.specs.Slots.{port_names, slot_of, valuation_of}
+use Rattle.giotto_check.specs.inner.Slots.{slots_of}
+use Rattle.giotto_check.specs.inner.Timetables.{HaveSlotsFrom, IsExit, IsInvocation, IsUpdate}
 use Rattle.giotto_check.specs.declared.timetables.SlotExit.{SlotExit}
 use Rattle.giotto_check.specs.declared.timetables.SlotInvocation.{SlotInvocation}
 use Rattle.giotto_check.specs.declared.timetables.SlotUpdate.{SlotUpdate}

@@ -18,7 +18,7 @@ use Rattle.giotto_text.specs.declared.programs.Task.{Task}
 use Rattle.giotto_text.specs.PortNames.{own_port}
 use Rattle.giotto_rules.specs.Declarations.{driver_ports}
 use Rattle.giotto_check.specs.Slots.{ProgramPort, shared_port, task_port, shown_name, same_task, is_port, ports_of, ports_of_task, port_names, slot_of}
-use Rattle.giotto_check.specs.Timetables.{HaveSlotsFrom}
+use Rattle.giotto_check.specs.inner.Timetables.{HaveSlotsFrom}
 use Rattle.giotto_check.proofs.PlaceLemmas.{passes_there, place-append, place-map, place_first, place_from, place_none, place_same, place_second}
 
 -- a port of a task is none without a task

@@ -11,7 +11,7 @@ use Rattle.giotto_tasks.specs.Names.{same_name, is_among, value_at, value_or_zer
 use Rattle.giotto_tasks.specs.Sound.{all_different}
 use Rattle.giotto_tasks.proofs.NameLemmas.{same_name_self, same_name_is}
 use Rattle.giotto_text.specs.PortNames.{with_values}
-use Rattle.giotto_check.specs.Slots.{with_slots, with_range}
+use Rattle.giotto_check.specs.inner.Slots.{with_slots, with_range}
 
 -- a name that stands at a place of a list is among it
 there : (ns : List Name) (k : ℕ) (n : Name) → slice_get ns k ≡ Some n → is_among ns n ≡ true

@@ -1,5 +1,3 @@
-pub mod Checked
 pub mod Costs
-pub mod Facts
 pub mod Slots
-pub mod Timetables
+pub mod inner

@@ -19,12 +19,13 @@ ghost use Rattle.std.specs.Prelude.{◌≡◌, ◌≤◌, ℕ, ◌-◌, ◌^◌,
 ghost use Rattle.std.specs.List.{slice_get};
 ghost use Rattle.std.specs.Option.{option_map};
 ghost use Rattle.giotto_text.specs.Program.{ModeDeclaration};
-ghost use Rattle.giotto_rules.specs.KeepsRules.{KeepsRules};
+ghost use Rattle.giotto_rules.specs.inner.KeepsRules.{KeepsRules};
 ghost use Rattle.giotto_rules.specs.Rules.{first_broken_rule};
 ghost use Rattle.giotto_check.specs.Costs.{greatest_cost_of};
-ghost use Rattle.giotto_check.specs.Facts.{ProgramFits};
-ghost use Rattle.giotto_check.specs.Slots.{slot_of, slots_of};
-ghost use Rattle.giotto_check.specs.Timetables.{AreEach, AreExits, AreInvocations, AreTaskSlots, AreUpdates, IsTimetable};
+ghost use Rattle.giotto_check.specs.inner.Facts.{ProgramFits};
+ghost use Rattle.giotto_check.specs.Slots.{slot_of};
+ghost use Rattle.giotto_check.specs.inner.Slots.{slots_of};
+ghost use Rattle.giotto_check.specs.inner.Timetables.{AreEach, AreExits, AreInvocations, AreTaskSlots, AreUpdates, IsTimetable};
 ghost use Rattle.giotto_check.specs.declared.CheckFault.{CheckFault};
 
 mod greatest_cost;
@@ -52,8 +53,8 @@ pub struct Checked {
 
 impl Model for Checked {
     ghost use Rattle.giotto_text.specs.Program.{GiottoProgram};
-    ghost use Rattle.giotto_text.specs.ProgramCodes.{program_code};
-    ghost use Rattle.giotto_check.specs.Checked.{IsChecked};
+    ghost use Rattle.giotto_text.specs.inner.ProgramCodes.{program_code};
+    ghost use Rattle.giotto_check.specs.inner.Checked.{IsChecked};
 
     ghost Value = { GiottoProgram };
 

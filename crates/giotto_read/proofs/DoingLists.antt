@@ -11,7 +11,7 @@ use Rattle.std.specs.Result.{IsErr, IsErrAnd}
 use Rattle.std.proofs.lemmas.Result.{err_from_is_err_and}
 use Rattle.giotto_read.specs.declared.reader.Stop.{Stop}
 use Rattle.giotto_read.specs.declared.reader.Stop.TheVariants.{Unexpected, Memory}
-use Rattle.giotto_read.specs.Doing.{ComesNext, left, Does}
+use Rattle.giotto_read.specs.inner.Doing.{ComesNext, left, Does}
 use Rattle.giotto_text.specs.Parsing.{end_mark, this, Outcome, got, stopped, Parser, done, behind, ◌>>=◌, ◌>>◌, next_of, taken, read_one, read_token, pick, if_next, up_to, many, same_token, read_list, read_parentheses}
 use Rattle.giotto_read.proofs.DoingSteps.{comes_next}
 use Rattle.giotto_read.proofs.NextToken.{next_token}

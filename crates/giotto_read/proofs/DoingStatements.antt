@@ -1,6 +1,6 @@
 -- Which statement is read, by its first token.
 use Rattle.std.proofs.Common.{◌≡◌, true, false, List, refl}
-use Rattle.giotto_read.specs.Doing.{left}
+use Rattle.giotto_read.specs.inner.Doing.{left}
 use Rattle.giotto_read.specs.declared.reader.Reader.{Reader}
 use Rattle.giotto_tasks.specs.Syntax.{Block}
 use Rattle.giotto_text.specs.declared.tokens.Keyword.TheVariants.{If, Else, Repeat}

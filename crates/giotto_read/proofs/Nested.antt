@@ -1,7 +1,7 @@
 -- Expressions and blocks nest: the bound that the parser is given doesn't matter, if it is large enough.
 use Rattle.std.proofs.Common.{◌≡◌, ℕ, zero, suc, ◌<◌, ◌≤◌, Bool, true, false, List, [], ◌∷◌, length, Option, refl, sym, ap, ◌∙◌, arith}
 use Rattle.std.specs.Prelude.{Result, Ok, Err, not}
-use Rattle.giotto_read.specs.Doing.{left, Does}
+use Rattle.giotto_read.specs.inner.Doing.{left, Does}
 use Rattle.giotto_read.specs.declared.reader.Reader.{Reader}
 use Rattle.giotto_read.specs.declared.reader.Stop.{Stop}
 use Rattle.giotto_read.specs.declared.reader.Stop.TheVariants.{Unexpected, Memory}

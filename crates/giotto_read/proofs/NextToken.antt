@@ -3,7 +3,7 @@ use Rattle.std.proofs.Common.{◌≡◌, ◌≢◌, ℕ, zero, suc, ◌+◌, ◌
 use Rattle.std.proofs.lemmas.List.{length-map}
 use Rattle.std.proofs.lemmas.Option.{none-some, same_Some, slice_get_cases}
 use Rattle.std.specs.Option.{is_some, IfSome, IfNone}
-use Rattle.giotto_read.specs.Doing.{with_end, ComesNext}
+use Rattle.giotto_read.specs.inner.Doing.{with_end, ComesNext}
 use Rattle.giotto_read.specs.declared.reader.Reader.{Reader}
 use Rattle.giotto_text.specs.declared.tokens.PlacedToken.{PlacedToken}
 use Rattle.giotto_text.specs.declared.tokens.Token.{Token}

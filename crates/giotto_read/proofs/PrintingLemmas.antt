@@ -17,7 +17,7 @@ use Rattle.giotto_text.specs.declared.tokens.Token.{Token}
 use Rattle.giotto_text.specs.declared.tokens.Token.TheVariants as tokens
 use Rattle.giotto_text.specs.Program.{GiottoProgram}
 use Rattle.giotto_text.specs.Canonical.{actuator_tokens, block_tokens, canonical_tokens, destination_tokens, else_tokens, given_tokens, in_braces, keyword, mode_tokens, output_tokens, sensor_tokens, task_tokens, optional_list, statement_tokens, symbol, text_of, with_commas}
-use Rattle.giotto_read.specs.Printing.{written, comma_before}
+use Rattle.giotto_read.specs.inner.Printing.{written, comma_before}
 use Rattle.giotto_read.proofs.Writing.{written_first, written-append}
 
 -- the elements of a list, each written as f says: one more

@@ -4,7 +4,7 @@ use Rattle.std.proofs.lemmas.List.{map-append, take-append-drop}
 use Rattle.giotto_text.specs.Nesting.{nests_too_deep}
 use Rattle.giotto_text.specs.Tokens.{bare}
 use Rattle.giotto_text.proofs.CanonicalNesting.{open_after, deep_parts, deep_less}
-use Rattle.giotto_read.specs.Doing.{left}
+use Rattle.giotto_read.specs.inner.Doing.{left}
 use Rattle.giotto_read.specs.declared.reader.Reader.{Reader}
 
 pub left_shallow : (r : Reader) → nests_too_deep (bare (left r)) ≡ false

@@ -3,7 +3,7 @@ use Rattle.std.proofs.Common.{◌≡◌, ◌≢◌, ℕ, zero, suc, List, [], �
 use Rattle.giotto_text.specs.declared.tokens.Symbol.TheVariants.{Comma}
 use Rattle.giotto_text.specs.declared.tokens.Token.{Token}
 use Rattle.giotto_text.specs.Canonical.{symbol, text_of}
-use Rattle.giotto_read.specs.Printing.{written, comma_before}
+use Rattle.giotto_read.specs.inner.Printing.{written, comma_before}
 
 pub written_none : (text : List ℕ) → written text [] ≡ text
 unfolding written

@@ -7,7 +7,7 @@ ghost use Rattle.std.specs.String.{string_bytes};
 ghost use Rattle.giotto_text.specs.Canonical.{keyword, symbol, initial_tokens, canonical_of, canonical_tokens};
 ghost use Rattle.giotto_text.specs.Parsing.{parsed};
 ghost use Rattle.giotto_text.specs.declared.tokens.Token.TheVariants as tokens;
-ghost use Rattle.giotto_read.specs.Printing.{written, comma_before};
+ghost use Rattle.giotto_read.specs.inner.Printing.{written, comma_before};
 
 mod declarations;
 mod expressions;
@@ -79,28 +79,28 @@ impl Printer {
         self.text.push(' ')
     }
 
-    #[tactic(auto, unfolding(crate::specs::Printing::written))]
+    #[tactic(auto, unfolding(crate::specs::inner::Printing::written))]
     fn keyword(&mut self, word: Keyword) -> Result<(), AllocError>
         ensures { OnOk result (self.new ≡ written self.old (keyword word ∷ [])) }
     {
         self.token(word.as_str())
     }
 
-    #[tactic(auto, unfolding(crate::specs::Printing::written))]
+    #[tactic(auto, unfolding(crate::specs::inner::Printing::written))]
     fn symbol(&mut self, mark: Symbol) -> Result<(), AllocError>
         ensures { OnOk result (self.new ≡ written self.old (symbol mark ∷ [])) }
     {
         self.token(mark.as_str())
     }
 
-    #[tactic(auto, unfolding(crate::specs::Printing::written))]
+    #[tactic(auto, unfolding(crate::specs::inner::Printing::written))]
     fn name(&mut self, name: &Name) -> Result<(), AllocError>
         ensures { OnOk result (self.new ≡ written self.old (tokens.Name name.now ∷ [])) }
     {
         self.token(name.as_str())
     }
 
-    #[tactic(auto, unfolding(crate::specs::Printing::written))]
+    #[tactic(auto, unfolding(crate::specs::inner::Printing::written))]
     fn number(&mut self, number: u64) -> Result<(), AllocError>
         ensures { OnOk result (self.new ≡ written self.old (tokens.Number number ∷ [])) }
     {

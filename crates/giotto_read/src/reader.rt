@@ -74,7 +74,7 @@ impl<'a> Reader<'a> {
 }
 
 impl Reader<'_> {
-    ghost use Rattle.giotto_read.specs.Doing.{ComesNext, Does, Takes, offset_at};
+    ghost use Rattle.giotto_read.specs.inner.Doing.{ComesNext, Does, Takes, offset_at};
     ghost use Rattle.giotto_text.specs.Parsing.{end_mark, number_in, read_initial, read_int, read_name, read_one, read_program, read_start, read_token};
     ghost use Rattle.giotto_text.specs.declared.tokens.Symbol.{Symbol};
     ghost use Rattle.giotto_text.specs.declared.tokens.Token.TheVariants as token;

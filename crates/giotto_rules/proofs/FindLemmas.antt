@@ -21,9 +21,9 @@ use Rattle.giotto_rules.specs.Declarations.{task_names, mode_names, task_named, 
 use Rattle.giotto_rules.specs.Drivers.{ports_of_target}
 use Rattle.giotto_rules.specs.Names.{are_among}
 use Rattle.giotto_rules.specs.Rules.{tasks_share_no_output}
-use Rattle.giotto_tasks.specs.Places.{place_from}
+use Rattle.giotto_tasks.specs.inner.Places.{place_from}
 use Rattle.giotto_rules.specs.Switches.{is_period, goes_on_with}
-use Rattle.giotto_rules.specs.Periods.{periods_in, period_at}
+use Rattle.giotto_rules.specs.inner.Periods.{periods_in, period_at}
 use Rattle.giotto_tasks.proofs.IndexLemmas.{is_some-place_from}
 
 -- the element at a place, if there is a place

@@ -2,12 +2,10 @@ pub mod Declarations
 pub mod Drivers
 pub mod Frequencies
 pub mod Invocations
-pub mod KeepsRules
 pub mod Kinds
 pub mod Names
-pub mod Periods
 pub mod Reads
 pub mod Rules
-pub mod Scopes
 pub mod Switches
 pub mod TaskPorts
+pub mod inner

@@ -18,7 +18,7 @@ impl<'a> Model for Scope<'a> {
     ghost use Rattle.std.specs.Prelude.{List};
     ghost use Rattle.giotto_tasks.specs.declared.names.Name.{Name};
     ghost use Rattle.std.specs.Option.{option_map};
-    ghost use Rattle.giotto_rules.specs.Scopes.{joined};
+    ghost use Rattle.giotto_rules.specs.inner.Scopes.{joined};
 
     ghost Value = { List Name };
 

@@ -7,9 +7,9 @@ use Rattle.std.specs.List.{zip}
 use Rattle.std.specs.BTreeMap.{BTreeMap, get, Updates}
 use Rattle.std.proofs.lemmas.List.{drop_more}
 use Rattle.giotto_tasks.specs.declared.names.Name.{Name}
-use Rattle.giotto_tasks.specs.DriverCode.{number_at}
+use Rattle.giotto_tasks.specs.inner.DriverCode.{number_at}
 use Rattle.giotto_tasks.specs.Names.{same_name, is_among, value_at, value_or_zero}
-use Rattle.giotto_tasks.specs.Places.{place_from, HasPlaces}
+use Rattle.giotto_tasks.specs.inner.Places.{place_from, HasPlaces}
 use Rattle.giotto_tasks.specs.Sound.{all_different}
 
 -- a name has a place where it is among the names

@@ -6,7 +6,8 @@ use Rattle.std.proofs.lemmas.Bool.{and_parts, and_from, or_left, or_right, false
 use Rattle.std.proofs.lemmas.Cmp.{lists_equiv}
 use Rattle.giotto_tasks.specs.declared.names.Name.{Name}
 use Rattle.giotto_tasks.specs.Names.{same_name, is_among}
-use Rattle.giotto_tasks.specs.Sound.{all_different, is_once_among}
+use Rattle.giotto_tasks.specs.Sound.{all_different}
+use Rattle.giotto_tasks.specs.inner.Sources.{is_once_among}
 use Rattle.giotto_tasks.proofs.TestLemmas.{either, or_assoc, or_turned, and_true}
 use Rattle.giotto_tasks.proofs.ListLemmas.{all_wider}
 

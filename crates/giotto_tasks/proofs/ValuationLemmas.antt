@@ -4,7 +4,8 @@ use Rattle.std.specs.List.{zip}
 use Rattle.std.proofs.lemmas.Bool.{false≢true}
 use Rattle.std.proofs.lemmas.List.{at_drop_more, set_split, get_or_default}
 use Rattle.giotto_tasks.specs.declared.names.Name.{Name}
-use Rattle.giotto_tasks.specs.Names.{Valuation, names_in, same_name, is_among, with_value}
+use Rattle.giotto_tasks.specs.Names.{Valuation, same_name, is_among, with_value}
+use Rattle.giotto_tasks.specs.inner.Sources.{names_in}
 
 -- a name that is there keeps its place when it is given another value
 pub names_in-with_value : (vs : Valuation) (x : Name) (z : ℤ) → is_among (names_in vs) x ≡ true → names_in (with_value vs x z) ≡ names_in vs

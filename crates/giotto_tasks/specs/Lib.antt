@@ -1,15 +1,9 @@
 pub mod Arithmetic
-pub mod Code
-pub mod Codes
-pub mod Compiled
 pub mod Cost
 pub mod Depth
-pub mod DriverCode
-pub mod HasCode
-pub mod Layouts
 pub mod Meaning
 pub mod Names
-pub mod Places
 pub mod Sound
 pub mod Syntax
 pub mod Trees
+pub mod inner

@@ -16,10 +16,6 @@ is_among (n ∷ ns) x = same_name n x || is_among ns x
 abbrev pub Valuation : Type 0
 Valuation = List (Name × ℤ)
 
--- its names, in their order
-abbrev pub names_in : Valuation → List Name
-names_in vs = map (λ v. v.0) vs
-
 -- the value that the map gives a name
 abbrev pub value_at : Valuation → Name → Option ℤ
 value_at [] x = None

@@ -1,18 +1,13 @@
 -- Which names a body or an expression may use.
-use Rattle.std.specs.Prelude.{Bool, true, false, not, ◌&&◌, if◌then◌else◌, nat_le, List, [], ◌∷◌, ◌++◌, length, IsTrue}
+use Rattle.std.specs.Prelude.{Bool, true, not, ◌&&◌, nat_le, List, [], ◌∷◌, ◌++◌, length, IsTrue}
 use Rattle.giotto_tasks.specs.declared.names.Name.{Name}
-use Rattle.giotto_tasks.specs.Names.{Valuation, names_in, same_name, is_among}
+use Rattle.giotto_tasks.specs.Names.{is_among}
 use Rattle.giotto_tasks.specs.Syntax.{Expression, number, port, unary, binary, Statement, assign, branch, repeat, Block, finished, step, TaskBody}
 
 -- no name stands twice
 abbrev pub all_different : List Name → Bool
 all_different [] = true
 all_different (n ∷ ns) = not (is_among ns n) && all_different ns
-
--- the name is exactly one of these
-abbrev pub is_once_among : List Name → Name → Bool
-is_once_among [] x = false
-is_once_among (n ∷ ns) x = if same_name n x then not (is_among ns x) else is_once_among ns x
 
 -- each name that the expression reads passes the test
 abbrev pub reads_only : (Name → Bool) → Expression → Bool
@@ -56,7 +51,3 @@ has_sound_names b =
 -- a body that can be evaluated
 abbrev pub IsSound : TaskBody → Type 0
 IsSound b = IsTrue (is_small b && has_sound_names b)
-
--- each name of the expression stands exactly once among the sources
-abbrev pub AreSourcesOf : Valuation → Expression → Type 0
-AreSourcesOf sources e = IsTrue (reads_only (is_once_among (names_in sources)) e)

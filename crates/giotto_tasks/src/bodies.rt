@@ -2,7 +2,7 @@
 
 ghost use Rattle.std.specs.Prelude.{◌≡◌, ◌↔◌, ◌≤◌, ◌<◌, ◌++◌, length, Err, IsTrue, IfOk};
 ghost use Rattle.giotto_tasks.specs.Depth.{depth_of_block};
-ghost use Rattle.giotto_tasks.specs.HasCode.{IsCompiled};
+ghost use Rattle.giotto_tasks.specs.inner.HasCode.{IsCompiled};
 ghost use Rattle.giotto_tasks.specs.Sound.{is_small};
 ghost use Rattle.giotto_tasks.specs.Trees.{expression_of, statement_of, block_of, body_of};
 
@@ -61,8 +61,8 @@ pub struct Body {
 
 impl Model for Body {
     ghost use Rattle.giotto_tasks.specs.Syntax.{TaskBody};
-    ghost use Rattle.giotto_tasks.specs.Codes.{body_code};
-    ghost use Rattle.giotto_tasks.specs.HasCode.{IsCompiled};
+    ghost use Rattle.giotto_tasks.specs.inner.Codes.{body_code};
+    ghost use Rattle.giotto_tasks.specs.inner.HasCode.{IsCompiled};
     ghost use Rattle.giotto_tasks.specs.Trees.{body_of};
 
     ghost Value = { TaskBody };

@@ -6,9 +6,9 @@ pub mod Nesting
 pub mod Parsing
 pub mod PortNames
 pub mod Program
-pub mod ProgramCodes
 pub mod ProgramTrees
 pub mod Reading
 pub mod Sound
 pub mod Spelling
 pub mod Tokens
+pub mod inner

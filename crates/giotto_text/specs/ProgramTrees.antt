@@ -57,6 +57,3 @@ invocation_of i = record { frequency = i.frequency; guard = guard_of i.guard; ta
 
 abbrev pub mode_of : Mode → tree.ModeDeclaration
 mode_of m = record { name = m.name; period = m.period; updates = map update_of m.updates; switches = map switch_of m.switches; invocations = map invocation_of m.invocations }
-
-abbrev pub assignment_of : Name × Expr → Name × Expression
-assignment_of p = (p.0, expression_of p.1)

@@ -3,19 +3,12 @@ use Rattle.std.specs.Prelude.{◌≡◌, ℕ, Bool, true, false, List, [], ◌�
 use Rattle.std.specs.List.{list_all}
 use Rattle.giotto_tasks.specs.Sound.{is_small}
 use Rattle.giotto_text.specs.declared.faults.ReadFault.{ReadFault}
-use Rattle.giotto_text.specs.declared.faults.ReadFault.TheVariants.{Syntax, TooDeep, TooMany, Memory}
+use Rattle.giotto_text.specs.declared.faults.ReadFault.TheVariants.{Syntax, TooDeep, TooMany}
 use Rattle.giotto_text.specs.declared.tokens.PlacedToken.{PlacedToken}
 use Rattle.giotto_text.specs.Nesting.{nests_too_deep}
 use Rattle.giotto_text.specs.Program.{GiottoProgram, body_of}
 use Rattle.giotto_text.specs.Tokens.{Tokens, tokens_of, bare}
 use Rattle.giotto_text.specs.Spelling.{Spells, IsPrefix}
-
--- what a fault says that cutting a text into tokens ends with: where no token begins; of memory nothing
-abbrev pub IsLexicalFault : List ℕ → ReadFault → Type 0
-IsLexicalFault text (Syntax offset) = tokens_of text ≡ Err offset
-IsLexicalFault text Memory = Unit {0}
-IsLexicalFault text TooDeep = ⊥
-IsLexicalFault text TooMany = ⊥
 
 -- The fault offset of the grammar, in a text that ends here: that of the first token with which the tokens are no prefix of
 -- a program, or the end, where they end too early.

@@ -18,7 +18,7 @@ pub struct Program {
 
 impl Model for Program {
     ghost use Rattle.giotto_text.specs.Program.{GiottoProgram};
-    ghost use Rattle.giotto_text.specs.ProgramCodes.{program_code};
+    ghost use Rattle.giotto_text.specs.inner.ProgramCodes.{program_code};
     ghost use Rattle.giotto_text.specs.Sound.{IsPrintable};
 
     ghost Value = { GiottoProgram };
@@ -110,7 +110,7 @@ pub struct Parts {
 impl Model for Parts {
     ghost use Rattle.std.specs.Prelude.{map};
     ghost use Rattle.giotto_text.specs.Program.{GiottoProgram};
-    ghost use Rattle.giotto_text.specs.ProgramCodes.{program_code};
+    ghost use Rattle.giotto_text.specs.inner.ProgramCodes.{program_code};
 
     ghost Value = { GiottoProgram };
 

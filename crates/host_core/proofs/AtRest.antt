@@ -12,7 +12,8 @@ use Rattle.std.proofs.lemmas.Simd.{map-map}
 use Rattle.std.proofs.lemmas.Option.{slice_get-get_or, slice_get-map}
 use Rattle.tenant_jobs.specs.declared.jobs.JobId.{JobId}
 use Rattle.host_core.specs.Halves.{most_of}
-use Rattle.host_core.specs.HostStanding.{HostStanding, IsAt, Stands, tenant_at, awaited_in, outstanding_from, outstanding_of}
+use Rattle.host_core.specs.HostStanding.{HostStanding, Stands, tenant_at, awaited_in, outstanding_from, outstanding_of}
+use Rattle.host_core.specs.inner.HostStanding.{IsAt}
 use Rattle.host_core.specs.HostState.{HostState}
 use Rattle.host_core.specs.Setting.{Setting}
 use Rattle.tenant_state.specs.Jobs.{job_of}

@@ -11,10 +11,11 @@ use Rattle.rig_config.specs.declared.TenantConfig.{TenantConfig}
 use Rattle.tenant_jobs.specs.declared.jobs.JobId.{JobId}
 use Rattle.host_core.specs.declared.events.Event.{Event}
 use Rattle.host_core.specs.declared.events.Event.TheVariants.{Done}
-use Rattle.host_core.specs.Halves.{AreStepped, IsCompleted}
+use Rattle.host_core.specs.inner.Halves.{AreStepped, IsCompleted}
 use Rattle.host_core.specs.Host.{after_event, host_after}
 use Rattle.host_core.specs.HostState.{HostState, row_at, is_counted, awaits}
-use Rattle.host_core.specs.HostStanding.{HostStanding, IsAt, Stands, tenant_at, outstanding_jobs, outstanding_of}
+use Rattle.host_core.specs.HostStanding.{HostStanding, Stands, tenant_at, outstanding_jobs, outstanding_of}
+use Rattle.host_core.specs.inner.HostStanding.{IsAt}
 use Rattle.host_core.specs.Setting.{Setting}
 use Rattle.tenant_jobs.specs.Jobs.{same_job}
 use Rattle.tenant_state.specs.Jobs.{job_of, is_active}

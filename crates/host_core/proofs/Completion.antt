@@ -16,7 +16,8 @@ use Rattle.host_core.specs.declared.hosts.Counted.{Counted}
 use Rattle.host_core.specs.declared.hosts.Counted.TheVariants as became
 use Rattle.host_core.specs.Host.{after_event}
 use Rattle.host_core.specs.HostState.{HostState, row_at, is_counted, awaits}
-use Rattle.host_core.specs.HostStanding.{HostStanding, Stands, IsAt, IsOwn, awaited_in}
+use Rattle.host_core.specs.HostStanding.{HostStanding, Stands, IsOwn, awaited_in}
+use Rattle.host_core.specs.inner.HostStanding.{IsAt}
 use Rattle.host_core.specs.Setting.{Setting}
 use Rattle.host_core.proofs.AtRest.{stands_inside, awaited_at_rest}
 use Rattle.host_core.proofs.HostSteps.{awaits_here}

@@ -4,9 +4,11 @@ use Rattle.std.specs.List.{All}
 use Rattle.std.proofs.lemmas.Bool.{cases_eq}
 use Rattle.std.proofs.lemmas.List.{get_or-set_same, get_or-set_other, get_or_default, append-nil, append_assoc, take_more_set, length-take}
 use Rattle.std.proofs.lemmas.List.Sums.{sum_by-append, sum_by-cons, sum_by-drop_more, get_or-le-sum_by}
-use Rattle.host_core.specs.HostStanding.{ArePlaced, IsAt, Stands, released_from, tenant_at}
-use Rattle.tenant_state.specs.Halves.{IsFirstHalf}
-use Rattle.host_core.specs.Halves.{AreSecondHalves, AreStepped, IsSecondHalfAndKnown, most_of}
+use Rattle.host_core.specs.inner.HostStanding.{ArePlaced, IsAt}
+use Rattle.host_core.specs.HostStanding.{Stands, released_from, tenant_at}
+use Rattle.tenant_state.specs.inner.Halves.{IsFirstHalf}
+use Rattle.host_core.specs.inner.Halves.{AreSecondHalves, AreStepped, IsSecondHalfAndKnown}
+use Rattle.host_core.specs.Halves.{most_of}
 use Rattle.host_core.specs.Host.{after_event}
 use Rattle.host_core.specs.declared.events.Event.TheVariants.{Tick}
 use Rattle.host_core.specs.HostState.{HostState}

@@ -14,11 +14,12 @@ use Rattle.rig_config.specs.declared.Config.{Config}
 use Rattle.rig_config.specs.declared.TenantConfig.{TenantConfig}
 use Rattle.tenant_lines.specs.declared.commands.Command.{Command}
 use Rattle.tenant_jobs.specs.declared.jobs.JobId.{JobId}
-use Rattle.tenant_state.specs.Halves.{IsFirstHalf}
-use Rattle.host_core.specs.Halves.{AreSecondHalves, AreStepped, IsSecondHalfAndKnown}
+use Rattle.tenant_state.specs.inner.Halves.{IsFirstHalf}
+use Rattle.host_core.specs.inner.Halves.{AreSecondHalves, AreStepped, IsSecondHalfAndKnown}
 use Rattle.host_core.specs.Host.{instant_of, with_rows, after_event}
 use Rattle.host_core.specs.HostState.{HostState, is_counted, row_at, awaits}
-use Rattle.host_core.specs.HostStanding.{HostStanding, IsAt, tenant_at, Stands, awaited_in}
+use Rattle.host_core.specs.HostStanding.{HostStanding, tenant_at, Stands, awaited_in}
+use Rattle.host_core.specs.inner.HostStanding.{IsAt}
 use Rattle.host_core.specs.Setting.{Setting}
 use Rattle.tenant_state.specs.Commands.{commanded}
 use Rattle.tenant_lines.specs.declared.replies.Refusal.TheVariants.{Memory}
@@ -34,7 +35,8 @@ use Rattle.tenant_state.specs.Jobs.{job_of, job_in, is_active}
 use Rattle.tenant_state.specs.Row.{ActiveTask, Row, empty_row}
 use Rattle.tenant_state.specs.SecondHalf.{second_half_of}
 use Rattle.tenant_slots.specs.Readings.{readings_within}
-use Rattle.tenant_state.specs.Standing.{Standing, at_rest, empty_standing, IsKnown, StandsFor, IsOutcome, outstanding_tasks, awaited_job}
+use Rattle.tenant_state.specs.Standing.{Standing, at_rest, empty_standing, IsKnown, StandsFor, outstanding_tasks, awaited_job}
+use Rattle.tenant_state.specs.inner.Standing.{IsOutcome}
 use Rattle.host_core.proofs.Alone.{counted_of_active}
 use Rattle.host_core.proofs.AtRest.{stands_inside}
 use Rattle.host_core.proofs.AloneAlong.{unfinished_at}

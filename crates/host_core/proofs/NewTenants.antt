@@ -3,7 +3,7 @@ use Rattle.std.proofs.Common.{◌≡◌, ◌∙◌, ℕ, ◌+◌, ◌<◌, ◌�
 use Rattle.std.specs.List.{enumerate_from}
 use Rattle.std.proofs.lemmas.List.{take_more, take_all}
 use Rattle.rig_config.specs.declared.TenantConfig.{TenantConfig}
-use Rattle.host_core.specs.HostStanding.{IsAt}
+use Rattle.host_core.specs.inner.HostStanding.{IsAt}
 use Rattle.tenant_state.specs.Standing.{Standing, empty_standing}
 use Rattle.host_core.proofs.NewHost.{at_place, as_many_places}
 use Rattle.host_core.proofs.Placed.{IsWhole}

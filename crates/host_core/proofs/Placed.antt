@@ -1,8 +1,9 @@
 -- Each tenant knows its place, as long as what is done with tenants keeps their places.
 use Rattle.std.proofs.Common.{◌≡◌, ℕ, ◌<◌, List, length, map, ap, ◌∙◌, arith}
 use Rattle.std.specs.List.{All}
-use Rattle.host_core.specs.Halves.{AreStepped}
-use Rattle.host_core.specs.HostStanding.{ArePlaced, IsAt, tenant_at}
+use Rattle.host_core.specs.inner.Halves.{AreStepped}
+use Rattle.host_core.specs.inner.HostStanding.{ArePlaced, IsAt}
+use Rattle.host_core.specs.HostStanding.{tenant_at}
 use Rattle.tenant_state.specs.Standing.{Standing, at_rest, empty_standing}
 use Rattle.host_core.proofs.AtRest.{same_at_rest, same_length, all_at_rest}
 

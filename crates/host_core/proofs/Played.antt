@@ -21,7 +21,7 @@ use Rattle.host_core.specs.Host.{host_after}
 use Rattle.host_core.specs.HostState.{HostState, row_at}
 use Rattle.host_core.specs.HostStanding.{HostStanding, new_host, tenant_at, Stands, released_from}
 use Rattle.host_core.specs.Legal.{next_tick, was_released, may_follow, is_legal}
-use Rattle.host_core.specs.Playing.{IsPlayed}
+use Rattle.host_core.specs.inner.Playing.{IsPlayed}
 use Rattle.host_core.specs.Plays.{IsSettingOf}
 use Rattle.host_core.specs.Setting.{Setting}
 use Rattle.host_core.specs.Views.{after_command, readings_of, run_of, view_of, row_of}

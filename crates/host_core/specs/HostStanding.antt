@@ -12,7 +12,7 @@ use Rattle.host_core.specs.HostState.{HostState, row_at, is_counted}
 use Rattle.host_core.specs.Setting.{Setting}
 use Rattle.tenant_jobs.specs.Jobs.{JobValue}
 use Rattle.tenant_state.specs.Jobs.{job_of, released_at}
-use Rattle.tenant_state.specs.Standing.{Standing, empty_standing, at_rest, IsKnown, StandsFor, outstanding_tasks, awaited_job}
+use Rattle.tenant_state.specs.Standing.{Standing, empty_standing, at_rest, StandsFor, outstanding_tasks, awaited_job}
 
 -- the host as its code has it
 pub record HostStanding : Type 0 where
@@ -53,14 +53,6 @@ TakesEvent e before after = ForEachState before (λ setting state. Stands settin
 abbrev pub TakesCompletions : List JobId → HostStanding → HostStanding → Type 0
 TakesCompletions jobs before after = (setting : Setting) (past : List Event) → Stands setting before (host_after setting past)
     → Stands setting after (host_after setting (with_completions jobs past))
-
--- what is known of each tenant of a host whose next instant has this number
-abbrev pub IsAt : ℕ → Standing → Type 0
-IsAt n s = (s.row.next_tick ≡ n) × IsKnown s.row
-
--- each tenant knows its place
-abbrev pub ArePlaced : List Standing → Type 0
-ArePlaced tenants = (t : ℕ) → t < length tenants → (tenant_at tenants t).place ≡ t
 
 -- the job of this name, if its completion is awaited
 abbrev pub awaited_in : HostStanding → JobId → Option JobValue

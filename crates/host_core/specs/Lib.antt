@@ -7,7 +7,7 @@ pub mod Host
 pub mod HostStanding
 pub mod HostState
 pub mod Legal
-pub mod Playing
 pub mod Plays
 pub mod Setting
 pub mod Views
+pub mod inner

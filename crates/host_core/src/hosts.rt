@@ -2,11 +2,13 @@
 
 ghost use Rattle.std.specs.Prelude.{◌≡◌, ◌≢◌, ◌<◌, ◌≤◌, ◌+◌, ◌-◌, ◌^◌, ◌↔◌, ℕ, ◌++◌, length, map, is_some, false, if◌then◌else◌, IsOk, IsSome, IfOk, IfSome, OnOk, OnErr, OnSome, Ok, Err, Some, None};
 ghost use Rattle.std.specs.List.{All};
-ghost use Rattle.host_core.specs.Halves.{AreSecondHalves, AreStepped, IsReady, IsCompleted, most_of};
+ghost use Rattle.host_core.specs.inner.Halves.{AreSecondHalves, AreStepped, IsReady, IsCompleted};
+ghost use Rattle.host_core.specs.Halves.{most_of};
 ghost use Rattle.host_core.specs.HostState.{row_at, awaits};
-ghost use Rattle.host_core.specs.HostStanding.{ArePlaced, ForEachState, IsOwn, TakesCompletions, TakesEvent, new_host, tenant_at, awaited_in, released_from, outstanding_count, outstanding_from, outstanding_jobs, outstanding_of};
+ghost use Rattle.host_core.specs.inner.HostStanding.{ArePlaced};
+ghost use Rattle.host_core.specs.HostStanding.{ForEachState, IsOwn, TakesCompletions, TakesEvent, new_host, tenant_at, awaited_in, released_from, outstanding_count, outstanding_from, outstanding_jobs, outstanding_of};
 ghost use Rattle.tenant_state.specs.Commands.{takes_memory};
-ghost use Rattle.tenant_state.specs.Halves.{IsFirstHalf};
+ghost use Rattle.tenant_state.specs.inner.Halves.{IsFirstHalf};
 ghost use Rattle.tenant_state.specs.Standing.{Standing, at_rest, IsKnown};
 ghost use Rattle.host_core.specs.Views.{after_command};
 ghost use Rattle.host_core.specs.declared.events.Event.{Event};
@@ -60,8 +62,9 @@ impl Model for Host {
     ghost use Rattle.std.specs.Prelude.{◌≡◌, length, map};
     ghost use Rattle.std.specs.List.{All};
     ghost use Rattle.std.specs.Coded.{codes};
-    ghost use Rattle.giotto_text.specs.ProgramCodes.{program_code};
-    ghost use Rattle.host_core.specs.HostStanding.{HostStanding, ArePlaced, IsAt};
+    ghost use Rattle.giotto_text.specs.inner.ProgramCodes.{program_code};
+    ghost use Rattle.host_core.specs.HostStanding.{HostStanding};
+    ghost use Rattle.host_core.specs.inner.HostStanding.{ArePlaced, IsAt};
     ghost use Rattle.tenant_state.specs.Standing.{at_rest};
 
     ghost Value = { HostStanding };

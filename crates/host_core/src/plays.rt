@@ -4,7 +4,7 @@ ghost use Rattle.std.specs.Prelude.{◌≡◌, ◌≢◌, ◌<◌, ◌++◌, ◌
 ghost use Rattle.std.specs.List.{All, list_any};
 ghost use Rattle.host_core.specs.Legal.{may_follow};
 ghost use Rattle.host_core.specs.HostStanding.{awaited_in};
-ghost use Rattle.host_core.specs.Playing.{IsStage, IsPlayedOn, IsLate, HasPlace};
+ghost use Rattle.host_core.specs.inner.Playing.{IsStage, IsPlayedOn, IsLate, HasPlace};
 ghost use Rattle.host_core.specs.Plays.{IsSettingOf, AreAnswers, IsLeastIllegal};
 ghost use Rattle.host_core.specs.Setting.{Setting};
 ghost use Rattle.tenant_jobs.specs.Jobs.{JobValue, same_job};

@@ -17,7 +17,7 @@ use Rattle.tenant_state.specs.Jobs.{job_of, is_active}
 use Rattle.giotto_tasks.proofs.ListLemmas.{all_map, all_flat, all_filtered}
 use Rattle.giotto_tasks.proofs.TestLemmas.{or_true}
 use Rattle.tenant_state.proofs.JobNames.{own_jobs_active}
-use Rattle.rig_script.specs.HostAnswers.{IsHostAfter}
+use Rattle.rig_script.specs.inner.HostAnswers.{IsHostAfter}
 use Rattle.rig_script.specs.Script.{outstanding_at, outstanding_after}
 use Rattle.host_core.proofs.Completed.{first_done}
 use Rattle.host_core.proofs.Outstanding.{awaited_at, code_awaits}

@@ -10,9 +10,9 @@ use Rattle.host_core.specs.Plays.{IsSettingOf}
 use Rattle.host_core.proofs.LaterBase.{new_is_base}
 use Rattle.host_core.proofs.NewHost.{new_stands}
 use Rattle.rig_script.specs.Answered.{IsText}
-use Rattle.rig_script.specs.HostAnswers.{IsHostAfter}
+use Rattle.rig_script.specs.inner.HostAnswers.{IsHostAfter}
 use Rattle.rig_script.specs.Lines.{cut}
-use Rattle.rig_script.specs.Reading.{IsLeft, reads_of}
+use Rattle.rig_script.specs.inner.Reading.{IsLeft, reads_of}
 use Rattle.rig_script.specs.declared.lines.Lines.{Lines}
 use Rattle.rig_script.specs.Script.{script_from, script_text_of, AreBrokenOff, IsScriptBrokenOff, ForNewHostReading}
 use Rattle.rig_script.specs.declared.faults.ScriptFault.{ScriptFault}

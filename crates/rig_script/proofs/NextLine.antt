@@ -11,7 +11,7 @@ use Rattle.rig_script.specs.declared.faults.ScriptFault.TheVariants.{Read}
 use Rattle.rig_script.specs.declared.lines.Line.{Line}
 use Rattle.rig_script.specs.declared.lines.Line.TheVariants.{Whole, Bad, End}
 use Rattle.rig_script.specs.Lines.{cut}
-use Rattle.rig_script.specs.Reading.{IsReading, IsNextLine}
+use Rattle.rig_script.specs.inner.Reading.{IsReading, IsNextLine}
 use Rattle.rig_script.proofs.LineCuts.{text_of_short, decoded_cuts, last_cuts}
 
 -- `IsLeft` of the parts

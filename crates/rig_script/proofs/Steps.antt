@@ -25,8 +25,9 @@ use Rattle.tenant_lines.specs.Words.{words_of, first_word_of, behind_first_word,
 use Rattle.host_core.proofs.AloneAlong.{same_rows, same_clock}
 use Rattle.tenant_lines.proofs.WordLemmas.{words_first, words_none}
 use Rattle.rig_script.specs.Answered.{reply_line}
-use Rattle.rig_script.specs.HostAnswers.{IsHostAfter}
-use Rattle.rig_script.specs.Script.{Step, IsCarriedOut, work_of, operator, operator_line_of, operator_step, work_step, work_step_of, outstanding_at, tenant_step, only_answered}
+use Rattle.rig_script.specs.inner.HostAnswers.{IsHostAfter}
+use Rattle.rig_script.specs.Script.{Step, work_of, operator, operator_line_of, operator_step, work_step, work_step_of, outstanding_at, tenant_step, only_answered}
+use Rattle.rig_script.specs.inner.Script.{IsCarriedOut}
 
 -- this text was answered, and the events have happened
 pub step_done : (step : Step) (past : List Event) (r : Result (String Global) AllocError) (After : List Event → Type 0) (text : List ℕ)

@@ -1,5 +1,5 @@
 -- What is written for the lines of a script, by who answers them.
-use Rattle.std.specs.Prelude.{◌≡◌, ◌⊎◌, ℕ, List, [], ◌∷◌, ◌++◌, Option, Some, None, IsSome, codes}
+use Rattle.std.specs.Prelude.{◌≡◌, ℕ, List, [], ◌∷◌, ◌++◌, Option, Some, None, IsSome, codes}
 use Rattle.std.specs.List.{AllByRecursion}
 use Rattle.std.specs.Option.{option_map}
 use Rattle.rig_script.specs.declared.faults.ScriptFault.{ScriptFault}
@@ -53,7 +53,3 @@ module _ {S : Type 0} (reply : S → List ℕ → List ℕ) (after : S → List 
   IsBrokenOff refused s lines Written Memory =
       (before : List (List ℕ)) × (line : List ℕ) × (text : List ℕ) × (later : List (List ℕ)) × (lines ≡ before ++ line ∷ later) × AllByRecursion IsText before
       × (text_of_line line ≡ Some text) × Written (answered s before ++ refused text)
-
--- why a line was not answered: a write failed, or the reply found no memory, and then `Said` holds
-abbrev pub IsUnanswered : ScriptFault → Type 0 → Type 0
-IsUnanswered fault Said = (fault ≡ Write) ⊎ ((fault ≡ Memory) × Said)

@@ -1,7 +1,5 @@
 -- The text that a script is answered.
-use Rattle.std.specs.Prelude.{◌≡◌, ◌⊎◌, ℕ, ◌-◌, ◌^◌, nat_lt, not, ◌==◌, if◌then◌else◌, ℤ, List, [], ◌∷◌, ◌++◌, length, map, filter, reverse, Option, Some, None, IfSome, Result, Ok, Err, String, string_bytes, codes}
-use Rattle.std.specs.declared.alloc.AllocError.{AllocError}
-use Rattle.std.specs.declared.alloc.Global.{Global}
+use Rattle.std.specs.Prelude.{◌≡◌, ◌⊎◌, ℕ, ◌-◌, ◌^◌, nat_lt, not, ◌==◌, if◌then◌else◌, ℤ, List, [], ◌∷◌, ◌++◌, length, map, filter, reverse, Option, Some, None, IfSome, codes}
 use Rattle.std.specs.List.{flat_map, enumerate_from}
 use Rattle.std.specs.Fmt.{decimal}
 use Rattle.giotto_tasks.specs.declared.names.Name.{Name}
@@ -28,10 +26,8 @@ use Rattle.rig_script.specs.declared.speakers.Speaker.{Speaker}
 use Rattle.rig_script.specs.declared.speakers.Speaker.TheVariants.{Nobody, Operator, Tenant, Unknown}
 use Rattle.rig_script.specs.declared.faults.ScriptFault.{ScriptFault}
 use Rattle.rig_script.specs.declared.faults.ScriptFault.TheVariants.{Memory}
-use Rattle.rig_script.specs.declared.lines.Lines.{Lines}
 use Rattle.rig_script.specs.Answered.{reply_line, err_memory, answered, state_after, IsBrokenOff}
 use Rattle.rig_script.specs.Lines.{cut}
-use Rattle.rig_script.specs.Reading.{IsLeft}
 
 -- the word with which the operator's lines begin
 abbrev pub operator : List ℕ
@@ -88,11 +84,6 @@ operator_line_of (w ∷ ws) = if same_name w (codes "tick") then ticks (values_o
 pub record Step : Type 0 where
   pub events : List Event
   pub reply : List ℕ
-
--- The step is carried out behind these events: its reply is given, and `Stands` holds behind its own events. Want of memory says nothing.
-abbrev pub IsCarriedOut : Step → List Event → Result (String Global) AllocError → (List Event → Type 0) → Type 0
-IsCarriedOut step past (Ok text) Stands = (string_bytes text ≡ step.reply) × Stands (step.events ++ past)
-IsCarriedOut step past (Err e) Stands = Unit {0}
 
 abbrev pub only_answered : List ℕ → Step
 only_answered reply = record { events = []; reply = reply }
@@ -182,14 +173,6 @@ AreBrokenOff Written fault setting past lines = IsBrokenOff (reply_to_line setti
 -- nothing was read.
 abbrev pub IsScriptBrokenOff : Option (List ℕ) → (List ℕ → Type 0) → ScriptFault → Setting → List ℕ → Type 0
 IsScriptBrokenOff left Written fault setting bytes = ((fault ≡ Memory) × (left ≡ Some bytes) × Written []) ⊎ AreBrokenOff Written fault setting [] (cut bytes)
-
--- `Holds` in each setting of all events, the newest first, behind which one `Stands` there
-abbrev pub ForEachPast : (Setting → List Event → Type 0) → (Setting → List Event → Type 0) → Type 0
-ForEachPast Stands Holds = (setting : Setting) (past : List Event) → Stands setting past → Holds setting past
-
--- the same, and of the lines that are left, where it is known what the reader still has
-abbrev pub ForEachPastAndLines : (Setting → List Event → Type 0) → Lines → Option (List ℕ) → (Setting → List Event → List (List ℕ) → Type 0) → Type 0
-ForEachPastAndLines Stands lines remaining Holds = (setting : Setting) (past : List Event) (bytes : List ℕ) → Stands setting past → IsLeft lines remaining bytes → Holds setting past (cut bytes)
 
 -- `Holds` in the setting of a new host with this configuration, of the bytes that a reader is known to have
 abbrev pub ForNewHostReading : Config → Option (List ℕ) → (Setting → List ℕ → Type 0) → Type 0

@@ -4,10 +4,12 @@ ghost use Rattle.std.specs.Prelude.{◌≡◌, ◌≤◌, ◌+◌, ℕ, List, []
 ghost use Rattle.std.specs.Io.KnownBytes.{Appends, Keeps};
 ghost use Rattle.host_core.specs.Setting.{Setting};
 ghost use Rattle.host_core.specs.declared.events.Event.{Event};
-ghost use Rattle.rig_script.specs.Answered.{bye_bad_line, err_memory, IsText, IsUnanswered};
+ghost use Rattle.rig_script.specs.Answered.{bye_bad_line, err_memory, IsText};
+ghost use Rattle.rig_script.specs.inner.Script.{IsUnanswered};
 ghost use Rattle.rig_script.specs.Lines.{cut};
-ghost use Rattle.rig_script.specs.Reading.{IsLeft, reads_of};
-ghost use Rattle.rig_script.specs.Script.{IsCarriedOut, ForEachPast, ForEachPastAndLines, AreBrokenOff, speaker_of, line_step, memory_reply, reply_to_line, past_after, past_behind, script_from};
+ghost use Rattle.rig_script.specs.inner.Reading.{IsLeft, reads_of};
+ghost use Rattle.rig_script.specs.inner.Script.{IsCarriedOut, ForEachPast, ForEachPastAndLines};
+ghost use Rattle.rig_script.specs.Script.{AreBrokenOff, speaker_of, line_step, memory_reply, reply_to_line, past_after, past_behind, script_from};
 
 use crate::faults::ScriptFault;
 use crate::lines::{Line, Lines};

@@ -1,7 +1,7 @@
 //! Why a script ends before its input does.
 
 ghost use Rattle.std.specs.Prelude.{◌≡◌};
-ghost use Rattle.rig_script.specs.Faults.{text_of_fault};
+ghost use Rattle.rig_script.specs.inner.Faults.{text_of_fault};
 
 use thiserror::Error;
 

@@ -5,7 +5,7 @@ ghost use Rattle.std.specs.Io.KnownBytes.{Appends};
 ghost use Rattle.tenant_lines.specs.Words.{words_of};
 ghost use Rattle.rig_script.specs.Answered.{reply_line, IsText};
 ghost use Rattle.rig_script.specs.Lines.{cut};
-ghost use Rattle.rig_script.specs.HostAnswers.{CarriesOut, IsHostAfter};
+ghost use Rattle.rig_script.specs.inner.HostAnswers.{CarriesOut, IsHostAfter};
 ghost use Rattle.rig_script.specs.Script.{tenant_step, operator_step, work_step, work_step_of, outstanding_after, script_text_of, IsScriptBrokenOff, ForNewHostReading};
 
 use crate::answers::{Answers, answer_lines};

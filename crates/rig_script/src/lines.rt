@@ -3,7 +3,7 @@
 ghost use Rattle.std.specs.Prelude.{◌≡◌, ◌≢◌, ◌≤◌, ◌+◌, ℕ, true, false, List, Option, Some, IfErr, OnOk, Err};
 ghost use Rattle.std.specs.Io.KnownBytes.{Keeps};
 ghost use Rattle.tokio_util.specs.Codec.Lines.{IsOutOfMemory};
-ghost use Rattle.rig_script.specs.Reading.{IsReadingOf, IsLeft, IsNextLine, AreCounted, reads_of};
+ghost use Rattle.rig_script.specs.inner.Reading.{IsReadingOf, IsLeft, IsNextLine, AreCounted, reads_of};
 
 use crate::faults::ScriptFault;
 use bytes::BytesMut;

@@ -4,7 +4,7 @@ use Rattle.std.proofs.lemmas.List.{drop_more, take_more, length-append, length-d
 use Rattle.std.proofs.lemmas.List.Folds.{list_any_none, list_any_more}
 use Rattle.tenant_jobs.specs.declared.jobs.JobId.{JobId}
 use Rattle.tenant_jobs.specs.Jobs.{JobValue, same_job}
-use Rattle.tenant_jobs.specs.Finished.{is_job_of, JobsDiffer}
+use Rattle.tenant_jobs.specs.inner.Finished.{is_job_of, JobsDiffer}
 
 pub length_turned : (js : List JobValue) (i : ℕ) → i ≤ length js → length (drop i js ++ take i js) ≡ length js
 length_turned js i within = omega (arith, length-append (drop i js) (take i js), length-drop i js, length-take i js, within)

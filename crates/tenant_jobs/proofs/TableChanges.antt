@@ -6,7 +6,7 @@ use Rattle.slab.specs.Slab.{Slab, get, values, Updates, with_value}
 use Rattle.slab.proofs.SlabLemmas.{Updates-with_value}
 use Rattle.tenant_jobs.specs.declared.jobs.JobId.{JobId}
 use Rattle.tenant_jobs.specs.Jobs.{JobValue, same_job}
-use Rattle.tenant_jobs.specs.Finished.{TableEntry, NamesDiffer}
+use Rattle.tenant_jobs.specs.inner.Finished.{TableEntry, NamesDiffer}
 use Rattle.tenant_jobs.proofs.JobNames.{same_job_is}
 use Rattle.tenant_jobs.proofs.Slots.{one_slot}
 use Rattle.tenant_jobs.proofs.TableEntries.{weigh, count-middle, count_none, find_middle, find_other, found_at}

@@ -5,7 +5,7 @@ use Rattle.std.proofs.lemmas.List.Folds.{find-append}
 use Rattle.slab.specs.Slab.{Slab, get, values}
 use Rattle.tenant_jobs.specs.declared.jobs.JobId.{JobId}
 use Rattle.tenant_jobs.specs.Jobs.{same_job}
-use Rattle.tenant_jobs.specs.Finished.{TableEntry, NamesDiffer}
+use Rattle.tenant_jobs.specs.inner.Finished.{TableEntry, NamesDiffer}
 use Rattle.tenant_jobs.proofs.Slots.{one_slot, stored}
 
 abbrev pub weight_of : Bool → ℕ

@@ -1,6 +1,5 @@
 -- Jobs: the computations that an instant releases.
-use Rattle.std.specs.Prelude.{◌≡◌, Bool, ◌&&◌, ◌==◌, ℤ, List, length}
-use Rattle.giotto_tasks.specs.Sound.{IsSound}
+use Rattle.std.specs.Prelude.{Bool, ◌&&◌, ◌==◌, ℤ, List}
 use Rattle.giotto_tasks.specs.Syntax.{TaskBody}
 use Rattle.giotto_tasks.specs.Names.{same_name}
 use Rattle.tenant_jobs.specs.declared.jobs.JobId.{JobId}
@@ -15,9 +14,3 @@ pub record JobValue : Type 0 where
   pub body : TaskBody
   pub inputs : List ℤ
   pub states : List ℤ
-
--- a job that can be computed
-pub record IsComputable (j : JobValue) : Type 0 where
-  pub inputs : length j.inputs ≡ length j.body.inputs
-  pub states : length j.states ≡ length j.body.states
-  pub sound : IsSound j.body

@@ -2,7 +2,7 @@
 
 ghost use Rattle.std.specs.Prelude.{◌≡◌, ◌<◌, ◌≤◌, ◌+◌, [], length, All, Some, None, IsOk, IfSome, IfNone, IsSomeAnd, OnOk, true, false, if◌then◌else◌, find, option_copied};
 ghost use Rattle.slab.specs.Slab.{get, values};
-ghost use Rattle.tenant_jobs.specs.Finished.{entry_in, is_entered, result_in, has_result, results_of, is_job_of, JobsDiffer};
+ghost use Rattle.tenant_jobs.specs.inner.Finished.{entry_in, is_entered, result_in, has_result, results_of, is_job_of, JobsDiffer};
 ghost use Rattle.tenant_jobs.specs.Jobs.{JobValue, same_job};
 ghost use Rattle.tenant_jobs.specs.declared.jobs.JobId.{JobId};
 
@@ -18,9 +18,9 @@ struct Entry {
 }
 
 impl Model for Entry {
-    ghost use Rattle.tenant_jobs.specs.Finished.{TableEntry};
+    ghost use Rattle.tenant_jobs.specs.inner.Finished.{TableEntry};
     ghost use Rattle.std.specs.Coded.{codes};
-    ghost use Rattle.giotto_tasks.specs.Codes.{body_code};
+    ghost use Rattle.giotto_tasks.specs.inner.Codes.{body_code};
 
     ghost Value = { TableEntry };
 
@@ -39,9 +39,9 @@ pub struct Finished {
 impl Model for Finished {
     ghost use Rattle.std.specs.Prelude.{◌≡◌, ◌-◌, count_by, is_some};
     ghost use Rattle.slab.specs.Slab.{values, slab_len};
-    ghost use Rattle.tenant_jobs.specs.Finished.{TaskTable, NamesDiffer};
+    ghost use Rattle.tenant_jobs.specs.inner.Finished.{TaskTable, NamesDiffer};
     ghost use Rattle.std.specs.Coded.{codes};
-    ghost use Rattle.giotto_tasks.specs.Codes.{body_code};
+    ghost use Rattle.giotto_tasks.specs.inner.Codes.{body_code};
 
     ghost Value = { TaskTable };
 

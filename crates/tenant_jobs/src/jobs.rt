@@ -4,7 +4,7 @@ ghost use Rattle.std.specs.Prelude.{◌≡◌, ◌<◌, ◌≤◌, ◌+◌, ◌-
 ghost use Rattle.std.specs.Arc.{arc_value};
 ghost use Rattle.giotto_tasks.specs.Meaning.{outputs_of, states_of};
 ghost use Rattle.giotto_tasks.specs.Sound.{IsSound};
-ghost use Rattle.tenant_jobs.specs.Jobs.{IsComputable};
+ghost use Rattle.tenant_jobs.specs.inner.Jobs.{IsComputable};
 
 use giotto_tasks::bodies::Body;
 use giotto_tasks::evaluation::eval_into;
@@ -54,9 +54,10 @@ pub struct Job {
 
 impl Model for Job {
     ghost use Rattle.std.specs.Arc.{arc_value};
-    ghost use Rattle.tenant_jobs.specs.Jobs.{JobValue, IsComputable};
+    ghost use Rattle.tenant_jobs.specs.Jobs.{JobValue};
+    ghost use Rattle.tenant_jobs.specs.inner.Jobs.{IsComputable};
     ghost use Rattle.std.specs.Coded.{codes};
-    ghost use Rattle.giotto_tasks.specs.Codes.{body_code};
+    ghost use Rattle.giotto_tasks.specs.inner.Codes.{body_code};
 
     ghost Value = { JobValue };
 
@@ -80,7 +81,7 @@ impl Model for Done {
     ghost use Rattle.giotto_tasks.specs.Meaning.{outputs_of, states_of};
     ghost use Rattle.tenant_jobs.specs.Jobs.{JobValue};
     ghost use Rattle.std.specs.Coded.{codes};
-    ghost use Rattle.giotto_tasks.specs.Codes.{body_code};
+    ghost use Rattle.giotto_tasks.specs.inner.Codes.{body_code};
 
     ghost Value = { JobValue };
 
@@ -247,7 +248,7 @@ impl Model for Jobs {
     ghost use Rattle.std.specs.VecDeque.{deque_len, deque_capacity};
     ghost use Rattle.tenant_jobs.specs.JobLists.{JobList};
     ghost use Rattle.std.specs.Coded.{codes};
-    ghost use Rattle.giotto_tasks.specs.Codes.{body_code};
+    ghost use Rattle.giotto_tasks.specs.inner.Codes.{body_code};
 
     ghost Value = { JobList };
 

@@ -1,5 +1,5 @@
 -- The command that a line spells.
-use Rattle.std.specs.Prelude.{ℕ, Bool, true, false, ◌&&◌, ◌==◌, if◌then◌else◌, List, [], ◌∷◌, drop, Option, Some, None, codes}
+use Rattle.std.specs.Prelude.{ℕ, Bool, ◌&&◌, ◌==◌, if◌then◌else◌, List, [], ◌∷◌, drop, Option, Some, None, codes}
 use Rattle.std.specs.List.{before_first, after_first}
 use Rattle.std.specs.Option.{option_and_then}
 use Rattle.giotto_tasks.specs.Names.{same_name}
@@ -8,15 +8,6 @@ use Rattle.tenant_lines.specs.declared.commands.Command.{Command}
 use Rattle.tenant_lines.specs.declared.commands.Command.TheVariants.{Load, Start, Stop, ShowMode, ShowPort, ShowAll}
 use Rattle.tenant_lines.specs.declared.ports.PortName.{PortName}
 use Rattle.tenant_lines.specs.Words.{words_of, first_word_of, behind_first_word}
-
--- the command that has a program's text
-abbrev pub has_text : Command → Bool
-has_text (Load text) = true
-has_text Start = false
-has_text Stop = false
-has_text ShowMode = false
-has_text (ShowPort port) = false
-has_text ShowAll = false
 
 abbrev pub is_dot : ℕ → Bool
 is_dot c = c == 46

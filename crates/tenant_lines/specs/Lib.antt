@@ -1,3 +1,4 @@
 pub mod CommandLine
 pub mod Replies
 pub mod Words
+pub mod inner

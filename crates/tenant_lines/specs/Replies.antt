@@ -1,5 +1,5 @@
 -- The text of each reply.
-use Rattle.std.specs.Prelude.{ℕ, Bool, true, false, List, ◌++◌, codes}
+use Rattle.std.specs.Prelude.{ℕ, List, ◌++◌, codes}
 use Rattle.std.specs.Fmt.{decimal, signed_decimal}
 use Rattle.std.specs.List.{flat_map}
 use Rattle.std.specs.Option.{option_map_or}
@@ -65,13 +65,3 @@ text_of_reply (Mode s) = codes "ok mode " ++ text_of_status s
 text_of_reply (Port v) = codes "ok port " ++ (text_of_port v.port ++ (codes " " ++ signed_decimal v.value))
 text_of_reply (All vs) = codes "ok all" ++ flat_map text_of_value vs
 text_of_reply (Refused r) = codes "err " ++ text_of_refusal r
-
--- the reply to "show all", which lists ports
-abbrev pub lists_ports : Reply → Bool
-lists_ports Loaded = false
-lists_ports Started = false
-lists_ports Stopped = false
-lists_ports (Mode status) = false
-lists_ports (Port port) = false
-lists_ports (All ports) = true
-lists_ports (Refused refusal) = false

@@ -1,7 +1,7 @@
 //! The commands of a tenant.
 
 ghost use Rattle.std.specs.Prelude.{◌≡◌, IsTrue, IsErr, IfOk};
-ghost use Rattle.tenant_lines.specs.CommandLine.{has_text};
+ghost use Rattle.tenant_lines.specs.inner.Copies.{has_text};
 
 use crate::ports::PortName;
 use crate::texts::Text;

@@ -3,7 +3,8 @@
 ghost use Rattle.std.specs.Prelude.{◌≡◌, ◌↔◌, ◌++◌, codes, IfOk, IsErr, IsTrue, string_bytes};
 ghost use Rattle.std.specs.Fmt.{signed_decimal};
 ghost use Rattle.std.specs.List.{flat_map};
-ghost use Rattle.tenant_lines.specs.Replies.{lists_ports, word_of_budget, text_of_port, text_of_refusal, text_of_reply, text_of_status, text_of_value};
+ghost use Rattle.tenant_lines.specs.inner.Copies.{lists_ports};
+ghost use Rattle.tenant_lines.specs.Replies.{word_of_budget, text_of_port, text_of_refusal, text_of_reply, text_of_status, text_of_value};
 
 use crate::ports::PortValue;
 use giotto_tasks::lists::List;

@@ -4,7 +4,8 @@ use Rattle.std.specs.List.{flat_map, zip}
 use Rattle.std.proofs.lemmas.List.{map-append, length-map, length-append, take_more, drop_more}
 use Rattle.std.proofs.lemmas.List.Concat.{flat_map-append}
 use Rattle.giotto_tasks.specs.declared.names.Name.{Name}
-use Rattle.giotto_tasks.specs.Names.{Valuation, names_in}
+use Rattle.giotto_tasks.specs.Names.{Valuation}
+use Rattle.giotto_tasks.specs.inner.Sources.{names_in}
 use Rattle.giotto_text.specs.PortNames.{own_port, own_ports}
 use Rattle.giotto_text.specs.Program.{SensorDeclaration, ActuatorDeclaration, OutputDeclaration, TaskDeclaration, GiottoProgram, names_of}
 use Rattle.giotto_text.specs.ProgramTrees.{sensor_of, actuator_of, output_of, task_of}
@@ -12,7 +13,8 @@ use Rattle.giotto_text.specs.declared.programs.Sensor.{Sensor}
 use Rattle.giotto_text.specs.declared.programs.Actuator.{Actuator}
 use Rattle.giotto_text.specs.declared.programs.Output.{Output}
 use Rattle.giotto_text.specs.declared.programs.Task.{Task}
-use Rattle.giotto_check.specs.Slots.{ports_of, port_names, slots_of, shown_name, valuation_of}
+use Rattle.giotto_check.specs.Slots.{ports_of, port_names, shown_name, valuation_of}
+use Rattle.giotto_check.specs.inner.Slots.{slots_of}
 use Rattle.giotto_check.proofs.PortsOnce.{all_shown, shown_of_task}
 use Rattle.tenant_slots.specs.Ports.{initial_shared, initial_of_task, initial_own, initial_ports}
 

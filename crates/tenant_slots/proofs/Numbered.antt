@@ -13,9 +13,10 @@ use Rattle.giotto_tasks.proofs.NameLemmas.{same_name_is, same_name_self, all_dif
 use Rattle.giotto_tasks.proofs.TestLemmas.{same_answers}
 use Rattle.giotto_text.specs.Program.{TaskDeclaration, ActuatorUpdate, ModeSwitch, TaskInvocation, ModeDeclaration, GiottoProgram}
 use Rattle.giotto_rules.specs.Declarations.{sensor_names, actuator_names, output_names, task_names, mode_names, task_named, mode_named}
-use Rattle.giotto_check.specs.Facts.{UpdateFits, SwitchFits, InvocationFits, ModeFits, TaskFits, ProgramFits}
-use Rattle.giotto_check.specs.Slots.{is_port, ports_of, slot_of, slots_of}
-use Rattle.giotto_check.specs.Timetables.{AreEach, IsUpdate, IsExit, IsInvocation, AreTaskSlots, place_of_task}
+use Rattle.giotto_check.specs.inner.Facts.{UpdateFits, SwitchFits, InvocationFits, ModeFits, TaskFits, ProgramFits}
+use Rattle.giotto_check.specs.Slots.{is_port, ports_of, slot_of}
+use Rattle.giotto_check.specs.inner.Slots.{slots_of}
+use Rattle.giotto_check.specs.inner.Timetables.{AreEach, IsUpdate, IsExit, IsInvocation, AreTaskSlots, place_of_task}
 use Rattle.giotto_check.specs.declared.timetables.SlotUpdate.{SlotUpdate}
 use Rattle.giotto_check.specs.declared.timetables.SlotExit.{SlotExit}
 use Rattle.giotto_check.specs.declared.timetables.SlotInvocation.{SlotInvocation}

@@ -11,7 +11,8 @@ use Rattle.giotto_text.specs.Program.{SensorDeclaration, GiottoProgram}
 use Rattle.giotto_text.specs.ProgramTrees.{sensor_of}
 use Rattle.giotto_text.specs.declared.programs.Sensor.{Sensor}
 use Rattle.giotto_rules.specs.Declarations.{sensor_names, actuator_names, output_names, driver_ports}
-use Rattle.giotto_check.specs.Slots.{port_names, ports_of, shown_name, slots_of, valuation_of}
+use Rattle.giotto_check.specs.Slots.{port_names, ports_of, shown_name, valuation_of}
+use Rattle.giotto_check.specs.inner.Slots.{slots_of}
 use Rattle.giotto_check.proofs.EachLemmas.{left_at}
 use Rattle.giotto_check.proofs.SlotLemmas.{port_names_begin}
 use Rattle.giotto_check.proofs.Valuations.{with_value_at_place}

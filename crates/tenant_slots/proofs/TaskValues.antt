@@ -13,9 +13,10 @@ use Rattle.giotto_text.specs.PortNames.{own_port, own_ports, with_values}
 use Rattle.giotto_text.specs.Program.{TaskDeclaration, GiottoProgram, names_of}
 use Rattle.giotto_text.specs.ProgramTrees as trees
 use Rattle.giotto_text.specs.declared.programs.Task.{Task}
-use Rattle.giotto_check.specs.Facts.{ProgramFits}
-use Rattle.giotto_check.specs.Slots.{port_names, ports_of, shown_name, slot_of, slots_of, valuation_of, with_slots}
-use Rattle.giotto_check.specs.Timetables.{AreTaskSlots, HaveSlotsFrom}
+use Rattle.giotto_check.specs.inner.Facts.{ProgramFits}
+use Rattle.giotto_check.specs.Slots.{port_names, ports_of, shown_name, slot_of, valuation_of}
+use Rattle.giotto_check.specs.inner.Slots.{slots_of, with_slots}
+use Rattle.giotto_check.specs.inner.Timetables.{AreTaskSlots, HaveSlotsFrom}
 use Rattle.giotto_check.specs.declared.timetables.TaskSlots.{TaskSlots}
 use Rattle.giotto_check.proofs.SlotLemmas.{names_at_slots, names_in_row, shared_shown}
 use Rattle.giotto_check.proofs.Valuations.{values_in_range, with_values_at_places}

@@ -5,9 +5,10 @@ use Rattle.std.proofs.lemmas.List.{drop_more, length-map}
 use Rattle.std.proofs.lemmas.Option.{slice_get-get_or, slice_get_cases}
 use Rattle.giotto_tasks.specs.Names.{Valuation}
 use Rattle.giotto_text.specs.Program.{ActuatorUpdate, ModeDeclaration, GiottoProgram}
-use Rattle.giotto_check.specs.Facts.{ProgramFits}
-use Rattle.giotto_check.specs.Slots.{port_names, ports_of, shown_name, slots_of, valuation_of}
-use Rattle.giotto_check.specs.Timetables.{AreEach, IsUpdate, value_over}
+use Rattle.giotto_check.specs.inner.Facts.{ProgramFits}
+use Rattle.giotto_check.specs.Slots.{port_names, ports_of, shown_name, valuation_of}
+use Rattle.giotto_check.specs.inner.Slots.{slots_of}
+use Rattle.giotto_check.specs.inner.Timetables.{AreEach, IsUpdate, value_over}
 use Rattle.giotto_check.specs.declared.timetables.SlotUpdate.{SlotUpdate}
 use Rattle.giotto_check.proofs.EachLemmas.{each_at, each_long}
 use Rattle.giotto_check.proofs.SlotLemmas.{name_at_slot}

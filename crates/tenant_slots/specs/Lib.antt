@@ -3,5 +3,5 @@ pub mod Places
 pub mod Ports
 pub mod Readings
 pub mod Switches
-pub mod Tasks
 pub mod Updates
+pub mod inner

@@ -1,10 +1,8 @@
 -- What sensors take: the values of the lines that may be read, and granted values.
-use Rattle.std.specs.Prelude.{ℕ, ◌==◌, if◌then◌else◌, ℤ, List, [], ◌∷◌, filter, map, Option, Some, None, unwrap_or}
+use Rattle.std.specs.Prelude.{ℕ, ◌==◌, if◌then◌else◌, ℤ, List, [], ◌∷◌, filter, Option, Some, None, unwrap_or}
 use Rattle.std.specs.List.{enumerate_from}
 use Rattle.giotto_tasks.specs.Names.{Valuation, value_at}
-use Rattle.giotto_text.specs.Program.{Source, from_line, from_grant, SensorDeclaration, GiottoProgram}
-use Rattle.giotto_text.specs.PortNames.{with_values}
-use Rattle.giotto_rules.specs.Declarations.{sensor_names}
+use Rattle.giotto_text.specs.Program.{Source, from_line, from_grant, SensorDeclaration}
 use Rattle.rig_config.specs.Roster.{may_use}
 
 -- the input value of each line that the tenant may read
@@ -28,7 +26,3 @@ reading_from readings granted s from_grant = value_at granted s.name
 -- what a sensor takes: its reading, or else its initial value
 abbrev pub reading_taken : Readings → Valuation → SensorDeclaration → ℤ
 reading_taken readings granted s = unwrap_or (reading_from readings granted s s.source) s.initial
-
--- the ports behind the readings: each sensor has what it takes, all other ports are as they were
-abbrev pub with_readings : GiottoProgram → Readings → Valuation → Valuation → Valuation
-with_readings p readings granted ports = with_values ports (sensor_names p) (map (reading_taken readings granted) p.sensors)

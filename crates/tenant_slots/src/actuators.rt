@@ -2,8 +2,9 @@
 
 ghost use Rattle.std.specs.Prelude.{◌≡◌, ◌≤◌, length};
 ghost use Rattle.giotto_text.specs.Program.{ModeDeclaration};
-ghost use Rattle.giotto_check.specs.Slots.{slots_of, valuation_of};
-ghost use Rattle.tenant_slots.specs.Places.{IsModeAt};
+ghost use Rattle.giotto_check.specs.inner.Slots.{slots_of};
+ghost use Rattle.giotto_check.specs.Slots.{valuation_of};
+ghost use Rattle.tenant_slots.specs.inner.Places.{IsModeAt};
 ghost use Rattle.tenant_slots.specs.Ports.{actuators_reset};
 ghost use Rattle.tenant_slots.specs.Updates.{all_updated};
 

@@ -1,7 +1,8 @@
 //! The values with which a program begins.
 
 ghost use Rattle.std.specs.Prelude.{◌≡◌, ◌+◌, ◌≤◌, length, map, IfOk};
-ghost use Rattle.giotto_check.specs.Slots.{slots_of, valuation_of, with_range};
+ghost use Rattle.giotto_check.specs.inner.Slots.{slots_of, with_range};
+ghost use Rattle.giotto_check.specs.Slots.{valuation_of};
 ghost use Rattle.giotto_text.specs.ProgramTrees.{task_of};
 ghost use Rattle.tenant_slots.specs.Ports.{initial_of_task, initial_ports};
 

@@ -2,8 +2,8 @@
 
 ghost use Rattle.std.specs.Prelude.{◌≡◌, ◌<◌, ◌≤◌, ◌%◌, ◌-◌, ◌^◌, ◌==◌, ℕ, false, length};
 ghost use Rattle.giotto_text.specs.Program.{ModeDeclaration};
-ghost use Rattle.tenant_slots.specs.Due.{IsNextDue};
-ghost use Rattle.tenant_slots.specs.Places.{IsModeAt};
+ghost use Rattle.tenant_slots.specs.inner.Due.{IsNextDue};
+ghost use Rattle.tenant_slots.specs.inner.Places.{IsModeAt};
 
 use giotto_check::Checked;
 use std::marker::Model;

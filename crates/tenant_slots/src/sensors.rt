@@ -2,8 +2,10 @@
 
 ghost use Rattle.std.specs.Prelude.{◌≡◌, [], length};
 ghost use Rattle.giotto_text.specs.ProgramTrees.{sensor_of};
-ghost use Rattle.giotto_check.specs.Slots.{slots_of, valuation_of};
-ghost use Rattle.tenant_slots.specs.Readings.{readings_within, reading_of, reading_taken, with_readings};
+ghost use Rattle.giotto_check.specs.inner.Slots.{slots_of};
+ghost use Rattle.giotto_check.specs.Slots.{valuation_of};
+ghost use Rattle.tenant_slots.specs.Readings.{readings_within, reading_of, reading_taken};
+ghost use Rattle.tenant_slots.specs.inner.Readings.{with_readings};
 
 use giotto_check::Checked;
 use giotto_text::programs::{Sensor, Source};

@@ -4,11 +4,13 @@ ghost use Rattle.std.specs.Prelude.{◌≡◌, ◌<◌, ◌≤◌, None, IsTrue,
 ghost use Rattle.std.specs.List.{AllByRecursion};
 ghost use Rattle.giotto_text.specs.Program.{GiottoProgram, ModeDeclaration};
 ghost use Rattle.giotto_rules.specs.Names.{all_different_numbers};
-ghost use Rattle.giotto_check.specs.Slots.{slots_of, valuation_of, with_slots};
-ghost use Rattle.giotto_check.specs.Timetables.{AreEach, IsExit};
+ghost use Rattle.giotto_check.specs.inner.Slots.{slots_of, with_slots};
+ghost use Rattle.giotto_check.specs.Slots.{valuation_of};
+ghost use Rattle.giotto_check.specs.inner.Timetables.{AreEach, IsExit};
 ghost use Rattle.giotto_check.specs.declared.timetables.SlotExit.{SlotExit};
-ghost use Rattle.tenant_slots.specs.Places.{IsModeAt};
-ghost use Rattle.tenant_slots.specs.Switches.{IsExitOf, place_entered, ports_switched, slots_given, switch_taken, values_given};
+ghost use Rattle.tenant_slots.specs.inner.Places.{IsModeAt};
+ghost use Rattle.tenant_slots.specs.inner.Switches.{IsExitOf, place_entered, ports_switched, slots_given, values_given};
+ghost use Rattle.tenant_slots.specs.Switches.{switch_taken};
 
 use crate::drivers::holds;
 use crate::due::Due;

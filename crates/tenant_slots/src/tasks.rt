@@ -5,11 +5,12 @@ ghost use Rattle.std.specs.List.{AllByRecursion, range_with_len};
 ghost use Rattle.giotto_tasks.specs.Meaning.{value_of};
 ghost use Rattle.giotto_tasks.specs.Syntax.{Expression};
 ghost use Rattle.giotto_text.specs.Program.{GiottoProgram, TaskDeclaration};
-ghost use Rattle.giotto_check.specs.Facts.{ProgramFits};
-ghost use Rattle.giotto_check.specs.Slots.{slots_of, valuation_of, with_slots};
-ghost use Rattle.giotto_check.specs.Timetables.{AreEach, AreTaskSlots, IsExpression};
-ghost use Rattle.tenant_slots.specs.Places.{IsTaskAt};
-ghost use Rattle.tenant_slots.specs.Tasks.{states_in, with_input_values, with_results};
+ghost use Rattle.giotto_check.specs.inner.Facts.{ProgramFits};
+ghost use Rattle.giotto_check.specs.inner.Slots.{slots_of, with_slots};
+ghost use Rattle.giotto_check.specs.Slots.{valuation_of};
+ghost use Rattle.giotto_check.specs.inner.Timetables.{AreEach, AreTaskSlots, IsExpression};
+ghost use Rattle.tenant_slots.specs.inner.Places.{IsTaskAt};
+ghost use Rattle.tenant_slots.specs.inner.Tasks.{states_in, with_input_values, with_results};
 
 use giotto_check::Checked;
 use giotto_check::timetables::{SlotExpr, TaskSlots, slot_value};

@@ -13,16 +13,17 @@ use Rattle.giotto_tasks.specs.Syntax.{TaskBody}
 use Rattle.giotto_tasks.proofs.ListLemmas.{all_map, all_at, all_pass}
 use Rattle.giotto_tasks.proofs.NameLemmas.{same_name_self}
 use Rattle.giotto_text.specs.Program.{TaskDeclaration, GiottoProgram, body_of}
-use Rattle.giotto_check.specs.Timetables.{AreEach}
+use Rattle.giotto_check.specs.inner.Timetables.{AreEach}
 use Rattle.giotto_check.proofs.EachLemmas.{each_at, each_long}
-use Rattle.giotto_check.specs.Facts.{ProgramFits}
+use Rattle.giotto_check.specs.inner.Facts.{ProgramFits}
 use Rattle.tenant_slots.specs.Places.{name_of_task}
 use Rattle.tenant_slots.proofs.Numbered.{task_here, task_fits_at}
 use Rattle.tenant_state.proofs.EndedTasks.{some_of}
 use Rattle.tenant_state.specs.declared.tenants.Active.{Active}
-use Rattle.tenant_jobs.specs.Jobs.{IsComputable}
+use Rattle.tenant_jobs.specs.inner.Jobs.{IsComputable}
 use Rattle.tenant_state.specs.Jobs.{job_in, body_in}
-use Rattle.tenant_state.specs.Tenants.{active_of, IsActiveAs, IsActiveOf, IsShareOf}
+use Rattle.tenant_state.specs.Tenants.{active_of}
+use Rattle.tenant_state.specs.inner.Tenants.{IsActiveAs, IsActiveOf, IsShareOf}
 
 -- the body of the task at a place
 pub body_here : (p : GiottoProgram) → ProgramFits p → (k : ℕ) (t : TaskDeclaration) → slice_get p.tasks k ≡ Some t → body_in p (name_of_task p k) ≡ body_of t

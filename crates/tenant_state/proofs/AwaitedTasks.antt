@@ -12,7 +12,8 @@ use Rattle.tenant_state.specs.declared.tenants.Active.{Active}
 use Rattle.tenant_jobs.specs.Jobs.{same_job}
 use Rattle.tenant_state.specs.Jobs.{job_in, job_of}
 use Rattle.tenant_state.specs.Row.{ActiveTask}
-use Rattle.tenant_state.specs.Tenants.{active_of, is_completed, tasks_in, is_another, all_different_releases, IsTenant, awaits_job, is_of_job}
+use Rattle.tenant_state.specs.Tenants.{active_of, is_completed, tasks_in}
+use Rattle.tenant_state.specs.inner.Tenants.{is_another, all_different_releases, IsTenant, awaits_job, is_of_job}
 use Rattle.tenant_jobs.proofs.JobNames.{same_job_is, same_job_self}
 use Rattle.giotto_tasks.proofs.NameLemmas.{same_name_self}
 use Rattle.giotto_tasks.proofs.ListLemmas.{map_same, all_pass, all_at}

@@ -6,7 +6,8 @@ use Rattle.std.proofs.lemmas.Bool.{and_parts, and_from, false≢true, eqb-true, 
 use Rattle.std.proofs.lemmas.List.Folds.{list_all-append}
 use Rattle.std.proofs.lemmas.Nat.Gcd.{dvd_refl, dvd_trans, le_of_dvd, dvd_of_mod-eq-zero, mod-eq-zero_of_dvd}
 use Rattle.giotto_tasks.proofs.ListLemmas.{all_wider}
-use Rattle.tenant_state.specs.CommonPeriods.{is_common_multiple, IsLeastCommonMultiple}
+use Rattle.tenant_state.specs.CommonPeriods.{is_common_multiple}
+use Rattle.tenant_state.specs.inner.CommonPeriods.{IsLeastCommonMultiple}
 use Rattle.tenant_state.specs.SecondHalf.{common_multiple_from, least_common_multiple}
 
 pub divides : (k n : ℕ) → (n % k == 0) ≡ true → k ∣ n

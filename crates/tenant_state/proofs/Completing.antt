@@ -14,7 +14,7 @@ use Rattle.giotto_tasks.specs.Syntax.{TaskBody, finished}
 use Rattle.giotto_text.specs.Program.{TaskDeclaration, GiottoProgram, body_of}
 use Rattle.giotto_text.specs.ProgramTrees as trees
 use Rattle.giotto_text.specs.declared.programs.Task.{Task}
-use Rattle.giotto_check.specs.Facts.{ProgramFits}
+use Rattle.giotto_check.specs.inner.Facts.{ProgramFits}
 use Rattle.tenant_slots.proofs.Numbered.{task_here, task_fits_at}
 use Rattle.tenant_jobs.specs.declared.jobs.JobId.{JobId}
 use Rattle.tenant_state.specs.declared.tenants.Active.{Active}
@@ -22,7 +22,8 @@ use Rattle.tenant_jobs.specs.Jobs.{JobValue, same_job}
 use Rattle.tenant_state.specs.Jobs.{body_in, job_in, job_of}
 use Rattle.tenant_state.specs.Row.{ActiveTask, Row}
 use Rattle.tenant_state.specs.Standing.{Standing, StandsFor}
-use Rattle.tenant_state.specs.Tenants.{active_of, is_completed, all_different_releases, IsResultOf, IsActiveAs, IsActiveOf, IsActiveIn, IsTenant, is_of_job, awaits_job}
+use Rattle.tenant_state.specs.Tenants.{active_of, is_completed}
+use Rattle.tenant_state.specs.inner.Tenants.{all_different_releases, IsResultOf, IsActiveAs, IsActiveOf, IsActiveIn, IsTenant, is_of_job, awaits_job}
 use Rattle.tenant_state.proofs.AwaitedTasks.{awaited_of, outstanding_in, outstanding_are, job_found, named_is, marks_with, marked}
 use Rattle.giotto_tasks.proofs.ListLemmas.{filter_set, find_passes, all_at, all_set, some_same}
 use Rattle.tenant_state.proofs.TenantFacts.{body_of_task}

@@ -15,23 +15,25 @@ use Rattle.giotto_tasks.proofs.ListLemmas.{all_map, all_of, filter-map, list_all
 use Rattle.giotto_tasks.proofs.TestLemmas.{and_false, and_true}
 use Rattle.giotto_tasks.proofs.NameLemmas.{same_name_is}
 use Rattle.giotto_text.specs.Program.{TaskDeclaration, TaskInvocation, ModeDeclaration, GiottoProgram}
-use Rattle.giotto_check.specs.Facts.{ProgramFits}
+use Rattle.giotto_check.specs.inner.Facts.{ProgramFits}
 use Rattle.giotto_check.specs.Slots.{valuation_of}
-use Rattle.giotto_check.specs.Timetables.{AreEach, IsInvocation, place_of_task}
+use Rattle.giotto_check.specs.inner.Timetables.{AreEach, IsInvocation, place_of_task}
 use Rattle.giotto_check.specs.declared.timetables.SlotInvocation.{SlotInvocation}
 use Rattle.giotto_check.proofs.PlaceLemmas.{passes_there, place_within}
-use Rattle.tenant_slots.specs.Due.{is_due_at, IsQuietAt}
+use Rattle.tenant_slots.specs.Due.{is_due_at}
+use Rattle.tenant_slots.specs.inner.Due.{IsQuietAt}
 use Rattle.tenant_slots.specs.Places.{name_of_task}
 use Rattle.tenant_slots.specs.Updates.{all_updated}
 use Rattle.tenant_slots.proofs.Numbered.{invocation_due, mode_here, same_task}
 use Rattle.tenant_state.specs.declared.tenants.Active.{Active}
 use Rattle.tenant_state.specs.declared.tenants.State as code
 use Rattle.tenant_state.specs.declared.tenants.State.TheVariants as states
-use Rattle.tenant_state.specs.EntryTable.{is_left_open}
+use Rattle.tenant_state.specs.inner.EntryTable.{is_left_open}
 use Rattle.tenant_state.specs.FirstHalf.{all_ended, due_tasks, names_due, still_active, unfinished_tasks, first_half_of, stopped_with}
 use Rattle.tenant_state.specs.Row.{overrun, ActiveTask, Row}
 use Rattle.tenant_state.specs.Standing.{Standing, StandsFor}
-use Rattle.tenant_state.specs.Tenants.{active_of, is_completed, is_another, all_different_releases, standing_of, FitsProgram, FitsIts, IsActiveIn, IsActiveOf, IsTenant}
+use Rattle.tenant_state.specs.Tenants.{active_of, is_completed, standing_of}
+use Rattle.tenant_state.specs.inner.Tenants.{is_another, all_different_releases, FitsProgram, FitsIts, IsActiveIn, IsActiveOf, IsTenant}
 use Rattle.tenant_state.proofs.DueTasks.{group, ends, is_open, is_unfinished, names_of_tasks, none_passes, stay}
 use Rattle.tenant_state.proofs.FirstHalfOf.{Runs, due_are, goes_on, stops, unchanged}
 

@@ -7,14 +7,14 @@ use Rattle.giotto_tasks.specs.Names.{Valuation, same_name}
 use Rattle.giotto_text.specs.Program.{ModeDeclaration, ModeSwitch, GiottoProgram}
 use Rattle.giotto_rules.specs.Declarations.{mode_named}
 use Rattle.giotto_check.specs.Slots.{valuation_of}
-use Rattle.giotto_check.specs.Timetables.{place_of_mode}
+use Rattle.giotto_check.specs.inner.Timetables.{place_of_mode}
 use Rattle.giotto_check.proofs.PlaceLemmas.{found_there, place_if_found, place_within}
 use Rattle.tenant_slots.specs.Due.{is_due_at}
 use Rattle.tenant_slots.specs.Ports.{holds}
 use Rattle.tenant_slots.specs.Switches.{switch_taken, with_destinations}
 use Rattle.tenant_state.specs.Row.{ActiveTask}
 use Rattle.tenant_state.specs.SecondHalf.{entry_time}
-use Rattle.tenant_state.specs.Tenants.{IsEntered}
+use Rattle.tenant_state.specs.inner.Tenants.{IsEntered}
 
 -- where none is due none is taken
 pub none_taken : (m : ModeDeclaration) (time : ℕ) (ports : Valuation) (switches : List ModeSwitch) → AllByRecursion (λ (s : ModeSwitch). is_due_at time m s.frequency ≡ false) switches

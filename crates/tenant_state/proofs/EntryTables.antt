@@ -6,7 +6,7 @@ use Rattle.std.proofs.lemmas.List.{append-nil, drop_more, get_or-replicate, get_
 use Rattle.std.proofs.lemmas.List.Elements.{filter-append}
 use Rattle.std.proofs.lemmas.Map.Views.{any-filter_same}
 use Rattle.giotto_tasks.proofs.ListLemmas.{all_filter}
-use Rattle.tenant_state.specs.EntryTable.{IsTableOf}
+use Rattle.tenant_state.specs.inner.EntryTable.{IsTableOf}
 use Rattle.tenant_state.specs.declared.tenants.Active.{Active}
 use Rattle.tenant_state.specs.Tenants.{is_completed}
 

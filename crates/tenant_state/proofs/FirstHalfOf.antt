@@ -8,7 +8,8 @@ use Rattle.giotto_tasks.proofs.ListLemmas.{all_of}
 use Rattle.giotto_tasks.proofs.TestLemmas.{and_false}
 use Rattle.giotto_text.specs.Program.{ActuatorUpdate, TaskInvocation, ModeDeclaration, GiottoProgram}
 use Rattle.giotto_rules.specs.Declarations.{mode_named}
-use Rattle.tenant_slots.specs.Due.{is_due_at, IsQuietAt}
+use Rattle.tenant_slots.specs.Due.{is_due_at}
+use Rattle.tenant_slots.specs.inner.Due.{IsQuietAt}
 use Rattle.tenant_slots.specs.Ports.{holds}
 use Rattle.tenant_slots.specs.Updates.{all_updated}
 use Rattle.tenant_state.specs.FirstHalf.{all_ended, still_active, unfinished_tasks, due_in_mode, due_tasks, names_due, first_half_with, completed_in_mode, first_half_of, stopped_with}

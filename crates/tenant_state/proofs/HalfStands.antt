@@ -12,7 +12,7 @@ use Rattle.giotto_tasks.specs.Syntax.{TaskBody}
 use Rattle.giotto_text.specs.PortNames.{with_values}
 use Rattle.giotto_text.specs.Program.{TaskDeclaration, TaskInvocation, ModeDeclaration, GiottoProgram}
 use Rattle.giotto_rules.specs.Declarations.{task_named, sensor_names}
-use Rattle.giotto_check.specs.Facts.{ProgramFits}
+use Rattle.giotto_check.specs.inner.Facts.{ProgramFits}
 use Rattle.giotto_check.specs.Slots.{valuation_of}
 use Rattle.tenant_slots.specs.Due.{is_due_at}
 use Rattle.tenant_slots.specs.Places.{name_of_mode}
@@ -23,8 +23,10 @@ use Rattle.tenant_state.specs.declared.tenants.State.TheVariants.{Running}
 use Rattle.tenant_state.specs.declared.trace.Record.{Record}
 use Rattle.tenant_state.specs.Row.{ActiveTask, Row, in_mode}
 use Rattle.tenant_state.specs.SecondHalf.{is_invoked, released, invoked, all_invoked, all_released, invoked_in_mode, moved_on, counted, second_half_of}
-use Rattle.tenant_state.specs.Standing.{Standing, StandsFor, AreReleased, most_at, most_released, without_records}
-use Rattle.tenant_state.specs.Tenants.{active_of, is_completed, standing_of, AreInvoked}
+use Rattle.tenant_state.specs.Standing.{Standing, StandsFor, most_at, most_released, without_records}
+use Rattle.tenant_state.specs.inner.Standing.{AreReleased}
+use Rattle.tenant_state.specs.Tenants.{active_of, is_completed, standing_of}
+use Rattle.tenant_state.specs.inner.Tenants.{AreInvoked}
 use Rattle.tenant_state.proofs.SecondHalfSteps.{in_its_mode, running_half, placed, IsBehindSwitch}
 
 module _ (p : GiottoProgram) (m : ModeDeclaration) (time n : ℕ) where

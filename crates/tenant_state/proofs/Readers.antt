@@ -15,9 +15,10 @@ use Rattle.giotto_text.specs.ProgramTrees.{actuator_of, sensor_of}
 use Rattle.giotto_text.specs.declared.programs.Actuator.{Actuator}
 use Rattle.giotto_text.specs.declared.programs.Sensor.{Sensor}
 use Rattle.giotto_rules.specs.Declarations.{sensor_names, actuator_names, output_names}
-use Rattle.giotto_check.specs.Facts.{ProgramFits}
-use Rattle.giotto_check.specs.Slots.{port_names, ports_of, ports_of_task, shown_name, slots_of, valuation_of}
-use Rattle.giotto_check.specs.Timetables.{AreEach, IsInvocation}
+use Rattle.giotto_check.specs.inner.Facts.{ProgramFits}
+use Rattle.giotto_check.specs.Slots.{port_names, ports_of, ports_of_task, shown_name, valuation_of}
+use Rattle.giotto_check.specs.inner.Slots.{slots_of}
+use Rattle.giotto_check.specs.inner.Timetables.{AreEach, IsInvocation}
 use Rattle.giotto_check.specs.declared.timetables.SlotInvocation.{SlotInvocation}
 use Rattle.giotto_check.proofs.PlaceLemmas.{passes_there, place-map, place_if_found}
 use Rattle.giotto_check.proofs.SlotLemmas.{port_names_begin}
@@ -32,7 +33,8 @@ use Rattle.tenant_state.specs.FirstHalf.{names_due}
 use Rattle.tenant_jobs.specs.Jobs.{same_job}
 use Rattle.tenant_state.specs.Jobs.{job_of}
 use Rattle.tenant_state.specs.Row.{ActiveTask, Row}
-use Rattle.tenant_state.specs.Tenants.{active_of, standing_of, IsActiveOf, is_of_job}
+use Rattle.tenant_state.specs.Tenants.{active_of, standing_of}
+use Rattle.tenant_state.specs.inner.Tenants.{IsActiveOf, is_of_job}
 use Rattle.tenant_state.proofs.DueTasks as tasks
 use Rattle.tenant_state.proofs.DueTasks.{group, ends, names_of_tasks}
 use Rattle.tenant_state.proofs.EndedTasks.{any_alike, some_of}

@@ -8,8 +8,8 @@ use Rattle.std.proofs.lemmas.Option.{slice_get_cases}
 use Rattle.giotto_tasks.specs.Names.{Valuation}
 use Rattle.giotto_text.specs.Program.{TaskDeclaration, TaskInvocation, ModeDeclaration, GiottoProgram, body_of}
 use Rattle.giotto_rules.specs.Declarations.{task_named}
-use Rattle.giotto_check.specs.Facts.{InvocationFits, ProgramFits}
-use Rattle.giotto_check.specs.Timetables.{AreEach, IsExpression, IsInvocation}
+use Rattle.giotto_check.specs.inner.Facts.{InvocationFits, ProgramFits}
+use Rattle.giotto_check.specs.inner.Timetables.{AreEach, IsExpression, IsInvocation}
 use Rattle.giotto_check.specs.declared.timetables.SlotInvocation.{SlotInvocation}
 use Rattle.giotto_tasks.proofs.ListLemmas.{all_middle, stepped}
 use Rattle.giotto_tasks.proofs.SoundLemmas.{sound_small}

@@ -9,9 +9,10 @@ use Rattle.giotto_tasks.specs.declared.names.Name.{Name}
 use Rattle.giotto_tasks.specs.Names.{Valuation, same_name}
 use Rattle.giotto_text.specs.Program.{ModeSwitch, TaskInvocation, ModeDeclaration, GiottoProgram}
 use Rattle.giotto_rules.specs.Declarations.{mode_named, period_of_task}
-use Rattle.giotto_check.specs.Facts.{ProgramFits}
+use Rattle.giotto_check.specs.inner.Facts.{ProgramFits}
 use Rattle.giotto_check.specs.Slots.{valuation_of}
-use Rattle.tenant_slots.specs.Due.{is_due_at, IsQuietUntil}
+use Rattle.tenant_slots.specs.Due.{is_due_at}
+use Rattle.tenant_slots.specs.inner.Due.{IsQuietUntil}
 use Rattle.tenant_slots.specs.Places.{name_of_mode}
 use Rattle.tenant_slots.specs.Ports.{holds}
 use Rattle.tenant_slots.specs.Readings.{Readings}
@@ -24,7 +25,7 @@ use Rattle.tenant_state.specs.SecondHalf.{installed, replaced_if_due, sensed, ti
 use Rattle.giotto_check.specs.Costs.{greatest}
 use Rattle.tenant_state.specs.Standing.{invoked_in, most_at}
 use Rattle.tenant_state.proofs.GreatestOf.{greatest_more}
-use Rattle.tenant_state.specs.Tenants.{IsEntered, IsSwitched}
+use Rattle.tenant_state.specs.inner.Tenants.{IsEntered, IsSwitched}
 use Rattle.giotto_tasks.proofs.ListLemmas.{find_passes, some_same}
 use Rattle.giotto_tasks.proofs.NameLemmas.{same_name_is}
 use Rattle.giotto_tasks.proofs.TestLemmas.{cond-same}

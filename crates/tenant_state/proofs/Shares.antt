@@ -17,8 +17,8 @@ use Rattle.giotto_text.specs.ProgramTrees as trees
 use Rattle.giotto_tasks.proofs.ListLemmas.{all_same, some_same, is_some-option_map}
 use Rattle.giotto_rules.specs.Declarations.{mode_named}
 use Rattle.giotto_check.specs.Costs.{greatest}
-use Rattle.giotto_check.specs.Timetables.{AreEach, IsInvocation, place_of_mode}
-use Rattle.giotto_check.specs.Facts.{ProgramFits}
+use Rattle.giotto_check.specs.inner.Timetables.{AreEach, IsInvocation, place_of_mode}
+use Rattle.giotto_check.specs.inner.Facts.{ProgramFits}
 use Rattle.giotto_check.specs.declared.timetables.SlotInvocation.{SlotInvocation}
 use Rattle.giotto_check.proofs.EachLemmas.{each_long}
 use Rattle.giotto_check.proofs.PlaceLemmas.{found_there, place_if_found}
@@ -31,7 +31,8 @@ use Rattle.tenant_state.specs.declared.tenants.Active.{Active}
 use Rattle.tenant_state.specs.declared.tenants.State as code
 use Rattle.tenant_state.specs.declared.tenants.State.TheVariants.{Running}
 use Rattle.tenant_state.specs.Standing.{invoked_in, most_at, most_released}
-use Rattle.tenant_state.specs.Tenants.{standing_of, IsShareOf, FitsProgram, FitsIts, IsTenant}
+use Rattle.tenant_state.specs.Tenants.{standing_of}
+use Rattle.tenant_state.specs.inner.Tenants.{IsShareOf, FitsProgram, FitsIts, IsTenant}
 
 -- the declaration at a place is that of the task there
 pub task_at : (tasks : List Task) (declared : List TaskDeclaration) (k : ℕ) (t : Task) → map trees.task_of tasks ≡ declared → k < length tasks → slice_get declared k ≡ Some (trees.task_of (get_or tasks k t))

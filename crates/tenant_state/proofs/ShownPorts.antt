@@ -16,11 +16,12 @@ use Rattle.giotto_text.specs.declared.programs.Sensor.{Sensor}
 use Rattle.giotto_text.specs.declared.programs.Actuator.{Actuator}
 use Rattle.giotto_text.specs.declared.programs.Output.{Output}
 use Rattle.giotto_text.specs.declared.programs.Task.{Task}
-use Rattle.giotto_check.specs.Slots.{ProgramPort, task_port, shown_name, ports_of, ports_of_task, port_names, slots_of, valuation_of}
+use Rattle.giotto_check.specs.Slots.{ProgramPort, task_port, shown_name, ports_of, ports_of_task, port_names, valuation_of}
+use Rattle.giotto_check.specs.inner.Slots.{slots_of}
 use Rattle.tenant_lines.specs.declared.ports.PortName.{PortName}
 use Rattle.tenant_lines.specs.declared.ports.PortValue.{PortValue}
 use Rattle.tenant_state.specs.Commands.{port_with_value}
-use Rattle.tenant_state.specs.ShownPorts.{name_of_port, with_its_value, name_of_own_port, name_of_shared_port}
+use Rattle.tenant_state.specs.inner.ShownPorts.{name_of_port, with_its_value, name_of_own_port, name_of_shared_port}
 
 -- names and values one after the other, at the place i
 module _ (names : List PortName) (values : List ℤ) (all : List PortValue) (i : ℕ) where

@@ -17,13 +17,14 @@ use Rattle.giotto_tasks.proofs.NameLemmas.{same_name_is, same_name_self}
 use Rattle.giotto_tasks.proofs.TestLemmas.{same_answers}
 use Rattle.giotto_text.specs.Program.{TaskDeclaration, TaskInvocation, ModeDeclaration, GiottoProgram}
 use Rattle.giotto_rules.specs.Declarations.{period_of_task}
-use Rattle.giotto_check.specs.Facts.{IsFrequencyOf, InvocationFits, ModeFits, ProgramFits}
-use Rattle.giotto_check.specs.Timetables.{AreEach, IsInvocation}
+use Rattle.giotto_check.specs.inner.Facts.{IsFrequencyOf, InvocationFits, ModeFits, ProgramFits}
+use Rattle.giotto_check.specs.inner.Timetables.{AreEach, IsInvocation}
 use Rattle.giotto_check.specs.declared.timetables.SlotInvocation.{SlotInvocation}
 use Rattle.tenant_slots.specs.Places.{name_of_task}
 use Rattle.tenant_slots.proofs.Numbered.{mode_fits_at, same_task}
 use Rattle.tenant_state.specs.declared.tenants.Active.{Active}
-use Rattle.tenant_state.specs.CommonPeriods.{is_common_multiple, IsLeastCommonMultiple, IsCommonPeriod}
+use Rattle.tenant_state.specs.CommonPeriods.{is_common_multiple}
+use Rattle.tenant_state.specs.inner.CommonPeriods.{IsLeastCommonMultiple, IsCommonPeriod}
 use Rattle.tenant_state.specs.Row.{ActiveTask}
 use Rattle.tenant_state.specs.SecondHalf.{time_before_end}
 use Rattle.tenant_state.specs.Tenants.{active_of}

@@ -15,8 +15,8 @@ use Rattle.giotto_tasks.specs.Syntax.{TaskBody}
 use Rattle.giotto_text.specs.declared.programs.Mode.{Mode}
 use Rattle.giotto_text.specs.ProgramTrees as tree
 use Rattle.giotto_text.specs.Program.{TaskDeclaration, TaskInvocation, ModeDeclaration, GiottoProgram}
-use Rattle.giotto_check.specs.Facts.{ProgramFits}
-use Rattle.tenant_slots.specs.Due.{IsQuietUntil}
+use Rattle.giotto_check.specs.inner.Facts.{ProgramFits}
+use Rattle.tenant_slots.specs.inner.Due.{IsQuietUntil}
 use Rattle.tenant_slots.specs.Places.{name_of_task}
 use Rattle.tenant_slots.proofs.Numbered.{mode_fits_at}
 use Rattle.tenant_state.specs.declared.tenants.Active.{Active}
@@ -25,8 +25,10 @@ use Rattle.tenant_state.specs.declared.tenants.State.TheVariants.{Empty}
 use Rattle.tenant_state.specs.Jobs.{job_in, released_at}
 use Rattle.tenant_state.specs.Row.{ActiveTask, Row}
 use Rattle.tenant_state.specs.SecondHalf.{released, all_released}
-use Rattle.tenant_state.specs.Standing.{Standing, AreReleased, most_released}
-use Rattle.tenant_state.specs.Tenants.{active_of, tasks_in, standing_of, is_another, all_different_releases, AreInvoked, IsActiveOf, IsActiveIn, FitsIts, IsTenant}
+use Rattle.tenant_state.specs.Standing.{Standing, most_released}
+use Rattle.tenant_state.specs.inner.Standing.{AreReleased}
+use Rattle.tenant_state.specs.Tenants.{active_of, tasks_in, standing_of}
+use Rattle.tenant_state.specs.inner.Tenants.{is_another, all_different_releases, AreInvoked, IsActiveOf, IsActiveIn, FitsIts, IsTenant}
 use Rattle.tenant_state.proofs.HalfStands.{released_by, new_releases}
 use Rattle.tenant_state.proofs.SecondHalfSteps.{those_released}
 use Rattle.tenant_state.proofs.TenantFacts.{known_of}

@@ -14,13 +14,14 @@ use Rattle.giotto_rules.specs.Rules.{first_broken_rule}
 use Rattle.tenant_state.specs.Commands.{refusal_of, refused, at_beginning, broken_budget, load_within, load_kept, load_checked, load_read}
 use Rattle.giotto_text.specs.declared.programs.Task.{Task}
 use Rattle.giotto_text.specs.ProgramTrees.{task_of}
-use Rattle.giotto_check.specs.Timetables.{AreEach}
+use Rattle.giotto_check.specs.inner.Timetables.{AreEach}
 use Rattle.giotto_check.specs.Slots.{valuation_of}
 use Rattle.tenant_slots.specs.Places.{name_of_mode}
 use Rattle.tenant_slots.specs.Ports.{initial_ports}
 use Rattle.tenant_state.specs.Row.{ActiveTask, Row, is_running}
 use Rattle.tenant_state.specs.Standing.{StandsFor}
-use Rattle.tenant_state.specs.Tenants.{state_of, standing_of, IsShareOf}
+use Rattle.tenant_state.specs.Tenants.{state_of, standing_of}
+use Rattle.tenant_state.specs.inner.Tenants.{IsShareOf}
 
 module _ (text : List ℕ) (budgets : Budgets) (row : Row) where
   pub refused_by_reader : (f : ReadFault) → parsed text ≡ Err f → load_read budgets row (parsed text) ≡ refused row (refusal_of f)

@@ -11,7 +11,8 @@ use Rattle.tenant_state.specs.declared.tenants.Active.{Active}
 use Rattle.tenant_state.specs.declared.tenants.State as code
 use Rattle.tenant_state.specs.Row.{ActiveTask}
 use Rattle.tenant_state.specs.Standing.{IsKnown}
-use Rattle.tenant_state.specs.Tenants.{active_of, tasks_in, standing_of, IsActiveIn, FitsIts, IsTenant}
+use Rattle.tenant_state.specs.Tenants.{active_of, tasks_in, standing_of}
+use Rattle.tenant_state.specs.inner.Tenants.{IsActiveIn, FitsIts, IsTenant}
 use Rattle.giotto_tasks.proofs.ListLemmas.{all_map, all_mapped}
 
 abbrev pub AreEarly : ℕ → List ActiveTask → Type 0

@@ -1,15 +1,12 @@
 pub mod ActiveTasks
 pub mod Commands
 pub mod CommonPeriods
-pub mod EntryTable
 pub mod FirstHalf
-pub mod Halves
 pub mod Instants
 pub mod Jobs
 pub mod Readers
-pub mod Releases
 pub mod Row
 pub mod SecondHalf
-pub mod ShownPorts
 pub mod Standing
 pub mod Tenants
+pub mod inner

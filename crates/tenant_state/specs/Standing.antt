@@ -1,5 +1,5 @@
 -- What a tenant's code stands for: all of its row but the records, and which active tasks' computations are completed.
-use Rattle.std.specs.Prelude.{◌≡◌, ◌+◌, ◌≤◌, ◌<◌, ℕ, Bool, true, false, not, if◌then◌else◌, List, [], map, filter, length, max, take, drop, Option, None}
+use Rattle.std.specs.Prelude.{◌≡◌, ◌<◌, ℕ, Bool, true, false, not, if◌then◌else◌, List, [], map, filter, length, max, Option, None}
 use Rattle.std.specs.List.{AllByRecursion, find, zip}
 use Rattle.std.specs.Option.{option_and_then, option_map, option_map_or}
 use Rattle.giotto_tasks.specs.declared.names.Name.{Name}
@@ -7,10 +7,7 @@ use Rattle.giotto_text.specs.Program.{GiottoProgram, ModeDeclaration, ModeSwitch
 use Rattle.giotto_check.specs.Costs.{greatest}
 use Rattle.giotto_rules.specs.Declarations.{mode_named}
 use Rattle.tenant_jobs.specs.declared.jobs.JobId.{JobId}
-use Rattle.tenant_lines.specs.declared.replies.Refusal.{Refusal}
-use Rattle.tenant_lines.specs.declared.replies.Reply.{Reply}
 use Rattle.tenant_slots.specs.Due.{is_due_at}
-use Rattle.tenant_state.specs.Commands.{Outcome, refused}
 use Rattle.tenant_jobs.specs.Jobs.{JobValue, same_job}
 use Rattle.tenant_state.specs.Jobs.{job_in, job_of}
 use Rattle.tenant_state.specs.Row.{ActiveTask, Row, empty_row, is_running}
@@ -57,27 +54,6 @@ most_at p m time =
 abbrev pub most_released : Row → ℕ
 most_released row = if is_running row then option_map_or (λ p. option_map_or (λ m. most_at p m row.mode_time) (mode_named p row.mode) 0) row.program 0 else 0
 
--- a command's outcome: this reply was given, and this is what is left
-pub record IsOutcome (outcome : Outcome) (reply : Reply) (standing : Standing) (completed : ActiveTask → Bool) : Type 0 where
-  pub same_reply : reply ≡ outcome.reply
-  pub stands : StandsFor standing outcome.row completed
-
--- this holds of each row for which the tenant stands, and of the active tasks completed there
-abbrev pub HoldsOfRow : Standing → (Row → (ActiveTask → Bool) → Type 0) → Type 0
-HoldsOfRow standing P = (row : Row) (completed : ActiveTask → Bool) → StandsFor standing row completed → P row completed
-
--- whatever row the tenant stood for, now it stands for the row behind this step
-abbrev pub IsBehind : Standing → (Row → Row) → Standing → Type 0
-IsBehind before step after = HoldsOfRow before (λ row completed. StandsFor after (step row) completed)
-
--- whatever row the tenant stood for, this reply is that of the step, and now it stands for the row behind the step
-abbrev pub IsAnswered : Standing → (Row → Outcome) → Reply → Standing → Type 0
-IsAnswered before step reply after = HoldsOfRow before (λ row completed. IsOutcome (step row) reply after completed)
-
--- whatever row the tenant stands for, the step refuses it so
-abbrev pub IsRefused : Standing → (Row → Outcome) → Refusal → Type 0
-IsRefused standing step r = (row : Row) → standing.row ≡ without_records row → step row ≡ refused row r
-
 -- the outstanding tasks: active, and not completed
 abbrev pub outstanding_tasks : Standing → List ActiveTask
 outstanding_tasks s = map (λ (p : ActiveTask × Bool). p.0) (filter (λ (p : ActiveTask × Bool). not p.1) (zip s.row.active s.completed))
@@ -86,22 +62,8 @@ outstanding_tasks s = map (λ (p : ActiveTask × Bool). p.0) (filter (λ (p : Ac
 abbrev pub awaited_job : Standing → JobId → Option JobValue
 awaited_job s j = option_and_then (λ p. option_map (job_in p j.tenant) (find (λ a. same_job (job_of j.tenant a) j) (outstanding_tasks s))) s.row.program
 
--- room for the most tasks that the next instant can release
-abbrev pub HasRoom : Standing → Type 0
-HasRoom s = most_released s.row ≤ s.room
-
--- a share of each body that the next instant can need
-abbrev pub HasShares : Standing → Type 0
-HasShares s = 0 < most_released s.row → s.shared ≡ true
-
 -- what is known of every tenant: it has no binds, and active tasks only with a program, each released before the next instant
 pub record IsKnown (row : Row) : Type 0 where
   pub no_binds : row.binds ≡ []
   pub tasks : row.program ≡ None → row.active ≡ []
   pub early : AllByRecursion (λ (a : ActiveTask). a.release < row.next_tick) row.active
-
--- the tasks that an instant made active, behind those of before: no more than it can release, and of its number
-pub record AreReleased (before after : Row) : Type 0 where
-  pub older : take (length before.active) after.active ≡ before.active
-  pub newer : AllByRecursion (λ (a : ActiveTask). a.release ≡ before.next_tick) (drop (length before.active) after.active)
-  pub few : length after.active ≤ length before.active + most_released before

@@ -87,9 +87,10 @@ impl Model for Tenant {
     ghost use Rattle.std.specs.Arc.{arc_value};
     ghost use Rattle.std.specs.Option.{option_map};
     ghost use Rattle.tenant_state.specs.Standing.{Standing};
-    ghost use Rattle.tenant_state.specs.Tenants.{standing_of, IsTenant};
+    ghost use Rattle.tenant_state.specs.Tenants.{standing_of};
+    ghost use Rattle.tenant_state.specs.inner.Tenants.{IsTenant};
     ghost use Rattle.std.specs.Coded.{codes};
-    ghost use Rattle.giotto_text.specs.ProgramCodes.{program_code};
+    ghost use Rattle.giotto_text.specs.inner.ProgramCodes.{program_code};
 
     ghost Value = { Standing };
 

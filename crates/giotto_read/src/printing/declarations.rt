@@ -5,7 +5,7 @@ ghost use Rattle.std.specs.Prelude.{◌≡◌, OnOk, map};
 ghost use Rattle.std.specs.List.{flat_map};
 ghost use Rattle.giotto_text.specs.Canonical.{declaration_tokens, sensor_tokens, actuator_tokens, output_tokens};
 ghost use Rattle.giotto_text.specs.ProgramTrees.{sensor_of, actuator_of, output_of};
-ghost use Rattle.giotto_read.specs.Printing.{written};
+ghost use Rattle.giotto_read.specs.inner.Printing.{written};
 
 use super::Printer;
 use giotto_tasks::names::Name;

@@ -5,7 +5,7 @@ ghost use Rattle.std.specs.Prelude.{◌≡◌, OnOk};
 ghost use Rattle.giotto_tasks.specs.Trees.{expression_of};
 ghost use Rattle.giotto_text.specs.Canonical.{expression_tokens, operand_tokens, given_tokens};
 ghost use Rattle.giotto_text.specs.Grammar.{symbol_of_unary, symbol_of_binary};
-ghost use Rattle.giotto_read.specs.Printing.{written};
+ghost use Rattle.giotto_read.specs.inner.Printing.{written};
 
 use super::Printer;
 use giotto_tasks::bodies::Expr;

@@ -6,7 +6,7 @@ ghost use Rattle.std.specs.List.{flat_map};
 ghost use Rattle.giotto_tasks.specs.Trees.{expression_of};
 ghost use Rattle.giotto_text.specs.Canonical.{argument_tokens, at_frequency, destination_tokens, invocation_tokens, mode_tokens, switch_tokens, update_tokens};
 ghost use Rattle.giotto_text.specs.ProgramTrees.{destination_of, guard_of, invocation_of, mode_of, switch_of, update_of};
-ghost use Rattle.giotto_read.specs.Printing.{written};
+ghost use Rattle.giotto_read.specs.inner.Printing.{written};
 
 use super::Printer;
 use giotto_tasks::bodies::Expr;

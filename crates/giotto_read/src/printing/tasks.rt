@@ -7,7 +7,7 @@ ghost use Rattle.giotto_tasks.specs.Trees.{block_of, statement_of};
 ghost use Rattle.giotto_text.specs.Canonical.{block_tokens, else_tokens, in_braces, name_tokens, optional_list, state_tokens, statement_tokens, task_tokens, with_commas};
 ghost use Rattle.giotto_text.specs.ProgramTrees.{task_of};
 ghost use Rattle.giotto_text.specs.declared.tokens.Keyword.TheVariants.{Output, State};
-ghost use Rattle.giotto_read.specs.Printing.{written};
+ghost use Rattle.giotto_read.specs.inner.Printing.{written};
 
 use super::Printer;
 use giotto_tasks::bodies::Stmt;

@@ -1,7 +1,7 @@
 //! Sensors, actuators and outputs.
 
 ghost use Rattle.std.specs.Prelude.{map};
-ghost use Rattle.giotto_read.specs.Doing.{Does};
+ghost use Rattle.giotto_read.specs.inner.Doing.{Does};
 ghost use Rattle.giotto_text.specs.Parsing.{is_keyword, many, read_actuator, read_declaration, read_line, read_output, read_sensor, read_source};
 ghost use Rattle.giotto_text.specs.ProgramTrees.{actuator_of, output_of, sensor_of, source_of};
 ghost use Rattle.giotto_text.specs.declared.tokens.Keyword.TheVariants as keyword;

@@ -1,7 +1,7 @@
 //! Expressions and guards.
 
 ghost use Rattle.std.specs.Prelude.{◌≡◌, map};
-ghost use Rattle.giotto_read.specs.Doing.{Does, TakesOne};
+ghost use Rattle.giotto_read.specs.inner.Doing.{Does, TakesOne};
 ghost use Rattle.giotto_tasks.specs.Trees.{expression_of};
 ghost use Rattle.giotto_text.specs.Parsing.{binary_in, read_expression, read_guard, read_list, read_operand_of, read_parentheses, unary_in};
 ghost use Rattle.giotto_text.specs.ProgramTrees.{guard_of};

@@ -1,7 +1,7 @@
 //! Modes.
 
 ghost use Rattle.std.specs.Prelude.{ℕ, Option, map};
-ghost use Rattle.giotto_read.specs.Doing.{Does};
+ghost use Rattle.giotto_read.specs.inner.Doing.{Does};
 ghost use Rattle.giotto_tasks.specs.declared.bodies.Expr.{Expr};
 ghost use Rattle.giotto_text.specs.Parsing.{is_keyword, is_name, many, read_assignment, read_destinations, read_frequency, read_invocation, read_mode, read_switch, read_update};
 ghost use Rattle.giotto_text.specs.ProgramTrees.{destination_of, guard_of, invocation_of, mode_of, switch_of, update_of};

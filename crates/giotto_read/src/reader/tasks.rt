@@ -4,7 +4,7 @@ ghost use Rattle.std.specs.Prelude.{◌≡◌, ◌≤◌, map, length, IfOk};
 ghost use Rattle.std.specs.List.{zip};
 ghost use Rattle.giotto_tasks.specs.Depth.{depth_of_block};
 ghost use Rattle.giotto_tasks.specs.Trees.{block_of, body_of};
-ghost use Rattle.giotto_read.specs.Doing.{Does};
+ghost use Rattle.giotto_read.specs.inner.Doing.{Does};
 ghost use Rattle.giotto_text.specs.Parsing.{is_keyword, many, read_list, read_list_behind, read_name, read_parentheses, read_state, read_task};
 ghost use Rattle.giotto_text.specs.ProgramTrees.{task_of};
 ghost use Rattle.giotto_text.specs.declared.tokens.Keyword.TheVariants as keyword;

@@ -2,7 +2,7 @@
 
 ghost use Rattle.std.specs.Prelude.{◌≡◌, ◌<◌, ◌≤◌, ◌+◌, [], Some, length, slice_get, slice_set, OnOk};
 ghost use Rattle.tenant_state.specs.declared.tenants.Active.{Active};
-ghost use Rattle.tenant_state.specs.ActiveTasks.{computed};
+ghost use Rattle.tenant_state.specs.inner.Tenants.{computed};
 
 use crate::tenants::Active;
 use giotto_tasks::values::Values;

@@ -12,13 +12,15 @@ ghost use Rattle.tenant_lines.specs.declared.replies.Refusal.{Refusal};
 ghost use Rattle.tenant_lines.specs.declared.replies.Reply.{Reply};
 ghost use Rattle.giotto_rules.specs.Declarations.{lines_read, lines_written};
 ghost use Rattle.giotto_rules.specs.Rules.{first_broken_rule};
-ghost use Rattle.giotto_check.specs.Slots.{slots_of, valuation_of};
+ghost use Rattle.giotto_check.specs.inner.Slots.{slots_of};
+ghost use Rattle.giotto_check.specs.Slots.{valuation_of};
 ghost use Rattle.giotto_check.specs.declared.CheckFault.{CheckFault};
 ghost use Rattle.rig_config.specs.Roster.{may_use};
 ghost use Rattle.tenant_slots.specs.Ports.{initial_ports};
 ghost use Rattle.tenant_state.specs.Commands.{at_beginning, commanded, takes_memory, refusal_of, load_kept, load_read, refused, broken_budget};
 ghost use Rattle.tenant_state.specs.Row.{Row, is_running, loaded};
-ghost use Rattle.tenant_state.specs.Standing.{HoldsOfRow, IsAnswered, IsBehind, IsOutcome, IsRefused, without_records};
+ghost use Rattle.tenant_state.specs.inner.Standing.{HoldsOfRow, IsAnswered, IsBehind, IsOutcome, IsRefused};
+ghost use Rattle.tenant_state.specs.Standing.{without_records};
 
 use crate::tenants::{Reason, State, Tenant};
 use giotto_check::{self, CheckFault, Checked};

@@ -6,12 +6,14 @@ ghost use Rattle.std.specs.Bool.{OnTrue, OnFalse};
 ghost use Rattle.std.specs.List.{AllByRecursion};
 ghost use Rattle.std.specs.Option.{option_and_then};
 ghost use Rattle.giotto_text.specs.ProgramTrees.{task_of};
-ghost use Rattle.tenant_slots.specs.Places.{IsTaskAt};
+ghost use Rattle.tenant_slots.specs.inner.Places.{IsTaskAt};
 ghost use Rattle.tenant_jobs.specs.Jobs.{same_job};
 ghost use Rattle.tenant_state.specs.Jobs.{job_of};
-ghost use Rattle.tenant_state.specs.Standing.{HoldsOfRow, StandsFor, outstanding_tasks, awaited_job};
-ghost use Rattle.tenant_state.specs.Tenants.{IsActiveIn, IsActiveOf, active_of, awaits_job, is_completed};
-ghost use Rattle.giotto_check.specs.Facts.{ProgramFits};
+ghost use Rattle.tenant_state.specs.inner.Standing.{HoldsOfRow};
+ghost use Rattle.tenant_state.specs.Standing.{StandsFor, outstanding_tasks, awaited_job};
+ghost use Rattle.tenant_state.specs.inner.Tenants.{IsActiveIn, IsActiveOf, awaits_job};
+ghost use Rattle.tenant_state.specs.Tenants.{active_of, is_completed};
+ghost use Rattle.giotto_check.specs.inner.Facts.{ProgramFits};
 
 use crate::tenants::active_tasks::ActiveTasks;
 use crate::tenants::{Active, Tenant};

@@ -4,14 +4,16 @@ ghost use Rattle.std.specs.Prelude.{◌≡◌, ◌<◌, ◌≤◌, not, true, fa
 ghost use Rattle.std.specs.List.{find, list_all, AllByRecursion};
 ghost use Rattle.std.specs.Option.{option_map};
 ghost use Rattle.giotto_text.specs.Program.{ModeDeclaration};
-ghost use Rattle.giotto_check.specs.Slots.{slots_of, valuation_of};
-ghost use Rattle.giotto_check.specs.Timetables.{AreEach, IsInvocation};
+ghost use Rattle.giotto_check.specs.inner.Slots.{slots_of};
+ghost use Rattle.giotto_check.specs.Slots.{valuation_of};
+ghost use Rattle.giotto_check.specs.inner.Timetables.{AreEach, IsInvocation};
 ghost use Rattle.tenant_slots.specs.Places.{name_of_task};
-ghost use Rattle.tenant_state.specs.EntryTable.{IsTableOf, AreDueEnded, MarksDue, entries_at, is_among_due, is_left_open, is_task_open};
+ghost use Rattle.tenant_state.specs.inner.EntryTable.{IsTableOf, AreDueEnded, MarksDue, entries_at, is_among_due, is_left_open, is_task_open};
 ghost use Rattle.tenant_state.specs.FirstHalf.{all_ended};
-ghost use Rattle.tenant_state.specs.Halves.{IsFirstHalf};
+ghost use Rattle.tenant_state.specs.inner.Halves.{IsFirstHalf};
 ghost use Rattle.tenant_state.specs.Standing.{most_released};
-ghost use Rattle.tenant_state.specs.Tenants.{active_of, is_completed, IsActiveOf};
+ghost use Rattle.tenant_state.specs.Tenants.{active_of, is_completed};
+ghost use Rattle.tenant_state.specs.inner.Tenants.{IsActiveOf};
 
 use crate::tenants::active_tasks::ActiveTasks;
 use crate::tenants::{Active, Reason, State, Tenant};

@@ -4,16 +4,19 @@ ghost use Rattle.std.specs.Prelude.{◌≡◌, ◌<◌, ◌≤◌, ◌+◌, ◌-
 ghost use Rattle.std.specs.Arc.{arc_value};
 ghost use Rattle.std.specs.List.{AllByRecursion, list_all};
 ghost use Rattle.std.specs.Option.{option_map};
-ghost use Rattle.giotto_check.specs.Timetables.{AreEach};
+ghost use Rattle.giotto_check.specs.inner.Timetables.{AreEach};
 ghost use Rattle.giotto_tasks.specs.Sound.{all_different};
 ghost use Rattle.giotto_text.specs.Program.{ModeDeclaration};
-ghost use Rattle.tenant_slots.specs.Due.{IsQuietUntil};
-ghost use Rattle.tenant_slots.specs.Places.{name_of_task, IsModeAt};
-ghost use Rattle.tenant_state.specs.Halves.{IsSecondHalf};
-ghost use Rattle.tenant_jobs.specs.Jobs.{IsComputable};
+ghost use Rattle.tenant_slots.specs.inner.Due.{IsQuietUntil};
+ghost use Rattle.tenant_slots.specs.Places.{name_of_task};
+ghost use Rattle.tenant_slots.specs.inner.Places.{IsModeAt};
+ghost use Rattle.tenant_state.specs.inner.Halves.{IsSecondHalf};
+ghost use Rattle.tenant_jobs.specs.inner.Jobs.{IsComputable};
 ghost use Rattle.tenant_state.specs.Jobs.{body_in, job_in, released_at};
-ghost use Rattle.tenant_state.specs.Standing.{AreReleased, HasRoom, HasShares, most_released};
-ghost use Rattle.tenant_state.specs.Tenants.{active_of, IsActiveOf, IsShareOf};
+ghost use Rattle.tenant_state.specs.inner.Standing.{AreReleased, HasRoom, HasShares};
+ghost use Rattle.tenant_state.specs.Standing.{most_released};
+ghost use Rattle.tenant_state.specs.Tenants.{active_of};
+ghost use Rattle.tenant_state.specs.inner.Tenants.{IsActiveOf, IsShareOf};
 
 use crate::tenants::releases::invoke_due;
 use crate::tenants::switches::switch;

@@ -10,7 +10,7 @@ ghost use Rattle.tenant_slots.specs.Places.{name_of_task};
 ghost use Rattle.tenant_state.specs.FirstHalf.{names_due};
 ghost use Rattle.tenant_state.specs.Jobs.{is_active};
 ghost use Rattle.tenant_state.specs.Readers.{actuator_value};
-ghost use Rattle.tenant_state.specs.Tenants.{IsActiveOf, is_of_job};
+ghost use Rattle.tenant_state.specs.inner.Tenants.{IsActiveOf, is_of_job};
 
 use crate::tenants::{Active, State, Tenant};
 use giotto_check::Checked;

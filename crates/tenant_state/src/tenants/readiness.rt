@@ -4,12 +4,13 @@ ghost use Rattle.std.specs.Prelude.{◌≡◌, map, is_some, true, IsOk, IfOk, O
 ghost use Rattle.std.specs.Arc.{arc_value};
 ghost use Rattle.std.specs.List.{list_all};
 ghost use Rattle.std.specs.Option.{option_map};
-ghost use Rattle.giotto_check.specs.Timetables.{AreEach};
+ghost use Rattle.giotto_check.specs.inner.Timetables.{AreEach};
 ghost use Rattle.giotto_text.specs.Program.{ModeDeclaration};
 ghost use Rattle.giotto_text.specs.ProgramTrees.{task_of};
-ghost use Rattle.tenant_state.specs.Standing.{HasRoom, HasShares, most_at, most_released};
-ghost use Rattle.tenant_state.specs.Tenants.{IsShareOf};
-ghost use Rattle.tenant_slots.specs.Places.{IsModeAt};
+ghost use Rattle.tenant_state.specs.inner.Standing.{HasRoom, HasShares};
+ghost use Rattle.tenant_state.specs.Standing.{most_at, most_released};
+ghost use Rattle.tenant_state.specs.inner.Tenants.{IsShareOf};
+ghost use Rattle.tenant_slots.specs.inner.Places.{IsModeAt};
 
 use crate::tenants::{State, Tenant};
 use giotto_check::Checked;

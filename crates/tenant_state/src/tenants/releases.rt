@@ -2,12 +2,15 @@
 
 ghost use Rattle.std.specs.Prelude.{◌≡◌, ◌≤◌, ◌<◌, ◌+◌, ◌++◌, ◌∷◌, [], false, length, map, filter};
 ghost use Rattle.std.specs.List.{AllByRecursion};
-ghost use Rattle.giotto_check.specs.Slots.{slots_of, valuation_of};
+ghost use Rattle.giotto_check.specs.inner.Slots.{slots_of};
+ghost use Rattle.giotto_check.specs.Slots.{valuation_of};
 ghost use Rattle.giotto_text.specs.Program.{ModeDeclaration, TaskInvocation};
-ghost use Rattle.tenant_slots.specs.Due.{is_due_at, IsQuietUntil};
-ghost use Rattle.tenant_state.specs.Releases.{IsEntryOf, AreInputsGiven, ForItsInvocation, released_by};
-ghost use Rattle.tenant_state.specs.Tenants.{active_of, is_completed, AreInvoked, IsActiveIn};
-ghost use Rattle.tenant_slots.specs.Places.{IsModeAt};
+ghost use Rattle.tenant_slots.specs.Due.{is_due_at};
+ghost use Rattle.tenant_slots.specs.inner.Due.{IsQuietUntil};
+ghost use Rattle.tenant_state.specs.inner.Releases.{IsEntryOf, AreInputsGiven, ForItsInvocation, released_by};
+ghost use Rattle.tenant_state.specs.Tenants.{active_of, is_completed};
+ghost use Rattle.tenant_state.specs.inner.Tenants.{AreInvoked, IsActiveIn};
+ghost use Rattle.tenant_slots.specs.inner.Places.{IsModeAt};
 
 use crate::tenants::Active;
 use crate::tenants::active_tasks::ActiveTasks;

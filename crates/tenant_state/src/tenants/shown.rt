@@ -2,14 +2,16 @@
 
 ghost use Rattle.std.specs.Prelude.{◌≡◌, ◌≢◌, ◌++◌, Err, None, Some, false, is_some, length, map, IfOk, IfErr, OnOk};
 ghost use Rattle.std.specs.List.{zip};
-ghost use Rattle.giotto_check.specs.Slots.{ports_of, slots_of, valuation_of};
+ghost use Rattle.giotto_check.specs.Slots.{ports_of, valuation_of};
+ghost use Rattle.giotto_check.specs.inner.Slots.{slots_of};
 ghost use Rattle.tenant_lines.specs.declared.ports.PortValue.{PortValue};
 ghost use Rattle.tenant_lines.specs.declared.replies.Refusal.{Refusal};
 ghost use Rattle.tenant_lines.specs.declared.replies.Reply.{Reply};
 ghost use Rattle.tenant_state.specs.Commands.{port_with_value, show_all, show_port, status_of};
 ghost use Rattle.tenant_state.specs.Row.{Row};
-ghost use Rattle.tenant_state.specs.ShownPorts.{name_of_port, name_of_own_port, name_of_shared_port, with_its_value};
-ghost use Rattle.tenant_state.specs.Standing.{IsRefused, without_records};
+ghost use Rattle.tenant_state.specs.inner.ShownPorts.{name_of_port, name_of_own_port, name_of_shared_port, with_its_value};
+ghost use Rattle.tenant_state.specs.inner.Standing.{IsRefused};
+ghost use Rattle.tenant_state.specs.Standing.{without_records};
 
 use crate::tenants::{Reason, State, Tenant};
 use giotto_check::Checked;

@@ -2,7 +2,8 @@
 
 ghost use Rattle.std.specs.Prelude.{◌≡◌, ◌≤◌};
 ghost use Rattle.tenant_state.specs.FirstHalf.{stopped_with};
-ghost use Rattle.tenant_state.specs.Standing.{IsBehind, most_released};
+ghost use Rattle.tenant_state.specs.inner.Standing.{IsBehind};
+ghost use Rattle.tenant_state.specs.Standing.{most_released};
 ghost use Rattle.tenant_state.specs.Tenants.{reason_of};
 
 use crate::tenants::{Reason, State, Tenant};

@@ -4,14 +4,17 @@ ghost use Rattle.std.specs.Prelude.{◌≡◌, ◌<◌, ◌≤◌, ◌*◌, ◌^
 ghost use Rattle.std.specs.List.{find, filter_map, AllByRecursion};
 ghost use Rattle.std.specs.Option.{option_map};
 ghost use Rattle.giotto_rules.specs.Declarations.{period_of_task};
-ghost use Rattle.giotto_check.specs.Slots.{slots_of, valuation_of};
+ghost use Rattle.giotto_check.specs.inner.Slots.{slots_of};
+ghost use Rattle.giotto_check.specs.Slots.{valuation_of};
 ghost use Rattle.giotto_text.specs.Program.{ModeDeclaration};
-ghost use Rattle.tenant_slots.specs.Due.{IsQuietUntil};
-ghost use Rattle.tenant_slots.specs.Places.{name_of_task, IsModeAt};
-ghost use Rattle.tenant_state.specs.CommonPeriods.{IsCommonPeriod, IsLeastCommonMultiple};
+ghost use Rattle.tenant_slots.specs.inner.Due.{IsQuietUntil};
+ghost use Rattle.tenant_slots.specs.Places.{name_of_task};
+ghost use Rattle.tenant_slots.specs.inner.Places.{IsModeAt};
+ghost use Rattle.tenant_state.specs.inner.CommonPeriods.{IsCommonPeriod, IsLeastCommonMultiple};
 ghost use Rattle.tenant_state.specs.Row.{ActiveTask};
 ghost use Rattle.tenant_state.specs.SecondHalf.{entry_time};
-ghost use Rattle.tenant_state.specs.Tenants.{active_of, IsActiveOf, IsSwitched};
+ghost use Rattle.tenant_state.specs.Tenants.{active_of};
+ghost use Rattle.tenant_state.specs.inner.Tenants.{IsActiveOf, IsSwitched};
 
 use crate::tenants::Active;
 use giotto_check::Checked;

@@ -1,5 +1,5 @@
 use Rattle.std.proofs.Common.{length}
-use Rattle.giotto_check.specs.Timetables.{AreEach, IsTimetable}
+use Rattle.giotto_check.specs.inner.Timetables.{AreEach, IsTimetable}
 use Rattle.giotto_check.proofs.EachLemmas.{each_long, lent_at, none_past}
 use Rattle.giotto_check.proofs.Checked.timetable.Goals as goal
 

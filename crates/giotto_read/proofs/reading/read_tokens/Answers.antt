@@ -1,6 +1,6 @@
 use Rattle.std.proofs.Common.{◌≡◌, true, false, Err, refl, ap, sym, ◌∙◌}
 use Rattle.giotto_text.specs.declared.faults.ReadFault.TheVariants.{Syntax, TooDeep, TooMany}
-use Rattle.giotto_read.specs.Doing.{left}
+use Rattle.giotto_read.specs.inner.Doing.{left}
 use Rattle.giotto_text.specs.Parsing.{got, stopped}
 use Rattle.giotto_read.proofs.DoingSteps.{read_of, reads_stopped, reads_behind, nothing_left}
 use Rattle.giotto_read.proofs.reading.read_tokens.Goals as goal

@@ -1,6 +1,6 @@
 use Rattle.std.proofs.Common.{rules, ◌<◌, length, ap, arith}
 use Rattle.std.proofs.lemmas.List.Elements.{AllWithin-more_set}
-use Rattle.host_core.specs.Halves.{IsReady}
+use Rattle.host_core.specs.inner.Halves.{IsReady}
 use Rattle.tenant_state.specs.Row.{Row}
 use Rattle.std.proofs.lemmas.List.Sums.{sum_by-take-le}
 use Rattle.tenant_state.specs.Standing.{Standing, most_released}

@@ -1,6 +1,7 @@
 use Rattle.std.proofs.Common.{◌≡◌, map, take}
 use Rattle.std.specs.List.{AllWithin}
-use Rattle.host_core.specs.Halves.{IsReady, most_of}
+use Rattle.host_core.specs.inner.Halves.{IsReady}
+use Rattle.host_core.specs.Halves.{most_of}
 use Rattle.tenant_state.specs.Standing.{at_rest}
 use Rattle.host_core.proofs.hosts.all_ready.Given as goal
 

@@ -2,7 +2,7 @@ use Rattle.std.proofs.Common.{◌≡◌, ◌<◌, length, take, sym, ap, ◌∙�
 use Rattle.std.proofs.lemmas.List.{take_all}
 use Rattle.std.proofs.lemmas.List.Sums.{sum-map, sum_by_more}
 use Rattle.std.specs.List.{sum_by}
-use Rattle.host_core.specs.Halves.{IsCompleted}
+use Rattle.host_core.specs.inner.Halves.{IsCompleted}
 use Rattle.tenant_state.specs.Standing.{empty_standing}
 use Rattle.host_core.proofs.HostLoops.{stepped_more, stepped_all, unstepped}
 use Rattle.host_core.proofs.Outstanding.{number_outstanding, counted_in_all}

@@ -1,6 +1,6 @@
 use Rattle.std.proofs.Common.{◌≡◌, ◌≤◌, ◌*◌, ◌-◌, ◌^◌, take}
 use Rattle.std.specs.List.{sum_by}
-use Rattle.host_core.specs.Halves.{IsCompleted}
+use Rattle.host_core.specs.inner.Halves.{IsCompleted}
 use Rattle.host_core.proofs.HostLoops.{AreSteppedTo}
 use Rattle.host_core.proofs.Outstanding.{number_outstanding}
 use Rattle.host_core.proofs.hosts.complete_each.Given as goal

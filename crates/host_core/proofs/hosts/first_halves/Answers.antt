@@ -1,8 +1,8 @@
 use Rattle.std.proofs.Common.{◌<◌, length, ap, sym, subst, ◌∙◌, arith}
 use Rattle.std.proofs.lemmas.List.Elements.{All-set}
 use Rattle.std.proofs.lemmas.List.Sums.{sum_by-set}
-use Rattle.tenant_state.specs.Halves.{IsFirstHalf}
-use Rattle.host_core.specs.Halves.{IsReady}
+use Rattle.tenant_state.specs.inner.Halves.{IsFirstHalf}
+use Rattle.host_core.specs.inner.Halves.{IsReady}
 use Rattle.tenant_state.specs.Standing.{Standing, most_released}
 use Rattle.host_core.proofs.HostLoops.{stepped_more, stepped_all}
 use Rattle.host_core.proofs.hosts.first_halves.Goals as goal

@@ -1,7 +1,8 @@
 use Rattle.std.proofs.Common.{◌≤◌}
 use Rattle.std.specs.List.{All}
-use Rattle.tenant_state.specs.Halves.{IsFirstHalf}
-use Rattle.host_core.specs.Halves.{IsReady, most_of}
+use Rattle.tenant_state.specs.inner.Halves.{IsFirstHalf}
+use Rattle.host_core.specs.inner.Halves.{IsReady}
+use Rattle.host_core.specs.Halves.{most_of}
 use Rattle.host_core.proofs.HostLoops.{AreSteppedTo}
 use Rattle.host_core.proofs.hosts.first_halves.Given as goal
 

@@ -1,7 +1,7 @@
 use Rattle.std.proofs.Common.{rules, ◌≡◌, ◌≤◌, ℕ, List, [], ◌∷◌, All, Some, length, ap, ◌∙◌, refl, sym, arith}
 use Rattle.rig_script.specs.Answered.{IsText}
 use Rattle.rig_script.specs.Lines.{cut}
-use Rattle.rig_script.specs.Reading.{IsLeft, reads_of}
+use Rattle.rig_script.specs.inner.Reading.{IsLeft, reads_of}
 use Rattle.rig_script.specs.Script.{reply_to_line, past_behind}
 use Rattle.rig_script.proofs.AnsweredLines.{come_further, texts_further, bad_is_no_text, on_ok, cut_short}
 use Rattle.rig_script.proofs.CountedReads.{both_counted, counted_left}

@@ -3,7 +3,7 @@ use Rattle.host_core.specs.Setting.{Setting}
 use Rattle.host_core.specs.declared.events.Event.{Event}
 use Rattle.rig_script.specs.Answered.{IsText}
 use Rattle.rig_script.specs.Lines.{cut}
-use Rattle.rig_script.specs.Reading.{IsLeft, AreCounted, reads_of}
+use Rattle.rig_script.specs.inner.Reading.{IsLeft, AreCounted, reads_of}
 use Rattle.rig_script.specs.Script.{reply_to_line, past_behind}
 use Rattle.rig_script.proofs.AnsweredLines.{HasCome}
 use Rattle.rig_script.proofs.answers.answer_lines.Given as goal

@@ -2,7 +2,7 @@ use Rattle.std.proofs.Common.{◌≡◌, ◌<◌, List, Some, length, refl, sym,
 use Rattle.rig_config.specs.Roster.{place_of}
 use Rattle.rig_config.specs.declared.Config.{Config}
 use Rattle.tenant_jobs.specs.declared.jobs.JobId.{JobId}
-use Rattle.rig_script.specs.HostAnswers.{IsHostAfter}
+use Rattle.rig_script.specs.inner.HostAnswers.{IsHostAfter}
 use Rattle.rig_script.specs.Script.{outstanding_at, work_step}
 use Rattle.rig_script.proofs.Completing.{completed_at, names_at}
 use Rattle.rig_script.proofs.Speaking.{place_within}

@@ -1,5 +1,5 @@
 use Rattle.std.specs.Io.KnownBytes.{Appends}
-use Rattle.rig_script.specs.Reading.{IsLeft}
+use Rattle.rig_script.specs.inner.Reading.{IsLeft}
 use Rattle.rig_script.proofs.NewScript.{all_left, all_written, none_left, broken_off, many_bytes}
 use Rattle.rig_script.proofs.host_answers.script.Goals as goal
 

@@ -4,7 +4,7 @@ use Rattle.std.proofs.lemmas.Int.{to_z-of_z}
 use Rattle.std.proofs.lemmas.List.{drop_all}
 use Rattle.giotto_check.specs.declared.timetables.SlotUpdate.{SlotUpdate}
 use Rattle.giotto_check.specs.Slots.{valuation_of}
-use Rattle.giotto_check.specs.Timetables.{IsUpdate}
+use Rattle.giotto_check.specs.inner.Timetables.{IsUpdate}
 use Rattle.giotto_check.proofs.EachLemmas.{each_long}
 use Rattle.giotto_tasks.proofs.ListLemmas.{all_at}
 use Rattle.tenant_slots.specs.Updates.{all_updated}

@@ -1,6 +1,7 @@
 use Rattle.std.proofs.Common.{◌≡◌, ◌≤◌, Some, length, drop, slice_get}
 use Rattle.giotto_text.specs.Program.{ModeDeclaration}
-use Rattle.giotto_check.specs.Slots.{slots_of, valuation_of}
+use Rattle.giotto_check.specs.inner.Slots.{slots_of}
+use Rattle.giotto_check.specs.Slots.{valuation_of}
 use Rattle.tenant_slots.specs.Updates.{all_updated}
 use Rattle.tenant_slots.proofs.actuators.update_due.Given as goal
 

@@ -2,7 +2,7 @@ use Rattle.std.proofs.Common.{rules, ℤ, ◌+◌, ◌≤◌, [], ◌++◌, leng
 use Rattle.std.specs.List.{flat_map}
 use Rattle.std.proofs.lemmas.List.{take_all, length-append, length-map}
 use Rattle.giotto_tasks.specs.declared.names.Name.{Name}
-use Rattle.giotto_check.specs.Slots.{slots_of, with_range}
+use Rattle.giotto_check.specs.inner.Slots.{slots_of, with_range}
 use Rattle.giotto_text.specs.Program.{GiottoProgram}
 use Rattle.giotto_text.specs.ProgramTrees.{task_of}
 use Rattle.giotto_text.specs.declared.programs.Sensor.{Sensor}

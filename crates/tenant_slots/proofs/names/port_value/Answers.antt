@@ -4,7 +4,7 @@ use Rattle.std.specs.Option.{option_and_then, option_map}
 use Rattle.giotto_tasks.specs.declared.names.Name.{Name}
 use Rattle.giotto_tasks.specs.Names.{value_at}
 use Rattle.giotto_text.specs.Program.{GiottoProgram}
-use Rattle.giotto_check.specs.Facts.{ProgramFits}
+use Rattle.giotto_check.specs.inner.Facts.{ProgramFits}
 use Rattle.giotto_check.specs.Slots.{port_names, shown_name, slot_of, valuation_of}
 use Rattle.giotto_check.proofs.SlotLemmas.{name_at_slot}
 use Rattle.giotto_check.proofs.Valuations.{value_at_place}

@@ -5,7 +5,7 @@ use Rattle.std.proofs.lemmas.Bool.{and_from, and_left, and_right}
 use Rattle.std.proofs.lemmas.List.{drop_all}
 use Rattle.giotto_text.specs.Program.{ModeSwitch}
 use Rattle.giotto_check.specs.Slots.{valuation_of}
-use Rattle.giotto_check.specs.Timetables.{IsExit}
+use Rattle.giotto_check.specs.inner.Timetables.{IsExit}
 use Rattle.giotto_check.proofs.EachLemmas.{each_long}
 use Rattle.tenant_slots.specs.Ports.{holds}
 use Rattle.tenant_slots.specs.Switches.{is_open}

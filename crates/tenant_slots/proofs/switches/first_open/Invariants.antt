@@ -1,8 +1,9 @@
 use Rattle.std.proofs.Common.{◌≡◌, length, drop}
 use Rattle.std.specs.List.{find}
 use Rattle.giotto_text.specs.Program.{ModeDeclaration, GiottoProgram}
-use Rattle.giotto_check.specs.Slots.{slots_of, valuation_of}
-use Rattle.giotto_check.specs.Timetables.{AreEach, IsExit}
+use Rattle.giotto_check.specs.inner.Slots.{slots_of}
+use Rattle.giotto_check.specs.Slots.{valuation_of}
+use Rattle.giotto_check.specs.inner.Timetables.{AreEach, IsExit}
 use Rattle.tenant_slots.specs.Switches.{is_open, switch_taken}
 use Rattle.tenant_slots.proofs.switches.first_open.Given as goal
 

@@ -3,10 +3,12 @@ use Rattle.std.specs.List.{AllByRecursion}
 use Rattle.std.specs.Option.{option_and_then, option_map_or}
 use Rattle.giotto_text.specs.Program.{ModeSwitch}
 use Rattle.giotto_rules.specs.Names.{all_different_numbers}
-use Rattle.giotto_check.specs.Slots.{valuation_of, with_slots}
-use Rattle.giotto_check.specs.Timetables.{IsExit, place_of_mode}
+use Rattle.giotto_check.specs.Slots.{valuation_of}
+use Rattle.giotto_check.specs.inner.Slots.{with_slots}
+use Rattle.giotto_check.specs.inner.Timetables.{IsExit, place_of_mode}
 use Rattle.giotto_check.specs.declared.timetables.SlotDestination.{SlotDestination}
-use Rattle.tenant_slots.specs.Switches.{slots_given, switch_taken, values_given, with_destinations}
+use Rattle.tenant_slots.specs.inner.Switches.{slots_given, values_given}
+use Rattle.tenant_slots.specs.Switches.{switch_taken, with_destinations}
 use Rattle.tenant_slots.proofs.Quiet.{exits_positive}
 use Rattle.tenant_slots.proofs.TakenSwitches.{given, given_once, given_within, none_there, some_that, taken_there}
 use Rattle.tenant_slots.proofs.switches.take_switch.Goals as goal

@@ -2,7 +2,7 @@ use Rattle.std.proofs.Common.{◌≡◌, take, map}
 use Rattle.std.specs.List.{flat_map}
 use Rattle.giotto_text.specs.Canonical.{update_tokens}
 use Rattle.giotto_text.specs.ProgramTrees.{update_of}
-use Rattle.giotto_read.specs.Printing.{written}
+use Rattle.giotto_read.specs.inner.Printing.{written}
 use Rattle.giotto_read.proofs.printing.Printer.updates.Given as goal
 
 abbrev pub invariant-loop-update : goal.invariant-loop-update

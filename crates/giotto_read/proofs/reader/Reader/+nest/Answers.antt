@@ -4,7 +4,7 @@ use Rattle.giotto_tasks.specs.Trees.{expression_of}
 use Rattle.giotto_text.specs.declared.tokens.Symbol.TheVariants.{OpenParenthesis, CloseParenthesis}
 use Rattle.giotto_text.specs.declared.tokens.Token.{Token}
 use Rattle.giotto_text.specs.declared.tokens.Token.TheVariants as token
-use Rattle.giotto_read.specs.Doing.{left}
+use Rattle.giotto_read.specs.inner.Doing.{left}
 use Rattle.giotto_text.specs.Parsing.{is_name, next_of, read_name, read_int, read_token, unary_in, binary_in, is_unary, is_binary, read_expression, read_operand_of}
 use Rattle.giotto_read.proofs.DoingLists.{failed_as, does_same, took_this, took_other, took_one, took_none}
 use Rattle.giotto_read.proofs.DoingSteps.{comes_next, is_no_name}

@@ -1,5 +1,5 @@
 use Rattle.std.proofs.Common.{length, ◌+◌, ◌*◌}
-use Rattle.giotto_read.specs.Doing.{left}
+use Rattle.giotto_read.specs.inner.Doing.{left}
 use Rattle.giotto_read.proofs.reader.Reader.+nest.Given as goal
 
 abbrev pub decreases-expression : goal.decreases-expression

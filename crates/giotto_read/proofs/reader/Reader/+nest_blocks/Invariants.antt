@@ -2,7 +2,7 @@ use Rattle.std.proofs.Common.{length, map, ◌+◌, ◌*◌, ◌<◌}
 use Rattle.std.specs.Prelude.{not}
 use Rattle.giotto_tasks.specs.Trees.{statement_of}
 use Rattle.giotto_text.specs.declared.tokens.Symbol.TheVariants.{CloseBrace}
-use Rattle.giotto_read.specs.Doing.{left}
+use Rattle.giotto_read.specs.inner.Doing.{left}
 use Rattle.giotto_text.specs.Parsing.{is_symbol, read_block, read_statement_of}
 use Rattle.giotto_read.proofs.DoingLists.{HasRead}
 use Rattle.giotto_read.proofs.reader.Reader.+nest_blocks.Given as goal

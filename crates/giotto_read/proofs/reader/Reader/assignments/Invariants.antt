@@ -1,5 +1,5 @@
 use Rattle.std.proofs.Common.{length, map}
-use Rattle.giotto_read.specs.Doing.{left}
+use Rattle.giotto_read.specs.inner.Doing.{left}
 use Rattle.giotto_text.specs.Parsing.{is_name, read_assignment}
 use Rattle.giotto_text.specs.ProgramTrees.{destination_of}
 use Rattle.giotto_read.proofs.DoingLists.{HasRead}

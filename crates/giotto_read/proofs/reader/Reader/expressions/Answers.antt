@@ -1,7 +1,7 @@
 use Rattle.std.proofs.Common.{arith}
 use Rattle.std.proofs.lemmas.List.{map-append}
 use Rattle.giotto_tasks.specs.Trees.{expression_of}
-use Rattle.giotto_read.specs.Doing.{left}
+use Rattle.giotto_read.specs.inner.Doing.{left}
 use Rattle.giotto_text.specs.Parsing.{read_expression, this}
 use Rattle.giotto_read.proofs.DoingLists.{comma, next_thing, thing_progresses, list_begun, list_more}
 use Rattle.giotto_read.proofs.Shrinking.{Progresses, shrinks, one_progresses, expression}

@@ -1,6 +1,6 @@
 use Rattle.std.proofs.Common.{length, map}
 use Rattle.giotto_tasks.specs.Trees.{expression_of}
-use Rattle.giotto_read.specs.Doing.{left}
+use Rattle.giotto_read.specs.inner.Doing.{left}
 use Rattle.giotto_text.specs.Parsing.{read_expression}
 use Rattle.giotto_read.proofs.DoingLists.{ListBegun}
 use Rattle.giotto_read.proofs.reader.Reader.expressions.Given as goal

@@ -1,6 +1,6 @@
 use Rattle.std.proofs.Common.{length, map}
 use Rattle.giotto_text.specs.declared.tokens.Keyword.TheVariants as keyword
-use Rattle.giotto_read.specs.Doing.{left}
+use Rattle.giotto_read.specs.inner.Doing.{left}
 use Rattle.giotto_text.specs.Parsing.{is_keyword, read_invocation}
 use Rattle.giotto_text.specs.ProgramTrees.{invocation_of}
 use Rattle.giotto_read.proofs.DoingLists.{HasRead}

@@ -2,7 +2,7 @@ use Rattle.std.proofs.Common.{map}
 use Rattle.std.proofs.lemmas.List.{map-append}
 use Rattle.giotto_text.specs.declared.tokens.Keyword.TheVariants as keyword
 use Rattle.giotto_text.specs.declared.tokens.Token.TheVariants as token
-use Rattle.giotto_read.specs.Doing.{left}
+use Rattle.giotto_read.specs.inner.Doing.{left}
 use Rattle.giotto_text.specs.Parsing.{is_keyword, many, read_mode}
 use Rattle.giotto_text.specs.ProgramTrees.{mode_of}
 use Rattle.giotto_read.proofs.DoingLists.{none_yet, one_more, some_stopped, all_read, failed_as, next_yes, next_no}

@@ -1,5 +1,5 @@
 use Rattle.std.proofs.Common.{length}
-use Rattle.giotto_read.specs.Doing.{left}
+use Rattle.giotto_read.specs.inner.Doing.{left}
 use Rattle.giotto_text.specs.Parsing.{read_name}
 use Rattle.giotto_read.proofs.DoingLists.{ListBegun}
 use Rattle.giotto_read.proofs.reader.Reader.names.Given as goal

@@ -1,5 +1,5 @@
 use Rattle.std.proofs.Common.{◌≡◌, [], ◌∷◌, ◌++◌, ap, ◌∙◌, to_z, of_z, w64, rules, arith}
-use Rattle.giotto_read.specs.Doing.{left}
+use Rattle.giotto_read.specs.inner.Doing.{left}
 use Rattle.giotto_text.specs.Parsing.{read_state, this}
 use Rattle.giotto_read.proofs.DoingLists.{comma, next_thing, thing_progresses, list_more}
 use Rattle.giotto_read.proofs.Pairs.{pairs_pushed, lengths_pushed}

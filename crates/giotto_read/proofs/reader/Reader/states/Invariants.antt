@@ -1,6 +1,6 @@
 use Rattle.std.proofs.Common.{◌≡◌, length}
 use Rattle.std.specs.List.{zip}
-use Rattle.giotto_read.specs.Doing.{left}
+use Rattle.giotto_read.specs.inner.Doing.{left}
 use Rattle.giotto_text.specs.Parsing.{read_state}
 use Rattle.giotto_read.proofs.DoingLists.{ListBegun}
 use Rattle.giotto_read.proofs.reader.Reader.states.Given as goal

@@ -1,5 +1,5 @@
 use Rattle.giotto_tasks.specs.Trees.{block_of}
-use Rattle.giotto_read.specs.Doing.{left}
+use Rattle.giotto_read.specs.inner.Doing.{left}
 use Rattle.giotto_read.proofs.ShallowTokens.{left_shallow}
 use Rattle.giotto_read.proofs.reader.Reader.task.Goals as goal
 

@@ -1,6 +1,6 @@
 use Rattle.std.proofs.Common.{arith}
 use Rattle.giotto_text.specs.ProgramTrees.{mode_of}
-use Rattle.giotto_rules.specs.Periods.{periods_in}
+use Rattle.giotto_rules.specs.inner.Periods.{periods_in}
 use Rattle.giotto_rules.proofs.ListSteps.{taken_more}
 use Rattle.giotto_rules.proofs.rules.switches.periods_of_modes.Goals as goal
 

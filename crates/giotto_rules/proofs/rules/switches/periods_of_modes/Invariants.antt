@@ -1,6 +1,6 @@
 use Rattle.std.proofs.Common.{◌≡◌, map, take}
 use Rattle.giotto_text.specs.ProgramTrees.{mode_of}
-use Rattle.giotto_rules.specs.Periods.{periods_in}
+use Rattle.giotto_rules.specs.inner.Periods.{periods_in}
 use Rattle.giotto_rules.proofs.rules.switches.periods_of_modes.Given as goal
 
 abbrev pub invariant-loop-mode : goal.invariant-loop-mode

@@ -1,6 +1,6 @@
 use Rattle.std.proofs.Common.{◌∙◌, None, Some, sym, ap}
 use Rattle.std.specs.Prelude.{slice_get}
-use Rattle.giotto_rules.specs.Periods.{periods_in}
+use Rattle.giotto_rules.specs.inner.Periods.{periods_in}
 use Rattle.giotto_rules.proofs.FindLemmas.{mode_mapped, copied_at}
 use Rattle.giotto_rules.proofs.rules.switches.periods_of_target.Goals as goal
 

@@ -1,6 +1,6 @@
 use Rattle.std.proofs.Common.{arith, refl}
 use Rattle.giotto_text.specs.ProgramTrees.{invocation_of}
-use Rattle.giotto_rules.specs.Periods.{repetition_of}
+use Rattle.giotto_rules.specs.inner.Periods.{repetition_of}
 use Rattle.giotto_rules.proofs.ListSteps.{taken_more}
 use Rattle.giotto_rules.proofs.rules.switches.repetitions.Goals as goal
 

@@ -1,6 +1,6 @@
 use Rattle.std.proofs.Common.{◌≡◌, map, take}
 use Rattle.giotto_text.specs.ProgramTrees.{invocation_of}
-use Rattle.giotto_rules.specs.Periods.{repetition_of}
+use Rattle.giotto_rules.specs.inner.Periods.{repetition_of}
 use Rattle.giotto_rules.proofs.rules.switches.repetitions.Given as goal
 
 abbrev pub invariant-loop-invocation : goal.invariant-loop-invocation

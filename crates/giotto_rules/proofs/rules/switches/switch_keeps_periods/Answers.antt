@@ -1,6 +1,6 @@
 use Rattle.std.proofs.Common.{◌<◌, None, length, map, ap, arith}
 use Rattle.giotto_text.specs.ProgramTrees.{mode_of, invocation_of}
-use Rattle.giotto_rules.specs.Periods.{repetition_of}
+use Rattle.giotto_rules.specs.inner.Periods.{repetition_of}
 use Rattle.giotto_rules.proofs.FindLemmas.{mapped_or}
 use Rattle.giotto_rules.proofs.rules.switches.switch_keeps_periods.Goals as goal
 

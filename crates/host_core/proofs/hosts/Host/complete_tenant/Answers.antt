@@ -1,6 +1,6 @@
 use Rattle.std.proofs.Common.{◌≡◌, ◌<◌, map, length, set, sym, ap, subst, ◌∙◌}
 use Rattle.std.proofs.lemmas.List.{get_or_default}
-use Rattle.host_core.specs.Halves.{IsCompleted}
+use Rattle.host_core.specs.inner.Halves.{IsCompleted}
 use Rattle.host_core.specs.Host.{host_after}
 use Rattle.host_core.specs.HostState.{HostState}
 use Rattle.host_core.specs.HostStanding.{HostStanding, Stands, tenant_at, outstanding_of}

@@ -1,5 +1,5 @@
 use Rattle.std.proofs.Common.{[], ap, subst, sym, ◌∙◌, length}
-use Rattle.host_core.specs.Playing.{IsPlayed}
+use Rattle.host_core.specs.inner.Playing.{IsPlayed}
 use Rattle.host_core.proofs.Played.{nothing_played}
 use Rattle.host_core.proofs.plays.Stage.new.Goals as goal
 

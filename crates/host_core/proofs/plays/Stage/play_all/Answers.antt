@@ -1,5 +1,5 @@
 use Rattle.std.proofs.Common.{◌∙◌, ◌∷◌, sym, ap, subst, take, reverse}
-use Rattle.host_core.specs.Playing.{IsPlayed}
+use Rattle.host_core.specs.inner.Playing.{IsPlayed}
 use Rattle.host_core.proofs.plays.Stage.play_all.Goals as goal
 use Rattle.giotto_tasks.proofs.ListLemmas.{reverse_more}
 

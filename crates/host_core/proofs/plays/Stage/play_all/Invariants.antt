@@ -1,5 +1,5 @@
 use Rattle.std.proofs.Common.{[], take, reverse}
-use Rattle.host_core.specs.Playing.{IsPlayed}
+use Rattle.host_core.specs.inner.Playing.{IsPlayed}
 use Rattle.host_core.specs.Setting.{Setting}
 use Rattle.host_core.proofs.plays.Stage.play_all.Given as goal
 

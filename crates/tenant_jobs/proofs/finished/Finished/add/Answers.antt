@@ -1,7 +1,7 @@
 use Rattle.std.proofs.Common.{◌≡◌, false, Some, ap, arith, sym, ◌∙◌, subst}
 use Rattle.std.specs.Option.{option_copied_mut}
 use Rattle.slab.specs.Slab.{values, with_value}
-use Rattle.tenant_jobs.specs.Finished.{TaskTable, has_result}
+use Rattle.tenant_jobs.specs.inner.Finished.{TaskTable, has_result}
 use Rattle.tenant_jobs.proofs.Slots.{length-values}
 use Rattle.tenant_jobs.proofs.TableChanges.{IsAdded, is_added_under, entry}
 use Rattle.tenant_jobs.proofs.finished.Finished.add.Goals as goal

@@ -1,7 +1,7 @@
 use Rattle.std.proofs.Common.{◌≡◌, ◌<◌, ◌++◌, [], ◌∷◌, Some, None, Option, cond, length, get_or, take, drop, arith, sym, ap, ◌∙◌}
 use Rattle.tenant_jobs.specs.declared.jobs.JobId.{JobId}
 use Rattle.tenant_jobs.specs.Jobs.{JobValue, same_job}
-use Rattle.tenant_jobs.specs.Finished.{TableEntry, entry_in}
+use Rattle.tenant_jobs.specs.inner.Finished.{TableEntry, entry_in}
 use Rattle.tenant_jobs.proofs.TableChanges.{entry}
 use Rattle.tenant_jobs.proofs.EnteredJobs.{length_turned, its_turn, next_turned, one_more, not_before}
 use Rattle.tenant_jobs.proofs.finished.Finished.enter.Goals as goal

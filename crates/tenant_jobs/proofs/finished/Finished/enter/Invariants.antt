@@ -1,6 +1,6 @@
 use Rattle.std.proofs.Common.{◌≡◌, ◌+◌, ◌++◌, length, take, drop, cond, Some, None}
 use Rattle.tenant_jobs.specs.declared.jobs.JobId.{JobId}
-use Rattle.tenant_jobs.specs.Finished.{entry_in, results_of, is_job_of}
+use Rattle.tenant_jobs.specs.inner.Finished.{entry_in, results_of, is_job_of}
 use Rattle.tenant_jobs.proofs.TableChanges.{entry}
 use Rattle.tenant_jobs.proofs.finished.Finished.enter.Given as goal
 

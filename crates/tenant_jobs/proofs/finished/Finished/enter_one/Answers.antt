@@ -1,6 +1,6 @@
 use Rattle.std.proofs.Common.{◌≡◌, false, sym, ◌∙◌, subst, find, is_some}
 use Rattle.slab.specs.Slab.{values}
-use Rattle.tenant_jobs.specs.Finished.{TaskTable, is_entered}
+use Rattle.tenant_jobs.specs.inner.Finished.{TaskTable, is_entered}
 use Rattle.tenant_jobs.proofs.TableChanges.{IsEntered, is_entered_at, is_of}
 use Rattle.tenant_jobs.proofs.finished.Finished.enter_one.Goals as goal
 

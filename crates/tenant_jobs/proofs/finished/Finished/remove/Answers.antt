@@ -1,7 +1,7 @@
 use Rattle.std.proofs.Common.{◌≡◌, Some, ap, arith, sym, ◌∙◌, Bool, true, false, refl}
 use Rattle.std.specs.Int.{from_bool}
 use Rattle.slab.specs.Slab.{values}
-use Rattle.tenant_jobs.specs.Finished.{entry_in}
+use Rattle.tenant_jobs.specs.inner.Finished.{entry_in}
 use Rattle.tenant_jobs.proofs.TableChanges.{IsRemoved, is_removed_under, entry}
 use Rattle.tenant_jobs.proofs.TableEntries.{weight_of}
 use Rattle.tenant_jobs.proofs.finished.Finished.remove.Goals as goal

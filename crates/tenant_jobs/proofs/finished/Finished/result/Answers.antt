@@ -1,6 +1,6 @@
 use Rattle.std.proofs.Common.{◌≡◌, Some, true, ap, refl, sym, ◌∙◌, option_copied}
 use Rattle.slab.specs.Slab.{get}
-use Rattle.tenant_jobs.specs.Finished.{TableEntry, result_in}
+use Rattle.tenant_jobs.specs.inner.Finished.{TableEntry, result_in}
 use Rattle.tenant_jobs.specs.Jobs.{same_job}
 use Rattle.tenant_jobs.proofs.TableEntries.{found_at}
 use Rattle.tenant_jobs.proofs.finished.Finished.result.Goals as goal

@@ -2,7 +2,7 @@ use Rattle.std.proofs.Common.{◌≡◌, length, None, Some, refl, sym, ap, ◌�
 use Rattle.std.proofs.lemmas.Bool.{false≢true}
 use Rattle.std.proofs.lemmas.Option.{slice_get_read}
 use Rattle.giotto_tasks.specs.Meaning.{outputs_of, states_of}
-use Rattle.tenant_state.specs.ActiveTasks.{computed}
+use Rattle.tenant_state.specs.inner.Tenants.{computed}
 use Rattle.tenant_state.proofs.AwaitedTasks.{job_found}
 use Rattle.tenant_state.proofs.Completing.{active_with, result_of, so_there, counts, still_tenant, same_tasks, still_active, one_fewer, stands_after}
 use Rattle.tenant_state.proofs.tenants.Tenant.complete.Goals as goal

@@ -4,7 +4,7 @@ use Rattle.giotto_check.specs.declared.timetables.SlotInvocation.{SlotInvocation
 use Rattle.giotto_tasks.proofs.ListLemmas.{all_map}
 use Rattle.tenant_slots.proofs.Quiet.{invocations_positive}
 use Rattle.tenant_state.specs.declared.tenants.Active.{Active}
-use Rattle.tenant_state.specs.Tenants.{IsActiveIn, IsActiveOf}
+use Rattle.tenant_state.specs.inner.Tenants.{IsActiveIn, IsActiveOf}
 use Rattle.tenant_state.proofs.EndedTasks.{its_mode, map_none, map_some}
 use Rattle.tenant_state.proofs.Readers.{due_by_place, not_due}
 use Rattle.tenant_state.proofs.tenants.Tenant.due.Goals as goal

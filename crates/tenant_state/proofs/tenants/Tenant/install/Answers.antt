@@ -1,8 +1,9 @@
 use Rattle.std.proofs.Common.{map, sym, ap, subst, arith}
 use Rattle.std.specs.List.{AllByRecursion}
 use Rattle.std.proofs.lemmas.Option.{slice_get_within}
-use Rattle.giotto_check.specs.Timetables.{AreEach}
-use Rattle.tenant_state.specs.Tenants.{active_of, all_different_releases, IsActiveIn, IsShareOf}
+use Rattle.giotto_check.specs.inner.Timetables.{AreEach}
+use Rattle.tenant_state.specs.Tenants.{active_of}
+use Rattle.tenant_state.specs.inner.Tenants.{all_different_releases, IsActiveIn, IsShareOf}
 use Rattle.tenant_state.proofs.EndedTasks.{some_of}
 use Rattle.tenant_state.proofs.TenantCommands.{none_shared}
 use Rattle.tenant_state.proofs.tenants.Tenant.install.Goals as goal

@@ -12,10 +12,11 @@ use Rattle.tenant_slots.proofs.Quiet.{invocations_positive}
 use Rattle.tenant_state.specs.declared.tenants.State.TheVariants as states
 use Rattle.tenant_state.specs.FirstHalf.{all_ended, unfinished_tasks, first_half_of}
 use Rattle.tenant_state.specs.Standing.{Standing, StandsFor, most_released}
-use Rattle.tenant_state.specs.Tenants.{active_of, standing_of, tasks_in, all_different_releases, FitsProgram, FitsIts, IsActiveIn, IsActiveOf}
+use Rattle.tenant_state.specs.Tenants.{active_of, standing_of, tasks_in}
+use Rattle.tenant_state.specs.inner.Tenants.{all_different_releases, FitsProgram, FitsIts, IsActiveIn, IsActiveOf}
 use Rattle.tenant_state.proofs.DueTasks.{group}
 use Rattle.tenant_state.proofs.EndedTasks.{different_filter, finished, halted, as_running, kept, map_none, map_some, quiet_stands, tasks_within}
-use Rattle.tenant_state.specs.EntryTable.{is_left_open}
+use Rattle.tenant_state.specs.inner.EntryTable.{is_left_open}
 use Rattle.tenant_state.proofs.tenants.Tenant.phase_one.Goals as goal
 
 pub returns-then-time-self-clause-half : goal.returns-then-time-self-clause-half

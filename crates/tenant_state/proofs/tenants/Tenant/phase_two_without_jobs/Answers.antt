@@ -12,7 +12,8 @@ use Rattle.giotto_text.specs.ProgramTrees.{mode_of}
 use Rattle.giotto_check.specs.Slots.{valuation_of}
 use Rattle.tenant_slots.specs.Readings.{Readings, readings_within}
 use Rattle.tenant_slots.proofs.Numbered.{mode_fits_at}
-use Rattle.tenant_state.specs.Tenants.{active_of, AreInvoked, IsActiveIn, IsActiveOf, IsSwitched}
+use Rattle.tenant_state.specs.Tenants.{active_of}
+use Rattle.tenant_state.specs.inner.Tenants.{AreInvoked, IsActiveIn, IsActiveOf, IsSwitched}
 use Rattle.tenant_state.proofs.EndedTasks.{its_mode}
 use Rattle.tenant_state.proofs.HalfStands.{sensed_ports, room_due, half_stands, half_released}
 use Rattle.tenant_state.proofs.SecondHalfSteps.{IsBehindSwitch, none_taken, one_taken}

@@ -10,7 +10,8 @@ use Rattle.tenant_lines.specs.declared.replies.Reply.{Reply}
 use Rattle.tenant_state.specs.declared.tenants.State.TheVariants.{Running}
 use Rattle.tenant_state.specs.Commands.{at_beginning, refused, start_program}
 use Rattle.tenant_state.specs.Row.{running, Row, is_running}
-use Rattle.tenant_state.specs.Standing.{Standing, StandsFor, IsOutcome}
+use Rattle.tenant_state.specs.Standing.{Standing, StandsFor}
+use Rattle.tenant_state.specs.inner.Standing.{IsOutcome}
 use Rattle.tenant_state.specs.Tenants.{standing_of}
 use Rattle.tenant_state.proofs.EndedTasks.{some_of}
 use Rattle.tenant_state.proofs.TenantCommands.{stands_at_beginning}

@@ -3,7 +3,8 @@ use Rattle.std.specs.List.{AllByRecursion}
 use Rattle.std.proofs.lemmas.List.{length-take, length-set, set-get_or}
 use Rattle.tenant_state.specs.ActiveTasks.{TaskList}
 use Rattle.tenant_state.specs.declared.tenants.Active.{Active}
-use Rattle.tenant_state.specs.Tenants.{is_completed, IsActiveIn, IsActiveOf}
+use Rattle.tenant_state.specs.Tenants.{is_completed}
+use Rattle.tenant_state.specs.inner.Tenants.{IsActiveIn, IsActiveOf}
 use Rattle.tenant_state.proofs.AwaitedTasks.{awaited_of}
 use Rattle.tenant_state.proofs.Completing.{all_computed, all_counted, awaited_fewer, declared_there, first_computed}
 use Rattle.tenant_state.proofs.tenants.completions.compute_each.Goals as goal

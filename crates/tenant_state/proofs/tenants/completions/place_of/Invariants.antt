@@ -1,5 +1,5 @@
 use Rattle.std.proofs.Common.{◌≡◌, find, drop}
-use Rattle.tenant_state.specs.Tenants.{awaits_job}
+use Rattle.tenant_state.specs.inner.Tenants.{awaits_job}
 use Rattle.tenant_state.proofs.tenants.completions.place_of.Given as goal
 
 abbrev pub invariant-loop-place : goal.invariant-loop-place

@@ -2,15 +2,16 @@ use Rattle.std.proofs.Common.{◌≡◌, ℕ, ◌+◌, ◌<◌, ◌%◌, ◌==�
 use Rattle.std.specs.List.{flat_map, list_any, AllByRecursion}
 use Rattle.std.proofs.lemmas.List.{drop_all, drop_more}
 use Rattle.giotto_check.specs.Slots.{valuation_of}
-use Rattle.giotto_check.specs.Timetables.{IsInvocation}
+use Rattle.giotto_check.specs.inner.Timetables.{IsInvocation}
 use Rattle.giotto_check.specs.declared.timetables.SlotInvocation.{SlotInvocation}
 use Rattle.giotto_check.proofs.EachLemmas.{each_long}
 use Rattle.tenant_slots.proofs.Updates.{each_item}
 use Rattle.tenant_state.specs.FirstHalf.{all_ended}
-use Rattle.tenant_state.specs.Tenants.{active_of, is_completed, IsActiveOf}
+use Rattle.tenant_state.specs.Tenants.{active_of, is_completed}
+use Rattle.tenant_state.specs.inner.Tenants.{IsActiveOf}
 use Rattle.tenant_state.proofs.DueTasks.{group}
 use Rattle.tenant_state.proofs.EndedTasks.{end_due, end_none, left_none, not_here}
-use Rattle.tenant_state.specs.EntryTable.{is_left_open}
+use Rattle.tenant_state.specs.inner.EntryTable.{is_left_open}
 use Rattle.tenant_state.proofs.EntryTables.{each_found, same_entries, same_open}
 use Rattle.tenant_state.proofs.tenants.phase_one.end_due.Goals as goal
 use Rattle.tenant_state.proofs.tenants.phase_one.end_due.Goals.{then-is_due, else-is_due}

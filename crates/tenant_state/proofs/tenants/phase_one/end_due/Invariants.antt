@@ -1,13 +1,14 @@
 use Rattle.std.proofs.Common.{◌≡◌, ◌<◌, None, map, drop, length}
 use Rattle.std.specs.List.{find, flat_map, AllByRecursion}
-use Rattle.giotto_check.specs.Slots.{slots_of, valuation_of}
-use Rattle.giotto_check.specs.Timetables.{AreEach, IsInvocation}
+use Rattle.giotto_check.specs.inner.Slots.{slots_of}
+use Rattle.giotto_check.specs.Slots.{valuation_of}
+use Rattle.giotto_check.specs.inner.Timetables.{AreEach, IsInvocation}
 use Rattle.giotto_check.specs.declared.timetables.SlotInvocation.{SlotInvocation}
 use Rattle.giotto_text.specs.Program.{ModeDeclaration}
 use Rattle.tenant_state.specs.FirstHalf.{all_ended}
 use Rattle.tenant_state.specs.Tenants.{active_of}
 use Rattle.tenant_state.proofs.DueTasks.{group}
-use Rattle.tenant_state.specs.EntryTable.{is_left_open}
+use Rattle.tenant_state.specs.inner.EntryTable.{is_left_open}
 use Rattle.tenant_state.proofs.tenants.phase_one.end_due.Given as goal
 
 abbrev pub invariant-loop-invocation : goal.invariant-loop-invocation

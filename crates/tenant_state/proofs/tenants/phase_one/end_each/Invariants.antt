@@ -1,8 +1,10 @@
 use Rattle.std.proofs.Common.{◌≡◌, not, nat_eq, false, ◌&&◌, map, filter, drop, length}
 use Rattle.std.specs.List.{list_any, AllByRecursion}
-use Rattle.giotto_check.specs.Slots.{slots_of, valuation_of}
+use Rattle.giotto_check.specs.inner.Slots.{slots_of}
+use Rattle.giotto_check.specs.Slots.{valuation_of}
 use Rattle.tenant_state.specs.FirstHalf.{all_ended}
-use Rattle.tenant_state.specs.Tenants.{active_of, is_completed, IsActiveOf}
+use Rattle.tenant_state.specs.Tenants.{active_of, is_completed}
+use Rattle.tenant_state.specs.inner.Tenants.{IsActiveOf}
 use Rattle.tenant_state.proofs.tenants.phase_one.end_each.Given as goal
 
 abbrev pub invariant-loop-a : goal.invariant-loop-a

@@ -1,6 +1,6 @@
 use Rattle.std.proofs.Common.{◌-◌, IfSome, inr, subst, take, drop, length, ap, sym, ◌∙◌, filter, nat_eq, arith}
 use Rattle.std.proofs.lemmas.List.{take_all}
-use Rattle.tenant_state.specs.EntryTable.{IsTableOf}
+use Rattle.tenant_state.specs.inner.EntryTable.{IsTableOf}
 use Rattle.tenant_state.proofs.tenants.phase_one.entries_of.Goals as goal
 
 pub returns : goal.returns

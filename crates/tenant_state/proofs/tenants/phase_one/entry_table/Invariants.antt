@@ -1,5 +1,5 @@
 use Rattle.std.proofs.Common.{◌≡◌, length}
-use Rattle.tenant_state.specs.EntryTable.{IsTableOf}
+use Rattle.tenant_state.specs.inner.EntryTable.{IsTableOf}
 use Rattle.tenant_state.proofs.tenants.phase_one.entry_table.Given as goal
 
 abbrev pub invariant-loop-i : goal.invariant-loop-i

@@ -5,7 +5,7 @@ use Rattle.std.proofs.lemmas.Bool.{and_from, and_left, and_right}
 use Rattle.std.proofs.lemmas.List.{drop_more}
 use Rattle.giotto_check.specs.declared.timetables.SlotInvocation.{SlotInvocation}
 use Rattle.tenant_state.proofs.EndedTasks.{all_closed, found_from}
-use Rattle.tenant_state.specs.EntryTable.{is_left_open}
+use Rattle.tenant_state.specs.inner.EntryTable.{is_left_open}
 use Rattle.tenant_state.proofs.EntryTables.{same_open}
 use Rattle.tenant_state.proofs.tenants.phase_one.first_unfinished.Goals as goal
 use Rattle.tenant_state.proofs.tenants.phase_one.first_unfinished.Goals.{else-is_due-via-then-is_due+else-is_unfinished, else-is_due-via-else-is_due}

@@ -1,7 +1,7 @@
 use Rattle.std.proofs.Common.{◌≡◌, ◌<◌, drop}
 use Rattle.std.specs.List.{find, AllByRecursion}
 use Rattle.giotto_check.specs.declared.timetables.SlotInvocation.{SlotInvocation}
-use Rattle.tenant_state.specs.EntryTable.{is_left_open}
+use Rattle.tenant_state.specs.inner.EntryTable.{is_left_open}
 use Rattle.tenant_state.proofs.tenants.phase_one.first_unfinished.Given as goal
 
 abbrev pub invariant-loop-invocation : goal.invariant-loop-invocation

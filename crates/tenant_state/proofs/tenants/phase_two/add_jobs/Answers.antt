@@ -5,7 +5,8 @@ use Rattle.giotto_tasks.proofs.ListLemmas.{all_at, stepped}
 use Rattle.giotto_text.specs.Program.{GiottoProgram}
 use Rattle.tenant_state.specs.declared.tenants.Active.{Active}
 use Rattle.tenant_state.specs.Jobs.{job_in}
-use Rattle.tenant_state.specs.Tenants.{active_of, IsActiveOf}
+use Rattle.tenant_state.specs.Tenants.{active_of}
+use Rattle.tenant_state.specs.inner.Tenants.{IsActiveOf}
 use Rattle.tenant_state.proofs.AddedJobs.{AreLeft, all_left, left_more, job_ready}
 use Rattle.tenant_state.proofs.Shares.{share_set}
 use Rattle.tenant_state.proofs.tenants.phase_two.add_jobs.Goals as goal

@@ -1,9 +1,10 @@
 use Rattle.std.proofs.Common.{◌≡◌, ◌+◌, ◌++◌, map, drop}
 use Rattle.std.specs.Arc.{arc_value}
 use Rattle.std.specs.Option.{option_map}
-use Rattle.giotto_check.specs.Timetables.{AreEach}
+use Rattle.giotto_check.specs.inner.Timetables.{AreEach}
 use Rattle.tenant_state.specs.Jobs.{job_in}
-use Rattle.tenant_state.specs.Tenants.{active_of, IsShareOf}
+use Rattle.tenant_state.specs.Tenants.{active_of}
+use Rattle.tenant_state.specs.inner.Tenants.{IsShareOf}
 use Rattle.tenant_state.proofs.AddedJobs.{AreLeft}
 use Rattle.tenant_state.proofs.tenants.phase_two.add_jobs.Given as goal
 

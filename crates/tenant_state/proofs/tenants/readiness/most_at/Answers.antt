@@ -2,7 +2,7 @@ use Rattle.std.proofs.Common.{◌≡◌, ℕ, ◌<◌, ◌%◌, ◌==◌, [], le
 use Rattle.std.proofs.Math.Nat.{max-zero}
 use Rattle.std.proofs.lemmas.List.{drop_all, take_all}
 use Rattle.giotto_text.specs.Program.{TaskInvocation}
-use Rattle.giotto_check.specs.Timetables.{IsExit, IsInvocation}
+use Rattle.giotto_check.specs.inner.Timetables.{IsExit, IsInvocation}
 use Rattle.giotto_check.specs.declared.timetables.SlotExit.{SlotExit}
 use Rattle.giotto_check.specs.declared.timetables.SlotInvocation.{SlotInvocation}
 use Rattle.giotto_check.proofs.EachLemmas.{each_long}

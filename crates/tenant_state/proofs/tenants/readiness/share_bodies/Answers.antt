@@ -6,7 +6,7 @@ use Rattle.std.proofs.lemmas.List.{length-map}
 use Rattle.std.proofs.lemmas.List.Folds.{list_all_more}
 use Rattle.giotto_check.proofs.EachLemmas.{each_long}
 use Rattle.giotto_text.specs.ProgramTrees.{task_of}
-use Rattle.tenant_state.specs.Tenants.{IsShareOf}
+use Rattle.tenant_state.specs.inner.Tenants.{IsShareOf}
 use Rattle.tenant_state.proofs.Shares.{share_made}
 use Rattle.tenant_state.proofs.tenants.readiness.share_bodies.Goals as goal
 use Rattle.tenant_state.proofs.tenants.readiness.share_bodies.Goals.{then-is_none+in_ok-try_clone+in-Some-1, then-is_none+in_ok-try_clone+in-None-1, else-is_none}

@@ -2,7 +2,7 @@ use Rattle.std.proofs.Common.{◌≡◌, ℕ, true, ◌%◌, ◌==◌, [], Some,
 use Rattle.std.proofs.lemmas.Bool.{and_from, and_left, and_right}
 use Rattle.std.proofs.lemmas.List.{drop_all}
 use Rattle.giotto_text.specs.Program.{ModeDeclaration}
-use Rattle.giotto_check.specs.Timetables.{IsInvocation}
+use Rattle.giotto_check.specs.inner.Timetables.{IsInvocation}
 use Rattle.giotto_check.proofs.EachLemmas.{each_long}
 use Rattle.tenant_slots.proofs.Numbered.{invocation_due}
 use Rattle.giotto_check.specs.Slots.{valuation_of}

@@ -1,5 +1,5 @@
 use Rattle.std.proofs.Common.{◌≡◌, ◌++◌, map, take}
-use Rattle.tenant_state.specs.ShownPorts.{name_of_own_port}
+use Rattle.tenant_state.specs.inner.ShownPorts.{name_of_own_port}
 use Rattle.tenant_state.proofs.tenants.shown.add_own_ports.Given as goal
 
 abbrev pub invariant-loop-name : goal.invariant-loop-name

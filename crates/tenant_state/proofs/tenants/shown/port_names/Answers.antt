@@ -6,7 +6,7 @@ use Rattle.std.proofs.lemmas.List.Concat.{flat_map-append}
 use Rattle.giotto_text.specs.declared.programs.Sensor.{Sensor}
 use Rattle.giotto_text.specs.declared.programs.Actuator.{Actuator}
 use Rattle.giotto_text.specs.declared.programs.Output.{Output}
-use Rattle.tenant_state.specs.ShownPorts.{name_of_shared_port, name_of_own_port}
+use Rattle.tenant_state.specs.inner.ShownPorts.{name_of_shared_port, name_of_own_port}
 use Rattle.tenant_state.proofs.ShownPorts.{own_names, names_of_task, all_names}
 use Rattle.tenant_state.proofs.tenants.shown.port_names.Goals as goal
 

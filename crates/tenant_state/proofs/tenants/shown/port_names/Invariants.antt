@@ -3,7 +3,7 @@ use Rattle.std.specs.List.{flat_map}
 use Rattle.giotto_text.specs.declared.programs.Sensor.{Sensor}
 use Rattle.giotto_text.specs.declared.programs.Actuator.{Actuator}
 use Rattle.giotto_text.specs.declared.programs.Output.{Output}
-use Rattle.tenant_state.specs.ShownPorts.{name_of_shared_port}
+use Rattle.tenant_state.specs.inner.ShownPorts.{name_of_shared_port}
 use Rattle.tenant_state.proofs.ShownPorts.{names_of_task}
 use Rattle.tenant_state.proofs.tenants.shown.port_names.Given as goal
 

@@ -2,7 +2,7 @@ use Rattle.std.proofs.Common.{◌≡◌, map, subst, ap, ◌∙◌}
 use Rattle.std.specs.Prelude.{IfOk}
 use Rattle.std.specs.List.{zip}
 use Rattle.giotto_check.specs.Slots.{ports_of}
-use Rattle.tenant_state.specs.ShownPorts.{name_of_port, with_its_value}
+use Rattle.tenant_state.specs.inner.ShownPorts.{name_of_port, with_its_value}
 use Rattle.tenant_state.proofs.ShownPorts.{shown_values}
 use Rattle.tenant_state.proofs.tenants.shown.port_values.Goals as goal
 

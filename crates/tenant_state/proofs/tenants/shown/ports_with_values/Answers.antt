@@ -3,7 +3,7 @@ use Rattle.std.specs.List.{zip}
 use Rattle.std.proofs.lemmas.Int.{to_z-of_z}
 use Rattle.std.proofs.lemmas.List.{length-append}
 use Rattle.std.proofs.lemmas.Slice.Zip.{zip_end, zip_turn}
-use Rattle.tenant_state.specs.ShownPorts.{with_its_value}
+use Rattle.tenant_state.specs.inner.ShownPorts.{with_its_value}
 use Rattle.tenant_state.proofs.ShownPorts.{pairs_more, pairs_end}
 use Rattle.tenant_state.proofs.tenants.shown.ports_with_values.Goals as goal
 

@@ -1,6 +1,6 @@
 use Rattle.std.proofs.Common.{◌≡◌, ◌++◌, length, map, drop}
 use Rattle.std.specs.List.{zip}
-use Rattle.tenant_state.specs.ShownPorts.{with_its_value}
+use Rattle.tenant_state.specs.inner.ShownPorts.{with_its_value}
 use Rattle.tenant_state.proofs.tenants.shown.ports_with_values.Given as goal
 
 abbrev pub invariant-loop-name : goal.invariant-loop-name

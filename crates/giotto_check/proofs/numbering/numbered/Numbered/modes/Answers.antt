@@ -1,7 +1,7 @@
 use Rattle.std.proofs.Common.{subst}
 use Rattle.giotto_text.specs.ProgramTrees.{mode_of}
-use Rattle.giotto_check.specs.Facts.{ModeFits}
-use Rattle.giotto_check.specs.Timetables.{IsTimetable}
+use Rattle.giotto_check.specs.inner.Facts.{ModeFits}
+use Rattle.giotto_check.specs.inner.Timetables.{IsTimetable}
 use Rattle.giotto_check.proofs.EachLemmas.{all_item, each_next}
 use Rattle.giotto_check.proofs.numbering.numbered.Numbered.modes.Goals as goal
 

@@ -3,8 +3,8 @@ use Rattle.giotto_tasks.specs.Syntax.{TaskBody}
 use Rattle.giotto_text.specs.Program.{GiottoProgram}
 use Rattle.giotto_text.specs.ProgramTrees.{task_of}
 use Rattle.giotto_rules.proofs.ProgramParts.{names_of_states}
-use Rattle.giotto_check.specs.Facts.{ProgramFits, TaskFits}
-use Rattle.giotto_check.specs.Timetables.{AreTaskSlots}
+use Rattle.giotto_check.specs.inner.Facts.{ProgramFits, TaskFits}
+use Rattle.giotto_check.specs.inner.Timetables.{AreTaskSlots}
 use Rattle.giotto_check.proofs.EachLemmas.{all_item, cut_at, each_next}
 use Rattle.giotto_check.proofs.SlotLemmas.{own_slots, before_more, small_task}
 use Rattle.giotto_check.proofs.numbering.numbered.Numbered.tasks.Goals as goal

@@ -2,7 +2,8 @@ use Rattle.std.proofs.Common.{◌≡◌, ◌<◌, length, take, set, sym, ap, �
 use Rattle.std.proofs.Math.Seq.{take-set-lt}
 use Rattle.std.proofs.lemmas.List.{get_or-take, length-take}
 use Rattle.std.proofs.lemmas.Option.{get_or_from_slice_get}
-use Rattle.tenant_state.specs.ActiveTasks.{TaskList, computed}
+use Rattle.tenant_state.specs.ActiveTasks.{TaskList}
+use Rattle.tenant_state.specs.inner.Tenants.{computed}
 use Rattle.tenant_state.proofs.tenants.active_tasks.ActiveTasks.put.Goals as goal
 
 pub returns-clause-items : goal.returns-clause-items

@@ -1,7 +1,7 @@
 -- A code for the programs: that of their parts, as tuples.
 use Rattle.std.specs.Prelude.{◌≡◌, ℕ, ℤ, List, Option, Some, None, refl}
 use Rattle.std.specs.Coded.{Coded, code_by, coded_list, coded_option, coded×, coded_ℕ, coded_ℤ}
-use Rattle.giotto_tasks.specs.Codes.{expression_code, block_code}
+use Rattle.giotto_tasks.specs.inner.Codes.{expression_code, block_code}
 use Rattle.giotto_tasks.specs.Syntax.{Expression, Block}
 use Rattle.giotto_tasks.specs.declared.names.Name.{Name}
 use Rattle.giotto_text.specs.Program.{Source, from_line, from_grant, SensorDeclaration, ActuatorDeclaration, OutputDeclaration, TaskDeclaration, ActuatorUpdate, ModeSwitch, TaskInvocation, ModeDeclaration, GiottoProgram}

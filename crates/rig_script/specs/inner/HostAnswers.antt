@@ -8,7 +8,8 @@ use Rattle.host_core.specs.Host.{host_after}
 use Rattle.host_core.specs.Legal.{is_legal}
 use Rattle.host_core.specs.Setting.{Setting}
 use Rattle.host_core.specs.declared.events.Event.{Event}
-use Rattle.rig_script.specs.Script.{Step, IsCarriedOut}
+use Rattle.rig_script.specs.Script.{Step}
+use Rattle.rig_script.specs.inner.Script.{IsCarriedOut}
 
 -- the host stands for what these events, the newest first, make of the rig
 pub record IsHostAfter (setting : Setting) (host : HostStanding) (past : List Event) : Type 0 where

@@ -1,0 +1,4 @@
+pub mod Checked
+pub mod Facts
+pub mod Slots
+pub mod Timetables

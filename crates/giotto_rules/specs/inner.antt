@@ -1,0 +1,3 @@
+pub mod KeepsRules
+pub mod Periods
+pub mod Scopes

@@ -1,0 +1,3 @@
+pub mod ProgramCodes
+pub mod ProgramTrees
+pub mod Reading

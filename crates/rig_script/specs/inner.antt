@@ -1,0 +1,4 @@
+pub mod Faults
+pub mod HostAnswers
+pub mod Reading
+pub mod Script

@@ -1,0 +1,5 @@
+pub mod Due
+pub mod Places
+pub mod Readings
+pub mod Switches
+pub mod Tasks
