@@ -1,7 +1,8 @@
 -- The values of a slab, and what a change of one slot makes of them.
-use Rattle.std.proofs.Common.{◌≡◌, ◌≢◌, ℕ, zero, suc, ◌+◌, List, [], ◌∷◌, ◌++◌, length, map, get_or, drop, Option, Some, None, is_some, count_by, cond, filter_map, option_to_list, refl, sym, ap, ◌∙◌, append_assoc, arith}
+use Rattle.std.proofs.Common.{◌≡◌, ◌≢◌, ℕ, zero, suc, ◌+◌, List, [], ◌∷◌, ◌++◌, length, map, get_or, set, drop, Option, Some, None, is_some, count_by, cond, filter_map, option_to_list, refl, sym, ap, ◌∙◌, append_assoc, arith}
+use Rattle.std.proofs.lemmas.List.{set-get_or}
 use Rattle.std.proofs.lemmas.List.Sums.{sum_by-cons}
-use Rattle.slab.specs.Slab.{Slab, slab_len, values, entries, entries_from}
+use Rattle.slab.specs.Slab.{Slab, get, slab_len, values, with_value, entries, entries_from}
 
 module _ {T : Type 0} where
   abbrev pub stored : List (Option T) → List T
@@ -14,6 +15,10 @@ module _ {T : Type 0} where
 
   pub length-values : (s : Slab T) → length (values s) ≡ slab_len s
   length-values s = length-stored s.slots
+
+  -- a value that is written where it stands already
+  pub written_back : (s : Slab T) (key : ℕ) (value : T) → get s key ≡ Some value → with_value s key value ≡ s
+  written_back s key value at = ap (λ (slots : List (Option T)). record s { slots = slots }) (ap (set s.slots key) (sym at) ∙ set-get_or s.slots key None)
 
   stored-entries : (key : ℕ) (slots : List (Option T)) → map (λ e. e.1) (entries_from key slots) ≡ stored slots
   stored-entries key [] = refl

@@ -1,15 +1,17 @@
 -- An entry that comes into the table, gets its result, or leaves.
-use Rattle.std.proofs.Common.{◌≡◌, ℕ, ◌+◌, ◌≤◌, Bool, true, false, cond, List, ◌∷◌, ◌++◌, length, Option, Some, None, count_by, find, is_some, option_to_list, refl, sym, ap, ◌∙◌, arith, subst, option_and_then, IsSomeAnd}
+use Rattle.std.proofs.Common.{◌≡◌, ℕ, ◌+◌, ◌≤◌, Bool, true, false, cond, List, ◌∷◌, ◌++◌, length, Option, Some, None, count_by, find, is_some, option_to_list, refl, sym, ap, ◌∙◌, arith, subst, IsSomeAnd}
 use Rattle.std.proofs.lemmas.List.{length-append}
 use Rattle.std.proofs.lemmas.List.Sums.{count_by-le-length}
 use Rattle.slab.specs.Slab.{Slab, get, values, Updates, with_value}
 use Rattle.slab.proofs.SlabLemmas.{Updates-with_value}
 use Rattle.tenant_jobs.specs.declared.jobs.JobId.{JobId}
-use Rattle.tenant_jobs.specs.Jobs.{JobValue, same_job}
-use Rattle.tenant_jobs.specs.inner.Finished.{TableEntry, NamesDiffer}
+use Rattle.tenant_jobs.specs.declared.jobs.JobResult.{JobResult}
+use Rattle.tenant_jobs.specs.Jobs.{same_job}
+use Rattle.tenant_jobs.specs.Finished.{TableEntry, has_result}
+use Rattle.tenant_jobs.specs.inner.Finished.{NamesDiffer}
 use Rattle.tenant_jobs.proofs.JobNames.{same_job_is}
 use Rattle.tenant_jobs.proofs.Slots.{one_slot}
-use Rattle.tenant_jobs.proofs.TableEntries.{weigh, count-middle, count_none, find_middle, find_other, found_at}
+use Rattle.tenant_jobs.proofs.TableEntries.{weigh, count-middle, count_none, find_middle, find_other, found_under, has_result_under}
 
 abbrev pub is_of : JobId → TableEntry → Bool
 is_of j e = same_job e.id j
@@ -17,7 +19,7 @@ is_of j e = same_job e.id j
 abbrev pub has_come : TableEntry → Bool
 has_come e = is_some e.result
 
-abbrev pub entry : JobId → Option JobValue → TableEntry
+abbrev pub entry : JobId → Option JobResult → TableEntry
 entry j r = record { id = j; result = r }
 
 none_found : {X : Type 0} (o : Option X) → is_some o ≡ false → o ≡ None
@@ -25,7 +27,7 @@ none_found None e = refl
 none_found (Some x) e = absurd (cc)
 
 module _ (front back : List TableEntry) where
-  differ_with : (id : JobId) (r : Option JobValue) → NamesDiffer (front ++ back) → is_some (find (is_of id) (front ++ back)) ≡ false → NamesDiffer (front ++ entry id r ∷ back)
+  differ_with : (id : JobId) (r : Option JobResult) → NamesDiffer (front ++ back) → is_some (find (is_of id) (front ++ back)) ≡ false → NamesDiffer (front ++ entry id r ∷ back)
   differ_with id r differ new j = by_name (same_job id j) refl
     where
       by_name : (b : Bool) → same_job id j ≡ b → count_by (is_of j) (front ++ entry id r ∷ back) ≤ 1
@@ -38,10 +40,10 @@ module _ (front back : List TableEntry) where
   differ_without : (e : TableEntry) → NamesDiffer (front ++ e ∷ back) → NamesDiffer (front ++ back)
   differ_without e differ j = omega (arith, count-middle (is_of j) e front back, differ j)
 
-  differ_changed : (id : JobId) (q r : Option JobValue) → NamesDiffer (front ++ entry id q ∷ back) → NamesDiffer (front ++ entry id r ∷ back)
+  differ_changed : (id : JobId) (q r : Option JobResult) → NamesDiffer (front ++ entry id q ∷ back) → NamesDiffer (front ++ entry id r ∷ back)
   differ_changed id q r differ j = omega (arith, count-middle (is_of j) (entry id q) front back, count-middle (is_of j) (entry id r) front back, differ j)
 
-  found_with : (id : JobId) (r : Option JobValue) → NamesDiffer (front ++ entry id r ∷ back) → (j : JobId)
+  found_with : (id : JobId) (r : Option JobResult) → NamesDiffer (front ++ entry id r ∷ back) → (j : JobId)
       → find (is_of j) (front ++ entry id r ∷ back) ≡ cond (same_job id j) (Some (entry j r)) (find (is_of j) (front ++ back))
   found_with id r differ j = by_name (same_job id j) refl
     where
@@ -49,7 +51,7 @@ module _ (front back : List TableEntry) where
       by_name true e = (find_middle (is_of j) (entry id r) front back e (differ j)).0 ∙ ap (λ i. Some (entry i r)) (same_job_is id j e)
       by_name false e = find_other (is_of j) (entry id r) front back e
 
-  found_without : (id : JobId) (r : Option JobValue) → NamesDiffer (front ++ entry id r ∷ back) → (j : JobId)
+  found_without : (id : JobId) (r : Option JobResult) → NamesDiffer (front ++ entry id r ∷ back) → (j : JobId)
       → find (is_of j) (front ++ back) ≡ cond (same_job id j) None (find (is_of j) (front ++ entry id r ∷ back))
   found_without id r differ j = by_name (same_job id j) refl
     where
@@ -57,7 +59,7 @@ module _ (front back : List TableEntry) where
       by_name true e = (find_middle (is_of j) (entry id r) front back e (differ j)).1
       by_name false e = sym (find_other (is_of j) (entry id r) front back e)
 
-  found_changed : (id : JobId) (q r : Option JobValue) → NamesDiffer (front ++ entry id q ∷ back) → (j : JobId)
+  found_changed : (id : JobId) (q r : Option JobResult) → NamesDiffer (front ++ entry id q ∷ back) → (j : JobId)
       → find (is_of j) (front ++ entry id r ∷ back) ≡ cond (same_job id j) (Some (entry j r)) (find (is_of j) (front ++ entry id q ∷ back))
   found_changed id q r differ j = by_name (same_job id j) refl
     where
@@ -76,7 +78,7 @@ pub record IsEntered (old new : List TableEntry) (id : JobId) : Type 0 where
   pub more : length new ≡ length old + 1
 
 -- an entry without a result gets one
-pub record IsAdded (old new : List TableEntry) (id : JobId) (done : JobValue) : Type 0 where
+pub record IsAdded (old new : List TableEntry) (id : JobId) (done : JobResult) : Type 0 where
   pub differ : NamesDiffer new
   pub found : (j : JobId) → find (is_of j) new ≡ cond (same_job id j) (Some (entry j (Some done))) (find (is_of j) old)
   pub results : count_by has_come new ≡ count_by has_come old + 1
@@ -84,7 +86,7 @@ pub record IsAdded (old new : List TableEntry) (id : JobId) (done : JobValue) : 
   pub as_many : length new ≡ length old
 
 -- an entry leaves
-pub record IsRemoved (old new : List TableEntry) (id : JobId) (result : Option JobValue) : Type 0 where
+pub record IsRemoved (old new : List TableEntry) (id : JobId) (result : Option JobResult) : Type 0 where
   pub differ : NamesDiffer new
   pub found : (j : JobId) → find (is_of j) new ≡ cond (same_job id j) None (find (is_of j) old)
   pub results : count_by has_come new + cond (is_some result) 1 0 ≡ count_by has_come old
@@ -120,7 +122,7 @@ module _ (old new : Slab TableEntry) (key : ℕ) where
       }
       )
 
-  pub is_added_at : (id : JobId) (done : JobValue) → Updates old new key (Some (entry id (Some done))) → get old key ≡ Some (entry id None)
+  pub is_added_at : (id : JobId) (done : JobResult) → Updates old new key (Some (entry id (Some done))) → get old key ≡ Some (entry id None)
       → NamesDiffer (values old) → IsAdded (values old) (values new) id done
   is_added_at id done updates at differ =
       let split = around (Some (entry id (Some done))) (Some (entry id None)) updates at in
@@ -138,7 +140,7 @@ module _ (old new : Slab TableEntry) (key : ℕ) where
       }
       )
 
-  pub is_removed_at : (id : JobId) (result : Option JobValue) → Updates old new key None → get old key ≡ Some (entry id result)
+  pub is_removed_at : (id : JobId) (result : Option JobResult) → Updates old new key None → get old key ≡ Some (entry id result)
       → NamesDiffer (values old) → IsRemoved (values old) (values new) id result
   is_removed_at id result updates at differ =
       let split = around None (Some (entry id result)) updates at in
@@ -155,13 +157,12 @@ module _ (old new : Slab TableEntry) (key : ℕ) where
       )
 
 -- the entry under a key gets its result
-pub is_added_under : (s : Slab TableEntry) (key : ℕ) (e : TableEntry) (id : JobId) (done : JobValue) → NamesDiffer (values s) → get s key ≡ Some e
-    → IsSomeAnd (get s key) (λ d. same_job d.id id ≡ true) → is_some (option_and_then (λ (d : TableEntry). d.result) (find (is_of id) (values s))) ≡ false
+pub is_added_under : (s : Slab TableEntry) (key : ℕ) (e : TableEntry) (id : JobId) (done : JobResult) → NamesDiffer (values s) → get s key ≡ Some e
+    → IsSomeAnd (get s key) (λ d. same_job d.id id ≡ true) → has_result (values s) id ≡ false
     → IsAdded (values s) (values (with_value s key (entry e.id (Some done)))) id done
 is_added_under s key e id done differ at named not_yet =
     let same : same_job e.id id ≡ true = rw at at named in
-    let found = found_at s key e id differ at same in
-    let none : e.result ≡ None = none_found e.result (rw found at not_yet) in
+    let none : e.result ≡ None = none_found e.result (sym (has_result_under s key e id differ at named) ∙ not_yet) in
     let empty : get s key ≡ Some (entry e.id None) = at ∙ ap (λ r. Some (entry e.id r)) none in
     let updates = Updates-with_value s key (entry e.id (Some done)) (rw at refl) in
     subst (λ i. IsAdded (values s) (values (with_value s key (entry e.id (Some done)))) i done) (same_job_is e.id id same) (is_added_at s _ key e.id done updates empty differ)
@@ -172,6 +173,6 @@ pub is_removed_under : (old new : Slab TableEntry) (key : ℕ) (e : TableEntry) 
     → (find (is_of id) (values old) ≡ Some e) × IsRemoved (values old) (values new) id e.result
 is_removed_under old new key e id differ at named updates =
     let same : same_job e.id id ≡ true = rw at at named in (
-      found_at old key e id differ at same,
+      found_under old key e id differ at named,
       subst (λ i. IsRemoved (values old) (values new) i e.result) (same_job_is e.id id same) (is_removed_at old new key e.id e.result updates at differ),
     )

@@ -1,11 +1,12 @@
 -- The entry of a name in a list of entries where no two have one name.
-use Rattle.std.proofs.Common.{◌≡◌, ℕ, ◌+◌, ◌≤◌, Bool, true, false, cond, List, [], ◌∷◌, ◌++◌, Option, Some, None, count_by, find, option_to_list, refl, sym, ap, ◌∙◌, arith}
-use Rattle.std.proofs.lemmas.List.Sums.{sum_by-cons, sum_by-append}
+use Rattle.std.proofs.Common.{◌≡◌, ℕ, ◌+◌, ◌≤◌, Bool, true, false, cond, List, [], ◌∷◌, ◌++◌, length, Option, Some, None, is_some, IsSomeAnd, count_by, find, option_to_list, refl, sym, ap, ◌∙◌, arith}
+use Rattle.std.proofs.lemmas.List.Sums.{sum_by-cons, sum_by-append, count_by-le-length}
 use Rattle.std.proofs.lemmas.List.Folds.{find-append}
 use Rattle.slab.specs.Slab.{Slab, get, values}
 use Rattle.tenant_jobs.specs.declared.jobs.JobId.{JobId}
 use Rattle.tenant_jobs.specs.Jobs.{same_job}
-use Rattle.tenant_jobs.specs.inner.Finished.{TableEntry, NamesDiffer}
+use Rattle.tenant_jobs.specs.Finished.{TableEntry, entry_in, has_result}
+use Rattle.tenant_jobs.specs.inner.Finished.{is_entered, result_count, NamesDiffer}
 use Rattle.tenant_jobs.proofs.Slots.{one_slot, stored}
 
 abbrev pub weight_of : Bool → ℕ
@@ -61,3 +62,24 @@ found_at s key e j differ at same =
     let here : stored s.slots ≡ split.0 ++ e ∷ split.1 = split.2 ∙ ap (λ (o : Option TableEntry). split.0 ++ (option_to_list o ++ split.1)) at in
     let one : count_by (λ (d : TableEntry). same_job d.id j) (split.0 ++ e ∷ split.1) ≤ 1 = rw here at (differ j) in
     ap (find (λ (d : TableEntry). same_job d.id j)) here ∙ (find_middle (λ (d : TableEntry). same_job d.id j) e split.0 split.1 same one).0
+
+-- the entry under a key that leads to this name is the one that is found by it
+pub found_under : (s : Slab TableEntry) (key : ℕ) (e : TableEntry) (j : JobId) → NamesDiffer (values s) → get s key ≡ Some e → IsSomeAnd (get s key) (λ d. same_job d.id j ≡ true) → entry_in (values s) j ≡ Some e
+found_under s key e j differ at named = found_at s key e j differ at (rw at at named)
+
+-- whether its result came is seen there
+pub has_result_under : (s : Slab TableEntry) (key : ℕ) (e : TableEntry) (j : JobId) → NamesDiffer (values s) → get s key ≡ Some e → IsSomeAnd (get s key) (λ d. same_job d.id j ≡ true) → has_result (values s) j ≡ is_some e.result
+has_result_under s key e j differ at named = rw (found_under s key e j differ at named) refl
+
+-- where there are as many results as entries, each entry has its result
+pub all_came : (entries : List TableEntry) (j : JobId) → result_count entries ≡ length entries → has_result entries j ≡ is_entered entries j
+all_came [] j complete = refl
+all_came (e ∷ rest) j complete = by_first (all_came rest j) (is_some e.result) (same_job e.id j) refl refl
+  where
+    weight : TableEntry → ℕ
+    weight d = cond (is_some d.result) 1 0
+
+    by_first : (result_count rest ≡ length rest → has_result rest j ≡ is_entered rest j) → (came named : Bool) → is_some e.result ≡ came → same_job e.id j ≡ named → has_result (e ∷ rest) j ≡ is_entered (e ∷ rest) j
+    by_first later false named none at = absurd (omega (arith, complete, sum_by-cons weight e rest, weigh none, count_by-le-length (λ (d : TableEntry). is_some d.result) rest))
+    by_first later true true came at = rw at came
+    by_first later true false came at = rw at (later (omega (arith, complete, sum_by-cons weight e rest, weigh came)))

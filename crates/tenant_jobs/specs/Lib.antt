@@ -1,3 +1,4 @@
+pub mod Finished
 pub mod JobLists
 pub mod Jobs
 pub mod inner

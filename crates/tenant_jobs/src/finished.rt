@@ -1,12 +1,17 @@
 //! The table of the active tasks of all tenants of a host, with the results that came.
 
-ghost use Rattle.std.specs.Prelude.{◌≡◌, ◌<◌, ◌≤◌, ◌+◌, [], length, All, Some, None, IsOk, IfSome, IfNone, IsSomeAnd, OnOk, true, false, if◌then◌else◌, find, option_copied};
+ghost use Rattle.std.specs.Prelude.{◌≡◌, ◌<◌, ◌≤◌, ◌+◌, ◌&&◌, [], length, not, All, Some, None, IsOk, IfSome, IfNone, IsSomeAnd, OnOk, true, false, if◌then◌else◌, find, option_copied};
+ghost use Rattle.std.specs.Bool.{OnTrue};
+ghost use Rattle.giotto_tasks.specs.Sound.{IsSound};
 ghost use Rattle.slab.specs.Slab.{get, values};
-ghost use Rattle.tenant_jobs.specs.inner.Finished.{entry_in, is_entered, result_in, has_result, results_of, is_job_of, JobsDiffer};
+ghost use Rattle.tenant_jobs.specs.Finished.{entry_in, result_in, has_result};
+ghost use Rattle.tenant_jobs.specs.inner.Finished.{is_entered, result_count, result_of, is_job_of, JobsDiffer};
 ghost use Rattle.tenant_jobs.specs.Jobs.{JobValue, same_job};
 ghost use Rattle.tenant_jobs.specs.declared.jobs.JobId.{JobId};
 
-use crate::jobs::{Done, JobId, Jobs};
+use crate::jobs::{Done, JobId, JobResult, Jobs, Key, put_results};
+use giotto_tasks::bodies::Body;
+use giotto_tasks::values::Values;
 use slab::Slab;
 use std::alloc::{AllocError, Global};
 use std::marker::Model;
@@ -14,19 +19,15 @@ use std::marker::Model;
 #[derive(Drop)]
 struct Entry {
     id: JobId,
-    done: Option<Done>,
+    result: Option<JobResult>,
 }
 
 impl Model for Entry {
-    ghost use Rattle.tenant_jobs.specs.inner.Finished.{TableEntry};
-    ghost use Rattle.std.specs.Coded.{codes};
-    ghost use Rattle.giotto_tasks.specs.inner.Codes.{body_code};
+    ghost use Rattle.tenant_jobs.specs.Finished.{TableEntry};
 
     ghost Value = { TableEntry };
 
-    ghost coded = { Prim.hlevel (codes, body_code) };
-
-    ghost view = { λ e. record { id = e.id; result = e.done } };
+    ghost view = { λ e. record { id = e.id; result = e.result } };
 }
 
 /// The active tasks of all tenants of a host, with the results that came. Each is found by the name of its job, which no two have.
@@ -39,13 +40,10 @@ pub struct Finished {
 impl Model for Finished {
     ghost use Rattle.std.specs.Prelude.{◌≡◌, ◌-◌, count_by, is_some};
     ghost use Rattle.slab.specs.Slab.{values, slab_len};
-    ghost use Rattle.tenant_jobs.specs.inner.Finished.{TaskTable, NamesDiffer};
-    ghost use Rattle.std.specs.Coded.{codes};
-    ghost use Rattle.giotto_tasks.specs.inner.Codes.{body_code};
+    ghost use Rattle.tenant_jobs.specs.Finished.{TaskTable};
+    ghost use Rattle.tenant_jobs.specs.inner.Finished.{NamesDiffer};
 
     ghost Value = { TaskTable };
-
-    ghost coded = { Prim.hlevel (codes, body_code) };
 
     ghost view = { λ f. record { entries = values f.entries; room = f.entries.capacity - slab_len f.entries } };
 
@@ -80,13 +78,14 @@ impl Finished {
         self.entries.reserve(entries - self.entries.len())
     }
 
-    /// An entry without a result for each of these jobs. They stay as they are, and in their order. Takes no memory.
+    /// An entry without a result for each of these jobs, which carry its key from then on. They stay as they are, and in their order. Takes no memory.
     pub fn enter(&mut self, jobs: &mut Jobs)
         requires room { length jobs.old.jobs ≤ self.old.room }
-        requires new { All (λ (k : JobValue). is_entered self.old k.id ≡ false) jobs.old.jobs }
+        requires new { All (λ (k : JobValue). is_entered self.old.entries k.id ≡ false) jobs.old.jobs }
         requires differ { JobsDiffer jobs.old.jobs }
-        ensures entries { (j : JobId) → entry_in self.new j ≡ (if is_job_of jobs.old.jobs j then Some (record { id = j; result = None }) else entry_in self.old j) }
-        ensures results { results_of self.new ≡ results_of self.old }
+        ensures entries { (j : JobId) → entry_in self.new.entries j
+            ≡ (if is_job_of jobs.old.jobs j then Some (record { id = j; result = None }) else entry_in self.old.entries j) }
+        ensures results { result_count self.new.entries ≡ result_count self.old.entries }
         ensures count { length self.new.entries ≡ length self.old.entries + length jobs.old.jobs }
         ensures room { self.new.room + length jobs.old.jobs ≡ self.old.room }
         ensures jobs { jobs.new ≡ jobs.old }
@@ -95,30 +94,32 @@ impl Finished {
             let Some(mut job) = jobs.take() else {
                 unreachable!()
             };
-            let key = self.enter_one(job.id().copy());
+            let key = self.enter_task(job.id().copy());
             job.set_key(key);
             jobs.put(job);
         }
     }
 
-    // An entry of this name without a result. Gives its key.
-    fn enter_one(&mut self, id: JobId) -> usize
+    /// An entry of this name without a result. Gives its key. Takes no memory.
+    pub fn enter_task(&mut self, id: JobId) -> Key
         requires room { 0 < self.old.room }
-        requires new { is_entered self.old id ≡ false }
-        ensures entries { (j : JobId) → entry_in self.new j ≡ (if same_job id j then Some (record { id = j; result = None }) else entry_in self.old j) }
-        ensures results { results_of self.new ≡ results_of self.old }
+        requires new { is_entered self.old.entries id ≡ false }
+        ensures entries { (j : JobId) → entry_in self.new.entries j
+            ≡ (if same_job id j then Some (record { id = j; result = None }) else entry_in self.old.entries j) }
+        ensures results { result_count self.new.entries ≡ result_count self.old.entries }
         ensures count { length self.new.entries ≡ length self.old.entries + 1 }
         ensures room { self.new.room + 1 ≡ self.old.room }
     {
-        self.entries.insert_reserved(Entry { id, done: None })
+        Key::new(self.entries.insert_reserved(Entry { id, result: None }))
     }
 
     /// Puts the result into its entry, which has none yet. Takes no memory.
     pub fn add(&mut self, done: Done)
-        requires entered { is_entered self.old done.id ≡ true }
-        requires none { has_result self.old done.id ≡ false }
-        ensures entries { (j : JobId) → entry_in self.new j ≡ (if same_job done.id j then Some (record { id = j; result = Some done }) else entry_in self.old j) }
-        ensures results { results_of self.new ≡ results_of self.old + 1 }
+        requires entered { is_entered self.old.entries done.id ≡ true }
+        requires none { has_result self.old.entries done.id ≡ false }
+        ensures entries { (j : JobId) → entry_in self.new.entries j
+            ≡ (if same_job done.id j then Some (record { id = j; result = Some (result_of done) }) else entry_in self.old.entries j) }
+        ensures results { result_count self.new.entries ≡ result_count self.old.entries + 1 }
         ensures count { length self.new.entries ≡ length self.old.entries }
         ensures room { self.new.room ≡ self.old.room }
     {
@@ -130,55 +131,114 @@ impl Finished {
         let Some(entry) = self.entries.get_mut(key) else {
             unreachable!()
         };
-        entry.done = Some(done);
+        entry.result = Some(done.into_result());
         self.results += 1;
     }
 
-    /// Takes the entry of this name out, if there is one. The key, where it was put at first, tells nothing but where to look first.
-    pub fn remove(&mut self, id: &JobId, key: usize)
-        ensures entries { (j : JobId) → entry_in self.new j ≡ (if same_job id.now j then None else entry_in self.old j) }
-        ensures results { results_of self.new + (if has_result self.old id.now then 1 else 0) ≡ results_of self.old }
-        ensures count { length self.new.entries + (if is_entered self.old id.now then 1 else 0) ≡ length self.old.entries }
-        ensures room { self.new.room ≡ self.old.room + (if is_entered self.old id.now then 1 else 0) }
+    /// Computes the job of this name and puts the result into its entry, if none came yet. Whether none had come. The key tells nothing
+    /// but where to look first. Takes no memory.
+    pub fn compute(
+        &mut self,
+        id: &JobId,
+        key: &Key,
+        body: &Body,
+        inputs: &Values,
+        states: &Values,
+    ) -> bool
+        requires inputs { length inputs.now ≡ length body.now.inputs }
+        requires states { length states.now ≡ length body.now.states }
+        requires sound { IsSound body.now }
+        requires entered { is_entered self.old.entries id.now ≡ true }
+        ensures computed { result ≡ not (has_result self.old.entries id.now) }
+        ensures entries { (j : JobId) → entry_in self.new.entries j
+            ≡ (if result && same_job id.now j
+            then Some (record { id = j; result = Some (result_of (record { id = j; body = body.now; inputs = inputs.now; states = states.now })) })
+            else entry_in self.old.entries j) }
+        ensures count { length self.new.entries ≡ length self.old.entries }
+        ensures room { self.new.room ≡ self.old.room }
+    {
+        // The results are fewer than the entries, so that one more fits.
+        let _entries = self.entries.len();
+        let Some(place) = entry_key(&self.entries, id, key) else {
+            unreachable!()
+        };
+        let Some(entry) = self.entries.get_mut(place) else {
+            unreachable!()
+        };
+        if entry.result.is_some() {
+            return false;
+        }
+        let mut outputs = Values::new();
+        let mut new_states = Values::new();
+        put_results(body, inputs, states, &mut outputs, &mut new_states);
+        entry.result = Some(JobResult {
+            outputs,
+            states: new_states,
+        });
+        self.results += 1;
+        true
+    }
+
+    /// Takes the entry of this name out, if there is one. The key tells nothing but where to look first.
+    pub fn remove(&mut self, id: &JobId, key: &Key)
+        ensures entries { (j : JobId) → entry_in self.new.entries j ≡ (if same_job id.now j then None else entry_in self.old.entries j) }
+        ensures results { result_count self.new.entries + (if has_result self.old.entries id.now then 1 else 0) ≡ result_count self.old.entries }
+        ensures count { length self.new.entries + (if is_entered self.old.entries id.now then 1 else 0) ≡ length self.old.entries }
+        ensures room { self.new.room ≡ self.old.room + (if is_entered self.old.entries id.now then 1 else 0) }
     {
         let Some(key) = entry_key(&self.entries, id, key) else {
             return;
         };
         let entry = self.entries.remove(key);
-        self.results -= usize::from(entry.done.is_some());
+        self.results -= usize::from(entry.result.is_some());
     }
 
     /// Whether the result of the same name came.
     pub fn has(&self, done: &Done) -> bool
-        ensures { result ≡ has_result self.now done.now.id }
+        ensures { result ≡ has_result self.now.entries done.now.id }
     {
         self.result(done.id(), done.job().key()).is_some()
     }
 
-    /// The result of this name, if it came. The key, where the entry was put at first, tells nothing but where to look first.
-    pub fn result(&self, id: &JobId, key: usize) -> Option<&Done>
-        ensures { option_copied result ≡ result_in self.now id.now }
+    /// The result of this name, if it came. The key tells nothing but where to look first.
+    pub fn result(&self, id: &JobId, key: &Key) -> Option<&JobResult>
+        ensures { option_copied result ≡ result_in self.now.entries id.now }
     {
         let key = entry_key(&self.entries, id, key)?;
-        self.entries.get(key)?.done.as_ref()
+        self.entries.get(key)?.result.as_ref()
+    }
+
+    /// How many entries there are.
+    pub fn entry_count(&self) -> usize
+        ensures { result ≡ length self.now.entries }
+    {
+        self.entries.len()
     }
 
     /// How many results came.
     pub fn len(&self) -> usize
-        ensures { result ≡ results_of self.now }
+        ensures { result ≡ result_count self.now.entries }
     {
         self.results
+    }
+
+    /// Whether the result of each entry came.
+    pub fn is_complete(&self) -> bool
+        ensures { OnTrue result ((j : JobId) → has_result self.now.entries j ≡ is_entered self.now.entries j) }
+    {
+        self.results == self.entries.len()
     }
 }
 
 // The key of the entry of this name: the hint, where the entry there is of this name.
-fn entry_key(entries: &Slab<Entry>, id: &JobId, hint: usize) -> Option<usize>
+fn entry_key(entries: &Slab<Entry>, id: &JobId, hint: &Key) -> Option<usize>
     ensures found { IfSome result (λ key. IsSomeAnd (get entries.now key) (λ e. same_job e.id id.now ≡ true)) }
     ensures absent { IfNone result (find (λ e. same_job e.id id.now) (values entries.now) ≡ None) }
 {
-    if let Some(entry) = entries.get(hint) {
+    let key = hint.place();
+    if let Some(entry) = entries.get(key) {
         if entry.id == *id {
-            return Some(hint);
+            return Some(key);
         }
     }
     searched_key(entries, id)

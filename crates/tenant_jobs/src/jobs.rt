@@ -1,9 +1,10 @@
 //! Jobs: the computations that an instant releases, and their results.
 
-ghost use Rattle.std.specs.Prelude.{◌≡◌, ◌<◌, ◌≤◌, ◌+◌, ◌-◌, [], ◌∷◌, ◌++◌, ◌↔◌, length, IsSome, IsOk, IfOk, option_to_list};
+ghost use Rattle.std.specs.Prelude.{◌≡◌, ◌<◌, ◌≤◌, ◌+◌, ◌-◌, [], ◌∷◌, ◌++◌, ◌↔◌, length, IsSome, IsOk, IfOk, option_to_list, option_copied, slice_get};
 ghost use Rattle.std.specs.Arc.{arc_value};
 ghost use Rattle.giotto_tasks.specs.Meaning.{outputs_of, states_of};
 ghost use Rattle.giotto_tasks.specs.Sound.{IsSound};
+ghost use Rattle.tenant_jobs.specs.inner.Finished.{result_of};
 ghost use Rattle.tenant_jobs.specs.inner.Jobs.{IsComputable};
 
 use giotto_tasks::bodies::Body;
@@ -40,6 +41,39 @@ impl JobId {
     }
 }
 
+/// Where the entry of an active task stands in the table. It is a hint, of which contracts see nothing: what it leads to is compared with
+/// the job's name.
+#[derive(Drop)]
+pub struct Key(usize);
+
+impl Model for Key {
+    ghost use Rattle.std.specs.Prelude.{⊤};
+
+    ghost Value = { ⊤ };
+
+    ghost view = { λ k. tt };
+}
+
+impl Key {
+    /// No entry's.
+    pub fn none() -> Key {
+        Key(0)
+    }
+
+    pub(crate) fn new(place: usize) -> Key {
+        Key(place)
+    }
+
+    pub(crate) fn place(&self) -> usize {
+        self.0
+    }
+
+    /// The same key.
+    pub fn copy(&self) -> Key {
+        Key(self.0)
+    }
+}
+
 /// A job: one computation of a task, with what the task was given at its release. It can be run
 /// anywhere and at any time until its deadline.
 #[derive(Drop)]
@@ -48,8 +82,7 @@ pub struct Job {
     body: Arc<Body, Global>,
     inputs: Values,
     states: Values,
-    // Where its entry stands in the table of the active tasks: 0 until it is entered. No more than a hint.
-    key: usize,
+    key: Key,
 }
 
 impl Model for Job {
@@ -68,17 +101,23 @@ impl Model for Job {
     ghost invariant = { λ j. IsComputable (record { id = j.id; body = arc_value j.body; inputs = j.inputs; states = j.states }) };
 }
 
+/// The result of a job: the new values of its task's outputs and states.
+#[derive(Drop)]
+pub struct JobResult {
+    pub outputs: Values,
+    pub states: Values,
+}
+
 /// A job with its result, which is the value of the job's computation. Contracts see it as the job.
 #[derive(Drop)]
 pub struct Done {
     job: Job,
-    outputs: Values,
-    states: Values,
+    result: JobResult,
 }
 
 impl Model for Done {
     ghost use Rattle.std.specs.Prelude.{◌≡◌};
-    ghost use Rattle.giotto_tasks.specs.Meaning.{outputs_of, states_of};
+    ghost use Rattle.tenant_jobs.specs.inner.Finished.{result_of};
     ghost use Rattle.tenant_jobs.specs.Jobs.{JobValue};
     ghost use Rattle.std.specs.Coded.{codes};
     ghost use Rattle.giotto_tasks.specs.inner.Codes.{body_code};
@@ -89,13 +128,13 @@ impl Model for Done {
 
     ghost view = { λ d. d.job };
 
-    ghost invariant = { λ d. (d.outputs ≡ outputs_of d.job.body d.job.inputs d.job.states) × (d.states ≡ states_of d.job.body d.job.inputs d.job.states) };
+    ghost invariant = { λ d. d.result ≡ result_of d.job };
 }
 
 impl Job {
-    /// The job of this name. Its inputs and states are as many as its body has, and its body is sound: at most 16 inputs,
-    /// outputs and states each, all of different names, and a block that reads only these and assigns only outputs and states.
-    pub fn new(id: JobId, body: Arc<Body, Global>, inputs: Values, states: Values) -> Job
+    /// The job of this name, with the key of its entry. Its inputs and states are as many as its body has, and its body is sound: at
+    /// most 16 inputs, outputs and states each, all of different names, and a block that reads only these and assigns only outputs and states.
+    pub fn new(id: JobId, body: Arc<Body, Global>, inputs: Values, states: Values, key: Key) -> Job
         requires { IsComputable (record { id = id; body = arc_value body; inputs = inputs; states = states }) }
         ensures { result ≡ record { id = id; body = arc_value body; inputs = inputs; states = states } }
     {
@@ -104,17 +143,17 @@ impl Job {
             body,
             inputs,
             states,
-            key: 0,
+            key,
         }
     }
 
-    // The key of its entry.
-    pub(crate) fn key(&self) -> usize {
-        self.key
+    /// The key of its entry.
+    pub fn key(&self) -> &Key {
+        &self.key
     }
 
     // Notes the key of its entry.
-    pub(crate) fn set_key(&mut self, key: usize)
+    pub(crate) fn set_key(&mut self, key: Key)
         ensures { self.new ≡ self.old }
     {
         self.key = key;
@@ -168,14 +207,21 @@ impl Done {
     pub fn outputs(&self) -> &Values
         ensures { result.now ≡ outputs_of self.now.body self.now.inputs self.now.states }
     {
-        &self.outputs
+        &self.result.outputs
     }
 
     /// The new values of the task's states.
     pub fn states(&self) -> &Values
         ensures { result.now ≡ states_of self.now.body self.now.inputs self.now.states }
     {
-        &self.states
+        &self.result.states
+    }
+
+    /// The result alone.
+    pub fn into_result(self) -> JobResult
+        ensures { result ≡ result_of self }
+    {
+        self.result
     }
 }
 
@@ -194,8 +240,7 @@ pub fn run_job(job: Job) -> Done
     );
     Done {
         job,
-        outputs,
-        states,
+        result: JobResult { outputs, states },
     }
 }
 
@@ -269,6 +314,13 @@ impl Jobs {
     {
         let jobs = VecDeque::with_capacity(alloc, room)?;
         Ok(Jobs { jobs })
+    }
+
+    /// The job at this place, the first at 0, if there is one.
+    pub fn get(&self, place: usize) -> Option<&Job>
+        ensures { option_copied result ≡ slice_get self.now.jobs place }
+    {
+        self.jobs.get(place)
     }
 
     /// How many jobs there are.

@@ -1,39 +1,23 @@
--- The table of the active tasks of all tenants, with the results that came.
-use Rattle.std.specs.Prelude.{◌≡◌, ℕ, ◌≤◌, Bool, false, List, Option, is_some, option_and_then, find, count_by, AllPairs}
+-- What is known of the table of active tasks, and of jobs that are entered.
+use Rattle.std.specs.Prelude.{◌≡◌, ◌≤◌, ℕ, Bool, false, List, is_some, count_by, AllPairs}
 use Rattle.std.specs.List.{list_any}
+use Rattle.giotto_tasks.specs.Meaning.{outputs_of, states_of}
 use Rattle.tenant_jobs.specs.declared.jobs.JobId.{JobId}
+use Rattle.tenant_jobs.specs.declared.jobs.JobResult.{JobResult}
+use Rattle.tenant_jobs.specs.Finished.{TableEntry, entry_in}
 use Rattle.tenant_jobs.specs.Jobs.{JobValue, same_job}
 
--- an active task: the name of its job, and the job's result, if it came
-pub record TableEntry : Type 0 where
-  pub id : JobId
-  pub result : Option JobValue
-
--- the active tasks
-pub record TaskTable : Type 0 where
-  pub entries : List TableEntry
-  -- how many more there is room for
-  pub room : ℕ
-
--- the entry of this name, if there is one
-abbrev pub entry_in : TaskTable → JobId → Option TableEntry
-entry_in table j = find (λ e. same_job e.id j) table.entries
+-- the result of a job: what its computation gives
+abbrev pub result_of : JobValue → JobResult
+result_of j = record { outputs = outputs_of j.body j.inputs j.states; states = states_of j.body j.inputs j.states }
 
 -- whether there is an entry of this name
-abbrev pub is_entered : TaskTable → JobId → Bool
-is_entered table j = is_some (entry_in table j)
-
--- the result of this name, if it came
-abbrev pub result_in : TaskTable → JobId → Option JobValue
-result_in table j = option_and_then (λ e. e.result) (entry_in table j)
-
--- whether the result of this name came
-abbrev pub has_result : TaskTable → JobId → Bool
-has_result table j = is_some (result_in table j)
+abbrev pub is_entered : List TableEntry → JobId → Bool
+is_entered entries j = is_some (entry_in entries j)
 
 -- how many results came
-abbrev pub results_of : TaskTable → ℕ
-results_of table = count_by (λ e. is_some e.result) table.entries
+abbrev pub result_count : List TableEntry → ℕ
+result_count entries = count_by (λ e. is_some e.result) entries
 
 -- no two entries have one name
 abbrev pub NamesDiffer : List TableEntry → Type 0

@@ -1,5 +1,5 @@
 use Rattle.std.proofs.Common.{◌≡◌, ap, refl, arith, sym, ◌∙◌, Bool, List, ℕ, map, find}
-use Rattle.tenant_jobs.specs.inner.Finished.{TableEntry}
+use Rattle.tenant_jobs.specs.Finished.{TableEntry}
 use Rattle.tenant_jobs.specs.Jobs.{same_job}
 use Rattle.tenant_jobs.proofs.JobNames.{same_job_eq}
 use Rattle.tenant_jobs.proofs.TableEntries.{find_past}

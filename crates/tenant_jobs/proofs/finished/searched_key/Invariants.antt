@@ -1,6 +1,6 @@
 use Rattle.std.proofs.Common.{◌≡◌, ℕ, Some, Contains, map, find}
 use Rattle.slab.specs.Slab.{get, values}
-use Rattle.tenant_jobs.specs.inner.Finished.{TableEntry}
+use Rattle.tenant_jobs.specs.Finished.{TableEntry}
 use Rattle.tenant_jobs.specs.Jobs.{same_job}
 use Rattle.tenant_jobs.proofs.finished.searched_key.Given as goal
 

@@ -1,7 +1,7 @@
 use Rattle.std.proofs.Common.{◌≡◌, ◌≤◌, ◌+◌, ◌-◌, refl, arith, sym, subst, length}
 use Rattle.std.proofs.lemmas.Result.{on_ok_weaker}
 use Rattle.slab.specs.Slab.{values, slab_len, HasRoomFor}
-use Rattle.tenant_jobs.specs.inner.Finished.{TaskTable}
+use Rattle.tenant_jobs.specs.Finished.{TaskTable}
 use Rattle.tenant_jobs.proofs.Slots.{length-values}
 use Rattle.tenant_jobs.proofs.finished.Finished.room.Goals as goal
 

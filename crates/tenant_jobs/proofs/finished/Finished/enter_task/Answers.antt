@@ -1,12 +1,13 @@
 use Rattle.std.proofs.Common.{◌≡◌, false, sym, ◌∙◌, subst, find, is_some}
 use Rattle.slab.specs.Slab.{values}
-use Rattle.tenant_jobs.specs.inner.Finished.{TaskTable, is_entered}
+use Rattle.tenant_jobs.specs.Finished.{TaskTable}
+use Rattle.tenant_jobs.specs.inner.Finished.{is_entered}
 use Rattle.tenant_jobs.proofs.TableChanges.{IsEntered, is_entered_at, is_of}
-use Rattle.tenant_jobs.proofs.finished.Finished.enter_one.Goals as goal
+use Rattle.tenant_jobs.proofs.finished.Finished.enter_task.Goals as goal
 
-entered : (c : goal.After-insert_reserved) → IsEntered (values c.self.inside.entries) (values c.insert_reserved.new.self) c.args.id
+entered : (c : goal.After-new) → IsEntered (values c.self.inside.entries) (values c.insert_reserved.new.self) c.args.id
 entered c =
-    let not_yet : is_some (find (is_of c.args.id) (values c.self.inside.entries)) ≡ false = subst (λ (t : TaskTable). is_entered t c.args.id ≡ false) (sym c.self.view_is) c.requires.new in
+    let not_yet : is_some (find (is_of c.args.id) (values c.self.inside.entries)) ≡ false = subst (λ (t : TaskTable). is_entered t.entries c.args.id ≡ false) (sym c.self.view_is) c.requires.new in
     is_entered_at c.self.inside.entries c.insert_reserved.new.self c.insert_reserved.result c.args.id c.insert_reserved.ensures.updates c.insert_reserved.ensures.was_vacant c.self.invariant.0 not_yet
 
 pub invariant_of-self : goal.invariant_of-self
