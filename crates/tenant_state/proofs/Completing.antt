@@ -1,209 +1,199 @@
--- What a result leaves, over what a tenant's code keeps.
-use Rattle.std.proofs.Common.{◌≡◌, ℕ, zero, suc, ◌+◌, ◌<◌, ◌≤◌, ◌↔◌, ℤ, Bool, true, false, not, List, [], ◌∷◌, map, find, length, take, get_or, set, slice_get, option_map, IsSomeAnd, Option, Some, None, refl, sym, ap, ◌∙◌, subst, add-one, arith}
+-- The jobs of active tasks, and the results that are computed for them.
+use Rattle.std.proofs.Common.{◌≡◌, ℕ, ◌+◌, ◌<◌, ◌↔◌, Bool, true, false, not, ◌&&◌, ◌||◌, cond, List, [], ◌∷◌, map, filter, find, length, drop, get_or, slice_get, option_map, is_some, IfSome, IsSomeAnd, Option, Some, None, refl, sym, ap, ◌∙◌, subst, arith}
 use Rattle.std.specs.Arc.{arc_value}
-use Rattle.std.specs.List.{AllByRecursion}
-use Rattle.std.specs.Option.{option_map_or}
-use Rattle.std.proofs.lemmas.Bool.{and_parts}
-use Rattle.std.proofs.lemmas.List.{map-set, length-map, length-take, get_or_read, get_or-take, take_all}
+use Rattle.std.specs.List.{list_all, AllByRecursion}
+use Rattle.std.specs.Option.{option_and_then, option_map_or}
+use Rattle.std.proofs.lemmas.Bool.{false≢true, and_parts, false_from_ne_true, not-false}
+use Rattle.std.proofs.lemmas.List.{length-map}
+use Rattle.std.proofs.lemmas.List.Folds.{list_any_at}
 use Rattle.std.proofs.lemmas.Option.{slice_get_read}
 use Rattle.std.proofs.Math.ListN.{get_or-map}
-use Rattle.std.proofs.Math.Seq.{map-set_same, take-set-lt}
-use Rattle.giotto_tasks.specs.Meaning.{outputs_of, states_of}
 use Rattle.giotto_tasks.specs.Sound.{IsSound}
 use Rattle.giotto_tasks.specs.Syntax.{TaskBody, finished}
-use Rattle.giotto_text.specs.Program.{TaskDeclaration, GiottoProgram, body_of}
+use Rattle.giotto_text.specs.Program.{GiottoProgram, body_of}
 use Rattle.giotto_text.specs.ProgramTrees as trees
 use Rattle.giotto_text.specs.declared.programs.Task.{Task}
 use Rattle.giotto_check.specs.inner.Facts.{ProgramFits}
 use Rattle.tenant_slots.proofs.Numbered.{task_here, task_fits_at}
 use Rattle.tenant_jobs.specs.declared.jobs.JobId.{JobId}
-use Rattle.tenant_state.specs.declared.tenants.Active.{Active}
+use Rattle.tenant_jobs.specs.Finished.{TableEntry, entry_in, result_in, has_result}
+use Rattle.tenant_jobs.specs.inner.Finished.{is_entered, result_of}
 use Rattle.tenant_jobs.specs.Jobs.{JobValue, same_job}
-use Rattle.tenant_state.specs.Jobs.{body_in, job_in, job_of}
-use Rattle.tenant_state.specs.Row.{ActiveTask, Row}
-use Rattle.tenant_state.specs.Standing.{Standing, StandsFor}
-use Rattle.tenant_state.specs.Tenants.{active_of, is_completed}
-use Rattle.tenant_state.specs.inner.Tenants.{all_different_releases, IsResultOf, IsActiveAs, IsActiveOf, IsActiveIn, IsTenant, is_of_job, awaits_job}
-use Rattle.tenant_state.proofs.AwaitedTasks.{awaited_of, outstanding_in, outstanding_are, job_found, named_is, marks_with, marked}
-use Rattle.giotto_tasks.proofs.ListLemmas.{filter_set, find_passes, all_at, all_set, some_same}
+use Rattle.tenant_jobs.proofs.JobNames.{same_job_is}
+use Rattle.tenant_state.specs.declared.tenants.Active.{Active}
+use Rattle.tenant_state.specs.Jobs.{body_in, has_job, job_in, job_of}
+use Rattle.tenant_state.specs.Row.{ActiveTask}
+use Rattle.tenant_state.specs.Standing.{is_another, all_different_releases}
+use Rattle.tenant_state.specs.Tenants.{active_of}
+use Rattle.tenant_state.specs.inner.Tenants.{IsActiveAs, IsActiveOf}
+use Rattle.tenant_state.proofs.AwaitedTasks.{from_place, find-map, alone, different_drop, another_job}
+use Rattle.giotto_tasks.proofs.ListLemmas.{all_at, all_mapped_at, all_pass, all_with, find_passes, same_filter, some_same}
+use Rattle.giotto_tasks.proofs.TestLemmas.{and_false, or_true, or_assoc, or_turned}
 use Rattle.tenant_state.proofs.TenantFacts.{body_of_task}
 
--- an active task with these outputs and states as its result
-abbrev pub with_result : Active → List ℤ → List ℤ → Active
-with_result a outputs states = record a { completed = true; outputs = outputs; new_states = states }
-
--- the result of an active task of the program
-abbrev pub IsResultIn : GiottoProgram → Active → Type 0
-IsResultIn p a = IsSomeAnd (slice_get p.tasks a.task) (IsResultOf a)
-
 -- the task of an active task
-module _ (p : GiottoProgram) (a : Active) where
-  module _ (t : Task) (task : slice_get p.tasks a.task ≡ Some (trees.task_of t)) where
-    pub fits_body : IsActiveOf p a → (length a.inputs ≡ length (arc_value t.body).inputs) × (length a.states ≡ length (arc_value t.body).states)
-    fits_body of =
-        let is = subst (λ o. IsSomeAnd o (IsActiveAs a)) task of in
-        (is.inputs_fit, is.states_fit ∙ sym (length-map (trees.task_of t).states (λ s. s.0)) ∙ ap (λ (b : TaskBody). length b.states) (body_of_task t))
+module _ (p : GiottoProgram) (a : Active) (t : Task) (task : slice_get p.tasks a.task ≡ Some (trees.task_of t)) where
+  pub fits_body : IsActiveOf p a → (length a.inputs ≡ length (arc_value t.body).inputs) × (length a.states ≡ length (arc_value t.body).states)
+  fits_body of =
+      let is = subst (λ o. IsSomeAnd o (IsActiveAs a)) task of in
+      (is.inputs_fit, is.states_fit ∙ sym (length-map (trees.task_of t).states (λ s. s.0)) ∙ ap (λ (b : TaskBody). length b.states) (body_of_task t))
 
-    pub sound_body : ProgramFits p → IsSound (arc_value t.body)
-    sound_body fits = subst IsSound (body_of_task t) (task_fits_at p fits a.task (trees.task_of t) task).sound
+  pub sound_body : ProgramFits p → IsSound (arc_value t.body)
+  sound_body fits = subst IsSound (body_of_task t) (task_fits_at p fits a.task (trees.task_of t) task).sound
 
-    pub result_of : (os ss : List ℤ) → os ≡ outputs_of (arc_value t.body) a.inputs a.states → ss ≡ states_of (arc_value t.body) a.inputs a.states → IsResultIn p (with_result a os ss)
-    result_of os ss outputs states = subst (λ o. IsSomeAnd o (IsResultOf (with_result a os ss))) (sym task) (record {
-      outputs = outputs ∙ ap (λ b. outputs_of b a.inputs a.states) (sym (body_of_task t));
-      states = states ∙ ap (λ b. states_of b a.inputs a.states) (sym (body_of_task t));
-    })
-
--- with its result it is active as before
-pub active_with : (p : GiottoProgram) (a : Active) (os ss : List ℤ) → IsResultIn p (with_result a os ss) → IsActiveOf p a → IsActiveOf p (with_result a os ss)
-active_with p a os ss is fits = by (slice_get p.tasks a.task) fits is
-  where
-    by : (o : Option TaskDeclaration) → IsSomeAnd o (IsActiveAs a) → IsSomeAnd o (IsResultOf (with_result a os ss)) → IsSomeAnd o (IsActiveAs (with_result a os ss))
-    by None fits is = fits
-    by (Some t) fits is = record { inputs_fit = fits.inputs_fit; states_fit = fits.states_fit; result_fits = λ _. is }
-
--- the tenant fits its program with other active tasks that stand for the same
-pub still_tenant : {p : GiottoProgram} {mode time next count : ℕ} {active : List Active} {values : List ℤ} {shares : List (Option TaskBody)} (new : List Active)
-    → map (active_of p) new ≡ map (active_of p) active → AllByRecursion (IsActiveIn p count) new → IsTenant (Some p) mode time next active values shares count → IsTenant (Some p) mode time next new values shares count
-still_tenant new same each known = record {
-  short_time = known.short_time;
-  different = ap all_different_releases same ∙ known.different;
-  fits = record {
-    long = known.fits.long;
-    mode_there = known.fits.mode_there;
-    quiet = known.fits.quiet;
-    each = each;
-    share_each = known.fits.share_each;
-  };
-}
+  pub body_is : ProgramFits p → body_in p (active_of p a).task ≡ arc_value t.body
+  body_is fits = ap (λ o. option_map_or body_of o (record { inputs = []; outputs = []; states = []; block = finished })) (task_here p fits a.task (trees.task_of t) task) ∙ body_of_task t
 
 -- the active task at a place
-module _ (tasks : List Active) (i : ℕ) (a : Active) (lt : i < length tasks) (at : a ≡ get_or tasks i a) where
-  pub so_there : (P : Active → Type 0) → AllByRecursion P tasks → P a
-  so_there P all = subst P (sym at) (all_at P tasks i a lt all)
+pub so_there : (tasks : List Active) (i : ℕ) (a : Active) → i < length tasks → a ≡ get_or tasks i a → (P : Active → Type 0) → AllByRecursion P tasks → P a
+so_there tasks i a lt at P all = subst P (sym at) (all_at P tasks i a lt all)
 
-module _ (p : GiottoProgram) (tasks : List Active) (i : ℕ) (a : Active) (lt : i < length tasks) (at : a ≡ get_or tasks i a) where
-  -- with another that stands for the same
-  module _ (b : Active) (same : active_of p b ≡ active_of p a) where
-    pub same_tasks : map (active_of p) (set tasks i b) ≡ map (active_of p) tasks
-    same_tasks = map-set_same (active_of p) tasks i b a (same ∙ ap (active_of p) at)
+-- no completion of a job is awaited that isn't there
+pub none_awaited : (has : Bool) (o : Option JobValue) → o ≡ None → cond has None o ≡ None
+none_awaited true o e = refl
+none_awaited false o e = e
 
-    pub still_active : (n : ℕ) → IsActiveOf p b → AllByRecursion (IsActiveIn p n) tasks → AllByRecursion (IsActiveIn p n) (set tasks i b)
-    still_active n of all =
-        let early = (so_there tasks i a lt at (IsActiveIn p n) all).early in
-        all_set (IsActiveIn p n) tasks i b (record { early = subst (λ (x : ActiveTask). x.release < n) (sym same) early; declared = of }) all
+-- the active task that is found by the name of its job
+module _ (p : GiottoProgram) (t : ℕ) (j : JobId) (tasks : List Active) where
+  abbrev named : Active → Bool
+  named a = same_job (job_of t (active_of p a)) j
 
-  module _ (j : JobId) (found : find (awaits_job p j) tasks ≡ slice_get tasks i) where
-    found_is : find (awaits_job p j) tasks ≡ Some a
+  abbrev job_found : Option JobValue
+  job_found = option_map (job_in p t) (find (λ a. same_job (job_of t a) j) (map (active_of p) tasks))
+
+  pub none_there : find named tasks ≡ None → job_found ≡ None
+  none_there none = ap (option_map (job_in p t)) (find-map (active_of p) (λ a. same_job (job_of t a) j) tasks ∙ ap (option_map (active_of p)) none)
+
+  name_here : (i : ℕ) (a : Active) → i < length tasks → a ≡ get_or tasks i a → find named tasks ≡ slice_get tasks i → job_of t (active_of p a) ≡ j
+  name_here i a lt at found = same_job_is (job_of t (active_of p a)) j (find_passes named tasks a (found ∙ slice_get_read tasks (length tasks) i a refl lt at))
+
+  -- no completion is awaited where the result came
+  pub not_awaited : (entries : List TableEntry) (i : ℕ) (a : Active) → i < length tasks → a ≡ get_or tasks i a → find named tasks ≡ slice_get tasks i
+      → has_result entries (job_of t (active_of p a)) ≡ true → cond (has_result entries j) None job_found ≡ None
+  not_awaited entries i a lt at found came = ap (λ b. cond b None job_found) (ap (has_result entries) (sym (name_here i a lt at found)) ∙ came)
+
+  module _ (i : ℕ) (a : Active) (lt : i < length tasks) (at : a ≡ get_or tasks i a) (found : find named tasks ≡ slice_get tasks i)
+      (fits : ProgramFits p) (d : Task) (task : slice_get p.tasks a.task ≡ Some (trees.task_of d)) where
+    found_is : find named tasks ≡ Some a
     found_is = found ∙ slice_get_read tasks (length tasks) i a refl lt at
 
-    parts : (not (is_completed a) ≡ true) × (is_of_job p j a ≡ true)
-    parts = and_parts (not (is_completed a)) (is_of_job p j a) (find_passes (awaits_job p j) tasks a found_is)
+    abbrev pub own_job : JobValue
+    own_job = record { id = j; body = arc_value d.body; inputs = a.inputs; states = a.states }
 
-    -- its job
-    module _ (fits : ProgramFits p) (t : Task) (task : slice_get p.tasks a.task ≡ Some (trees.task_of t)) where
-      abbrev pub own_job : JobValue
-      own_job = record { id = j; body = arc_value t.body; inputs = a.inputs; states = a.states }
+    pub job_is : job_found ≡ Some own_job
+    job_is =
+        let name = name_here i a lt at found in
+        let body : body_in p (active_of p a).task ≡ arc_value d.body = body_is p a d task fits in
+        ap (option_map (job_in p t)) (find-map (active_of p) (λ a. same_job (job_of t a) j) tasks ∙ ap (option_map (active_of p)) found_is)
+        ∙ λ k. Some (record { id = name k; body = body k; inputs = a.inputs; states = a.states })
 
-      body_is : body_in p (active_of p a).task ≡ arc_value t.body
-      body_is = ap (λ o. option_map_or body_of o (record { inputs = []; outputs = []; states = []; block = finished })) (task_here p fits a.task (trees.task_of t) task) ∙ body_of_task t
+    -- its completion is awaited where its result didn't come
+    pub awaited_now : (entries : List TableEntry) → has_result entries (job_of t (active_of p a)) ≡ false → cond (has_result entries j) None job_found ≡ Some own_job
+    awaited_now entries none = ap (λ b. cond b None job_found) (ap (has_result entries) (sym (name_here i a lt at found)) ∙ none) ∙ job_is
 
-      pub job_is : option_map (job_in p j.tenant) (find (λ b. same_job (job_of j.tenant b) j) (outstanding_in p tasks)) ≡ Some own_job
-      job_is =
-          job_found p j tasks ∙ ap (option_map (λ b. job_in p j.tenant (active_of p b))) found_is
-          ∙ λ k. Some (record { id = named_is p j a parts.1 k; body = body_is k; inputs = a.inputs; states = a.states })
+    pub awaits : (v : JobValue) → v.id ≡ j → ((arc_value d.body ≡ v.body) × (a.inputs ≡ v.inputs) × (a.states ≡ v.states)) ↔ (job_found ≡ Some v)
+    awaits v own = (
+      λ is. job_is ∙ λ k. Some (record { id = sym own k; body = is.0 k; inputs = is.1 k; states = is.2 k }),
+      λ e. let same = some_same own_job v (sym job_is ∙ e) in (ap (λ (j : JobValue). j.body) same, ap (λ (j : JobValue). j.inputs) same, ap (λ (j : JobValue). j.states) same),
+    )
 
-      pub counts : (d : JobValue) → d.id ≡ j → ((arc_value t.body ≡ d.body) × (a.inputs ≡ d.inputs) × (a.states ≡ d.states))
-          ↔ (option_map (job_in p j.tenant) (find (λ b. same_job (job_of j.tenant b) j) (outstanding_in p tasks)) ≡ Some d)
-      counts d own = (
-        λ is. job_is ∙ λ k. Some (record { id = sym own k; body = is.0 k; inputs = is.1 k; states = is.2 k }),
-        λ e. let same = some_same own_job d (sym job_is ∙ e) in (ap (λ (j : JobValue). j.body) same, ap (λ (j : JobValue). j.inputs) same, ap (λ (j : JobValue). j.states) same),
-      )
+-- those of these tasks without a result
+abbrev pub left_of : ℕ → List TableEntry → List ActiveTask → List ActiveTask
+left_of t entries tasks = filter (λ a. not (has_result entries (job_of t a))) tasks
 
-    -- its result
-    module _ (os ss : List ℤ) where
-      -- one completion fewer is awaited
-      pub one_fewer : length (outstanding_in p tasks) ≡ length (outstanding_in p (set tasks i (with_result a os ss))) + 1
-      one_fewer =
-          let awaited = subst (λ b. not (is_completed b) ≡ true) (get_or_read tasks i a lt at (with_result a os ss)) parts.0 in
-          ap length (outstanding_are p tasks) ∙ length-map (awaited_of tasks) (active_of p)
-          ∙ filter_set (λ b. not (is_completed b)) tasks i (with_result a os ss) lt awaited refl
-          ∙ ap (λ n. n + 1) (sym (ap length (outstanding_are p (set tasks i (with_result a os ss))) ∙ length-map (awaited_of (set tasks i (with_result a os ss))) (active_of p)))
+module _ (p : GiottoProgram) (t : ℕ) where
+  -- the result that came for the task's job, if one did, is that of the job
+  abbrev IsRight : List TableEntry → ActiveTask → Type 0
+  IsRight entries a = IfSome (result_in entries (job_of t a)) (λ r. r ≡ result_of (job_in p t a))
 
-      pub stands_after : {s new : Standing} {row : Row} {completed : ActiveTask → Bool} → StandsFor s row completed → s.row.active ≡ map (active_of p) tasks → s.completed ≡ map is_completed tasks
-          → all_different_releases (map (active_of p) tasks) ≡ true → new.row ≡ record s.row { active = map (active_of p) (set tasks i (with_result a os ss)) } → new.completed ≡ map is_completed (set tasks i (with_result a os ss)) → StandsFor new row (marks_with j completed)
-      stands_after {s = s} {completed = completed} stands of marks different same_row same_marks =
-          let same = sym (ap (λ (r : Row). r.active) stands.same_row) ∙ of in
-          let within = subst (λ n. i < n) (sym (length-map tasks (active_of p))) lt in
-          let there = ap (active_of p) at ∙ sym (get_or-map (active_of p) tasks i a) in
-          record {
-            same_row = same_row ∙ (λ k. record s.row { active = (same_tasks (with_result a os ss) refl ∙ sym of) k }) ∙ stands.same_row;
-            same_marks =
-                same_marks ∙ map-set is_completed tasks i (with_result a os ss) ∙ ap (λ bs. set bs i true) (sym marks ∙ stands.same_marks ∙ ap (map completed) same)
-                ∙ marked j completed (map (active_of p) tasks) i (active_of p a) within there (sym (named_is p j a parts.1)) different ∙ ap (map (marks_with j completed)) (sym same);
-          }
+  -- the tasks before this place have their results
+  pub record AreComputedTo (tasks : List ActiveTask) (i : ℕ) (old now : List TableEntry) : Type 0 where
+    pub entered : (j : JobId) → is_entered now j ≡ is_entered old j
+    pub results : (j : JobId) → (has_result now j || has_job t (drop i tasks) j) ≡ (has_result old j || has_job t tasks j)
+    pub right : AllByRecursion (IsRight old) tasks → AllByRecursion (IsRight now) tasks
+    pub others : (j : JobId) → has_job t tasks j ≡ false → entry_in now j ≡ entry_in old j
 
--- the entries before this place have their results, and all stand for the same
-pub record AreComputedTo (p : GiottoProgram) (k : ℕ) (old new : List Active) : Type 0 where
-  pub releases : map (active_of p) new ≡ map (active_of p) old
-  pub declared : AllByRecursion (IsActiveOf p) new
-  pub tasks : (n : ℕ) → AllByRecursion (IsActiveIn p n) old → AllByRecursion (IsActiveIn p n) new
-  pub completed : take k (map is_completed new) ≡ map (λ b. true) (take k (map is_completed old))
+  module _ (tasks : List ActiveTask) (i : ℕ) (a : ActiveTask) (lt : i < length tasks) (at : a ≡ get_or tasks i a) (different : all_different_releases tasks ≡ true)
+      (now new : List TableEntry) (done : Bool) (entered : is_entered now (job_of t a) ≡ true) (was : done ≡ not (has_result now (job_of t a)))
+      (entries : (j : JobId) → entry_in new j ≡ cond (done && same_job (job_of t a) j) (Some (record { id = j; result = Some (result_of (job_in p t a)) })) (entry_in now j)) where
+    abbrev put : JobId → Option TableEntry
+    put j = Some (record { id = j; result = Some (result_of (job_in p t a)) })
 
-done_more : (tasks : List Active) (i : ℕ) (a : Active) (marks : List Bool) → i < length tasks → length tasks ≡ length marks → is_completed a ≡ true
-    → take i (map is_completed tasks) ≡ map (λ b. true) (take i marks) → take (suc i) (map is_completed (set tasks i a)) ≡ map (λ b. true) (take (suc i) marks)
-done_more [] i a marks lt long done e = absurd (omega (arith, lt))
-done_more (b ∷ tasks) i a [] lt long done e = absurd (omega (arith, long))
-done_more (b ∷ tasks) zero a (m ∷ marks) lt long done e = λ k. done k ∷ []
-done_more (b ∷ tasks) (suc i) a (m ∷ marks) lt long done e =
-    let first : is_completed b ≡ true = cc in
-    let rest : take i (map is_completed tasks) ≡ map (λ b. true) (take i marks) = cc in
-    let more = done_more tasks i a marks (omega (arith, lt)) (omega (arith, long)) done rest in
-    λ k. first k ∷ more k
+    entry_by : (j : JobId) (d s : Bool) → done ≡ d → same_job (job_of t a) j ≡ s → entry_in new j ≡ cond (d && s) (put j) (entry_in now j)
+    entry_by j d s e f = entries j ∙ ap (λ b. cond (b && same_job (job_of t a) j) (put j) (entry_in now j)) e ∙ ap (λ b. cond (d && b) (put j) (entry_in now j)) f
 
-pub computed_more : (p : GiottoProgram) (old tasks : List Active) (i : ℕ) (a b : Active) → i < length tasks → a ≡ get_or tasks i a → active_of p b ≡ active_of p a → IsActiveOf p b → is_completed b ≡ true
-    → AreComputedTo p i old tasks → AreComputedTo p (i + 1) old (set tasks i b)
-computed_more p old tasks i a b lt at same of done is = record {
-  releases = same_tasks p tasks i a lt at b same ∙ is.releases;
-  declared = all_set (IsActiveOf p) tasks i b of is.declared;
-  tasks = λ n all. still_active p tasks i a lt at b same n of (is.tasks n all);
-  completed = rw add-one
-      (done_more tasks i b (map is_completed old) lt (sym (length-map tasks (active_of p)) ∙ ap length is.releases ∙ length-map old (active_of p) ∙ sym (length-map old is_completed)) done is.completed);
-}
+    still_entered : (j : JobId) → is_entered new j ≡ is_entered now j
+    still_entered j = by done (same_job (job_of t a) j) refl refl
+      where
+        by : (d s : Bool) → done ≡ d → same_job (job_of t a) j ≡ s → is_entered new j ≡ is_entered now j
+        by true true e f = ap is_some (entry_by j true true e f) ∙ sym (subst (λ i. is_entered now i ≡ true) (same_job_is (job_of t a) j f) entered)
+        by true false e f = ap is_some (entry_by j true false e f)
+        by false s e f = ap is_some (entry_by j false s e f)
 
--- the same where these are the first of the entries
-module _ (p : GiottoProgram) (items : List Active) (n i : ℕ) (a : Active) (lt : i < n) (few : n ≤ length items) (at : a ≡ get_or items i a) where
-  there : a ≡ get_or (take n items) i a
-  there = at ∙ sym (get_or-take n items i a lt)
+    one_result : (j : JobId) → has_result new j ≡ (has_result now j || same_job (job_of t a) j)
+    one_result j = by done (same_job (job_of t a) j) refl refl
+      where
+        came : Option TableEntry → Bool
+        came o = is_some (option_and_then (λ (e : TableEntry). e.result) o)
 
-  within : i < length (take n items)
-  within = omega (arith, length-take n items)
+        by : (d s : Bool) → done ≡ d → same_job (job_of t a) j ≡ s → has_result new j ≡ (has_result now j || same_job (job_of t a) j)
+        by true true e f = ap came (entry_by j true true e f) ∙ sym (ap (λ b. has_result now j || b) f ∙ or_true (has_result now j))
+        by d false e f = ap came (entry_by j d false e f ∙ ap (λ b. cond b (put j) (entry_in now j)) (and_false d)) ∙ sym (ap (λ b. has_result now j || b) f ∙ or_turned (has_result now j) false)
+        by false true e f =
+            let there : has_result now j ≡ true = subst (λ i. has_result now i ≡ true) (same_job_is (job_of t a) j f) (not-false _ (sym was ∙ e)) in
+            ap came (entry_by j false true e f) ∙ there ∙ sym (ap (λ b. b || same_job (job_of t a) j) there)
 
-  pub declared_there : {k : ℕ} (old : List Active) → AreComputedTo p k old (take n items) → IsActiveOf p a
-  declared_there old is = so_there (take n items) i a within there (IsActiveOf p) is.declared
+    still_right : AllByRecursion (IsRight now) tasks → AllByRecursion (IsRight new) tasks
+    still_right right = all_with (IsRight now) (λ b. same_job (job_of t a) (job_of t b) ≡ true → b ≡ a) (IsRight new) (λ b r one. by b r one done (same_job (job_of t a) (job_of t b)) refl refl) tasks right (alone t tasks i a lt at different)
+      where
+        IsRightIn : ActiveTask → Option TableEntry → Type 0
+        IsRightIn b o = IfSome (option_and_then (λ (e : TableEntry). e.result) o) (λ r. r ≡ result_of (job_in p t b))
 
-  pub first_computed : (b : Active) (old : List Active) → active_of p b ≡ active_of p a → IsActiveOf p b → is_completed b ≡ true → AreComputedTo p i old (take n items) → AreComputedTo p (i + 1) old (take n (set items i b))
-  first_computed b old same of done is = subst (AreComputedTo p (i + 1) old) (sym (take-set-lt n items i b lt)) (computed_more p old (take n items) i a b within there same of done is)
+        by : (b : ActiveTask) → IsRight now b → (same_job (job_of t a) (job_of t b) ≡ true → b ≡ a) → (d s : Bool) → done ≡ d → same_job (job_of t a) (job_of t b) ≡ s → IsRight new b
+        by b r one true true e f = subst (IsRightIn b) (sym (entry_by (job_of t b) true true e f)) (ap (λ c. result_of (job_in p t c)) (sym (one f)))
+        by b r one true false e f = subst (IsRightIn b) (sym (entry_by (job_of t b) true false e f)) r
+        by b r one false s e f = subst (IsRightIn b) (sym (entry_by (job_of t b) false s e f)) r
 
-  -- one fewer is awaited
-  pub awaited_fewer : (b : Active) → is_completed a ≡ false → is_completed b ≡ true → length (awaited_of (take n items)) ≡ length (awaited_of (take n (set items i b))) + 1
-  awaited_fewer b before after =
-      let awaited = subst (λ c. not (is_completed c) ≡ true) (get_or_read (take n items) i a within there b) (ap not before) in
-      filter_set (λ c. not (is_completed c)) (take n items) i b within awaited (ap not after) ∙ ap (λ ts. length (awaited_of ts) + 1) (sym (take-set-lt n items i b lt))
+    still_other : (j : JobId) → has_job t tasks j ≡ false → entry_in new j ≡ entry_in now j
+    still_other j none =
+        let apart : same_job (job_of t a) j ≡ false = false_from_ne_true _ (λ h. false≢true (sym none ∙ list_any_at (λ (b : ActiveTask). same_job (job_of t b) j) tasks i a lt (subst (λ b. same_job (job_of t b) j ≡ true) at h))) in
+        entry_by j done false refl apart ∙ ap (λ b. cond b (put j) (entry_in now j)) (and_false done)
 
-none_awaited : (tasks : List Active) (marks : List Bool) → map is_completed tasks ≡ map (λ b. true) marks → length (awaited_of tasks) ≡ zero
-none_awaited [] marks e = refl
-none_awaited (a ∷ tasks) [] e = absurd (omega (arith, ap length e))
-none_awaited (a ∷ tasks) (m ∷ marks) e =
-    let first : is_completed a ≡ true = cc in
-    let rest : map is_completed tasks ≡ map (λ b. true) marks = cc in
-    let none = none_awaited tasks marks rest in
-    grind arith
+    abbrev rest : List ActiveTask
+    rest = drop (i + 1) tasks
 
-pub all_computed : (p : GiottoProgram) (k : ℕ) (old new : List Active) → AreComputedTo p k old new → length old ≤ k → map is_completed new ≡ map (λ b. true) (map is_completed old)
-all_computed p k old new is few =
-    let as_long : length new ≡ length old = sym (length-map new (active_of p)) ∙ ap length is.releases ∙ length-map old (active_of p) in
-    sym (take_all k (map is_completed new) (omega (arith, length-map new is_completed, as_long))) ∙ is.completed
-    ∙ ap (map (λ b. true)) (take_all k (map is_completed old) (omega (arith, length-map old is_completed)))
+    here : drop i tasks ≡ a ∷ rest
+    here = from_place tasks i a lt at
 
-pub all_counted : (p : GiottoProgram) (k number : ℕ) (old new : List Active) → AreComputedTo p k old new → length old ≤ k → number + length (awaited_of new) ≡ length (awaited_of old) → number ≡ length (awaited_of old)
-all_counted p k number old new is few counted = omega (arith, counted, none_awaited new (map is_completed old) (all_computed p k old new is few))
+    pub computed_more : {old : List TableEntry} → AreComputedTo tasks i old now → AreComputedTo tasks (i + 1) old new
+    computed_more is = record {
+      entered = λ j. still_entered j ∙ is.entered j;
+      results = λ j. ap (λ b. b || has_job t rest j) (one_result j) ∙ sym (or_assoc (has_result now j) (same_job (job_of t a) j) (has_job t rest j))
+          ∙ ap (λ bs. has_result now j || has_job t bs j) (sym here) ∙ is.results j;
+      right = λ all. still_right (is.right all);
+      others = λ j none. still_other j none ∙ is.others j none;
+    }
+
+    -- one fewer is left, if it had none
+    pub left_fewer : length (left_of t now (drop i tasks)) ≡ length (left_of t new (drop (i + 1) tasks)) + cond done 1 0
+    left_fewer =
+        let others = (and_parts (list_all (is_another a) rest) (all_different_releases rest) (subst (λ bs. all_different_releases bs ≡ true) here (different_drop i tasks different))).0 in
+        let same : left_of t now rest ≡ left_of t new rest = same_filter _ _ rest (all_pass _ (is_another a) (λ b other.
+        ap not (sym (one_result (job_of t b) ∙ ap (λ s. has_result now (job_of t b) || s) (false_from_ne_true _ (λ h. another_job t a b other (same_job_is (job_of t a) (job_of t b) h))) ∙ or_turned (has_result now (job_of t b)) false))) rest others) in
+        ap (λ bs. length (left_of t now bs)) here ∙ ap (λ b. length (cond b (a ∷ left_of t now rest) (left_of t now rest))) (sym was) ∙ by done ∙ ap (λ xs. length xs + cond done 1 0) same
+      where
+        by : (d : Bool) → length (cond d (a ∷ left_of t now rest) (left_of t now rest)) ≡ length (left_of t now rest) + cond d 1 0
+        by true = omega arith
+        by false = omega arith
+
+-- the task at a place, among those that stand for these
+pub stands_there : (p : GiottoProgram) (tasks : List Active) (i : ℕ) (a : Active) → a ≡ get_or tasks i a → active_of p a ≡ get_or (map (active_of p) tasks) i (active_of p a)
+stands_there p tasks i a at = ap (active_of p) at ∙ sym (get_or-map (active_of p) tasks i a)
+
+-- its entry is still there
+pub entered_there : (p : GiottoProgram) (t : ℕ) (tasks items : List Active) (i : ℕ) (a : Active) (old now : List TableEntry) → items ≡ tasks → i < length items → a ≡ get_or items i a
+    → AllByRecursion (λ b. is_entered old (job_of t b) ≡ true) (map (active_of p) tasks) → ((j : JobId) → is_entered now j ≡ is_entered old j) → is_entered now (job_of t (active_of p a)) ≡ true
+entered_there p t tasks items i a old now are lt at all same =
+    same (job_of t (active_of p a))
+    ∙ subst (λ b. is_entered old (job_of t (active_of p b)) ≡ true) (sym at)
+    (all_mapped_at (λ b. is_entered old (job_of t b) ≡ true) (active_of p) items i a (subst (λ xs. AllByRecursion (λ b. is_entered old (job_of t b) ≡ true) (map (active_of p) xs)) (sym are) all) lt)

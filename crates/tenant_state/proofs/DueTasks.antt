@@ -42,6 +42,30 @@ pub any_wider : {X : Type 0} (p q : X → Bool) → ((x : X) → p x ≡ true �
 any_wider p q wider [] h = h
 any_wider p q wider (x ∷ xs) h = ⊎_elim (λ e. or_left _ _ (wider x e)) (λ e. or_right (q x) _ (any_wider p q wider xs e)) (or_cases _ _ h)
 
+-- where just those that pass a test are told apart by another as this says
+any_told : {X : Type 0} (test due : X → Bool) (d : Bool) (xs : List X) → AllByRecursion (λ x. test x ≡ true → due x ≡ d) xs → list_any test (filter due xs) ≡ (d && list_any test xs)
+any_told test due d [] all = sym (and_false d)
+any_told {X = X} test due d (x ∷ xs) all = by (test x) refl (due x) all.0 (any_told test due d xs all.1)
+  where
+    by : (t : Bool) → test x ≡ t → (b : Bool) → (t ≡ true → b ≡ d) → list_any test (filter due xs) ≡ (d && list_any test xs)
+        → list_any test (cond b (x ∷ filter due xs) (filter due xs)) ≡ (d && (t || list_any test xs))
+    by true is true same rest = ap (λ t. t || list_any test (filter due xs)) is ∙ ap (λ c. c && true) (same refl)
+    by true is false same rest = rest ∙ ap (λ c. c && list_any test xs) (sym (same refl)) ∙ ap (λ c. c && true) (same refl)
+    by false is true same rest = ap (λ t. t || list_any test (filter due xs)) is ∙ rest
+    by false is false same rest = rest
+
+-- of what passes a test, what is due is all but what stays, where it is all due or none of it
+pub any_parted : {X : Type 0} (test due : X → Bool) (d : Bool) (xs : List X) → AllByRecursion (λ x. test x ≡ true → due x ≡ d) xs
+    → list_any test (filter due xs) ≡ (list_any test xs && not (list_any test (filter (λ x. not (due x)) xs)))
+any_parted test due d xs all =
+    any_told test due d xs all ∙ parted d (list_any test xs)
+    ∙ ap (λ b. list_any test xs && not b) (sym (any_told test (λ x. not (due x)) (not d) xs (all_map _ _ xs (λ x same e. ap not (same e)) all)))
+  where
+    parted : (d a : Bool) → (d && a) ≡ (a && not (not d && a))
+    parted true a = sym (and_true a)
+    parted false true = refl
+    parted false false = refl
+
 among_any : (tasks : List ActiveTask) (x : Name) → is_among (names_of_tasks tasks) x ≡ list_any (λ (a : ActiveTask). same_name a.task x) tasks
 among_any tasks x = sym (any_is_among (names_of_tasks tasks) x) ∙ any_map (λ y. same_name y x) (λ (a : ActiveTask). a.task) tasks
 

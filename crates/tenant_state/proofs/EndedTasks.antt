@@ -2,19 +2,21 @@
 use Rattle.std.proofs.Common.{◌≡◌, ℕ, ◌<◌, ◌+◌, ◌%◌, ◌==◌, nat_eq, Bool, true, false, not, cond, ◌&&◌, ◌||◌, ⊎_elim, ℤ, List, [], ◌∷◌, ◌++◌, map, filter, length, drop, get_or, Option, Some, None, sym, refl, ap, subst, ◌∙◌, arith}
 use Rattle.std.specs.Prelude.{IsSomeAnd, slice_get}
 use Rattle.std.specs.List.{list_any, list_all, find, flat_map, AllByRecursion}
-use Rattle.std.proofs.lemmas.Bool.{and_parts, and_from}
+use Rattle.std.proofs.lemmas.Bool.{and_parts, and_from, eqb-true, eq-eqb, false≢true}
 use Rattle.std.proofs.lemmas.List.Folds.{list_all-map}
-use Rattle.std.proofs.lemmas.List.{drop_more}
+use Rattle.std.proofs.lemmas.List.{drop_more, length-map}
 use Rattle.std.proofs.lemmas.Option.{slice_get_cases}
 use Rattle.giotto_rules.specs.Declarations.{mode_named}
 use Rattle.std.specs.Option.{option_map, option_map_or}
 use Rattle.giotto_tasks.specs.declared.names.Name.{Name}
 use Rattle.giotto_tasks.specs.Names.{Valuation, same_name}
+use Rattle.giotto_tasks.specs.Meaning.{outputs_of, states_of}
 use Rattle.giotto_tasks.specs.Syntax.{TaskBody}
-use Rattle.giotto_tasks.proofs.ListLemmas.{all_map, all_of, filter-map, list_all-filter, same_filter}
+use Rattle.giotto_tasks.specs.Syntax as syntax
+use Rattle.giotto_tasks.proofs.ListLemmas.{all_if_any, all_map, any_if_all, any_map, all_of, filter-map, list_all-filter, same_filter}
 use Rattle.giotto_tasks.proofs.TestLemmas.{and_false, and_true}
 use Rattle.giotto_tasks.proofs.NameLemmas.{same_name_is}
-use Rattle.giotto_text.specs.Program.{TaskDeclaration, TaskInvocation, ModeDeclaration, GiottoProgram}
+use Rattle.giotto_text.specs.Program.{TaskDeclaration, TaskInvocation, ModeDeclaration, GiottoProgram, body_of, names_of}
 use Rattle.giotto_check.specs.inner.Facts.{ProgramFits}
 use Rattle.giotto_check.specs.Slots.{valuation_of}
 use Rattle.giotto_check.specs.inner.Timetables.{AreEach, IsInvocation, place_of_task}
@@ -24,18 +26,33 @@ use Rattle.tenant_slots.specs.Due.{is_due_at}
 use Rattle.tenant_slots.specs.inner.Due.{IsQuietAt}
 use Rattle.tenant_slots.specs.Places.{name_of_task}
 use Rattle.tenant_slots.specs.Updates.{all_updated}
-use Rattle.tenant_slots.proofs.Numbered.{invocation_due, mode_here, same_task}
+use Rattle.tenant_slots.proofs.Numbered.{invocation_due, mode_here, same_task, task_here}
 use Rattle.tenant_state.specs.declared.tenants.Active.{Active}
 use Rattle.tenant_state.specs.declared.tenants.State as code
 use Rattle.tenant_state.specs.declared.tenants.State.TheVariants as states
-use Rattle.tenant_state.specs.inner.EntryTable.{is_left_open}
+use Rattle.tenant_state.specs.inner.EntryTable.{is_among_due, is_left_open, is_task_open}
+use Rattle.tenant_jobs.specs.declared.jobs.JobId.{JobId}
+use Rattle.tenant_jobs.specs.declared.jobs.JobResult.{JobResult}
+use Rattle.tenant_jobs.specs.inner.Finished.{result_of}
+use Rattle.tenant_jobs.specs.Jobs.{same_job}
+use Rattle.tenant_state.specs.Jobs.{body_in, has_job, job_in, job_of}
 use Rattle.tenant_state.specs.FirstHalf.{all_ended, due_tasks, names_due, still_active, unfinished_tasks, first_half_of, stopped_with}
 use Rattle.tenant_state.specs.Row.{overrun, ActiveTask, Row}
-use Rattle.tenant_state.specs.Standing.{Standing, StandsFor}
-use Rattle.tenant_state.specs.Tenants.{active_of, is_completed, standing_of}
-use Rattle.tenant_state.specs.inner.Tenants.{is_another, all_different_releases, FitsProgram, FitsIts, IsActiveIn, IsActiveOf, IsTenant}
-use Rattle.tenant_state.proofs.DueTasks.{group, ends, is_open, is_unfinished, names_of_tasks, none_passes, stay}
+use Rattle.tenant_state.specs.Standing.{is_another, all_different_releases, without_records, Standing}
+use Rattle.tenant_state.specs.inner.Standing.{AreEnded, has_active}
+use Rattle.tenant_state.specs.Tenants.{active_of, standing_of, state_of}
+use Rattle.tenant_state.specs.inner.Tenants.{FitsProgram, FitsIts, IsActiveAs, IsActiveIn, IsActiveOf, IsTenant}
+use Rattle.tenant_state.proofs.DueTasks.{any_parted, group, ends, is_open, is_unfinished, names_of_tasks, none_passes, stay}
 use Rattle.tenant_state.proofs.FirstHalfOf.{Runs, due_are, goes_on, stops, unchanged}
+use Rattle.tenant_state.proofs.Stops.{row_of}
+
+-- a tenant that stays as it is, where none had ended, has none that end
+pub none_ended : (s : Standing) → s.ended ≡ [] → AreEnded s s
+none_ended s e j = ap (λ l. has_job s.place l j) e ∙ neither (has_active s j)
+  where
+    neither : (b : Bool) → false ≡ (b && not b)
+    neither true = refl
+    neither false = refl
 
 pub some_of : {X : Type 0} {P : X → Type 0} (o : Option X) → IsSomeAnd o P → (x : X) × (o ≡ Some x) × P x
 some_of None h = absurd h
@@ -70,7 +87,7 @@ found_from test xs k x b lt is e = ap (find test) (drop_more xs k x lt ∙ ap (�
 
 -- the active entries whose tasks aren't due
 abbrev pub kept : ℕ → List SlotInvocation → List Active → List Active
-kept time es items = filter (λ a. not (list_any (λ (e : SlotInvocation). nat_eq a.task e.task && (time % e.interval == 0)) es)) items
+kept time es items = filter (λ a. not (is_among_due time a.task es)) items
 
 -- nothing is found among those that are left, one step on
 pub left_none : {X : Type 0} (test : X → Bool) (xs : List X) (k : ℕ) (x : X) → k < length xs → find test (drop k xs) ≡ None → find test (drop (k + 1) xs) ≡ None
@@ -88,18 +105,17 @@ not_here test xs k x lt is e = by (test x) (sym (found_from test xs k x (test x)
     by true e = absurd (cc)
     by false e = refl
 
--- where all are completed none is open
-pub all_closed : (time : ℕ) (active : List Active) → list_all is_completed active ≡ true → (es : List SlotInvocation) → find (is_left_open time active) es ≡ None
-all_closed time active h [] = refl
-all_closed time active h (e ∷ es) =
-    ap (λ b. cond ((time % e.interval == 0) && b) (Some e) (find (is_left_open time active) es)) (none active h) ∙ ap (λ b. cond b (Some e) (find (is_left_open time active) es)) (and_false _) ∙ all_closed time active h es
+-- where all are done none is open
+pub all_closed : (time : ℕ) (done : Active → Bool) (active : List Active) → AllByRecursion (λ a. done a ≡ true) active → (es : List SlotInvocation) → find (is_left_open time done active) es ≡ None
+all_closed time done active h [] = refl
+all_closed time done active h (e ∷ es) =
+    ap (λ b. cond ((time % e.interval == 0) && b) (Some e) (find (is_left_open time done active) es)) (none active h) ∙ ap (λ b. cond b (Some e) (find (is_left_open time done active) es)) (and_false _) ∙ all_closed time done active h es
   where
-    none : (xs : List Active) → list_all is_completed xs ≡ true → list_any (λ a. nat_eq a.task e.task && not (is_completed a)) xs ≡ false
+    none : (xs : List Active) → AllByRecursion (λ a. done a ≡ true) xs → is_task_open done xs e.task ≡ false
     none [] h = refl
     none (a ∷ xs) h =
-        let both = and_parts _ _ h in
-        ap (λ b. nat_eq a.task e.task && not b || list_any (λ a. nat_eq a.task e.task && not (is_completed a)) xs) both.0
-        ∙ ap (λ b. b || list_any (λ a. nat_eq a.task e.task && not (is_completed a)) xs) (and_false _) ∙ none xs both.1
+        ap (λ b. nat_eq a.task e.task && not b || is_task_open done xs e.task) h.0
+        ∙ ap (λ b. b || is_task_open done xs e.task) (and_false _) ∙ none xs h.1
 
 pub map_none : {A B : Type 0} (f : A → B) (o : Option A) → None ≡ option_map f o → o ≡ None
 map_none f None e = refl
@@ -108,6 +124,14 @@ map_none f (Some x) e = absurd (cc)
 pub map_some : {A B : Type 0} (f : A → B) (o : Option A) (y : B) → Some y ≡ option_map f o → (x : A) × (o ≡ Some x) × (f x ≡ y)
 map_some f None y e = absurd (cc)
 map_some f (Some x) y e = let same : f x ≡ y = cc in (x, refl, same)
+
+-- the result that came for an active task, where it is that of its job, is what its declaration's body computes
+pub result_here : (p : GiottoProgram) → ProgramFits p → (place : ℕ) (a : Active) (t : TaskDeclaration) → slice_get p.tasks a.task ≡ Some t → (r : JobResult) → r ≡ result_of (job_in p place (active_of p a))
+    → (r.outputs ≡ outputs_of (body_of t) a.inputs a.states) × (r.states ≡ states_of (body_of t) a.inputs a.states) × (length r.states ≡ length t.states)
+result_here p fits place a t at r is =
+    let body : body_in p (name_of_task p a.task) ≡ body_of t = ap (λ o. option_map_or body_of o (record { inputs = []; outputs = []; states = []; block = syntax.finished })) (task_here p fits a.task t at) in
+    let states = ap (λ (r : JobResult). r.states) is ∙ ap (λ b. states_of b a.inputs a.states) body in
+    (ap (λ (r : JobResult). r.outputs) is ∙ ap (λ b. outputs_of b a.inputs a.states) body, states, ap length states ∙ length-map (names_of t.states) _ ∙ length-map t.states _)
 
 -- the task at the place of a name has it
 pub name_of_place : (p : GiottoProgram) (x : Name) (k : ℕ) → place_of_task p x ≡ Some k → name_of_task p k ≡ x
@@ -122,21 +146,18 @@ module _ (p : GiottoProgram) (fits : ProgramFits p) (m : ModeDeclaration) (time 
   same_place a i e is entry = let there = some_of (slice_get p.tasks a.task) is in same_task p fits a.task e.task there.0 i.task there.1 entry.task
 
   module _ (completed : ActiveTask → Bool) where
-    unfinished_alike : (i : TaskInvocation) (e : SlotInvocation) → IsInvocation p m i e → (items : List Active) → AllByRecursion (IsActiveOf p) items → map is_completed items ≡ map completed (map (active_of p) items)
-        → is_unfinished m time (map (active_of p) items) completed i.task ≡ list_any (λ a. nat_eq a.task e.task && not (is_completed a)) items
-    unfinished_alike i e entry [] all marks = refl
-    unfinished_alike i e entry (a ∷ items) all marks =
-        let first : is_completed a ≡ completed (active_of p a) = cc in
-        let others = unfinished_alike i e entry items all.1 (cc) in
+    unfinished_alike : (i : TaskInvocation) (e : SlotInvocation) → IsInvocation p m i e → (items : List Active) → AllByRecursion (IsActiveOf p) items
+        → is_unfinished m time (map (active_of p) items) completed i.task ≡ is_task_open (λ a. completed (active_of p a)) items e.task
+    unfinished_alike i e entry [] all = refl
+    unfinished_alike i e entry (a ∷ items) all =
         ap (λ b. b && not (completed (active_of p a)) || is_unfinished m time (map (active_of p) items) completed i.task) (same_place a i e all.0 entry)
-        ∙ ap (λ c. nat_eq a.task e.task && not c || is_unfinished m time (map (active_of p) items) completed i.task) (sym first)
-        ∙ ap (λ b. nat_eq a.task e.task && not (is_completed a) || b) others
+        ∙ ap (λ b. nat_eq a.task e.task && not (completed (active_of p a)) || b) (unfinished_alike i e entry items all.1)
 
-    open_alike : (items : List Active) → AllByRecursion (IsActiveOf p) items → map is_completed items ≡ map completed (map (active_of p) items) → (i : TaskInvocation) (e : SlotInvocation) → IsInvocation p m i e
-        → is_open m time (map (active_of p) items) completed i ≡ ((time % e.interval == 0) && list_any (λ a. nat_eq a.task e.task && not (is_completed a)) items)
-    open_alike items all marks i e entry =
+    open_alike : (items : List Active) → AllByRecursion (IsActiveOf p) items → (i : TaskInvocation) (e : SlotInvocation) → IsInvocation p m i e
+        → is_open m time (map (active_of p) items) completed i ≡ is_left_open time (λ a. completed (active_of p a)) items e
+    open_alike items all i e entry =
         ap (λ b. b && is_unfinished m time (map (active_of p) items) completed i.task) (sym (invocation_due p fits time m i e entry))
-        ∙ ap (λ b. (time % e.interval == 0) && b) (unfinished_alike i e entry items all marks)
+        ∙ ap (λ b. (time % e.interval == 0) && b) (unfinished_alike i e entry items all)
 
   ends_alike : (is : List TaskInvocation) (es : List SlotInvocation) → AreEach (IsInvocation p m) is es → (items : List Active) (a : Active) → IsActiveOf p a
       → ends m time (map (active_of p) items) is (name_of_task p a.task) ≡ list_any (λ (e : SlotInvocation). nat_eq a.task e.task && (time % e.interval == 0)) es
@@ -147,6 +168,25 @@ module _ (p : GiottoProgram) (fits : ProgramFits p) (m : ModeDeclaration) (time 
       → filter (λ (a : ActiveTask). not (ends m time (map (active_of p) items) is a.task)) (map (active_of p) items)
       ≡ map (active_of p) (filter (λ a. not (list_any (λ (e : SlotInvocation). nat_eq a.task e.task && (time % e.interval == 0)) es)) items)
   stay_alike is es each items all = filter-map (active_of p) _ _ items (all_map _ _ items (λ a is_of. ap not (ends_alike is es each items a is_of)) all)
+
+  -- whether the task of a job's name is due
+  goes : (is : List TaskInvocation) (es : List SlotInvocation) → AreEach (IsInvocation p m) is es → (items : List Active) → AllByRecursion (IsActiveOf p) items → (place : ℕ) (j : JobId) → (xs : List Active) → AllByRecursion (IsActiveOf p) xs
+      → AllByRecursion (λ a. same_job (job_of place (active_of p a)) j ≡ true → is_among_due time a.task es ≡ ends m time (map (active_of p) items) is j.task) xs
+  goes is es each items all place j = λ xs. all_map (IsActiveOf p) _ xs (λ a is_of h.
+      sym (ends_alike is es each items a is_of) ∙ ap (ends m time (map (active_of p) items) is) (same_name_is (name_of_task p a.task) j.task (and_parts _ _ h).1))
+
+  -- a job is one of the tasks that end, where it is active and doesn't stay
+  ended_alike : (is : List TaskInvocation) (es : List SlotInvocation) → AreEach (IsInvocation p m) is es → (items : List Active) → AllByRecursion (IsActiveOf p) items → (place : ℕ) (j : JobId)
+      → list_any (λ a. same_job (job_of place (active_of p a)) j) (filter (λ a. is_among_due time a.task es) items)
+      ≡ (list_any (λ a. same_job (job_of place (active_of p a)) j) items && not (list_any (λ a. same_job (job_of place (active_of p a)) j) (kept time es items)))
+  ended_alike is es each items all place j = any_parted _ _ (ends m time (map (active_of p) items) is j.task) items (goes is es each items all place j items all)
+
+  pub told_ended : (is : List TaskInvocation) (es : List SlotInvocation) → AreEach (IsInvocation p m) is es → (items : List Active) → AllByRecursion (IsActiveOf p) items → (place : ℕ) (j : JobId) (left gone : List Active)
+      → left ≡ kept time es items → ((test : Active → Bool) → list_any test gone ≡ list_any test (filter (λ a. is_among_due time a.task es) items))
+      → has_job place (map (active_of p) gone) j ≡ (has_job place (map (active_of p) items) j && not (has_job place (map (active_of p) left) j))
+  told_ended is es each items all place j left gone stay told =
+      let has : (xs : List Active) → has_job place (map (active_of p) xs) j ≡ list_any (λ a. same_job (job_of place (active_of p a)) j) xs = any_map (λ (a : ActiveTask). same_job (job_of place a) j) (active_of p) in
+      has gone ∙ told _ ∙ ended_alike is es each items all place j ∙ sym (λ k. has items k && not ((ap (λ xs. has_job place (map (active_of p) xs) j) stay ∙ has (kept time es items)) k))
 
   -- the tasks of one invocation end, or none where it isn't due
   module _ (items : List Active) (all : AllByRecursion (IsActiveOf p) items) (is : List TaskInvocation) (i : TaskInvocation) (e : SlotInvocation) (k : ℕ) (here : drop k is ≡ i ∷ drop (k + 1) is) (entry : IsInvocation p m i e) where
@@ -188,26 +228,60 @@ pub its_mode : (p : GiottoProgram) (k : ℕ) → k < length p.modes → (m : Mod
 its_mode p k lt = ⊎_elim (λ found. (found.0, found.2)) (λ past. absurd (omega (arith, past.0, lt))) (slice_get_cases p.modes k).1
 
 -- a running tenant with this program, as its fields stand
-pub record IsRunning (tenant : Standing) (p : GiottoProgram) (place mode time next : ℕ) (active : List Active) (room : ℕ) (values : List ℤ) (shares : List (Option TaskBody)) (next_tick : ℕ) : Type 0 where
-  pub view : tenant ≡ standing_of place states.Running (Some p) mode time active room values shares next_tick
-  pub fits : FitsProgram p mode time next active values shares next_tick
+pub record IsRunning (tenant : Standing) (p : GiottoProgram) (mode time next : ℕ) (active ended : List Active) (values : List ℤ) (shares : List (Option TaskBody)) (next_tick : ℕ) : Type 0 where
+  pub row : tenant.row ≡ row_of states.Running (Some p) mode time active values next_tick
+  pub fits : FitsProgram p mode time next active ended values shares next_tick
   pub declared : AllByRecursion (IsActiveOf p) active
   pub its : ModeDeclaration
   pub there : slice_get p.modes mode ≡ Some its
 
-pub as_running : {tenant : Standing} {state : code.State} {program : Option GiottoProgram} {p : GiottoProgram} {place mode time next : ℕ} {active : List Active} {room : ℕ} {values : List ℤ} {shares : List (Option TaskBody)} {next_tick : ℕ}
-    → standing_of place state program mode time active room values shares next_tick ≡ tenant → IsTenant program mode time next active values shares next_tick → state ≡ states.Running → program ≡ Some p
-    → IsRunning tenant p place mode time next active room values shares next_tick
-as_running {p = p} {place = place} {mode = mode} {time = time} {next = next} {active = active} {room = room} {values = values} {shares = shares} {next_tick = next_tick} view known running some =
-    let fits : FitsProgram p mode time next active values shares next_tick = subst (λ o. FitsIts o mode time next active values shares next_tick) some known.fits in
+pub as_running : {tenant : Standing} {state : code.State} {program : Option GiottoProgram} {p : GiottoProgram} {place mode time next : ℕ} {active ended : List Active} {room : ℕ} {values : List ℤ} {shares : List (Option TaskBody)} {next_tick : ℕ}
+    → standing_of place state program mode time active ended room values shares next_tick ≡ tenant → IsTenant (state_of state) program mode time next active ended values shares next_tick → state ≡ states.Running → program ≡ Some p
+    → IsRunning tenant p mode time next active ended values shares next_tick
+as_running {p = p} {mode = mode} {time = time} {next = next} {active = active} {ended = ended} {values = values} {shares = shares} {next_tick = next_tick} view known running some =
+    let fits : FitsProgram p mode time next active ended values shares next_tick = subst (λ o. FitsIts o mode time next active ended values shares next_tick) some known.fits in
     let m = its_mode p mode fits.mode_there in
     record {
-      view = sym view ∙ (λ k. standing_of place (running k) (some k) mode time active room values shares next_tick);
+      row = sym (ap (λ (t : Standing). t.row) view) ∙ (λ k. row_of (running k) (some k) mode time active values next_tick);
       fits = fits;
       declared = all_map (IsActiveIn p next_tick) (IsActiveOf p) active (λ a is. is.declared) fits.each;
       its = m.0;
       there = m.1;
     }
+
+-- what holds of each image holds of what it is made from
+pub all_unmapped : {X Y : Type 0} (P : Y → Type 0) (f : X → Y) (xs : List X) → AllByRecursion P (map f xs) → AllByRecursion (λ x. P (f x)) xs
+all_unmapped P f [] all = tt
+all_unmapped P f (x ∷ xs) all = (all.0, all_unmapped P f xs all.1)
+
+abbrev is_declared : GiottoProgram → Active → Bool
+is_declared p a = option_map_or (λ (t : TaskDeclaration). nat_eq (length a.inputs) (length t.inputs) && nat_eq (length a.states) (length t.states)) (slice_get p.tasks a.task) false
+
+declared_from : (p : GiottoProgram) (a : Active) → IsActiveOf p a → is_declared p a ≡ true
+declared_from p a is =
+    let there = some_of (slice_get p.tasks a.task) is in
+    ap (λ o. option_map_or (λ (t : TaskDeclaration). nat_eq (length a.inputs) (length t.inputs) && nat_eq (length a.states) (length t.states)) o false) there.1
+    ∙ and_from _ _ (eq-eqb _ _ there.2.inputs_fit) (eq-eqb _ _ there.2.states_fit)
+
+declared_is : (p : GiottoProgram) (a : Active) → (not (is_declared p a) ≡ true → ⊥) → IsActiveOf p a
+declared_is p a = by (slice_get p.tasks a.task)
+  where
+    by : (o : Option TaskDeclaration) → (not (option_map_or (λ (t : TaskDeclaration). nat_eq (length a.inputs) (length t.inputs) && nat_eq (length a.states) (length t.states)) o false) ≡ true → ⊥) → IsSomeAnd o (IsActiveAs a)
+    by None h = absurd (h refl)
+    by (Some t) h =
+        let both = and_parts _ _ (certain _ h) in
+        record { inputs_fit = eqb-true _ _ both.0; states_fit = eqb-true _ _ both.1 }
+      where
+        certain : (b : Bool) → (not b ≡ true → ⊥) → b ≡ true
+        certain true h = refl
+        certain false h = absurd (h refl)
+
+-- entries that pass just the tests that others pass are of the program, as those are
+pub each_among : (p : GiottoProgram) (xs ys : List Active) → ((test : Active → Bool) → list_any test ys ≡ list_any test xs) → AllByRecursion (IsActiveOf p) xs → AllByRecursion (IsActiveOf p) ys
+each_among p xs ys same all =
+    let strange : Active → Bool = λ a. not (is_declared p a) in
+    all_map _ (IsActiveOf p) ys (declared_is p) (all_if_any strange ⊥ ys (λ e.
+    any_if_all strange ⊥ xs (all_map (IsActiveOf p) _ xs (λ a is e. false≢true (sym (ap not (declared_from p a is)) ∙ e)) all) (sym (same strange) ∙ e)))
 
 pub different_filter : (p : GiottoProgram) (test : Active → Bool) (xs : List Active) → all_different_releases (map (active_of p) xs) ≡ true → all_different_releases (map (active_of p) (filter test xs)) ≡ true
 different_filter p test [] h = refl
@@ -225,57 +299,43 @@ different_filter p test (x ∷ xs) h =
     others : (ys : List Active) → list_all (is_another (active_of p x)) (map (active_of p) ys) ≡ true → list_all (is_another (active_of p x)) (later ys) ≡ true
     others ys h = list_all-map (is_another (active_of p x)) (active_of p) (filter test ys) ∙ list_all-filter (λ y. is_another (active_of p x) (active_of p y)) test ys (sym (list_all-map (is_another (active_of p x)) (active_of p) ys) ∙ h)
 
-marks_filtered : (p : GiottoProgram) (completed : ActiveTask → Bool) (test : Active → Bool) (xs : List Active) → map is_completed xs ≡ map completed (map (active_of p) xs)
-    → map is_completed (filter test xs) ≡ map completed (map (active_of p) (filter test xs))
-marks_filtered p completed test [] e = refl
-marks_filtered p completed test (x ∷ xs) e =
-    let first : is_completed x ≡ completed (active_of p x) = cc in
-    by (test x) first (marks_filtered p completed test xs (cc))
-  where
-    by : (b : Bool) → is_completed x ≡ completed (active_of p x) → map is_completed (filter test xs) ≡ map completed (map (active_of p) (filter test xs))
-        → map is_completed (cond b (x ∷ filter test xs) (filter test xs)) ≡ map completed (map (active_of p) (cond b (x ∷ filter test xs) (filter test xs)))
-    by true first rest = λ k. first k ∷ rest k
-    by false first rest = rest
-
 -- a running tenant, and a row for which it stands
-module _ {place : ℕ} (p : GiottoProgram) (fits : ProgramFits p) (m : ModeDeclaration) (mode time : ℕ) (items : List Active) (places : ℕ) (values : List ℤ) (shares : List (Option TaskBody)) (count : ℕ)
-    (at : slice_get p.modes mode ≡ Some m) (row : Row) (completed : ActiveTask → Bool) (st : StandsFor (standing_of place states.Running (Some p) mode time items places values shares count) row completed) where
+module _ (p : GiottoProgram) (fits : ProgramFits p) (m : ModeDeclaration) (mode time : ℕ) (items : List Active) (values : List ℤ) (count : ℕ)
+    (at : slice_get p.modes mode ≡ Some m) (completed : ActiveTask → Bool) (row : Row) (st : row_of states.Running (Some p) mode time items values count ≡ without_records row) where
   runs : Runs row p m
   runs = record {
-    state = sym (ap (λ (r : Row). r.state) st.same_row);
-    program = sym (ap (λ (r : Row). r.program) st.same_row);
-    mode = ap (mode_named p) (sym (ap (λ (r : Row). r.mode) st.same_row)) ∙ mode_here p fits mode m at;
+    state = sym (ap (λ (r : Row). r.state) st);
+    program = sym (ap (λ (r : Row). r.program) st);
+    mode = ap (mode_named p) (sym (ap (λ (r : Row). r.mode) st)) ∙ mode_here p fits mode m at;
   }
 
   same_time : time ≡ row.mode_time
-  same_time = ap (λ (r : Row). r.mode_time) st.same_row
+  same_time = ap (λ (r : Row). r.mode_time) st
 
   same_active : map (active_of p) items ≡ row.active
-  same_active = ap (λ (r : Row). r.active) st.same_row
+  same_active = ap (λ (r : Row). r.active) st
 
   same_ports : valuation_of p values ≡ row.ports
-  same_ports = ap (λ (r : Row). r.ports) st.same_row
-
-  marks : map is_completed items ≡ map completed (map (active_of p) items)
-  marks = st.same_marks ∙ ap (map completed) (sym same_active)
+  same_ports = ap (λ (r : Row). r.ports) st
 
   -- nothing is due
-  pub quiet_stands : IsQuietAt m time → StandsFor (standing_of place states.Running (Some p) mode time items places values shares count) (first_half_of (unfinished_tasks completed row) row) completed
-  quiet_stands quiet =
-      let same = unchanged row p m runs completed (subst (IsQuietAt m) same_time quiet) in
-      record { same_row = st.same_row ∙ sym same; same_marks = st.same_marks ∙ ap (λ (r : Row). map completed r.active) (sym same) }
+  pub quiet_stands : IsQuietAt m time → row_of states.Running (Some p) mode time items values count ≡ without_records (first_half_of (unfinished_tasks completed row) row)
+  quiet_stands quiet = st ∙ sym (unchanged row p m runs completed (subst (IsQuietAt m) same_time quiet))
 
   module _ (es : List SlotInvocation) (each : AreEach (IsInvocation p m) m.invocations es) (all : AllByRecursion (IsActiveOf p) items) where
-    found : FoundAlike (IsInvocation p m) (find (is_open m row.mode_time row.active completed) m.invocations) (find (is_left_open time items) es)
-    found = subst (λ o. FoundAlike (IsInvocation p m) o (find (is_left_open time items) es)) (λ k. find (is_open m (same_time k) (same_active k) completed) m.invocations)
-        (find_alike (IsInvocation p m) (is_open m time (map (active_of p) items) completed) (is_left_open time items) (open_alike p fits m time completed items all marks) m.invocations es each)
+    abbrev left_open : SlotInvocation → Bool
+    left_open e = is_left_open time (λ a. completed (active_of p a)) items e
+
+    found : FoundAlike (IsInvocation p m) (find (is_open m row.mode_time row.active completed) m.invocations) (find left_open es)
+    found = subst (λ o. FoundAlike (IsInvocation p m) o (find left_open es)) (λ k. find (is_open m (same_time k) (same_active k) completed) m.invocations)
+        (find_alike (IsInvocation p m) (is_open m time (map (active_of p) items) completed) left_open (open_alike p fits m time completed items all) m.invocations es each)
 
     -- no due task is left open
-    pub finished : find (is_left_open time items) es ≡ None → (room : ℕ) (ended after : List ℤ)
+    pub finished : find left_open es ≡ None → (ended after : List ℤ)
         → valuation_of p ended ≡ all_ended p (flat_map (group m time (map (active_of p) items)) m.invocations) (valuation_of p values)
         → valuation_of p after ≡ all_updated m time m.updates (valuation_of p ended)
-        → StandsFor (standing_of place states.Running (Some p) mode time (kept time es items) room after shares count) (first_half_of (unfinished_tasks completed row) row) completed
-    finished none room ended after end_value update_value =
+        → row_of states.Running (Some p) mode time (kept time es items) after count ≡ without_records (first_half_of (unfinished_tasks completed row) row)
+    finished none ended after end_value update_value =
         let steps = goes_on row p m runs completed (by_none _ (subst (FoundAlike (IsInvocation p m) _) none found)) in
         let remaining : map (active_of p) (kept time es items) ≡ still_active (names_due row) row.active =
         sym (stay_alike p fits m time m.invocations es each items all) ∙ sym (stay m time (map (active_of p) items) m.invocations)
@@ -285,18 +345,15 @@ module _ {place : ℕ} (p : GiottoProgram) (fits : ProgramFits p) (m : ModeDecla
         update_value ∙ ap (all_updated m time m.updates) end_value
         ∙ (λ k. all_updated m (same_time k) m.updates (all_ended p (flat_map (group m (same_time k) (same_active k)) m.invocations) (same_ports k)))
         ∙ ap (λ ts. all_updated m row.mode_time m.updates (all_ended p ts row.ports)) (sym (due_are row p m runs completed)) in
-        subst (λ r. StandsFor (standing_of place states.Running (Some p) mode time (kept time es items) room after shares count) r completed) (sym steps) (record {
-          same_row = ap (λ (r : Row). record r { active = map (active_of p) (kept time es items); ports = valuation_of p after }) st.same_row
-              ∙ (λ k. record row { active = remaining k; ports = new_ports k; records = [] });
-          same_marks = marks_filtered p completed _ items marks ∙ ap (map completed) remaining;
-        })
+        ap (λ (r : Row). record r { active = map (active_of p) (kept time es items); ports = valuation_of p after }) st
+        ∙ (λ k. record row { active = remaining k; ports = new_ports k; records = [] }) ∙ ap without_records (sym steps)
       where
         by_none : (o : Option TaskInvocation) → FoundAlike (IsInvocation p m) o None → o ≡ None
         by_none None h = refl
         by_none (Some i) h = absurd h
 
     -- the first task that is left open stops the tenant
-    pub halted : (e : SlotInvocation) → find (is_left_open time items) es ≡ Some e → (x : Name) → x ≡ name_of_task p e.task → first_half_of (unfinished_tasks completed row) row ≡ stopped_with (overrun x) row
+    pub halted : (e : SlotInvocation) → find left_open es ≡ Some e → (x : Name) → x ≡ name_of_task p e.task → first_half_of (unfinished_tasks completed row) row ≡ stopped_with (overrun x) row
     halted e first x named = by _ refl (subst (FoundAlike (IsInvocation p m) _) first found)
       where
         by : (o : Option TaskInvocation) → find (is_open m row.mode_time row.active completed) m.invocations ≡ o → FoundAlike (IsInvocation p m) o (Some e)

@@ -6,9 +6,8 @@ use Rattle.std.proofs.lemmas.List.{append-nil, drop_more, get_or-replicate, get_
 use Rattle.std.proofs.lemmas.List.Elements.{filter-append}
 use Rattle.std.proofs.lemmas.Map.Views.{any-filter_same}
 use Rattle.giotto_tasks.proofs.ListLemmas.{all_filter}
-use Rattle.tenant_state.specs.inner.EntryTable.{IsTableOf}
+use Rattle.tenant_state.specs.inner.EntryTable.{IsTableOf, is_task_open}
 use Rattle.tenant_state.specs.declared.tenants.Active.{Active}
-use Rattle.tenant_state.specs.Tenants.{is_completed}
 
 -- one entry more, of a task that has none yet
 pub table_more : (items : List Active) (i : ℕ) (d : Active) (table : List ℕ) → i < length items → length table ≡ 64 → (get_or items i d).task < 64 → get_or table (get_or items i d).task 0 ≡ 0
@@ -53,9 +52,9 @@ twice {X = X} p (x ∷ xs) = by (p x) refl (twice p xs)
 
 -- the entries that were looked up: all, or those of the task at this place
 module _ (t : ℕ) (items found : List Active) (is : (found ≡ items) ⊎ (found ≡ filter (λ a. nat_eq a.task t) items)) where
-  pub same_open : list_any (λ a. nat_eq a.task t && not (is_completed a)) found ≡ list_any (λ a. nat_eq a.task t && not (is_completed a)) items
-  same_open =
-      ⊎_elim (ap (list_any _)) (λ e. ap (list_any _) e ∙ any-filter_same (λ a. nat_eq a.task t && not (is_completed a)) (λ a. nat_eq a.task t) true (λ a e. (and_parts _ _ e).0) items) is
+  pub same_open : (done : Active → Bool) → is_task_open done found t ≡ is_task_open done items t
+  same_open done =
+      ⊎_elim (ap (list_any _)) (λ e. ap (list_any _) e ∙ any-filter_same (λ a. nat_eq a.task t && not (done a)) (λ a. nat_eq a.task t) true (λ a e. (and_parts _ _ e).0) items) is
 
   pub same_entries : filter (λ a. nat_eq a.task t) found ≡ filter (λ a. nat_eq a.task t) items
   same_entries = ⊎_elim (ap (filter _)) (λ e. ap (filter _) e ∙ twice _ items) is

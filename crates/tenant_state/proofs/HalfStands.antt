@@ -5,7 +5,7 @@ use Rattle.std.specs.List.{AllByRecursion}
 use Rattle.std.specs.Option.{option_map, option_map_or}
 use Rattle.std.proofs.Math.Seq.{take-append_seam, drop-append_seam}
 use Rattle.std.proofs.lemmas.Bool.{and_parts}
-use Rattle.std.proofs.lemmas.List.{map-append, length-append}
+use Rattle.std.proofs.lemmas.List.{length-append}
 use Rattle.giotto_tasks.specs.Names.{Valuation}
 use Rattle.giotto_tasks.proofs.ListLemmas.{some_same}
 use Rattle.giotto_tasks.specs.Syntax.{TaskBody}
@@ -25,7 +25,7 @@ use Rattle.tenant_state.specs.Row.{ActiveTask, Row, in_mode}
 use Rattle.tenant_state.specs.SecondHalf.{is_invoked, released, invoked, all_invoked, all_released, invoked_in_mode, moved_on, counted, second_half_of}
 use Rattle.tenant_state.specs.Standing.{Standing, StandsFor, most_at, most_released, without_records}
 use Rattle.tenant_state.specs.inner.Standing.{AreReleased}
-use Rattle.tenant_state.specs.Tenants.{active_of, is_completed, standing_of}
+use Rattle.tenant_state.specs.Tenants.{active_of, standing_of}
 use Rattle.tenant_state.specs.inner.Tenants.{AreInvoked}
 use Rattle.tenant_state.proofs.SecondHalfSteps.{in_its_mode, running_half, placed, IsBehindSwitch}
 
@@ -48,12 +48,6 @@ module _ (p : GiottoProgram) (m : ModeDeclaration) (time n : ℕ) where
   pub new_releases : (is : List TaskInvocation) (ports : Valuation) → AllByRecursion (λ (a : ActiveTask). a.release ≡ n) (all_released p m time n is ports)
   new_releases = released_by (λ is new. AllByRecursion (λ (a : ActiveTask). a.release ≡ n) new) tt (λ i is later all. all) (λ i is later ports t due e all. (refl, all))
 
-  -- none of them is completed
-  none_completed : (completed : ActiveTask → Bool) → ((a : ActiveTask) → a.release ≡ n → completed a ≡ false)
-      → (is : List TaskInvocation) (ports : Valuation) → map (λ (a : ActiveTask). false) (all_released p m time n is ports) ≡ map completed (all_released p m time n is ports)
-  none_completed completed not_yet =
-      released_by (λ is new. map (λ (a : ActiveTask). false) new ≡ map completed new) refl (λ i is later e. e) (λ i is later ports t due found e. λ k. sym (not_yet (released n i ports t) refl) k ∷ e k)
-
   -- they are no more than what is due
   few_released : (is : List TaskInvocation) (ports : Valuation) → length (all_released p m time n is ports) ≤ length (filter (λ (i : TaskInvocation). is_due_at time m i.frequency) is)
   few_released =
@@ -72,22 +66,19 @@ module _ (p : GiottoProgram) (m : ModeDeclaration) (time n : ℕ) where
 
 -- a step that is told for each list of records, as a tenant keeps none
 stands_behind : (readings : Readings) (old new : Standing) → ((rs : List Record) → without_records (second_half_of readings [] (record old.row { records = rs })) ≡ new.row)
-    → (row : Row) (completed : ActiveTask → Bool) → (map completed new.row.active ≡ new.completed) → StandsFor old row completed → StandsFor new (second_half_of readings [] row) completed
-stands_behind readings old new behind row completed marks stands =
-    let same : new.row ≡ without_records (second_half_of readings [] row) =
-    sym (behind row.records) ∙ (λ k. without_records (second_half_of readings [] (record (stands.same_row k) { records = row.records }))) in
-    record { same_row = same; same_marks = sym marks ∙ ap (λ (r : Row). map completed r.active) same }
+    → (row : Row) → StandsFor old row → StandsFor new (second_half_of readings [] row)
+stands_behind readings old new behind row stands = sym (behind row.records) ∙ (λ k. without_records (second_half_of readings [] (record (stands k) { records = row.records })))
 
 -- the ports behind the sensors' readings
 abbrev pub sensed_ports : GiottoProgram → List ℤ → Readings → Valuation
 sensed_ports p values readings = with_values (valuation_of p values) (sensor_names p) (map (reading_taken readings []) p.sensors)
 
-module _ (place : ℕ) (p : GiottoProgram) (kept : ProgramFits p) (m : ModeDeclaration) (mode time n places : ℕ) (old : List Active) (values : List ℤ) (shares : List (Option TaskBody)) where
+module _ (place : ℕ) (p : GiottoProgram) (kept : ProgramFits p) (m : ModeDeclaration) (mode time n places : ℕ) (old gone : List Active) (values : List ℤ) (shares : List (Option TaskBody)) where
   abbrev before : Standing
-  before = standing_of place Running (Some p) mode time old places values shares n
+  before = standing_of place Running (Some p) mode time old gone places values shares n
 
   abbrev after : ℕ → ℕ → ℕ → List Active → List ℤ → Standing
-  after to later room new written = standing_of place Running (Some p) to later new room written shares (n + 1)
+  after to later room new written = standing_of place Running (Some p) to later new gone room written shares (n + 1)
 
   module _ (at_mode : slice_get p.modes mode ≡ Some m) where
     -- the most that the instant can release
@@ -120,15 +111,8 @@ module _ (place : ℕ) (p : GiottoProgram) (kept : ProgramFits p) (m : ModeDecla
             ∙ (λ k. record (after to ((at + 1) % sym lasts k) room new written).row { active = sym happened.tasks k; ports = sym happened.ports k })
 
         -- the step of a running tenant
-        pub half_stands : (row : Row) (completed : ActiveTask → Bool) → StandsFor before row completed → ((a : ActiveTask) → a.release ≡ row.next_tick → completed a ≡ false)
-            → StandsFor (after to ((at + 1) % period) room new written) (second_half_of readings [] row) completed
-        half_stands row completed stands not_yet =
-            let counts : row.next_tick ≡ n = sym (ap (λ (r : Row). r.next_tick) stands.same_row) in
-            let olds : map is_completed old ≡ map completed (map (active_of p) old) = stands.same_marks ∙ sym (ap (λ (r : Row). map completed r.active) stands.same_row) in
-            stands_behind readings before (after to ((at + 1) % period) room new written) row_behind row completed
-            (ap (map completed) happened.tasks ∙ map-append completed (map (active_of p) old) news
-            ∙ (λ k. sym olds k ++ sym (none_completed p is.new at n completed (λ a e. not_yet a (e ∙ sym counts)) is.new.invocations (valuation_of p given)) k) ∙ sym happened.marks)
-            stands
+        pub half_stands : (row : Row) → StandsFor before row → StandsFor (after to ((at + 1) % period) room new written) (second_half_of readings [] row)
+        half_stands row stands = stands_behind readings before (after to ((at + 1) % period) room new written) row_behind row stands
 
         -- what it released
         pub half_released : AreReleased before.row (after to ((at + 1) % period) room new written).row

@@ -3,6 +3,7 @@ pub mod AddedJobs
 pub mod AwaitedTasks
 pub mod CommonMultiples
 pub mod Completing
+pub mod Dropped
 pub mod DueTasks
 pub mod EndedTasks
 pub mod EnteredModes
@@ -20,6 +21,7 @@ pub mod Shares
 pub mod ShownPorts
 pub mod Stops
 pub mod SwitchRows
+pub mod TaskEntries
 pub mod TaskPeriods
 pub mod TenantBehind
 pub mod TenantCommands

@@ -31,7 +31,7 @@ use Rattle.tenant_state.specs.declared.tenants.Active.{Active}
 use Rattle.tenant_state.specs.declared.tenants.State.TheVariants as states
 use Rattle.tenant_state.specs.FirstHalf.{names_due}
 use Rattle.tenant_jobs.specs.Jobs.{same_job}
-use Rattle.tenant_state.specs.Jobs.{job_of}
+use Rattle.tenant_state.specs.Jobs.{has_job, job_of}
 use Rattle.tenant_state.specs.Row.{ActiveTask, Row}
 use Rattle.tenant_state.specs.Tenants.{active_of, standing_of}
 use Rattle.tenant_state.specs.inner.Tenants.{IsActiveOf, is_of_job}
@@ -40,13 +40,13 @@ use Rattle.tenant_state.proofs.DueTasks.{group, ends, names_of_tasks}
 use Rattle.tenant_state.proofs.EndedTasks.{any_alike, some_of}
 use Rattle.tenant_state.proofs.FirstHalfOf.{Runs, due_are}
 
--- a job's task is active
-pub job_active : (p : GiottoProgram) (j : JobId) (items : List Active) → list_any (is_of_job p j) items ≡ list_any (λ a. same_job (job_of j.tenant a) j) (map (active_of p) items)
-job_active p j [] = refl
-job_active p j (a ∷ items) =
-    let here : is_of_job p j a ≡ same_job (job_of j.tenant (active_of p a)) j =
-    sym (ap (λ b. (b && nat_eq a.release j.tick) && same_name (name_of_task p a.task) j.task) (eq-eqb j.tenant j.tenant refl)) in
-    let rest = job_active p j items in
+-- a job of the tenant's is active
+pub job_active : (p : GiottoProgram) (t : ℕ) (j : JobId) → j.tenant ≡ t → (items : List Active) → list_any (is_of_job p j) items ≡ has_job t (map (active_of p) items) j
+job_active p t j own [] = refl
+job_active p t j own (a ∷ items) =
+    let here : is_of_job p j a ≡ same_job (job_of t (active_of p a)) j =
+    sym (ap (λ b. (b && nat_eq a.release j.tick) && same_name (name_of_task p a.task) j.task) (eq-eqb t j.tenant (sym own))) in
+    let rest = job_active p t j own items in
     rw (here, rest) refl
 
 -- an actuator of the program, by its place among these
@@ -124,7 +124,7 @@ due_named row p m runs x =
 module _ (p : GiottoProgram) (fits : ProgramFits p) (m : ModeDeclaration) (mode time : ℕ) (items : List Active) (at : slice_get p.modes mode ≡ Some m) (x : Name) where
   -- its row, as far as it tells what is due
   abbrev row : Row
-  row = (standing_of 0 states.Running (Some p) mode time items 0 [] [] 0).row
+  row = (standing_of 0 states.Running (Some p) mode time items [] 0 [] [] 0).row
 
   runs : Runs row p m
   runs = record { state = refl; program = refl; mode = mode_here p fits mode m at }

@@ -19,7 +19,7 @@ use Rattle.tenant_slots.proofs.Numbered.{mode_fits_at, task_fits_at, task_of_pla
 use Rattle.tenant_slots.proofs.Updates.{each_item}
 use Rattle.tenant_state.specs.ActiveTasks.{TaskList}
 use Rattle.tenant_state.specs.SecondHalf.{is_invoked, released, with_inputs, all_invoked, all_released}
-use Rattle.tenant_state.specs.Tenants.{active_of, is_completed}
+use Rattle.tenant_state.specs.Tenants.{active_of}
 use Rattle.tenant_state.specs.declared.tenants.Active.{Active}
 
 -- the invocation and the task for which the entry at a place stands
@@ -62,7 +62,6 @@ due_of m time is = filter (λ (i : TaskInvocation). is_due_at time m i.frequency
 -- what the rest of a mode's invocations release and write, behind what was, is what all do, and there is room for the rest
 pub record IsInvokedTo (p : GiottoProgram) (m : ModeDeclaration) (time n : ℕ) (old : List Active) (before : Valuation) (rest : List TaskInvocation) (active : TaskList) (now : Valuation) : Type 0 where
   pub tasks : map (active_of p) active.items ++ all_released p m time n rest now ≡ map (active_of p) old ++ all_released p m time n m.invocations before
-  pub marks : map is_completed active.items ++ map (λ a. false) (all_released p m time n rest now) ≡ map is_completed old ++ map (λ a. false) (all_released p m time n m.invocations before)
   pub ports : all_invoked p m time rest now ≡ all_invoked p m time m.invocations before
   pub room : length (due_of m time rest) ≤ active.room
 
@@ -83,7 +82,6 @@ module _ {p : GiottoProgram} {m : ModeDeclaration} {time n : ℕ} {old : List Ac
       let same : all_released p m time n (i ∷ rest) ports ≡ all_released p m time n rest ports = rw (h) refl in
       record {
         tasks = ap (λ r. map (active_of p) active.items ++ r) (sym same) ∙ to.tasks;
-        marks = ap (λ r. map is_completed active.items ++ map (λ a. false) r) (sym same) ∙ to.marks;
         ports = ap (all_invoked p m time rest) (rw (h) refl) ∙ to.ports;
         room = by (is_due_at time m i.frequency) refl;
       }
@@ -93,13 +91,12 @@ module _ {p : GiottoProgram} {m : ModeDeclaration} {time n : ℕ} {old : List Ac
       by false e = room_by false e
 
   pub happens : (t : TaskDeclaration) {after : Valuation} {new : TaskList} → is_invoked m time i ports ≡ true → task_named p i.task ≡ Some t → map (active_of p) new.items ≡ map (active_of p) active.items ++ released n i ports t ∷ []
-      → map is_completed new.items ≡ map is_completed active.items ++ false ∷ [] → after ≡ with_inputs i ports t → new.room + 1 ≡ active.room → IsInvokedTo p m time n old before rest new after
-  happens t {after} {new} h found tasks marks written less =
+      → after ≡ with_inputs i ports t → new.room + 1 ≡ active.room → IsInvokedTo p m time n old before rest new after
+  happens t {after} {new} h found tasks written less =
       let first : all_released p m time n (i ∷ rest) ports ≡ released n i ports t ∷ all_released p m time n rest after = rw (h, found, written) refl in
       let more = room_by true (and_parts _ _ h).0 in
       record {
         tasks = stepped _ _ (released n i ports t ∷ []) _ _ tasks first ∙ to.tasks;
-        marks = stepped _ _ (false ∷ []) _ _ marks (ap (map (λ a. false)) first) ∙ to.marks;
         ports = ap (all_invoked p m time rest) (rw (h, found, written) refl) ∙ to.ports;
         room = omega (arith, more, less);
       }

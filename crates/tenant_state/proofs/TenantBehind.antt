@@ -1,5 +1,5 @@
 -- What is known of a tenant behind the second half of an instant.
-use Rattle.std.proofs.Common.{◌≡◌, ℕ, zero, suc, ◌+◌, ◌-◌, ◌%◌, ◌<◌, ◌≤◌, true, false, not, nat_eq, ◌&&◌, ℤ, List, [], ◌∷◌, ◌++◌, length, map, filter, take, drop, Option, Some, None, refl, ap, sym, subst, ◌∙◌, arith}
+use Rattle.std.proofs.Common.{◌≡◌, ℕ, ◌+◌, ◌-◌, ◌%◌, ◌<◌, ◌≤◌, true, false, not, nat_eq, ◌&&◌, ℤ, List, [], ◌∷◌, ◌++◌, length, map, filter, take, drop, Option, Some, None, refl, ap, sym, subst, ◌∙◌, arith}
 use Rattle.std.specs.Prelude.{◌==◌, slice_get, slice_index_or}
 use Rattle.std.specs.Option.{option_map, option_map_or}
 use Rattle.std.specs.List.{list_all, AllByRecursion}
@@ -21,14 +21,15 @@ use Rattle.tenant_slots.specs.Places.{name_of_task}
 use Rattle.tenant_slots.proofs.Numbered.{mode_fits_at}
 use Rattle.tenant_state.specs.declared.tenants.Active.{Active}
 use Rattle.tenant_state.specs.declared.tenants.State as code
-use Rattle.tenant_state.specs.declared.tenants.State.TheVariants.{Empty}
+use Rattle.tenant_state.specs.declared.tenants.State.TheVariants.{Running}
 use Rattle.tenant_state.specs.Jobs.{job_in, released_at}
-use Rattle.tenant_state.specs.Row.{ActiveTask, Row}
+use Rattle.tenant_state.specs.Row.{running, ActiveTask, Row}
 use Rattle.tenant_state.specs.SecondHalf.{released, all_released}
-use Rattle.tenant_state.specs.Standing.{Standing, most_released}
+use Rattle.tenant_state.specs.Standing.{is_another, all_different_releases, Standing, most_released}
 use Rattle.tenant_state.specs.inner.Standing.{AreReleased}
-use Rattle.tenant_state.specs.Tenants.{active_of, tasks_in, standing_of}
-use Rattle.tenant_state.specs.inner.Tenants.{is_another, all_different_releases, AreInvoked, IsActiveOf, IsActiveIn, FitsIts, IsTenant}
+use Rattle.tenant_state.specs.Tenants.{active_of, tasks_in, standing_of, state_of}
+use Rattle.tenant_state.specs.inner.Tenants.{AreInvoked, IsActiveOf, IsActiveIn, FitsIts, IsTenant}
+use Rattle.tenant_state.proofs.AwaitedTasks.{all_drop, different_drop}
 use Rattle.tenant_state.proofs.HalfStands.{released_by, new_releases}
 use Rattle.tenant_state.proofs.SecondHalfSteps.{those_released}
 use Rattle.tenant_state.proofs.TenantFacts.{known_of}
@@ -88,35 +89,27 @@ module _ (p : GiottoProgram) (kept : ProgramFits p) (mode : ℕ) where
 
   module _ (m : ModeDeclaration) (at : slice_get p.modes mode ≡ Some m) where
     -- an instant at which the mode's tasks are released, whatever mode stood before it
-    pub tenant_behind : (from before time next since later period n : ℕ) (ports : Valuation) (old new : List Active) (values written : List ℤ) (shares : List (Option TaskBody)) → period ≡ m.period → IsTenant (Some p) from before since old values shares n
+    pub tenant_behind : (from before time next since later period n : ℕ) (ports : Valuation) (old new gone : List Active) (values written : List ℤ) (shares : List (Option TaskBody)) → period ≡ m.period → IsTenant running (Some p) from before since old gone values shares n
         → AreInvoked p m time n ports old new written → ((o : ModeDeclaration) → slice_get p.modes mode ≡ Some o → IsQuietUntil o time next) → ((o : ModeDeclaration) → slice_get p.modes mode ≡ Some o → IsQuietUntil o time next → IsQuietUntil o ((time + 1) % period) later)
-        → IsTenant (Some p) mode ((time + 1) % period) later new written shares (n + 1)
-    tenant_behind from before time next since later period n ports old new values written shares lasts is ran now quiet =
+        → IsTenant running (Some p) mode ((time + 1) % period) later new gone written shares (n + 1)
+    tenant_behind from before time next since later period n ports old new gone values written shares lasts is ran now quiet =
         let fits = mode_fits_at p kept mode m at in
         let below = mod_below (time + 1) period (omega (arith, lasts, fits.positive)) in
         record {
           short_time = omega (arith, below, lasts, fits.short);
+          rests = λ e. absurd (false≢true (sym e));
           different = ap all_different_releases ran.tasks
-              ∙ other_joined n (map (active_of p) old) (all_released p m time n m.invocations ports) (known_of from before since old values shares n Empty (Some p) is).early (new_releases p m time n m.invocations ports)
+              ∙ other_joined n (map (active_of p) old) (all_released p m time n m.invocations ports) (known_of from before since old gone values shares n Running (Some p) is).early (new_releases p m time n m.invocations ports)
               is.different (released_other p m time n m.invocations ports fits.tasks_once);
           fits = record {
             long = ran.long;
             mode_there = slice_get_within p.modes mode m at;
             quiet = λ o there. quiet o there (now o there);
             each = ran.each;
+            each_ended = is.fits.each_ended;
             share_each = is.fits.share_each;
           };
         }
-
-all_drop : {X : Type 0} (P : X → Type 0) (k : ℕ) (xs : List X) → AllByRecursion P xs → AllByRecursion P (drop k xs)
-all_drop P zero xs all = all
-all_drop P (suc k) [] all = tt
-all_drop P (suc k) (x ∷ xs) all = all_drop P k xs all.1
-
-different_drop : (k : ℕ) (xs : List ActiveTask) → all_different_releases xs ≡ true → all_different_releases (drop k xs) ≡ true
-different_drop zero xs h = h
-different_drop (suc k) [] h = refl
-different_drop (suc k) (x ∷ xs) h = different_drop k xs (and_parts (list_all (is_another x) xs) (all_different_releases xs) h).1
 
 module _ (p : GiottoProgram) (n : ℕ) where
   abbrev names : List Active → List Name
@@ -164,21 +157,21 @@ new_tasks p tenant n before after items is early program active each different =
           ∙ ap (map (job_in p tenant)) (those_released before.next_tick before.active (drop k after.active) early is.newer ∙ dropped);
     }
 
-active_long : (o : Option GiottoProgram) (mode time next : ℕ) (active : List Active) (values : List ℤ) (shares : List (Option TaskBody)) (n : ℕ) → FitsIts o mode time next active values shares n
+active_long : (o : Option GiottoProgram) (mode time next : ℕ) (active gone : List Active) (values : List ℤ) (shares : List (Option TaskBody)) (n : ℕ) → FitsIts o mode time next active gone values shares n
     → length (tasks_in o active) ≡ length active
-active_long None mode time next active values shares n none = ap length (sym none)
-active_long (Some p) mode time next active values shares n fits = length-map active (active_of p)
+active_long None mode time next active gone values shares n none = ap length (sym none)
+active_long (Some p) mode time next active gone values shares n fits = length-map active (active_of p)
 
 -- as the code has them
-pub are_new : {o q : Option GiottoProgram} {mode time next places n to at later room m : ℕ} {old items : List Active} {values written : List ℤ} {shares others : List (Option TaskBody)} {place place_behind : ℕ}
+pub are_new : {o q : Option GiottoProgram} {mode time next places n to at later room m : ℕ} {old items gone ended : List Active} {values written : List ℤ} {shares others : List (Option TaskBody)} {place place_behind : ℕ}
     (p : GiottoProgram) (tenant : ℕ) (before after : Standing) (s t : code.State)
-    → IsTenant o mode time next old values shares n → standing_of place s o mode time old places values shares n ≡ before
-    → IsTenant q to at later items written others m → standing_of place_behind t q to at items room written others m ≡ after
+    → IsTenant (state_of s) o mode time next old gone values shares n → standing_of place s o mode time old gone places values shares n ≡ before
+    → IsTenant (state_of t) q to at later items ended written others m → standing_of place_behind t q to at items ended room written others m ≡ after
     → q ≡ Some p → AreReleased before.row after.row → (k : ℕ) (xs : List Active) → k ≡ length old → xs ≡ items → AreNew p tenant before.row after.row (take (length xs - k) (drop k xs))
-are_new {o} {q} {mode} {time} {next} {places} {n} {to} {at} {later} {room} {m} {old} {items} {values} {written} {shares} {others} p tenant before after s t known view known_after view_after program released k xs long same =
-    let is : IsTenant (Some p) to at later items written others m = subst (λ o. IsTenant o to at later items written others m) program known_after in
-    let early = (known_of mode time next old values shares n s o known).early in
-    let olds : length before.row.active ≡ k = ap (λ (b : Standing). length b.row.active) (sym view) ∙ active_long o mode time next old values shares n known.fits ∙ sym long in
+are_new {o} {q} {mode} {time} {next} {places} {n} {to} {at} {later} {room} {m} {old} {items} {gone} {ended} {values} {written} {shares} {others} p tenant before after s t known view known_after view_after program released k xs long same =
+    let is : IsTenant (state_of t) (Some p) to at later items ended written others m = subst (λ o. IsTenant (state_of t) o to at later items ended written others m) program known_after in
+    let early = (known_of mode time next old gone values shares n s o known).early in
+    let olds : length before.row.active ≡ k = ap (λ (b : Standing). length b.row.active) (sym view) ∙ active_long o mode time next old gone values shares n known.fits ∙ sym long in
     subst (λ news. AreNew p tenant before.row after.row news) (ap (λ i. drop i items) olds ∙ ap (drop k) (sym same) ∙ sym (take_rest xs k))
     (new_tasks p tenant m before.row after.row items released (subst (λ (b : Standing). AllByRecursion (λ (a : ActiveTask). a.release < b.row.next_tick) b.row.active) view early)
     (ap (λ (b : Standing). b.row.program) (sym view_after) ∙ program) (ap (λ (b : Standing). b.row.active) (sym view_after) ∙ ap (λ o. tasks_in o items) program) is.fits.each is.different)

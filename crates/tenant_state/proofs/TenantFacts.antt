@@ -1,5 +1,5 @@
 -- What is known of every tenant, and of the tasks of its program.
-use Rattle.std.proofs.Common.{◌≡◌, ℕ, ◌<◌, ℤ, List, Option, Some, None, refl, ap}
+use Rattle.std.proofs.Common.{◌≡◌, ℕ, ◌<◌, ℤ, List, [], ◌∷◌, map, length, Option, Some, None, refl, ap, ◌∙◌, arith}
 use Rattle.std.specs.Arc.{arc_value}
 use Rattle.std.specs.List.{AllByRecursion}
 use Rattle.std.proofs.lemmas.Slice.Zip.{firsts-zip}
@@ -11,20 +11,39 @@ use Rattle.tenant_state.specs.declared.tenants.Active.{Active}
 use Rattle.tenant_state.specs.declared.tenants.State as code
 use Rattle.tenant_state.specs.Row.{ActiveTask}
 use Rattle.tenant_state.specs.Standing.{IsKnown}
-use Rattle.tenant_state.specs.Tenants.{active_of, tasks_in, standing_of}
+use Rattle.tenant_state.specs.Tenants.{state_of, active_of, tasks_in, standing_of}
 use Rattle.tenant_state.specs.inner.Tenants.{IsActiveIn, FitsIts, IsTenant}
 use Rattle.giotto_tasks.proofs.ListLemmas.{all_map, all_mapped}
 
 abbrev pub AreEarly : ℕ → List ActiveTask → Type 0
 AreEarly count tasks = AllByRecursion (λ (a : ActiveTask). a.release < count) tasks
 
-module _ (mode time next : ℕ) (active : List Active) (values : List ℤ) (shares : List (Option TaskBody)) (count : ℕ) where
-  early_of : (o : Option GiottoProgram) → FitsIts o mode time next active values shares count → AreEarly count (tasks_in o active)
+-- no tasks stand for none
+none_in : (o : Option GiottoProgram) → tasks_in o [] ≡ []
+none_in None = refl
+none_in (Some p) = refl
+
+-- where no tasks stand for some, there are none
+pub none_stand : (p : GiottoProgram) (tasks : List Active) → map (active_of p) tasks ≡ [] → tasks ≡ []
+none_stand p [] e = refl
+none_stand p (a ∷ tasks) e = absurd (omega (arith, ap length e))
+
+module _ (mode time next : ℕ) (active ended : List Active) (values : List ℤ) (shares : List (Option TaskBody)) (count : ℕ) where
+  early_of : (o : Option GiottoProgram) → FitsIts o mode time next active ended values shares count → AreEarly count (tasks_in o active)
   early_of None fits = tt
   early_of (Some p) fits = all_mapped _ (active_of p) active (all_map (IsActiveIn p count) _ active (λ a is. is.early) fits.each)
 
-  pub known_of : (state : code.State) (o : Option GiottoProgram) → IsTenant o mode time next active values shares count → IsKnown (standing_of 0 state o mode time active 0 values shares count).row
-  known_of state o known = record { no_binds = refl; tasks = λ e. ap (λ o. tasks_in o active) e; early = early_of o known.fits }
+  pub known_of : (state : code.State) (o : Option GiottoProgram) → IsTenant (state_of state) o mode time next active ended values shares count
+      → IsKnown (standing_of 0 state o mode time active ended 0 values shares count).row
+  known_of state o known = record {
+    no_binds = refl;
+    no_records = refl;
+    none_waits = refl;
+    tasks = λ e. ap (λ o. tasks_in o active) e;
+    rests = λ e. ap (tasks_in o) (known.rests e) ∙ none_in o;
+    early = early_of o known.fits;
+    different = known.different;
+  }
 
 -- a task's body is that of its declaration
 pub body_of_task : (t : Task) → body_of (trees.task_of t) ≡ arc_value t.body

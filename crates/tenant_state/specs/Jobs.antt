@@ -14,9 +14,13 @@ use Rattle.tenant_jobs.specs.Jobs.{JobValue, same_job}
 abbrev pub job_of : ℕ → ActiveTask → JobId
 job_of t a = record { tenant = t; tick = a.release; task = a.task }
 
--- the job's task is active, with the job's release
+-- one of these tasks of the tenant at place t has the job of this name
+abbrev pub has_job : ℕ → List ActiveTask → JobId → Bool
+has_job t tasks j = list_any (λ (a : ActiveTask). same_job (job_of t a) j) tasks
+
+-- the job's task is active, with the job's release, where this is the row of the job's tenant
 abbrev pub is_active : Row → JobId → Bool
-is_active row j = list_any (λ (a : ActiveTask). same_job (job_of j.tenant a) j) row.active
+is_active row j = has_job j.tenant row.active j
 
 -- the body of a program's task; an empty one where it has no such task
 abbrev pub body_in : GiottoProgram → Name → TaskBody

@@ -1,23 +1,25 @@
--- What a tenant's code stands for: all of its row but the records, and which active tasks' computations are completed.
-use Rattle.std.specs.Prelude.{◌≡◌, ◌<◌, ℕ, Bool, true, false, not, if◌then◌else◌, List, [], map, filter, length, max, Option, None}
-use Rattle.std.specs.List.{AllByRecursion, find, zip}
+-- What a tenant's code stands for: all of its row but the records.
+use Rattle.std.specs.Prelude.{◌≡◌, ◌<◌, ◌&&◌, nat_eq, ℕ, Bool, true, false, not, if◌then◌else◌, List, [], ◌∷◌, map, filter, length, max, Option, None}
+use Rattle.std.specs.List.{AllByRecursion, find, list_all}
 use Rattle.std.specs.Option.{option_and_then, option_map, option_map_or}
 use Rattle.giotto_tasks.specs.declared.names.Name.{Name}
+use Rattle.giotto_tasks.specs.Names.{same_name}
 use Rattle.giotto_text.specs.Program.{GiottoProgram, ModeDeclaration, ModeSwitch, TaskInvocation}
 use Rattle.giotto_check.specs.Costs.{greatest}
 use Rattle.giotto_rules.specs.Declarations.{mode_named}
 use Rattle.tenant_jobs.specs.declared.jobs.JobId.{JobId}
 use Rattle.tenant_slots.specs.Due.{is_due_at}
+use Rattle.tenant_jobs.specs.Finished.{TableEntry, has_result}
 use Rattle.tenant_jobs.specs.Jobs.{JobValue, same_job}
 use Rattle.tenant_state.specs.Jobs.{job_in, job_of}
 use Rattle.tenant_state.specs.Row.{ActiveTask, Row, empty_row, is_running}
 
--- what a tenant's code keeps: its place in the roster, a row without records, and marks; and what it has ready for the next instant
+-- what a tenant's code keeps: its place in the roster, and a row without records; and what it has ready for the next instant
 pub record Standing : Type 0 where
   pub place : ℕ
   pub row : Row
-  -- for each active task, whether its computation is completed
-  pub completed : List Bool
+  -- the tasks that are active no longer, while their entries are still to leave the table of active tasks
+  pub ended : List ActiveTask
   -- how many more tasks there is room for
   pub room : ℕ
   -- whether a share of each task's body is at hand
@@ -29,16 +31,15 @@ at_rest s = record s { room = 0; shared = false }
 
 -- that of the tenant at this place, without a program, whose first instant has this number
 abbrev pub empty_standing : ℕ → ℕ → Standing
-empty_standing place first_tick = record { place = place; row = empty_row first_tick; completed = []; room = 0; shared = true }
+empty_standing place first_tick = record { place = place; row = empty_row first_tick; ended = []; room = 0; shared = true }
 
 -- the row but for its records, which the code doesn't keep
 abbrev pub without_records : Row → Row
 without_records row = record row { records = [] }
 
--- it stands for this row, where just these active tasks are completed
-pub record StandsFor (standing : Standing) (row : Row) (completed : ActiveTask → Bool) : Type 0 where
-  pub same_row : standing.row ≡ without_records row
-  pub same_marks : standing.completed ≡ map completed row.active
+-- it stands for this row
+abbrev pub StandsFor : Standing → Row → Type 0
+StandsFor standing row = standing.row ≡ without_records row
 
 -- how many tasks the mode of this name invokes
 abbrev pub invoked_in : GiottoProgram → Name → ℕ
@@ -54,16 +55,34 @@ most_at p m time =
 abbrev pub most_released : Row → ℕ
 most_released row = if is_running row then option_map_or (λ p. option_map_or (λ m. most_at p m row.mode_time) (mode_named p row.mode) 0) row.program 0 else 0
 
--- the outstanding tasks: active, and not completed
-abbrev pub outstanding_tasks : Standing → List ActiveTask
-outstanding_tasks s = map (λ (p : ActiveTask × Bool). p.0) (filter (λ (p : ActiveTask × Bool). not p.1) (zip s.row.active s.completed))
+-- the outstanding tasks: active, and without a result in this table
+abbrev pub outstanding_tasks : Standing → List TableEntry → List ActiveTask
+outstanding_tasks s entries = filter (λ a. not (has_result entries (job_of s.place a))) s.row.active
 
--- the job of this name, if its completion is awaited: its task is outstanding
-abbrev pub awaited_job : Standing → JobId → Option JobValue
-awaited_job s j = option_and_then (λ p. option_map (job_in p j.tenant) (find (λ a. same_job (job_of j.tenant a) j) (outstanding_tasks s))) s.row.program
+-- the job of this name, if it is one of the tenant's and its task is active with the job's release
+abbrev pub released_job : Standing → JobId → Option JobValue
+released_job s j = option_and_then (λ p. option_map (job_in p s.place) (find (λ a. same_job (job_of s.place a) j) s.row.active)) s.row.program
 
--- what is known of every tenant: it has no binds, and active tasks only with a program, each released before the next instant
+-- the job of this name, if its completion is awaited: its task is active with its release, and its result isn't in this table
+abbrev pub awaited_job : Standing → List TableEntry → JobId → Option JobValue
+awaited_job s entries j = if has_result entries j then None else released_job s j
+
+-- two releases of one task come at different instants
+abbrev pub is_another : ActiveTask → ActiveTask → Bool
+is_another a b = not (same_name a.task b.task && nat_eq a.release b.release)
+
+-- no two of the active tasks are one release of one task
+abbrev pub all_different_releases : List ActiveTask → Bool
+all_different_releases [] = true
+all_different_releases (a ∷ rest) = list_all (is_another a) rest && all_different_releases rest
+
+-- what is known of every tenant's row: it has no binds, no records, and no program that waits; it has active tasks only while its
+-- program runs, each released before the next instant, and no two of them are one release of one task
 pub record IsKnown (row : Row) : Type 0 where
   pub no_binds : row.binds ≡ []
+  pub no_records : row.records ≡ []
+  pub none_waits : row.waiting ≡ None
   pub tasks : row.program ≡ None → row.active ≡ []
+  pub rests : is_running row ≡ false → row.active ≡ []
   pub early : AllByRecursion (λ (a : ActiveTask). a.release < row.next_tick) row.active
+  pub different : all_different_releases row.active ≡ true

@@ -1,5 +1,5 @@
 -- How a tenant's code stands for its row, and what is known of it at any time.
-use Rattle.std.specs.Prelude.{ℕ, ℤ, Bool, List, [], map, Option, None, is_some}
+use Rattle.std.specs.Prelude.{ℕ, ℤ, List, [], map, Option, None, is_some}
 use Rattle.std.specs.List.{list_all}
 use Rattle.std.specs.Option.{option_map_or}
 use Rattle.giotto_tasks.specs.declared.names.Name.{Name}
@@ -32,10 +32,6 @@ state_of (states.Stopped r) = stopped (reason_of r)
 abbrev pub active_of : GiottoProgram → Active → ActiveTask
 active_of p a = record { task = name_of_task p a.task; release = a.release; inputs = a.inputs; states = a.states }
 
--- whether its computation is completed
-abbrev pub is_completed : Active → Bool
-is_completed a = a.completed
-
 -- the active tasks, the mode and the ports for which places and slots stand; none without a program
 abbrev pub tasks_in : Option GiottoProgram → List Active → List ActiveTask
 tasks_in o active = option_map_or (λ p. map (active_of p) active) o []
@@ -47,8 +43,8 @@ abbrev pub ports_in : Option GiottoProgram → List ℤ → Valuation
 ports_in o values = option_map_or (λ p. valuation_of p values) o []
 
 -- what a tenant's fields stand for: `place` is its place in the roster, `room` is that left for active tasks, and `shares` has the shares of bodies that are at hand
-abbrev pub standing_of : ℕ → code.State → Option GiottoProgram → ℕ → ℕ → List Active → ℕ → List ℤ → List (Option TaskBody) → ℕ → Standing
-standing_of place state program mode time active room values shares next_tick = record {
+abbrev pub standing_of : ℕ → code.State → Option GiottoProgram → ℕ → ℕ → List Active → List Active → ℕ → List ℤ → List (Option TaskBody) → ℕ → Standing
+standing_of place state program mode time active ended room values shares next_tick = record {
   place = place;
   row = record {
     state = state_of state;
@@ -63,7 +59,7 @@ standing_of place state program mode time active room values shares next_tick = 
     records = [];
     next_tick = next_tick;
   };
-  completed = map is_completed active;
+  ended = tasks_in program ended;
   room = room;
   shared = list_all is_some shares;
 }

@@ -1,8 +1,9 @@
 //! One tenant: its program, its active tasks, its commands, and its part of an instant.
 //!
-//! A [`tenants::Tenant`] goes from row to row: by a command, by the first half of an instant, by its second half, and by
-//! the completion of a job. The rows and steps stand in `specs/`: `Row` first, then `Commands`, `FirstHalf`, `SecondHalf`
-//! and `Jobs`; `Standing` and `Tenants` say which rows a tenant stands for.
+//! A [`tenants::Tenant`] goes from row to row: by a command, by the first half of an instant, and by its second half. The
+//! results of its jobs stand in the table of the active tasks of all tenants, which is lent to it. The rows and steps stand
+//! in `specs/`: `Row` first, then `Commands`, `FirstHalf`, `SecondHalf` and `Jobs`; `Standing` and `Tenants` say which rows
+//! a tenant stands for.
 //!
 //! A tenant has one list of the values of its ports, by the slots of its checked program, and its tasks and its mode by
 //! their places in it. An instant goes down the timetables of the mode, by the steps of `tenant_slots`.

@@ -6,6 +6,7 @@ ghost use Rattle.tenant_state.specs.Standing.{empty_standing, IsKnown};
 pub mod active_tasks;
 pub mod commands;
 pub mod completions;
+pub mod entries;
 pub mod phase_one;
 pub mod phase_two;
 pub mod readers;
@@ -24,6 +25,7 @@ use rig_config::TenantId;
 use std::alloc::Global;
 use std::marker::Model;
 use std::sync::Arc;
+use tenant_jobs::jobs::Key;
 
 /// Why a tenant was stopped.
 #[derive(Drop)]
@@ -50,14 +52,11 @@ pub(crate) struct Active {
     pub(crate) task: usize,
     /// The number of the instant that released it.
     pub(crate) release: u64,
+    /// Where its entry stands in the table of active tasks.
+    pub(crate) key: Key,
     /// What the task was given at its release.
     pub(crate) inputs: Values,
     pub(crate) states: Values,
-    /// Whether its computation is completed.
-    pub(crate) completed: bool,
-    /// The new values of the task's outputs and states, where it is.
-    pub(crate) outputs: Values,
-    pub(crate) new_states: Values,
 }
 
 /// One tenant of a host.
@@ -87,7 +86,7 @@ impl Model for Tenant {
     ghost use Rattle.std.specs.Arc.{arc_value};
     ghost use Rattle.std.specs.Option.{option_map};
     ghost use Rattle.tenant_state.specs.Standing.{Standing};
-    ghost use Rattle.tenant_state.specs.Tenants.{standing_of};
+    ghost use Rattle.tenant_state.specs.Tenants.{standing_of, state_of};
     ghost use Rattle.tenant_state.specs.inner.Tenants.{IsTenant};
     ghost use Rattle.std.specs.Coded.{codes};
     ghost use Rattle.giotto_text.specs.inner.ProgramCodes.{program_code};
@@ -96,9 +95,9 @@ impl Model for Tenant {
 
     ghost coded = { Prim.hlevel (codes, program_code) };
 
-    ghost view = { λ t. standing_of t.place t.state t.program t.mode t.mode_time t.active.items t.active.room t.values.items (map (option_map arc_value) t.shares.items) t.next_tick };
+    ghost view = { λ t. standing_of t.place t.state t.program t.mode t.mode_time t.active.items t.active.ended t.active.room t.values.items (map (option_map arc_value) t.shares.items) t.next_tick };
 
-    ghost invariant = { λ t. IsTenant t.program t.mode t.mode_time t.next_due t.active.items t.values.items (map (option_map arc_value) t.shares.items) t.next_tick };
+    ghost invariant = { λ t. IsTenant (state_of t.state) t.program t.mode t.mode_time t.next_due t.active.items t.active.ended t.values.items (map (option_map arc_value) t.shares.items) t.next_tick };
 }
 
 impl Tenant {

@@ -6,7 +6,7 @@ use Rattle.giotto_check.specs.declared.timetables.SlotInvocation.{SlotInvocation
 use Rattle.giotto_text.specs.Program.{GiottoProgram, ModeDeclaration}
 use Rattle.tenant_state.specs.declared.tenants.Active.{Active}
 use Rattle.tenant_state.specs.FirstHalf.{all_ended, due_among}
-use Rattle.tenant_state.specs.Tenants.{active_of, is_completed}
+use Rattle.tenant_state.specs.Tenants.{active_of}
 
 -- the active entries of the task at this place
 abbrev pub entries_at : ℕ → List Active → List Active
@@ -21,13 +21,13 @@ IsTableOf count active table =
 abbrev pub is_among_due : ℕ → ℕ → List SlotInvocation → Bool
 is_among_due time task invocations = list_any (λ (i : SlotInvocation). nat_eq task i.task && (time % i.interval == 0)) invocations
 
--- whether an active entry of the task at this place isn't completed
-abbrev pub is_task_open : List Active → ℕ → Bool
-is_task_open active task = list_any (λ (a : Active). nat_eq a.task task && not (is_completed a)) active
+-- whether an active entry of the task at this place isn't done
+abbrev pub is_task_open : (Active → Bool) → List Active → ℕ → Bool
+is_task_open done active task = list_any (λ (a : Active). nat_eq a.task task && not (done a)) active
 
 -- whether the invocation's task is due, and left open
-abbrev pub is_left_open : ℕ → List Active → SlotInvocation → Bool
-is_left_open time active i = (time % i.interval == 0) && is_task_open active i.task
+abbrev pub is_left_open : ℕ → (Active → Bool) → List Active → SlotInvocation → Bool
+is_left_open time done active i = (time % i.interval == 0) && is_task_open done active i.task
 
 -- each mark says whether its task is due
 abbrev pub MarksDue : List SlotInvocation → ℕ → List Bool → Type 0

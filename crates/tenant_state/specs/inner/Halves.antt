@@ -1,21 +1,30 @@
 -- A tenant before and behind the two halves of an instant.
-use Rattle.std.specs.Prelude.{◌≡◌, ◌+◌, ℕ, Bool, false, ℤ, List, []}
+use Rattle.std.specs.Prelude.{◌≡◌, ◌+◌, ℕ, ℤ, List, []}
+use Rattle.tenant_jobs.specs.Finished.{TableEntry, has_result}
 use Rattle.tenant_slots.specs.Readings.{readings_within}
 use Rattle.tenant_state.specs.FirstHalf.{unfinished_tasks, first_half_of}
-use Rattle.tenant_state.specs.Row.{ActiveTask, Row}
+use Rattle.tenant_state.specs.Jobs.{job_of}
+use Rattle.tenant_state.specs.Row.{Row}
 use Rattle.tenant_state.specs.SecondHalf.{second_half_of}
 use Rattle.tenant_state.specs.Standing.{Standing, StandsFor}
+use Rattle.tenant_state.specs.inner.Standing.{AreEnded}
+
+-- the first half of the row of the tenant at this place, where just the tasks with a result in this table are completed
+abbrev pub first_half_by : List TableEntry → ℕ → Row → Row
+first_half_by entries place row = first_half_of (unfinished_tasks (λ a. has_result entries (job_of place a)) row) row
 
 -- a tenant before and behind its first half: whatever row it stood for, it stands for that behind the half
-pub record IsFirstHalf (before after : Standing) : Type 0 where
-  pub step : (row : Row) (completed : ActiveTask → Bool) → StandsFor before row completed → StandsFor after (first_half_of (unfinished_tasks completed row) row) completed
+pub record IsFirstHalf (entries : List TableEntry) (before after : Standing) : Type 0 where
+  pub step : (row : Row) → StandsFor before row → StandsFor after (first_half_by entries before.place row)
   pub next_tick : after.row.next_tick ≡ before.row.next_tick
   pub place : after.place ≡ before.place
+  pub program : after.row.program ≡ before.row.program
+  pub ended : AreEnded before after
 
--- a tenant that may read these lines, before and behind its second half, where nothing is granted and no job of the instant itself is completed
+-- a tenant that may read these lines, before and behind its second half, where nothing is granted
 pub record IsSecondHalf (reads : List ℕ) (frame : List ℤ) (before after : Standing) : Type 0 where
-  pub step : (row : Row) (completed : ActiveTask → Bool) → StandsFor before row completed
-      → ((a : ActiveTask) → a.release ≡ row.next_tick → completed a ≡ false)
-      → StandsFor after (second_half_of (readings_within reads frame) [] row) completed
+  pub step : (row : Row) → StandsFor before row → StandsFor after (second_half_of (readings_within reads frame) [] row)
   pub next_tick : after.row.next_tick ≡ before.row.next_tick + 1
   pub place : after.place ≡ before.place
+  pub program : after.row.program ≡ before.row.program
+  pub ended : after.ended ≡ []

@@ -1,32 +1,45 @@
--- What a command and an instant leave a tenant with, and what it has to have ready.
-use Rattle.std.specs.Prelude.{◌≡◌, Bool, ◌≤◌, ◌<◌, true, ◌+◌, length, take, drop}
+-- What a command and an instant leave a tenant with, what it has to have ready, and what the table of active tasks has to have.
+use Rattle.std.specs.Prelude.{◌≡◌, ◌&&◌, not, Bool, ◌≤◌, ◌<◌, true, ◌+◌, List, Some, IfSome, length, take, drop}
+use Rattle.giotto_text.specs.Program.{GiottoProgram}
 use Rattle.tenant_lines.specs.declared.replies.Reply.{Reply}
 use Rattle.tenant_state.specs.Commands.{Outcome, refused}
 use Rattle.tenant_state.specs.Row.{ActiveTask, Row}
-use Rattle.tenant_state.specs.Standing.{Standing, StandsFor, without_records, most_released}
+use Rattle.tenant_jobs.specs.declared.jobs.JobId.{JobId}
+use Rattle.tenant_jobs.specs.Finished.{TableEntry, result_in}
+use Rattle.tenant_jobs.specs.inner.Finished.{is_entered, result_of}
+use Rattle.tenant_state.specs.Jobs.{has_job, job_in, job_of}
+use Rattle.tenant_state.specs.Standing.{Standing, StandsFor, most_released}
 use Rattle.tenant_lines.specs.declared.replies.Refusal.{Refusal}
 use Rattle.std.specs.List.{AllByRecursion}
 
 -- a command's outcome: this reply was given, and this is what is left
-pub record IsOutcome (outcome : Outcome) (reply : Reply) (standing : Standing) (completed : ActiveTask → Bool) : Type 0 where
+pub record IsOutcome (outcome : Outcome) (reply : Reply) (standing : Standing) : Type 0 where
   pub same_reply : reply ≡ outcome.reply
-  pub stands : StandsFor standing outcome.row completed
+  pub stands : StandsFor standing outcome.row
 
--- this holds of each row for which the tenant stands, and of the active tasks completed there
-abbrev pub HoldsOfRow : Standing → (Row → (ActiveTask → Bool) → Type 0) → Type 0
-HoldsOfRow standing P = (row : Row) (completed : ActiveTask → Bool) → StandsFor standing row completed → P row completed
+-- this holds of each row for which the tenant stands
+abbrev pub HoldsOfRow : Standing → (Row → Type 0) → Type 0
+HoldsOfRow standing P = (row : Row) → StandsFor standing row → P row
 
 -- whatever row the tenant stood for, now it stands for the row behind this step
 abbrev pub IsBehind : Standing → (Row → Row) → Standing → Type 0
-IsBehind before step after = HoldsOfRow before (λ row completed. StandsFor after (step row) completed)
+IsBehind before step after = HoldsOfRow before (λ row. StandsFor after (step row))
 
 -- whatever row the tenant stood for, this reply is that of the step, and now it stands for the row behind the step
 abbrev pub IsAnswered : Standing → (Row → Outcome) → Reply → Standing → Type 0
-IsAnswered before step reply after = HoldsOfRow before (λ row completed. IsOutcome (step row) reply after completed)
+IsAnswered before step reply after = HoldsOfRow before (λ row. IsOutcome (step row) reply after)
 
 -- whatever row the tenant stands for, the step refuses it so
 abbrev pub IsRefused : Standing → (Row → Outcome) → Refusal → Type 0
-IsRefused standing step r = (row : Row) → standing.row ≡ without_records row → step row ≡ refused row r
+IsRefused standing step r = HoldsOfRow standing (λ row. step row ≡ refused row r)
+
+-- whether the tenant has an active task with the job of this name
+abbrev pub has_active : Standing → JobId → Bool
+has_active s j = has_job s.place s.row.active j
+
+-- just those tasks that were active before and aren't behind are told as ended
+abbrev pub AreEnded : Standing → Standing → Type 0
+AreEnded before after = (j : JobId) → has_job after.place after.ended j ≡ (has_active before j && not (has_active after j))
 
 -- room for the most tasks that the next instant can release
 abbrev pub HasRoom : Standing → Type 0
@@ -41,3 +54,12 @@ pub record AreReleased (before after : Row) : Type 0 where
   pub older : take (length before.active) after.active ≡ before.active
   pub newer : AllByRecursion (λ (a : ActiveTask). a.release ≡ before.next_tick) (drop (length before.active) after.active)
   pub few : length after.active ≤ length before.active + most_released before
+
+-- each active task has its entry in the table
+abbrev pub HasItsEntries : Standing → List TableEntry → Type 0
+HasItsEntries s entries = AllByRecursion (λ a. is_entered entries (job_of s.place a) ≡ true) s.row.active
+
+-- the results that came for its active tasks are those of their jobs
+abbrev pub HasItsResults : Standing → List TableEntry → Type 0
+HasItsResults s entries = (p : GiottoProgram) → s.row.program ≡ Some p
+    → AllByRecursion (λ a. IfSome (result_in entries (job_of s.place a)) (λ r. r ≡ result_of (job_in p s.place a))) s.row.active

@@ -1,16 +1,18 @@
 -- What is true of a tenant's fields at any time, and of the steps of an instant in them.
-use Rattle.std.specs.Prelude.{true, nat_eq, Bool, ◌&&◌, not, List, [], ◌∷◌, ◌≡◌, length, IsSomeAnd, slice_get, ◌<◌, ℕ, ◌+◌, ℤ, false, ◌++◌, map, Some, Option, None, IfSome, ◌^◌}
-use Rattle.giotto_tasks.specs.Meaning.{outputs_of, states_of}
-use Rattle.tenant_jobs.specs.Jobs.{JobValue}
+use Rattle.std.specs.Prelude.{true, nat_eq, Bool, ◌&&◌, List, [], ◌≡◌, length, IsSomeAnd, slice_get, ◌<◌, ℕ, ◌+◌, ℤ, false, ◌++◌, map, Some, Option, None, IfSome, ◌^◌}
+use Rattle.tenant_jobs.specs.Finished.{TableEntry, result_in, has_result}
+use Rattle.tenant_jobs.specs.inner.Finished.{result_of}
+use Rattle.tenant_state.specs.Jobs.{job_of, job_in}
+use Rattle.tenant_state.specs.Standing.{all_different_releases}
 use Rattle.tenant_state.specs.declared.tenants.Active.{Active}
 use Rattle.giotto_tasks.specs.Names.{same_name, Valuation}
 use Rattle.giotto_text.specs.Program.{GiottoProgram, TaskDeclaration, body_of, ModeDeclaration, ModeSwitch}
 use Rattle.tenant_slots.specs.Places.{name_of_task}
 use Rattle.tenant_slots.specs.inner.Places.{IsModeAt}
 use Rattle.tenant_jobs.specs.declared.jobs.JobId.{JobId}
-use Rattle.tenant_state.specs.Tenants.{is_completed, active_of, tasks_in}
-use Rattle.tenant_state.specs.Row.{ActiveTask}
-use Rattle.std.specs.List.{list_all, AllByRecursion}
+use Rattle.tenant_state.specs.Tenants.{active_of, tasks_in}
+use Rattle.tenant_state.specs.Row.{ActiveTask, State, is_running_state}
+use Rattle.std.specs.List.{AllByRecursion}
 use Rattle.giotto_check.specs.inner.Slots.{slots_of}
 use Rattle.giotto_check.specs.Slots.{valuation_of}
 use Rattle.tenant_state.specs.SecondHalf.{all_invoked, all_released, entry_time}
@@ -21,37 +23,22 @@ use Rattle.giotto_tasks.specs.Syntax.{TaskBody}
 use Rattle.giotto_check.specs.inner.Timetables.{AreEach}
 use Rattle.tenant_slots.specs.inner.Due.{IsQuietUntil}
 
--- an active task with the result of this job
-abbrev pub computed : Active → JobValue → Active
-computed a j = record a { completed = true; outputs = outputs_of j.body j.inputs j.states; new_states = states_of j.body j.inputs j.states }
-
 -- whether it is the job's of this name: the job's task, of the job's release
 abbrev pub is_of_job : GiottoProgram → JobId → Active → Bool
 is_of_job p j a = nat_eq a.release j.tick && same_name (name_of_task p a.task) j.task
 
--- whether it awaits the completion of this job
-abbrev pub awaits_job : GiottoProgram → JobId → Active → Bool
-awaits_job p j a = not (is_completed a) && is_of_job p j a
+-- whether the result of its job came, where it is a task of the tenant at this place
+abbrev pub is_done : List TableEntry → ℕ → GiottoProgram → Active → Bool
+is_done entries place p a = has_result entries (job_of place (active_of p a))
 
--- two releases of one task come at different instants
-abbrev pub is_another : ActiveTask → ActiveTask → Bool
-is_another a b = not (same_name a.task b.task && nat_eq a.release b.release)
-
--- no two of the active tasks are one release of one task
-abbrev pub all_different_releases : List ActiveTask → Bool
-all_different_releases [] = true
-all_different_releases (a ∷ rest) = list_all (is_another a) rest && all_different_releases rest
-
--- its result is that of the release
-pub record IsResultOf (a : Active) (t : TaskDeclaration) : Type 0 where
-  pub outputs : a.outputs ≡ outputs_of (body_of t) a.inputs a.states
-  pub states : a.new_states ≡ states_of (body_of t) a.inputs a.states
+-- the result that came for its job, if one did, is that of the job
+abbrev pub IsResultRight : List TableEntry → ℕ → GiottoProgram → Active → Type 0
+IsResultRight entries place p a = IfSome (result_in entries (job_of place (active_of p a))) (λ r. r ≡ result_of (job_in p place (active_of p a)))
 
 -- an active task of this declaration
 pub record IsActiveAs (a : Active) (t : TaskDeclaration) : Type 0 where
   pub inputs_fit : length a.inputs ≡ length t.inputs
   pub states_fit : length a.states ≡ length t.states
-  pub result_fits : a.completed ≡ true → IsResultOf a t
 
 -- an active task of the program: it is declared at its place, and as it is declared
 abbrev pub IsActiveOf : GiottoProgram → Active → Type 0
@@ -62,10 +49,9 @@ pub record IsActiveIn (p : GiottoProgram) (next_tick : ℕ) (a : Active) : Type 
   pub early : a.release < next_tick
   pub declared : IsActiveOf p a
 
--- the mode's invocations happened: behind the older tasks stand those that were released, not completed, and the values are those behind all drivers
+-- the mode's invocations happened: behind the older tasks stand those that were released, and the values are those behind all drivers
 pub record AreInvoked (p : GiottoProgram) (m : ModeDeclaration) (time n : ℕ) (sensed : Valuation) (old new : List Active) (values : List ℤ) : Type 0 where
   pub tasks : map (active_of p) new ≡ map (active_of p) old ++ all_released p m time n m.invocations sensed
-  pub marks : map is_completed new ≡ map is_completed old ++ map (λ (a : ActiveTask). false) (all_released p m time n m.invocations sensed)
   pub ports : valuation_of p values ≡ all_invoked p m time m.invocations sensed
   pub each : AllByRecursion (IsActiveIn p (n + 1)) new
   pub long : length values ≡ slots_of p
@@ -90,21 +76,24 @@ abbrev pub IsShareOf : TaskDeclaration → Option TaskBody → Type 0
 IsShareOf t share = IfSome share (λ b. b ≡ body_of t)
 
 -- a tenant with this program: its values are as many as the program has ports, its mode is one of the program's, in which nothing is
--- due before `next`, its active tasks are tasks of it, and the shares are of its bodies, in their order
-pub record FitsProgram (p : GiottoProgram) (mode time next : ℕ) (active : List Active) (values : List ℤ) (shares : List (Option TaskBody)) (next_tick : ℕ) : Type 0 where
+-- due before `next`, its active tasks and those that ended are tasks of it, and the shares are of its bodies, in their order
+pub record FitsProgram (p : GiottoProgram) (mode time next : ℕ) (active ended : List Active) (values : List ℤ) (shares : List (Option TaskBody)) (next_tick : ℕ) : Type 0 where
   pub long : length values ≡ slots_of p
   pub mode_there : mode < length p.modes
   pub quiet : (m : ModeDeclaration) → IsModeAt p mode m → IsQuietUntil m time next
   pub each : AllByRecursion (IsActiveIn p next_tick) active
+  pub each_ended : AllByRecursion (IsActiveOf p) ended
   pub share_each : AreEach IsShareOf p.tasks shares
 
 -- the tenant fits its program, or it has none and nothing is active
-abbrev pub FitsIts : Option GiottoProgram → ℕ → ℕ → ℕ → List Active → List ℤ → List (Option TaskBody) → ℕ → Type 0
-FitsIts None mode time next active values shares next_tick = active ≡ []
-FitsIts (Some p) mode time next active values shares next_tick = FitsProgram p mode time next active values shares next_tick
+abbrev pub FitsIts : Option GiottoProgram → ℕ → ℕ → ℕ → List Active → List Active → List ℤ → List (Option TaskBody) → ℕ → Type 0
+FitsIts None mode time next active ended values shares next_tick = active ≡ []
+FitsIts (Some p) mode time next active ended values shares next_tick = FitsProgram p mode time next active ended values shares next_tick
 
--- what is known of a tenant at any time: its mode time is small, its releases differ, and the rest fits its program
-pub record IsTenant (program : Option GiottoProgram) (mode time next : ℕ) (active : List Active) (values : List ℤ) (shares : List (Option TaskBody)) (next_tick : ℕ) : Type 0 where
+-- what is known of a tenant at any time: its mode time is small, only while its program runs has it active tasks, its releases differ, and
+-- the rest fits its program
+pub record IsTenant (state : State) (program : Option GiottoProgram) (mode time next : ℕ) (active ended : List Active) (values : List ℤ) (shares : List (Option TaskBody)) (next_tick : ℕ) : Type 0 where
   pub short_time : time < 2 ^ 32
+  pub rests : is_running_state state ≡ false → active ≡ []
   pub different : all_different_releases (tasks_in program active) ≡ true
-  pub fits : FitsIts program mode time next active values shares next_tick
+  pub fits : FitsIts program mode time next active ended values shares next_tick

@@ -1,43 +1,44 @@
 //! Active tasks, in entries that are used again.
 
-ghost use Rattle.std.specs.Prelude.{◌≡◌, ◌<◌, ◌≤◌, ◌+◌, [], Some, length, slice_get, slice_set, OnOk};
-ghost use Rattle.tenant_state.specs.declared.tenants.Active.{Active};
-ghost use Rattle.tenant_state.specs.inner.Tenants.{computed};
+ghost use Rattle.std.specs.Prelude.{◌≡◌, ◌≤◌, ◌+◌, [], length, OnOk};
 
 use crate::tenants::Active;
 use giotto_tasks::values::Values;
 use std::alloc::{AllocError, Global};
 use std::marker::Model;
-use tenant_jobs::jobs::Done;
+use tenant_jobs::jobs::Key;
 
-/// The active tasks of a tenant, in the order of their release, and entries that wait to be used again.
+/// The active tasks of a tenant, in the order of their release, those that ended since, and entries that wait to be used again.
 #[derive(Drop)]
 pub(crate) struct ActiveTasks {
-    /// First those of the active tasks.
+    /// First those of the active tasks, then those of the tasks that ended.
     pub(crate) entries: Vec<Active>,
     /// How many tasks are active.
     pub(crate) count: usize,
+    /// How many ended, and have their entries in the table of active tasks still.
+    pub(crate) ended: usize,
 }
 
 impl Model for ActiveTasks {
-    ghost use Rattle.std.specs.Prelude.{◌≤◌, ◌-◌, length, take};
+    ghost use Rattle.std.specs.Prelude.{◌≤◌, ◌+◌, ◌-◌, length, take, drop};
     ghost use Rattle.tenant_state.specs.ActiveTasks.{TaskList};
 
     ghost Value = { TaskList };
 
-    ghost view = { λ t. record { items = take t.count t.entries.items; room = length t.entries.items - t.count } };
+    ghost view = { λ t. record { items = take t.count t.entries.items; ended = take t.ended (drop t.count t.entries.items); room = length t.entries.items - t.count } };
 
-    ghost invariant = { λ t. t.count ≤ length t.entries.items };
+    ghost invariant = { λ t. t.count + t.ended ≤ length t.entries.items };
 }
 
 impl ActiveTasks {
     /// No task, and room for none.
     pub(crate) fn new(alloc: Global) -> ActiveTasks
-        ensures { result ≡ record { items = []; room = 0 } }
+        ensures { result ≡ record { items = []; ended = []; room = 0 } }
     {
         ActiveTasks {
             entries: Vec::new(alloc),
             count: 0,
+            ended: 0,
         }
     }
 
@@ -55,12 +56,30 @@ impl ActiveTasks {
         self.count
     }
 
-    /// No task is active any longer. Their entries wait.
-    pub(crate) fn clear(&mut self)
+    /// The tasks that ended.
+    pub(crate) fn ended(&self) -> &[Active]
+        ensures { result.now ≡ self.now.ended }
+    {
+        &self.entries[self.count..self.count + self.ended]
+    }
+
+    /// All active tasks end, and nothing is known any longer of those that ended before.
+    pub(crate) fn end_all(&mut self)
         ensures items { self.new.items ≡ [] }
+        ensures ended { self.new.ended ≡ self.old.items }
         ensures room { self.new.room ≡ self.old.room + length self.old.items }
     {
+        self.ended = self.count;
         self.count = 0;
+    }
+
+    /// Nothing is known any longer of the tasks that ended. Their entries wait.
+    pub(crate) fn forget_ended(&mut self)
+        ensures items { self.new.items ≡ self.old.items }
+        ensures ended { self.new.ended ≡ [] }
+        ensures room { self.new.room ≡ self.old.room }
+    {
+        self.ended = 0;
     }
 
     /// Makes room for so many tasks more, where there is less.
@@ -69,6 +88,7 @@ impl ActiveTasks {
     /// Want of memory.
     pub(crate) fn reserve(&mut self, more: usize) -> Result<(), AllocError>
         ensures items { self.new.items ≡ self.old.items }
+        ensures ended { self.new.ended ≡ self.old.ended }
         ensures room { OnOk result (more ≤ self.new.room) }
         ensures kept { self.old.room ≤ self.new.room }
     {
@@ -78,24 +98,6 @@ impl ActiveTasks {
         }
         Ok(())
     }
-
-    /// Gives the active task at this place the result of its computation.
-    pub(crate) fn put(&mut self, place: usize, done: &Done)
-        requires { place < length self.old.items }
-        ensures items { (a : Active) → slice_get self.old.items place ≡ Some a → self.new.items ≡ slice_set self.old.items place (computed a done.now) }
-        ensures room { self.new.room ≡ self.old.room }
-    {
-        put_result(done, &mut self.entries[place]);
-    }
-}
-
-// Gives an active task the result of its computation.
-fn put_result(done: &Done, active: &mut Active)
-    ensures { active.new ≡ computed active.old done.now }
-{
-    active.outputs.set(done.outputs().as_slice());
-    active.new_states.set(done.states().as_slice());
-    active.completed = true;
 }
 
 // An entry that is no task's yet.
@@ -103,10 +105,8 @@ fn unused() -> Active {
     Active {
         task: 0,
         release: 0,
+        key: Key::none(),
         inputs: Values::new(),
         states: Values::new(),
-        completed: false,
-        outputs: Values::new(),
-        new_states: Values::new(),
     }
 }

@@ -1,6 +1,6 @@
 //! What a tenant's commands do.
 
-ghost use Rattle.std.specs.Prelude.{◌≡◌, ◌≢◌, ◌&&◌, ℕ, true, false, Ok, Err, None, IfOk, IfErr, OnOk, OnErr, if◌then◌else◌, Some, length, map};
+ghost use Rattle.std.specs.Prelude.{◌≡◌, ◌≢◌, ◌⊎◌, ◌&&◌, ℕ, [], true, false, Ok, Err, None, IfOk, IfErr, OnOk, OnErr, if◌then◌else◌, Some, length, map};
 ghost use Rattle.rig_config.specs.declared.Budgets.{Budgets};
 ghost use Rattle.tenant_lines.specs.declared.replies.Budget.{Budget};
 ghost use Rattle.std.specs.Arc.{arc_value};
@@ -19,7 +19,7 @@ ghost use Rattle.rig_config.specs.Roster.{may_use};
 ghost use Rattle.tenant_slots.specs.Ports.{initial_ports};
 ghost use Rattle.tenant_state.specs.Commands.{at_beginning, commanded, takes_memory, refusal_of, load_kept, load_read, refused, broken_budget};
 ghost use Rattle.tenant_state.specs.Row.{Row, is_running, loaded};
-ghost use Rattle.tenant_state.specs.inner.Standing.{HoldsOfRow, IsAnswered, IsBehind, IsOutcome, IsRefused};
+ghost use Rattle.tenant_state.specs.inner.Standing.{AreEnded, HoldsOfRow, IsAnswered, IsBehind, IsOutcome, IsRefused};
 ghost use Rattle.tenant_state.specs.Standing.{without_records};
 
 use crate::tenants::{Reason, State, Tenant};
@@ -48,12 +48,14 @@ impl Tenant {
     /// Carries out a command. A refusal changes nothing, want of memory included. Only `load`, and `show all` of a tenant with a
     /// program, take memory; no other command is refused for it.
     pub fn command(&mut self, budgets: &Budgets, command: Command) -> Reply
+        requires rest { self.old.ended ≡ [] }
         ensures memory { result ≡ Reply.Refused Refusal.Memory → self.new ≡ self.old }
         ensures room { takes_memory command self.old.row ≡ false → result ≢ Reply.Refused Refusal.Memory }
         ensures place { self.new.place ≡ self.old.place }
         ensures next_tick { self.new.row.next_tick ≡ self.old.row.next_tick }
-        ensures step { HoldsOfRow self.old (λ row completed. result ≢ Reply.Refused Refusal.Memory
-            → IsOutcome (commanded budgets.now command row) result self.new completed) }
+        ensures ended { AreEnded self.old self.new }
+        ensures active { (self.new.row.active ≡ []) ⊎ (self.new ≡ self.old) }
+        ensures step { HoldsOfRow self.old (λ row. result ≢ Reply.Refused Refusal.Memory → IsOutcome (commanded budgets.now command row) result self.new) }
     {
         match command {
             Command::Load(text) => match self.load(budgets, text.as_str()) {
@@ -93,6 +95,7 @@ impl Tenant {
         ensures next_tick { self.new.row.next_tick ≡ self.old.row.next_tick }
         ensures refused { IfErr result (λ r. r ≢ Refusal.Memory → IsRefused self.old (commanded budgets.now (Command.Load text.now)) r) }
         ensures loaded { OnOk result (IsAnswered self.old (commanded budgets.now (Command.Load text.now)) Reply.Loaded self.new) }
+        ensures none_ended { OnOk result ((self.old.row.active ≡ []) × (self.new.row.active ≡ []) × (self.new.ended ≡ [])) }
     {
         let program = read_program(self.alloc, text)?;
         match self.beginning(budgets, &program) {
@@ -112,6 +115,7 @@ impl Tenant {
         ensures refused { IfErr result (λ r. r ≢ Refusal.Memory → IsRefused self.now (load_kept budgets.now program.now) r) }
         ensures loaded { OnOk result ((row : Row) → self.now.row ≡ without_records row
             → load_kept budgets.now program.now row ≡ record { row = at_beginning loaded program.now row; reply = Reply.Loaded }) }
+        ensures rests { OnOk result (self.now.row.active ≡ []) }
         ensures long { IfOk result (λ b. length b.values.items ≡ slots_of program.now) }
         ensures ports { IfOk result (λ b. valuation_of program.now b.values.items ≡ initial_ports program.now) }
         ensures shares { IfOk result (λ b. map (option_map arc_value) b.shares.items ≡ map (λ t. None) program.now.tasks) }
@@ -139,12 +143,15 @@ impl Tenant {
         ensures place { self.new.place ≡ self.old.place }
         ensures next_tick { self.new.row.next_tick ≡ self.old.row.next_tick }
         ensures step { IsBehind self.old (at_beginning loaded program) self.new }
+        ensures active { self.new.row.active ≡ [] }
+        ensures ended { self.new.ended ≡ [] }
     {
         self.state = State::Loaded;
         self.mode = start_place(&program);
         self.mode_time = 0;
         self.next_due = 0;
-        self.active.clear();
+        self.active.end_all();
+        self.active.forget_ended();
         self.values = beginning.values;
         self.shares = beginning.shares;
         drop(self.program.replace(program));
@@ -158,6 +165,7 @@ impl Tenant {
         ensures room { result ≢ Err Refusal.Memory }
         ensures refused { IfErr result (λ r. (budgets : Budgets) → IsRefused self.old (commanded budgets Command.Start) r) }
         ensures started { OnOk result ((budgets : Budgets) → IsAnswered self.old (commanded budgets Command.Start) Reply.Started self.new) }
+        ensures none_ended { OnOk result ((self.old.row.active ≡ []) × (self.new.row.active ≡ []) × (self.new.ended ≡ [])) }
     {
         if self.is_running() {
             return Err(Refusal::Running);
@@ -170,7 +178,7 @@ impl Tenant {
         self.state = State::Running;
         self.mode_time = 0;
         self.next_due = 0;
-        self.active.clear();
+        self.active.forget_ended();
         Ok(())
     }
 
@@ -182,6 +190,7 @@ impl Tenant {
         ensures room { result ≢ Err Refusal.Memory }
         ensures refused { IfErr result (λ r. (budgets : Budgets) → IsRefused self.old (commanded budgets Command.Stop) r) }
         ensures stopped { OnOk result ((budgets : Budgets) → IsAnswered self.old (commanded budgets Command.Stop) Reply.Stopped self.new) }
+        ensures all_ended { OnOk result ((self.new.row.active ≡ []) × (self.new.ended ≡ self.old.row.active)) }
     {
         if !self.is_running() {
             return Err(Refusal::NotRunning);

@@ -1,35 +1,45 @@
 //! The first half of an instant: due tasks end, and due actuators are updated.
 
-ghost use Rattle.std.specs.Prelude.{◌≡◌, ◌<◌, ◌≤◌, not, true, false, ◌∷◌, [], length, map, filter, Some, None, IfSome, ◌⊎◌};
-ghost use Rattle.std.specs.List.{find, list_all, AllByRecursion};
+ghost use Rattle.std.specs.Prelude.{◌≡◌, ◌<◌, ◌≤◌, not, true, false, ◌∷◌, [], length, map, filter, Some, None, IfSome, ◌⊎◌, Bool};
+ghost use Rattle.std.specs.List.{find, list_any, AllByRecursion};
 ghost use Rattle.std.specs.Option.{option_map};
 ghost use Rattle.giotto_text.specs.Program.{ModeDeclaration};
 ghost use Rattle.giotto_check.specs.inner.Slots.{slots_of};
 ghost use Rattle.giotto_check.specs.Slots.{valuation_of};
 ghost use Rattle.giotto_check.specs.inner.Timetables.{AreEach, IsInvocation};
 ghost use Rattle.tenant_slots.specs.Places.{name_of_task};
+ghost use Rattle.tenant_jobs.specs.inner.Finished.{is_entered};
+ghost use Rattle.tenant_state.specs.declared.tenants.Active.{Active};
+ghost use Rattle.tenant_state.specs.Jobs.{job_of};
 ghost use Rattle.tenant_state.specs.inner.EntryTable.{IsTableOf, AreDueEnded, MarksDue, entries_at, is_among_due, is_left_open, is_task_open};
 ghost use Rattle.tenant_state.specs.FirstHalf.{all_ended};
 ghost use Rattle.tenant_state.specs.inner.Halves.{IsFirstHalf};
 ghost use Rattle.tenant_state.specs.Standing.{most_released};
-ghost use Rattle.tenant_state.specs.Tenants.{active_of, is_completed};
-ghost use Rattle.tenant_state.specs.inner.Tenants.{IsActiveOf};
+ghost use Rattle.tenant_state.specs.inner.Standing.{HasItsEntries, HasItsResults};
+ghost use Rattle.tenant_state.specs.Tenants.{active_of};
+ghost use Rattle.tenant_state.specs.inner.Tenants.{IsActiveOf, IsResultRight, is_done};
 
 use crate::tenants::active_tasks::ActiveTasks;
+use crate::tenants::completions::result_of;
 use crate::tenants::{Active, Reason, State, Tenant};
 use giotto_check::Checked;
 use giotto_check::timetables::SlotInvocation;
 use giotto_tasks::names::Name;
 use giotto_text::programs::Program;
+use rig_config::TenantId;
+use tenant_jobs::finished::Finished;
 use tenant_slots::actuators::update_due;
 use tenant_slots::due::Due;
 use tenant_slots::tasks::write_results;
 
 impl Tenant {
-    /// The first half of an instant. The due tasks write their results, and the due actuators are updated; or the tenant is
-    /// stopped where the computation of a due task isn't completed. Takes no memory.
-    pub fn phase_one(&mut self)
-        ensures half { IsFirstHalf self.old self.new }
+    /// The first half of an instant. The due tasks write their results, which are in this table, and the due actuators are updated; or
+    /// the tenant is stopped where a due task has no result. Takes no memory.
+    pub fn phase_one(&mut self, finished: &Finished)
+        requires rest { self.old.ended ≡ [] }
+        requires entries { HasItsEntries self.old finished.now.entries }
+        requires results { HasItsResults self.old finished.now.entries }
+        ensures half { IsFirstHalf finished.now.entries self.old self.new }
         ensures room { self.old.room ≤ self.new.room }
         ensures shared { self.new.shared ≡ self.old.shared }
         ensures fewer { most_released self.new.row ≤ most_released self.old.row }
@@ -45,16 +55,35 @@ impl Tenant {
         if time < self.next_due {
             return;
         }
+        let tenant = self.place;
         let invocations = checked.invocations(self.mode);
         let active = self.active.as_slice();
         let table = entry_table(active);
-        if let Some(task) = first_unfinished(invocations, time, active, &table) {
+        let unfinished = first_unfinished(
+            checked,
+            tenant,
+            finished,
+            invocations,
+            time,
+            active,
+            &table,
+        );
+        if let Some(task) = unfinished {
             let name = name_of(checked.program(), task);
             self.stop_with(Reason::Overrun(name));
             return;
         }
         let values = self.values.as_mut_slice();
-        end_due(checked, invocations, time, active, &table, values);
+        end_due(
+            checked,
+            tenant,
+            finished,
+            invocations,
+            time,
+            active,
+            &table,
+            values,
+        );
         drop_due(invocations, time, &mut self.active);
         update_due(checked, self.mode, time, values);
     }
@@ -68,18 +97,23 @@ fn name_of(program: &Program, task: usize) -> Name
     program.tasks()[task].name.copy()
 }
 
-// Whether every active task is completed.
-fn all_completed(active: &[Active]) -> bool
-    ensures { result ≡ list_all is_completed active.now }
+// Whether an active task at this place of the program has no result.
+fn is_unfinished(
+    checked: &Checked,
+    tenant: TenantId,
+    finished: &Finished,
+    active: &[Active],
+    task: usize,
+) -> bool
+    requires { AllByRecursion (IsActiveOf checked.now) active.now }
+    ensures { result ≡ is_task_open (is_done finished.now.entries tenant checked.now) active.now task }
 {
-    active.iter().all(|a| a.completed)
-}
-
-// Whether an active task at this place of the program isn't completed.
-fn is_unfinished(active: &[Active], task: usize) -> bool
-    ensures { result ≡ is_task_open active.now task }
-{
-    active.iter().any(|a| a.task == task && !a.completed)
+    for a in active {
+        if a.task == task && result_of(checked, tenant, finished, a).is_none() {
+            return true;
+        }
+    }
+    false
 }
 
 // The number of each task's one active entry, from 1, or 0 where it has none. Nothing where a task has two, or there are few, or many.
@@ -115,24 +149,32 @@ fn entries_of<'a>(active: &'a [Active], table: &Option<[u8; 64]>, task: usize) -
     &active[end.saturating_sub(1)..end]
 }
 
-// The place of the first task in text order that is due and not completed.
+// The place of the first task in text order that is due and has no result.
 fn first_unfinished(
+    checked: &Checked,
+    tenant: TenantId,
+    finished: &Finished,
     invocations: &[SlotInvocation],
     time: u64,
     active: &[Active],
     table: &Option<[u8; 64]>,
 ) -> Option<usize>
     requires positive { AllByRecursion (λ i. 0 < i.interval) invocations.now }
+    requires active { AllByRecursion (IsActiveOf checked.now) active.now }
+    requires entered { AllByRecursion (λ a. is_entered finished.now.entries (job_of tenant (active_of checked.now a)) ≡ true) active.now }
     requires table { IfSome table.now (IsTableOf (length active.now) active.now) }
-    ensures { result ≡ option_map (λ i. i.task) (find (is_left_open time active.now) invocations.now) }
+    ensures { result ≡ option_map (λ i. i.task) (find (is_left_open time (is_done finished.now.entries tenant checked.now) active.now) invocations.now) }
 {
-    if all_completed(active) {
+    if finished.is_complete() {
         return None;
     }
     let mut due = Due::at(time);
     for invocation in invocations {
         let task = invocation.task;
-        if due.is_due(invocation.interval) && is_unfinished(entries_of(active, table, task), task) {
+        let entries = entries_of(active, table, task);
+        if due.is_due(invocation.interval)
+            && is_unfinished(checked, tenant, finished, entries, task)
+        {
             return Some(task);
         }
     }
@@ -142,6 +184,8 @@ fn first_unfinished(
 // The due tasks end, in the order of these invocations.
 fn end_due(
     checked: &Checked,
+    tenant: TenantId,
+    finished: &Finished,
     invocations: &[SlotInvocation],
     time: u64,
     active: &[Active],
@@ -153,7 +197,8 @@ fn end_due(
     requires positive { AllByRecursion (λ i. 0 < i.interval) invocations.now }
     requires there { AllByRecursion (λ i. i.task < length checked.now.tasks) invocations.now }
     requires table { IfSome table.now (IsTableOf (length active.now) active.now) }
-    requires completed { find (is_left_open time active.now) invocations.now ≡ None }
+    requires right { AllByRecursion (IsResultRight finished.now.entries tenant checked.now) active.now }
+    requires done { find (is_left_open time (is_done finished.now.entries tenant checked.now) active.now) invocations.now ≡ None }
     ensures { (m : ModeDeclaration) → AreEach (IsInvocation checked.now m) m.invocations invocations.now
         → AreDueEnded checked.now m time active.now values.old values.new }
 {
@@ -162,40 +207,59 @@ fn end_due(
     for invocation in invocations {
         if due.is_due(invocation.interval) {
             let task = invocation.task;
-            end_each(checked, entries_of(active, table, task), task, values);
+            let entries = entries_of(active, table, task);
+            end_each(checked, tenant, finished, entries, task, values);
         }
     }
 }
 
 // Each active task at this place of the program ends.
-fn end_each(checked: &Checked, active: &[Active], task: usize, values: &mut [i64])
+fn end_each(
+    checked: &Checked,
+    tenant: TenantId,
+    finished: &Finished,
+    active: &[Active],
+    task: usize,
+    values: &mut [i64],
+)
     requires there { task < length checked.now.tasks }
     requires values { length values.old ≡ slots_of checked.now }
     requires active { AllByRecursion (IsActiveOf checked.now) active.now }
-    requires completed { is_task_open active.now task ≡ false }
+    requires right { AllByRecursion (IsResultRight finished.now.entries tenant checked.now) active.now }
+    requires done { is_task_open (is_done finished.now.entries tenant checked.now) active.now task ≡ false }
     ensures { valuation_of checked.now values.new
         ≡ all_ended checked.now (map (active_of checked.now) (entries_at task active.now)) (valuation_of checked.now values.old) }
 {
     for a in active {
         if a.task == task {
-            end(checked, a, values);
+            end(checked, tenant, finished, a, values);
         }
     }
 }
 
 // A task ends: its outputs and its states get the values of its computation.
-fn end(checked: &Checked, active: &Active, values: &mut [i64])
+fn end(
+    checked: &Checked,
+    tenant: TenantId,
+    finished: &Finished,
+    active: &Active,
+    values: &mut [i64],
+)
     requires values { length values.old ≡ slots_of checked.now }
     requires active { IsActiveOf checked.now active.now }
-    requires completed { is_completed active.now ≡ true }
+    requires right { IsResultRight finished.now.entries tenant checked.now active.now }
+    requires done { is_done finished.now.entries tenant checked.now active.now ≡ true }
     ensures { valuation_of checked.now values.new ≡ all_ended checked.now (active_of checked.now active.now ∷ []) (valuation_of checked.now values.old) }
 {
     let _program = checked.program();
+    let Some(result) = result_of(checked, tenant, finished, active) else {
+        unreachable!()
+    };
     write_results(
         checked,
         active.task,
-        &active.outputs,
-        &active.new_states,
+        &result.outputs,
+        &result.states,
         values,
     );
 }
@@ -232,10 +296,11 @@ fn is_task_due(invocations: &[SlotInvocation], time: u64, marks: &[bool; 64], ta
     false
 }
 
-// The due tasks are active no longer. Those that go on keep their order; one is moved up where another ends before it.
+// The due tasks end. Those that go on keep their order; one is moved up where another ends before it.
 fn drop_due(invocations: &[SlotInvocation], time: u64, active: &mut ActiveTasks)
-    requires { AllByRecursion (λ i. 0 < i.interval) invocations.now }
+    requires positive { AllByRecursion (λ i. 0 < i.interval) invocations.now }
     ensures items { active.new.items ≡ filter (λ a. not (is_among_due time a.task invocations.now)) active.old.items }
+    ensures ended { (test : Active → Bool) → list_any test active.new.ended ≡ list_any test (filter (λ a. is_among_due time a.task invocations.now) active.old.items) }
     ensures room { active.old.room ≤ active.new.room }
 {
     let marks = due_marks(invocations, time);
@@ -248,5 +313,6 @@ fn drop_due(invocations: &[SlotInvocation], time: u64, active: &mut ActiveTasks)
             kept += 1;
         }
     }
+    active.ended = active.count - kept;
     active.count = kept;
 }

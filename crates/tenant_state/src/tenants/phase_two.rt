@@ -1,6 +1,6 @@
 //! The second half of an instant: sensors are read, a switch is taken, tasks are released, and the mode time moves on.
 
-ghost use Rattle.std.specs.Prelude.{◌≡◌, ◌<◌, ◌≤◌, ◌+◌, ◌-◌, ◌^◌, ◌++◌, length, map, true, is_some, IsTrue};
+ghost use Rattle.std.specs.Prelude.{◌≡◌, ◌<◌, ◌≤◌, ◌+◌, ◌-◌, ◌^◌, ◌++◌, [], length, map, true, is_some, IsTrue};
 ghost use Rattle.std.specs.Arc.{arc_value};
 ghost use Rattle.std.specs.List.{AllByRecursion, list_all};
 ghost use Rattle.std.specs.Option.{option_map};
@@ -35,11 +35,13 @@ impl Tenant {
     /// The second half of an instant whose number is below the greatest. `frame` has the input value of each line. The jobs of the
     /// tasks that are released are added to `jobs`, which has room for them. Takes no memory.
     pub fn phase_two(&mut self, budgets: &Budgets, frame: &[i64], jobs: &mut Jobs)
+        requires rest { self.old.ended ≡ [] }
         requires next_tick { self.old.row.next_tick < 2 ^ 64 - 1 }
         requires room { HasRoom self.old }
         requires shares { HasShares self.old }
         requires jobs { most_released self.old.row ≤ jobs.old.room }
         ensures half { IsSecondHalf budgets.now.reads frame.now self.old self.new }
+        ensures released { AreReleased self.old.row self.new.row }
         ensures jobs { jobs.new.jobs ≡ jobs.old.jobs ++ released_at self.old.place self.old.row.next_tick self.new.row }
         ensures room { jobs.old.room ≤ jobs.new.room + most_released self.old.row }
     {
@@ -63,6 +65,7 @@ impl Tenant {
     // Inlined, so that a tenant that isn't running costs its host no call.
     #[inline(always)]
     pub fn phase_two_without_jobs(&mut self, budgets: &Budgets, frame: &[i64])
+        requires rest { self.old.ended ≡ [] }
         requires next_tick { self.old.row.next_tick < 2 ^ 64 - 1 }
         requires room { HasRoom self.old }
         ensures half { IsSecondHalf budgets.now.reads frame.now self.old self.new }
@@ -148,5 +151,7 @@ fn job_for(program: &Program, tenant: TenantId, active: &Active, body: Arc<Body,
         tick: active.release,
         task: program.tasks()[active.task].name.copy(),
     };
-    Job::new(id, body, active.inputs.copy(), active.states.copy())
+    let inputs = active.inputs.copy();
+    let states = active.states.copy();
+    Job::new(id, body, inputs, states, active.key.copy())
 }

@@ -8,7 +8,7 @@ ghost use Rattle.giotto_text.specs.declared.programs.Actuator.{Actuator};
 ghost use Rattle.giotto_check.specs.declared.timetables.SlotInvocation.{SlotInvocation};
 ghost use Rattle.tenant_slots.specs.Places.{name_of_task};
 ghost use Rattle.tenant_state.specs.FirstHalf.{names_due};
-ghost use Rattle.tenant_state.specs.Jobs.{is_active};
+ghost use Rattle.tenant_state.specs.inner.Standing.{has_active};
 ghost use Rattle.tenant_state.specs.Readers.{actuator_value};
 ghost use Rattle.tenant_state.specs.inner.Tenants.{IsActiveOf, is_of_job};
 
@@ -38,10 +38,13 @@ impl Tenant {
         ends_at(checked.invocations(self.mode), self.mode_time, place)
     }
 
-    /// Whether this job's task is active, with the job's release. Takes no memory.
+    /// Whether this is a job of the tenant's whose task is active, with the job's release. Takes no memory.
     pub fn is_active(&self, id: &JobId) -> bool
-        ensures { result ≡ is_active self.now.row id.now }
+        ensures { result ≡ has_active self.now id.now }
     {
+        if id.tenant != self.place {
+            return false;
+        }
         let Some(checked) = &self.program else {
             return false;
         };

@@ -33,7 +33,7 @@ impl Tenant {
         ensures shares { OnOk result (HasShares self.new) }
         ensures place { self.new.place ≡ self.old.place }
         ensures row { self.new.row ≡ self.old.row }
-        ensures completed { self.new.completed ≡ self.old.completed }
+        ensures ended { self.new.ended ≡ self.old.ended }
     {
         let State::Running = &self.state else {
             return Ok(0);

@@ -1,6 +1,6 @@
 //! Releases: what an instant makes active.
 
-ghost use Rattle.std.specs.Prelude.{◌≡◌, ◌≤◌, ◌<◌, ◌+◌, ◌++◌, ◌∷◌, [], false, length, map, filter};
+ghost use Rattle.std.specs.Prelude.{◌≡◌, ◌≤◌, ◌<◌, ◌+◌, ◌++◌, ◌∷◌, [], length, map, filter};
 ghost use Rattle.std.specs.List.{AllByRecursion};
 ghost use Rattle.giotto_check.specs.inner.Slots.{slots_of};
 ghost use Rattle.giotto_check.specs.Slots.{valuation_of};
@@ -8,7 +8,7 @@ ghost use Rattle.giotto_text.specs.Program.{ModeDeclaration, TaskInvocation};
 ghost use Rattle.tenant_slots.specs.Due.{is_due_at};
 ghost use Rattle.tenant_slots.specs.inner.Due.{IsQuietUntil};
 ghost use Rattle.tenant_state.specs.inner.Releases.{IsEntryOf, AreInputsGiven, ForItsInvocation, released_by};
-ghost use Rattle.tenant_state.specs.Tenants.{active_of, is_completed};
+ghost use Rattle.tenant_state.specs.Tenants.{active_of};
 ghost use Rattle.tenant_state.specs.inner.Tenants.{AreInvoked, IsActiveIn};
 ghost use Rattle.tenant_slots.specs.inner.Places.{IsModeAt};
 
@@ -36,7 +36,9 @@ pub(crate) fn invoke_due(
     requires room { (m : ModeDeclaration) → IsModeAt checked.now mode m
         → length (filter (λ (i : TaskInvocation). is_due_at time m i.frequency) m.invocations) ≤ active.old.room }
     requires each { AllByRecursion (IsActiveIn checked.now (release + 1)) active.old.items }
-    ensures { (m : ModeDeclaration) → IsModeAt checked.now mode m
+    requires rest { active.old.ended ≡ [] }
+    ensures rest { active.new.ended ≡ [] }
+    ensures invoked { (m : ModeDeclaration) → IsModeAt checked.now mode m
         → AreInvoked checked.now m time release (valuation_of checked.now values.old) active.old.items active.new.items values.new }
 {
     if time < next {
@@ -63,9 +65,10 @@ fn add_release(
     requires its { IsEntryOf checked.now invocation.now }
     requires room { 0 < active.old.room }
     requires each { AllByRecursion (IsActiveIn checked.now (release + 1)) active.old.items }
+    requires rest { active.old.ended ≡ [] }
+    ensures rest { active.new.ended ≡ [] }
     ensures tasks { ForItsInvocation checked.now invocation.now (λ i t. map (active_of checked.now) active.new.items
         ≡ map (active_of checked.now) active.old.items ++ released_by checked.now release values.old i t ∷ []) }
-    ensures marks { map is_completed active.new.items ≡ map is_completed active.old.items ++ false ∷ [] }
     ensures ports { AreInputsGiven checked.now invocation.now values.old values.new }
     ensures each { AllByRecursion (IsActiveIn checked.now (release + 1)) active.new.items }
     ensures room { active.new.room + 1 ≡ active.old.room }
@@ -95,11 +98,9 @@ fn activate(
     ensures active { ForItsInvocation checked.now invocation.now (λ i t. active_of checked.now active.new ≡ released_by checked.now release values.old i t) }
     ensures ports { AreInputsGiven checked.now invocation.now values.old values.new }
     ensures fits { IsActiveIn checked.now (release + 1) active.new }
-    ensures open { active.new.completed ≡ false }
 {
     active.task = invocation.task;
     active.release = release;
-    active.completed = false;
     active.inputs.set(&[]);
     argument_values(invocation.arguments.as_slice(), values, &mut active.inputs);
     active.states.set(&[]);

@@ -1,6 +1,6 @@
 //! A stop: of a tenant that asks for it, or of one whose due task isn't completed.
 
-ghost use Rattle.std.specs.Prelude.{◌≡◌, ◌≤◌};
+ghost use Rattle.std.specs.Prelude.{◌≡◌, ◌≤◌, []};
 ghost use Rattle.tenant_state.specs.FirstHalf.{stopped_with};
 ghost use Rattle.tenant_state.specs.inner.Standing.{IsBehind};
 ghost use Rattle.tenant_state.specs.Standing.{most_released};
@@ -13,14 +13,17 @@ impl Tenant {
     // Stops the tenant: its actuators are initial, and no task is active.
     pub(crate) fn stop_with(&mut self, reason: Reason)
         ensures step { IsBehind self.old (stopped_with (reason_of reason)) self.new }
+        ensures active { self.new.row.active ≡ [] }
+        ensures ended { self.new.ended ≡ self.old.row.active }
         ensures room { self.old.room ≤ self.new.room }
         ensures shared { self.new.shared ≡ self.old.shared }
         ensures fewer { most_released self.new.row ≡ 0 }
         ensures place { self.new.place ≡ self.old.place }
+        ensures program { self.new.row.program ≡ self.old.row.program }
         ensures next_tick { self.new.row.next_tick ≡ self.old.row.next_tick }
     {
         self.state = State::Stopped(reason);
-        self.active.clear();
+        self.active.end_all();
         if let Some(checked) = &self.program {
             reset_actuators(checked, self.values.as_mut_slice());
         }

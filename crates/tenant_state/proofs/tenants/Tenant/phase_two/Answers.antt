@@ -27,7 +27,8 @@ returns c =
     c.in-Some.is c.phase_two_without_jobs.ensures.released c.len-before.result c.as_slice.result.now c.len-before.ensures c.as_slice.ensures in
     let place : c.self-2.inside.place ≡ c.args.self.now.place = ap (λ (s : Standing). s.place) c.self-2.view_is ∙ c.phase_two_without_jobs.ensures.half.place in
     record {
-      half = record { step = search rules; next_tick = search rules; place = place };
+      half = record { step = search rules; next_tick = search rules; place = place; program = search rules; ended = search rules };
+      released = search rules;
       jobs = c.add_jobs.ensures.jobs ∙ ap (λ js. c.args.jobs.now.jobs ++ js) (sym new.jobs ∙ (λ k. released_at (place k) c.args.self.now.row.next_tick (sym c.self-2.view_is k).row));
       room = omega (arith, new.few, c.add_jobs.ensures.room);
     }

@@ -18,6 +18,7 @@ use Rattle.tenant_state.proofs.EndedTasks.{its_mode}
 use Rattle.tenant_state.proofs.HalfStands.{sensed_ports, room_due, half_stands, half_released}
 use Rattle.tenant_state.proofs.SecondHalfSteps.{IsBehindSwitch, none_taken, one_taken}
 use Rattle.tenant_state.proofs.TenantBehind.{active_later, mode_read, tenant_behind}
+use Rattle.tenant_state.proofs.TenantFacts.{none_stand}
 use Rattle.tenant_state.proofs.tenants.Tenant.phase_two_without_jobs.Goals as goal
 use Rattle.tenant_state.proofs.tenants.Tenant.phase_two_without_jobs.Goals.{in-Some-switch, in_default-switch, After-modes}
 
@@ -68,8 +69,9 @@ invoke_due-requires c =
     record {
       quiet = new.quiet;
       values = omega (arith, c.switch.auto.values, c.sense.auto.values, ap length c.as_mut_slice-values.ensures.value, is.fits.long);
-      room = room_due 0 p c.program.ensures.fits (its read).0 s.mode s.mode_time 0 s.active.room s.active.items s.values.items [] (its read).1 c.match-switch.mode c.match-switch.time c.match-switch.next (readings read) c.switch.new.values new room;
+      room = room_due 0 p c.program.ensures.fits (its read).0 s.mode s.mode_time 0 s.active.room s.active.items s.active.ended s.values.items [] (its read).1 c.match-switch.mode c.match-switch.time c.match-switch.next (readings read) c.switch.new.values new room;
       each = active_later p s.next_tick s.active.items is.fits.each;
+      rest = none_stand p s.active.ended (rw (← c.self.view_is, c.in-Some.is) at c.requires.rest);
     }
 
 pub overflow_add-behind : goal.overflow_add-behind
@@ -115,15 +117,16 @@ module _ (c : goal.After-self-6-1) where
       let whole : vec_items (with_items c.self.inside.values c.invoke_due.new.values) ≡ c.invoke_due.new.values =
       whole_slice c.self.inside.values.len c.invoke_due.new.values c.self.inside.values.items
       (omega (arith, c.invoke_due.auto.values, c.switch.auto.values, c.sense.auto.values, ap length c.as_mut_slice-values.ensures.value, c.self.inside.values.ok.0)) in
-      rw whole (c.invoke_due.ensures (behind read).new (behind read).there)
+      rw whole (c.invoke_due.ensures.invoked (behind read).new (behind read).there)
 
 pub invariant_of-self-2 : goal.invariant_of-self-2
 invariant_of-self-2 c =
     let s = c.self.inside in
     let p = c.in-Some.checked in
-    let is = rw c.in-Some.is at c.self.invariant in
+    let is = rw (c.in-Some.is, c.in-Running.is) at c.self.invariant in
     let new = behind (read c) in
-    rw c.in-Some.is (tenant_behind p c.program.ensures.fits c.match-switch.mode new.new new.there s.mode s.mode_time c.match-switch.time c.match-switch.next s.next_due _ _ s.next_tick _ _ _ _ _ _ (lasts (read c) c.index-modes-mode.result) is (happened c) new.quiet c.due_behind-self-inside.ensures)
+    let none = none_stand p s.active.ended (rw (← c.self.view_is, c.in-Some.is) at c.requires.rest) in
+    rw (c.in-Some.is, c.in-Running.is, c.invoke_due.ensures.rest, ← none) (tenant_behind p c.program.ensures.fits c.match-switch.mode new.new new.there s.mode s.mode_time c.match-switch.time c.match-switch.next s.next_due _ _ s.next_tick _ _ _ _ _ _ _ (lasts (read c) c.index-modes-mode.result) is (happened c) new.quiet c.due_behind-self-inside.ensures)
 
 pub returns-clause-half : goal.returns-clause-half
 returns-clause-half c = record {
@@ -131,10 +134,12 @@ returns-clause-half c = record {
       let p = c.in-Some.checked in
       let new = behind (read c) in
       rw (← c.self.view_is, c.in-Running.is, c.in-Some.is)
-      (half_stands s.place p c.program.ensures.fits (its (read c)).0 s.mode s.mode_time s.next_tick s.active.room s.active.items s.values.items (map (option_map arc_value) s.shares.items) (its (read c)).1
+      (half_stands s.place p c.program.ensures.fits (its (read c)).0 s.mode s.mode_time s.next_tick s.active.room s.active.items s.active.ended s.values.items (map (option_map arc_value) s.shares.items) (its (read c)).1
       c.match-switch.mode c.match-switch.time c.match-switch.next (readings (read c)) c.switch.new.values new _ c.invoke_due.new.active.room (lasts (read c) c.index-modes-mode.result) _ _ (happened c));
   next_tick = search rules;
   place = search rules;
+  program = search rules;
+  ended = search rules;
 }
 
 pub returns-clause-released : goal.returns-clause-released
@@ -143,5 +148,5 @@ returns-clause-released c =
     let p = c.in-Some.checked in
     let new = behind (read c) in
     rw (← c.self.view_is, c.in-Running.is, c.in-Some.is)
-    (half_released 0 p c.program.ensures.fits (its (read c)).0 s.mode s.mode_time s.next_tick 0 s.active.items s.values.items [] (its (read c)).1
+    (half_released 0 p c.program.ensures.fits (its (read c)).0 s.mode s.mode_time s.next_tick 0 s.active.items s.active.ended s.values.items [] (its (read c)).1
     c.match-switch.mode c.match-switch.time c.match-switch.next (readings (read c)) c.switch.new.values new _ 0 (lasts (read c) c.index-modes-mode.result) _ _ (happened c))

@@ -1,6 +1,11 @@
 use Rattle.std.proofs.Common.{◌≡◌, find, drop}
-use Rattle.tenant_state.specs.inner.Tenants.{awaits_job}
+use Rattle.tenant_jobs.specs.Jobs.{same_job}
+use Rattle.tenant_state.specs.declared.tenants.Active.{Active}
+use Rattle.tenant_state.specs.Jobs.{job_of}
+use Rattle.tenant_state.specs.Tenants.{active_of}
 use Rattle.tenant_state.proofs.tenants.completions.place_of.Given as goal
 
 abbrev pub invariant-loop-place : goal.invariant-loop-place
-invariant-loop-place l = find (awaits_job l.checked l.id) l.active ≡ find (awaits_job l.checked l.id) (drop l.place l.active)
+invariant-loop-place l =
+    let named = λ (a : Active). same_job (job_of l.tenant (active_of l.checked a)) l.id in
+    find named l.active ≡ find named (drop l.place l.active)

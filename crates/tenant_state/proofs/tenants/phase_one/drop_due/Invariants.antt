@@ -1,11 +1,17 @@
-use Rattle.std.proofs.Common.{◌%◌, ◌==◌, ◌&&◌, not, nat_eq}
-use Rattle.std.specs.List.{list_any}
+use Rattle.std.proofs.Common.{◌≡◌, Bool, not}
 use Rattle.std.proofs.lemmas.List.Filters.{FiltersInPlace}
-use Rattle.giotto_check.specs.declared.timetables.SlotInvocation.{SlotInvocation}
 use Rattle.tenant_state.specs.declared.tenants.Active.{Active}
+use Rattle.tenant_state.specs.inner.EntryTable.{is_among_due}
+use Rattle.tenant_state.proofs.Dropped.{AreBehind}
 use Rattle.tenant_state.proofs.tenants.phase_one.drop_due.Given as goal
 
 abbrev pub invariant-loop-i : goal.invariant-loop-i
 invariant-loop-i l =
-    let goes_on = λ (a : Active). not (list_any (λ (i : SlotInvocation). nat_eq a.task i.task && (l.time % i.interval == 0)) l.invocations) in
-    FiltersInPlace goes_on l.initial.active-inside.entries.items l.active-inside.entries.items l.kept l.i
+    let due : Active → Bool = λ a. is_among_due l.time a.task l.invocations in
+    let before = l.initial.active-inside in
+    let now = l.active-inside in
+    record {
+      count : now.count ≡ before.count;
+      stay : FiltersInPlace (λ a. not (due a)) before.entries.items now.entries.items l.kept l.i;
+      behind : AreBehind due before.entries.items now.entries.items l.kept l.i;
+    }

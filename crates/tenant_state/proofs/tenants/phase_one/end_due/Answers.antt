@@ -1,5 +1,5 @@
-use Rattle.std.proofs.Common.{◌≡◌, ℕ, ◌+◌, ◌<◌, ◌%◌, ◌==◌, ◌&&◌, true, not, nat_eq, [], drop, map, length, ap, sym, subst, ◌∙◌, arith}
-use Rattle.std.specs.List.{flat_map, list_any, AllByRecursion}
+use Rattle.std.proofs.Common.{◌≡◌, ℕ, ◌+◌, ◌<◌, ◌%◌, ◌==◌, ◌&&◌, true, [], drop, map, length, ap, sym, subst, ◌∙◌, arith}
+use Rattle.std.specs.List.{flat_map, AllByRecursion}
 use Rattle.std.proofs.lemmas.List.{drop_all, drop_more}
 use Rattle.giotto_check.specs.Slots.{valuation_of}
 use Rattle.giotto_check.specs.inner.Timetables.{IsInvocation}
@@ -7,11 +7,11 @@ use Rattle.giotto_check.specs.declared.timetables.SlotInvocation.{SlotInvocation
 use Rattle.giotto_check.proofs.EachLemmas.{each_long}
 use Rattle.tenant_slots.proofs.Updates.{each_item}
 use Rattle.tenant_state.specs.FirstHalf.{all_ended}
-use Rattle.tenant_state.specs.Tenants.{active_of, is_completed}
-use Rattle.tenant_state.specs.inner.Tenants.{IsActiveOf}
+use Rattle.tenant_state.specs.Tenants.{active_of}
+use Rattle.tenant_state.specs.inner.Tenants.{IsActiveOf, IsResultRight, is_done}
 use Rattle.tenant_state.proofs.DueTasks.{group}
 use Rattle.tenant_state.proofs.EndedTasks.{end_due, end_none, left_none, not_here}
-use Rattle.tenant_state.specs.inner.EntryTable.{is_left_open}
+use Rattle.tenant_state.specs.inner.EntryTable.{is_left_open, is_task_open}
 use Rattle.tenant_state.proofs.EntryTables.{each_found, same_entries, same_open}
 use Rattle.tenant_state.proofs.tenants.phase_one.end_due.Goals as goal
 use Rattle.tenant_state.proofs.tenants.phase_one.end_due.Goals.{then-is_due, else-is_due}
@@ -31,28 +31,33 @@ loop-invocation-preserved c =
       long = c.if-is_due.auto.values ∙ before.long;
       positive = (subst (AllByRecursion (λ (i : SlotInvocation). 0 < i.interval)) rest before.positive).1;
       there = (subst (AllByRecursion (λ (i : SlotInvocation). i.task < length p.tasks)) rest before.there).1;
-      completed = left_none (is_left_open c.args.time items) es k e c.loop-invocation-test.true before.completed;
+      done = left_none (is_left_open c.args.time (is_done c.args.finished.now.entries c.args.tenant p) items) es k e c.loop-invocation-test.true before.done;
       value = λ m each.
           let item = each_item (IsInvocation p m) m.invocations es k e each c.loop-invocation-test.true c.invocation-item.is in
           elim c.if-is_due.branch [
             | then-is_due w ↦ end_due p c.program-program.ensures.fits m c.args.time items c.requires.active m.invocations item.0 e k item.1 item.2 (now ∙ w.if-is_due.true) _ _ _
-                (ap (valuation_of p) w.values-is ∙ w.end_each.ensures ∙ ap (λ xs. all_ended p (map (active_of p) xs) (valuation_of p c.loop-invocation.values)) (same_entries e.task items w.entries_of.result.now w.entries_of.ensures)) (before.value m each)
+                (ap (valuation_of p) w.values-is ∙ w.end_each.ensures ∙ ap (λ xs. all_ended p (map (active_of p) xs) (valuation_of p c.loop-invocation.values)) (same_entries e.task items w.entries_of-entries.result.now w.entries_of-entries.ensures)) (before.value m each)
             | else-is_due w ↦ ap (λ vs. all_ended p (flat_map (group m c.args.time (map (active_of p) items)) (drop (k + 1) m.invocations)) (valuation_of p vs)) w.values-is
                 ∙ end_none p c.program-program.ensures.fits m c.args.time items c.requires.active m.invocations item.0 e k item.1 item.2 (now ∙ w.if-is_due.false) _ _ (before.value m each)
           ];
     }
 
 pub end_each-requires-clause-active : goal.end_each-requires-clause-active
-end_each-requires-clause-active c = each_found _ c.args.active.now c.entries_of.result.now c.entries_of.ensures (IsActiveOf c.args.checked.now) c.requires.active
+end_each-requires-clause-active c = each_found _ c.args.active.now c.entries_of-entries.result.now c.entries_of-entries.ensures (IsActiveOf c.args.checked.now) c.requires.active
 
-pub end_each-requires-clause-completed : goal.end_each-requires-clause-completed
-end_each-requires-clause-completed c =
+pub end_each-requires-clause-right : goal.end_each-requires-clause-right
+end_each-requires-clause-right c =
+    each_found _ c.args.active.now c.entries_of-entries.result.now c.entries_of-entries.ensures (IsResultRight c.args.finished.now.entries c.args.tenant c.args.checked.now) c.requires.right
+
+pub end_each-requires-clause-done : goal.end_each-requires-clause-done
+end_each-requires-clause-done c =
     let items = c.args.active.now in
+    let done = is_done c.args.finished.now.entries c.args.tenant c.args.checked.now in
     let e = c.invocation-item.result in
     let before = c.loop-invocation.invariant in
     let now : (c.args.time % e.interval == 0) ≡ true = ap (λ (t : ℕ). t % e.interval == 0) (sym before.time) ∙ sym c.is_due.ensures.due ∙ c.if-is_due.true in
-    same_open e.task items c.entries_of.result.now c.entries_of.ensures ∙ ap (λ b. b && list_any (λ a. nat_eq a.task e.task && not (is_completed a)) items) (sym now)
-    ∙ not_here (is_left_open c.args.time items) c.args.invocations.now c.loop-invocation.invocation-index e c.loop-invocation-test.true c.invocation-item.is before.completed
+    same_open e.task items c.entries_of-entries.result.now c.entries_of-entries.ensures done ∙ ap (λ b. b && is_task_open done items e.task) (sym now)
+    ∙ not_here (is_left_open c.args.time done items) c.args.invocations.now c.loop-invocation.invocation-index e c.loop-invocation-test.true c.invocation-item.is before.done
 
 pub returns : goal.returns
 returns c = λ m each.

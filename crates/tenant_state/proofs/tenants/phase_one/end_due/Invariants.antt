@@ -9,6 +9,7 @@ use Rattle.tenant_state.specs.FirstHalf.{all_ended}
 use Rattle.tenant_state.specs.Tenants.{active_of}
 use Rattle.tenant_state.proofs.DueTasks.{group}
 use Rattle.tenant_state.specs.inner.EntryTable.{is_left_open}
+use Rattle.tenant_state.specs.inner.Tenants.{is_done}
 use Rattle.tenant_state.proofs.tenants.phase_one.end_due.Given as goal
 
 abbrev pub invariant-loop-invocation : goal.invariant-loop-invocation
@@ -21,7 +22,7 @@ invariant-loop-invocation l =
       long : length l.values ≡ slots_of p;
       positive : AllByRecursion (λ (i : SlotInvocation). 0 < i.interval) left;
       there : AllByRecursion (λ (i : SlotInvocation). i.task < length p.tasks) left;
-      completed : find (is_left_open l.time l.active) left ≡ None;
+      done : find (is_left_open l.time (is_done l.finished.entries l.tenant p) l.active) left ≡ None;
       value : (m : ModeDeclaration) → AreEach (IsInvocation p m) m.invocations l.invocations
           → all_ended p (flat_map (group m l.time active) (drop l.invocation-index m.invocations)) (valuation_of p l.values) ≡ all_ended p (flat_map (group m l.time active) m.invocations) (valuation_of p l.initial.values);
     }

@@ -1,10 +1,11 @@
-use Rattle.std.proofs.Common.{◌≡◌, not, nat_eq, false, ◌&&◌, map, filter, drop, length}
-use Rattle.std.specs.List.{list_any, AllByRecursion}
+use Rattle.std.proofs.Common.{◌≡◌, false, map, drop, length}
+use Rattle.std.specs.List.{AllByRecursion}
 use Rattle.giotto_check.specs.inner.Slots.{slots_of}
 use Rattle.giotto_check.specs.Slots.{valuation_of}
 use Rattle.tenant_state.specs.FirstHalf.{all_ended}
-use Rattle.tenant_state.specs.Tenants.{active_of, is_completed}
-use Rattle.tenant_state.specs.inner.Tenants.{IsActiveOf}
+use Rattle.tenant_state.specs.Tenants.{active_of}
+use Rattle.tenant_state.specs.inner.EntryTable.{entries_at, is_task_open}
+use Rattle.tenant_state.specs.inner.Tenants.{IsActiveOf, IsResultRight, is_done}
 use Rattle.tenant_state.proofs.tenants.phase_one.end_each.Given as goal
 
 abbrev pub invariant-loop-a : goal.invariant-loop-a
@@ -14,7 +15,8 @@ invariant-loop-a l =
     record {
       long : length l.values ≡ slots_of p;
       each : AllByRecursion (IsActiveOf p) left;
-      completed : list_any (λ a. nat_eq a.task l.task && not (is_completed a)) left ≡ false;
-      value : all_ended p (map (active_of p) (filter (λ a. nat_eq a.task l.task) left)) (valuation_of p l.values)
-          ≡ all_ended p (map (active_of p) (filter (λ a. nat_eq a.task l.task) l.active)) (valuation_of p l.initial.values);
+      right : AllByRecursion (IsResultRight l.finished.entries l.tenant p) left;
+      done : is_task_open (is_done l.finished.entries l.tenant p) left l.task ≡ false;
+      value : all_ended p (map (active_of p) (entries_at l.task left)) (valuation_of p l.values)
+          ≡ all_ended p (map (active_of p) (entries_at l.task l.active)) (valuation_of p l.initial.values);
     }

@@ -13,4 +13,4 @@ returns c =
     let within : k < length tasks = omega (arith, sym (ap length c.tasks.ensures) ∙ length-map tasks task_of, c.requires.there) in
     let name = c.copy.ensures ∙ sym (ap (λ o. option_map_or (λ (t : TaskDeclaration). t.name) o []) (task_at tasks c.args.program.now.tasks k c.index-tasks-active.result c.tasks.ensures within)) in
     c.new.ensures
-    ∙ (λ i. record { id = record { tenant = c.args.tenant; tick = c.args.active.now.release; task = name i }; body = c.requires.body i; inputs = c.copy-2.ensures i; states = c.copy-3.ensures i })
+    ∙ (λ i. record { id = record { tenant = c.args.tenant; tick = c.args.active.now.release; task = name i }; body = c.requires.body i; inputs = c.copy-inputs.ensures i; states = c.copy-states.ensures i })

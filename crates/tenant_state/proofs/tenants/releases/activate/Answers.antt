@@ -1,6 +1,5 @@
-use Rattle.std.proofs.Common.{length, false, sym, ap, subst, ◌∙◌, arith}
+use Rattle.std.proofs.Common.{length, sym, ap, subst, ◌∙◌, arith}
 use Rattle.std.specs.Prelude.{IsSomeAnd}
-use Rattle.std.proofs.lemmas.Bool.{false≢true}
 use Rattle.std.proofs.lemmas.List.{length-map}
 use Rattle.giotto_text.specs.Program.{names_of}
 use Rattle.giotto_text.specs.PortNames.{own_ports}
@@ -18,8 +17,8 @@ returns-clause-fits c =
     let inputs = ap length (c.argument_values.ensures p its.invocation.arguments given c.requires.values) ∙ length-map its.invocation.arguments _ ∙ its.as_many in
     let states = ap length (c.state_values.ensures t its.there) ∙ length-map (own_ports t.name (names_of t.states)) _ ∙ length-map (names_of t.states) _ ∙ length-map t.states _ in
     let old = c.args.active.now in
-    let a : Active = record old { task = c.args.invocation.now.task; release = c.args.release; inputs = c.argument_values.new.given; states = c.state_values.new.taken; completed = false } in
+    let a : Active = record old { task = c.args.invocation.now.task; release = c.args.release; inputs = c.argument_values.new.given; states = c.state_values.new.taken } in
     record {
       early = omega arith;
-      declared = subst (λ o. IsSomeAnd o (IsActiveAs a)) (sym its.there) (record { inputs_fit = inputs; states_fit = states; result_fits = λ e. absurd (false≢true e) });
+      declared = subst (λ o. IsSomeAnd o (IsActiveAs a)) (sym its.there) (record { inputs_fit = inputs; states_fit = states });
     }

@@ -1,4 +1,4 @@
-use Rattle.std.proofs.Common.{◌≡◌, ℕ, true, ◌%◌, ◌==◌, [], Some, refl, map, ◌++◌, false, drop, slice_get, sym, ap, ◌∙◌, append-nil, arith}
+use Rattle.std.proofs.Common.{◌≡◌, ℕ, true, ◌%◌, ◌==◌, [], Some, refl, map, ◌++◌, drop, slice_get, sym, ap, ◌∙◌, append-nil, arith}
 use Rattle.std.proofs.lemmas.Bool.{and_from, and_left, and_right}
 use Rattle.std.proofs.lemmas.List.{drop_all}
 use Rattle.giotto_text.specs.Program.{ModeDeclaration}
@@ -6,8 +6,7 @@ use Rattle.giotto_check.specs.inner.Timetables.{IsInvocation}
 use Rattle.giotto_check.proofs.EachLemmas.{each_long}
 use Rattle.tenant_slots.proofs.Numbered.{invocation_due}
 use Rattle.giotto_check.specs.Slots.{valuation_of}
-use Rattle.tenant_state.specs.Row.{ActiveTask}
-use Rattle.tenant_state.specs.Tenants.{active_of, is_completed}
+use Rattle.tenant_state.specs.Tenants.{active_of}
 use Rattle.tenant_state.proofs.HalfStands.{none_due}
 use Rattle.tenant_state.proofs.Released.{its_entry, some_entry, left_as, its_room, waits, happens}
 use Rattle.tenant_state.proofs.tenants.releases.invoke_due.Goals as goal
@@ -17,16 +16,16 @@ pub loop-invocation-init : goal.loop-invocation-init
 loop-invocation-init c = record {
   time = c.at-due.ensures;
   each = c.requires.each;
-  to = λ m at. record { tasks = refl; marks = refl; ports = refl; room = c.requires.room m at };
+  rest = c.requires.rest;
+  to = λ m at. record { tasks = refl; ports = refl; room = c.requires.room m at };
 }
 
-pub returns-then-time-next : goal.returns-then-time-next
-returns-then-time-next c m at =
+pub returns-then-time-next-clause-invoked : goal.returns-then-time-next-clause-invoked
+returns-then-time-next-clause-invoked c m at =
     let p = c.args.checked.now in
     let still = none_due p m c.args.time c.args.release m.invocations (valuation_of p c.args.values.now) (c.requires.quiet m at c.args.time (omega arith) c.if-time-next.true).no_invocation in
     record {
       tasks = sym (ap (λ new. map (active_of p) c.args.active.now.items ++ new) still.0 ∙ append-nil _);
-      marks = sym (ap (λ new. map is_completed c.args.active.now.items ++ map (λ (a : ActiveTask). false) new) still.0 ∙ append-nil _);
       ports = sym still.1;
       each = c.requires.each;
       long = c.requires.values;
@@ -63,6 +62,10 @@ loop-invocation-preserved c =
         | then-is_due+then-holds w ↦ rw (w.active-is) w.add_release.ensures.each
         | else-is_due w ↦ rw (w.active-is) c.loop-invocation.invariant.each
       ];
+      rest = elim c.if-is_due.branch [
+        | then-is_due+then-holds w ↦ rw (w.active-is) w.add_release.ensures.rest
+        | else-is_due w ↦ rw (w.active-is) c.loop-invocation.invariant.rest
+      ];
       to = λ m at.
           let its = its_entry p c.program-program.ensures.fits c.args.mode c.loop-invocation.invocation-index _ e c.loop-invocation-test.true c.invocation-item.is c.invocations-invocation-items.ensures.there m at in
           let due = sym (invocation_due p c.program-program.ensures.fits c.args.time m its.invocation e its.is) ∙ now in
@@ -70,7 +73,7 @@ loop-invocation-preserved c =
           elim c.if-is_due.branch [
             | then-is_due+then-holds w ↦ rw (w.active-is, w.values-is)
                 (happens to its.task (and_from _ _ (due ∙ w.if-is_due.true) (sym (w.holds.ensures p its.invocation.guard its.is.guard long) ∙ w.if-holds.true)) its.found
-                (w.add_release.ensures.tasks m its.invocation its.task its.is its.there) w.add_release.ensures.marks (w.add_release.ensures.ports m its.invocation its.task its.is its.there) w.add_release.ensures.room)
+                (w.add_release.ensures.tasks m its.invocation its.task its.is its.there) (w.add_release.ensures.ports m its.invocation its.task its.is its.there) w.add_release.ensures.room)
             | else-is_due w ↦ rw (w.active-is, w.values-is)
                 (waits to (elim w.else-is_due.branch [
                   | else-is_due-via-then-is_due+else-holds w' ↦ and_right _ _ (sym (w'.holds.ensures p its.invocation.guard its.is.guard long) ∙ w'.if-holds.false)
@@ -79,14 +82,13 @@ loop-invocation-preserved c =
           ];
     }
 
-pub returns : goal.returns
-returns c =
+pub returns-clause-invoked : goal.returns-clause-invoked
+returns-clause-invoked c =
     let none : (m : ModeDeclaration) → slice_get c.args.checked.now.modes c.args.mode ≡ Some m → drop c.loop-invocation.invocation-index m.invocations ≡ [] = λ m at.
     let same = each_long (IsInvocation c.args.checked.now m) m.invocations _ (c.invocations-invocation-items.ensures.there m at) in
     drop_all c.loop-invocation.invocation-index m.invocations (omega (arith, same, c.loop-invocation-test.false)) in
     λ m at. let to = left_as (none m at) (c.loop-invocation.invariant.to m at) in record {
       tasks = sym (append-nil _) ∙ to.tasks;
-      marks = sym (append-nil _) ∙ to.marks;
       ports = to.ports;
       each = c.loop-invocation.invariant.each;
       long = c.loop-invocation.auto.values ∙ c.requires.values;

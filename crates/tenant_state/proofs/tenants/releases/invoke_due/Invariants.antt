@@ -1,4 +1,4 @@
-use Rattle.std.proofs.Common.{◌≡◌, ◌+◌, Some, drop, slice_get}
+use Rattle.std.proofs.Common.{◌≡◌, ◌+◌, [], Some, drop, slice_get}
 use Rattle.std.specs.List.{AllByRecursion}
 use Rattle.giotto_text.specs.Program.{ModeDeclaration}
 use Rattle.giotto_check.specs.Slots.{valuation_of}
@@ -10,6 +10,7 @@ abbrev pub invariant-loop-invocation : goal.invariant-loop-invocation
 invariant-loop-invocation l = record {
   time : l.due ≡ l.time;
   each : AllByRecursion (IsActiveIn l.checked (l.release + 1)) l.active.items;
+  rest : l.active.ended ≡ [];
   to : (m : ModeDeclaration) → slice_get l.checked.modes l.mode ≡ Some m
       → IsInvokedTo l.checked m l.time l.release l.initial.active.items (valuation_of l.checked l.initial.values) (drop l.invocation-index m.invocations) l.active (valuation_of l.checked l.values);
 }

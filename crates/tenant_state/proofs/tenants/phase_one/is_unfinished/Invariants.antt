@@ -1,0 +1,14 @@
+use Rattle.std.proofs.Common.{◌≡◌, drop}
+use Rattle.std.specs.List.{AllByRecursion}
+use Rattle.tenant_state.specs.inner.EntryTable.{is_task_open}
+use Rattle.tenant_state.specs.inner.Tenants.{IsActiveOf, is_done}
+use Rattle.tenant_state.proofs.tenants.phase_one.is_unfinished.Given as goal
+
+abbrev pub invariant-loop-a : goal.invariant-loop-a
+invariant-loop-a l =
+    let done = is_done l.finished.entries l.tenant l.checked in
+    let rest = drop l.a-index l.active in
+    record {
+      each : AllByRecursion (IsActiveOf l.checked) rest;
+      left : is_task_open done rest l.task ≡ is_task_open done l.active l.task;
+    }

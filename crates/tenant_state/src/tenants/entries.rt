@@ -1,0 +1,121 @@
+//! The entries of a tenant's tasks in the table of active tasks.
+
+ghost use Rattle.std.specs.Prelude.{◌≡◌, ◌<◌, ◌≤◌, ◌+◌, [], drop, true, false, if◌then◌else◌, length, map, None, Some};
+ghost use Rattle.std.specs.List.{AllByRecursion};
+ghost use Rattle.tenant_jobs.specs.Finished.{entry_in};
+ghost use Rattle.tenant_jobs.specs.inner.Finished.{is_entered};
+ghost use Rattle.tenant_jobs.specs.Jobs.{same_job};
+ghost use Rattle.tenant_jobs.specs.declared.jobs.JobId.{JobId};
+ghost use Rattle.tenant_state.specs.Jobs.{has_job, job_of};
+ghost use Rattle.tenant_state.specs.Row.{ActiveTask};
+ghost use Rattle.tenant_state.specs.Standing.{all_different_releases};
+ghost use Rattle.tenant_state.specs.Tenants.{active_of};
+ghost use Rattle.tenant_state.specs.inner.Tenants.{IsActiveOf};
+
+use crate::tenants::active_tasks::ActiveTasks;
+use crate::tenants::completions::job_id;
+use crate::tenants::{Active, Tenant};
+use giotto_check::Checked;
+use rig_config::TenantId;
+use tenant_jobs::finished::Finished;
+use tenant_jobs::jobs::Jobs;
+
+impl Tenant {
+    /// Takes the entries of the tasks that ended out of the table. Nothing is known of them any longer.
+    pub fn leave(&mut self, finished: &mut Finished)
+        ensures entries { (j : JobId) → entry_in finished.new.entries j
+            ≡ (if has_job self.old.place self.old.ended j then None else entry_in finished.old.entries j) }
+        ensures none { self.old.ended ≡ [] → finished.new ≡ finished.old }
+        ensures room { finished.old.room ≤ finished.new.room }
+        ensures same { self.new ≡ record self.old { ended = [] } }
+    {
+        let Some(checked) = &self.program else {
+            return;
+        };
+        for active in self.active.ended() {
+            finished.remove(&job_id(checked, self.place, active), &active.key);
+        }
+        self.active.forget_ended();
+    }
+
+    /// Enters the active tasks from this place on, the oldest at 0, and notes the keys of their entries. Takes no memory.
+    pub fn enter(&mut self, from: usize, finished: &mut Finished)
+        requires rest { self.old.ended ≡ [] }
+        requires room { length (drop from self.old.row.active) ≤ finished.old.room }
+        requires new { AllByRecursion (λ (a : ActiveTask). is_entered finished.old.entries (job_of self.old.place a) ≡ false) (drop from self.old.row.active) }
+        ensures entries { (j : JobId) → entry_in finished.new.entries j
+            ≡ (if has_job self.old.place (drop from self.old.row.active) j then Some (record { id = j; result = None }) else entry_in finished.old.entries j) }
+        ensures room { finished.new.room + length (drop from self.old.row.active) ≡ finished.old.room }
+        ensures same { self.new ≡ self.old }
+    {
+        let Some(checked) = &self.program else {
+            return;
+        };
+        enter_each(checked, self.place, from, &mut self.active, finished);
+    }
+
+    /// Notes the keys of the tasks that the last instant released: those of the jobs from this place on, in their order. The place behind
+    /// the last of them. A key is no more than a hint.
+    pub fn note_keys(&mut self, jobs: &Jobs, first: usize) -> usize
+        ensures same { self.new ≡ self.old }
+    {
+        note_each(self.next_tick, jobs, first, &mut self.active)
+    }
+}
+
+// Enters these active tasks from this place on, and notes the keys of their entries.
+fn enter_each(
+    checked: &Checked,
+    tenant: TenantId,
+    from: usize,
+    active: &mut ActiveTasks,
+    finished: &mut Finished,
+)
+    requires active { AllByRecursion (IsActiveOf checked.now) active.old.items }
+    requires different { all_different_releases (map (active_of checked.now) active.old.items) ≡ true }
+    requires room { length (drop from (map (active_of checked.now) active.old.items)) ≤ finished.old.room }
+    requires new { AllByRecursion (λ (a : ActiveTask). is_entered finished.old.entries (job_of tenant a) ≡ false) (drop from (map (active_of checked.now) active.old.items)) }
+    ensures entries { (j : JobId) → entry_in finished.new.entries j
+        ≡ (if has_job tenant (drop from (map (active_of checked.now) active.old.items)) j then Some (record { id = j; result = None }) else entry_in finished.old.entries j) }
+    ensures room { finished.new.room + length (drop from (map (active_of checked.now) active.old.items)) ≡ finished.old.room }
+    ensures same { active.new ≡ active.old }
+{
+    for place in from..active.count {
+        enter_one(checked, tenant, &mut active.entries[place], finished);
+    }
+}
+
+// Enters an active task, and notes the key of its entry.
+fn enter_one(checked: &Checked, tenant: TenantId, active: &mut Active, finished: &mut Finished)
+    requires active { IsActiveOf checked.now active.old }
+    requires room { 0 < finished.old.room }
+    requires new { is_entered finished.old.entries (job_of tenant (active_of checked.now active.old)) ≡ false }
+    ensures entries { (j : JobId) → entry_in finished.new.entries j
+        ≡ (if same_job (job_of tenant (active_of checked.now active.old)) j then Some (record { id = j; result = None }) else entry_in finished.old.entries j) }
+    ensures room { finished.new.room + 1 ≡ finished.old.room }
+    ensures same { active.new ≡ active.old }
+{
+    let id = job_id(checked, tenant, active);
+    active.key = finished.enter_task(id);
+}
+
+// Notes the keys of those tasks that were released at the instant before this one: those of the jobs from this place on.
+fn note_each(next_tick: u64, jobs: &Jobs, first: usize, active: &mut ActiveTasks) -> usize
+    ensures same { active.new ≡ active.old }
+{
+    // One more than the place of a job fits.
+    let _jobs = jobs.len();
+    let mut next = first;
+    for place in 0..active.count {
+        let entry = &mut active.entries[place];
+        if next_tick.wrapping_sub(entry.release) != 1 {
+            continue;
+        }
+        let Some(job) = jobs.get(next) else {
+            return next;
+        };
+        entry.key = job.key().copy();
+        next += 1;
+    }
+    next
+}
