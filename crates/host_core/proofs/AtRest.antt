@@ -11,13 +11,22 @@ use Rattle.std.proofs.lemmas.List.Sums.{sum-map}
 use Rattle.std.proofs.lemmas.Simd.{map-map}
 use Rattle.std.proofs.lemmas.Option.{slice_get-get_or, slice_get-map}
 use Rattle.tenant_jobs.specs.declared.jobs.JobId.{JobId}
-use Rattle.host_core.specs.Halves.{most_of}
-use Rattle.host_core.specs.HostStanding.{HostStanding, Stands, tenant_at, awaited_in, outstanding_from, outstanding_of}
-use Rattle.host_core.specs.inner.HostStanding.{IsAt}
+use Rattle.instant_engine.specs.inner.Instants.{IsBetween}
+use Rattle.instant_engine.specs.inner.Tables.{IsTaskTable}
+use Rattle.instant_engine.specs.Tenants.{ArePlaced, most_of, tenant_at}
+use Rattle.host_core.specs.HostStanding.{HostStanding, Stands, awaited_in, outstanding_from, outstanding_of}
+use Rattle.host_core.specs.inner.HostStanding.{IsAt, IsWhole}
 use Rattle.host_core.specs.HostState.{HostState}
+use Rattle.host_core.specs.declared.hosts.Host.TheInside.{Inside}
 use Rattle.host_core.specs.Setting.{Setting}
-use Rattle.tenant_state.specs.Jobs.{job_of}
-use Rattle.tenant_state.specs.Standing.{Standing, at_rest, empty_standing, most_released, outstanding_tasks, awaited_job}
+use Rattle.tenant_jobs.specs.Finished.{TableEntry}
+use Rattle.tenant_state.specs.Jobs.{has_job, job_of}
+use Rattle.tenant_state.specs.Standing.{Standing, IsKnown, at_rest, empty_standing, most_released, outstanding_tasks, awaited_job}
+use Rattle.tenant_state.specs.inner.Standing.{HasItsResults}
+
+-- a host as its code has it
+abbrev pub standing : Inside → HostStanding
+standing h = record { config = h.config; tenants = h.tenants.items; entries = h.finished.entries; clock = h.clock }
 
 pub same_at_rest : (xs ys : List Standing) (k : ℕ) (d : Standing) → map at_rest ys ≡ map at_rest xs → at_rest (get_or ys k d) ≡ at_rest (get_or xs k d)
 same_at_rest xs ys k d same = sym (lists.get_or-map at_rest ys k d) ∙ ap (λ zs. get_or zs k (at_rest d)) same ∙ lists.get_or-map at_rest xs k d
@@ -29,8 +38,33 @@ pub rest_twice : (xs : List Standing) → map at_rest (map at_rest xs) ≡ map a
 rest_twice [] = refl
 rest_twice (x ∷ xs) = ap (λ ys. at_rest x ∷ ys) (rest_twice xs)
 
-pub all_at_rest : (n : ℕ) (xs ys : List Standing) → map at_rest ys ≡ map at_rest xs → All (IsAt n) xs → All (IsAt n) ys
-all_at_rest n xs ys same all k d lt = subst (IsAt n) (sym (same_at_rest xs ys k d same)) (all k d (omega (arith, same_length xs ys same)))
+is_at_rest : (n : ℕ) (x y : Standing) → at_rest y ≡ at_rest x → IsAt n x → IsAt n y
+is_at_rest n x y e is = (
+  ap (λ (s : Standing). s.row.next_tick) e ∙ is.0,
+  record { known = subst (λ (s : Standing). IsKnown s.row) (sym e) is.1.known; rest = ap (λ (s : Standing). s.ended) e ∙ is.1.rest },
+)
+
+all_at_rest : (n : ℕ) (xs ys : List Standing) → map at_rest ys ≡ map at_rest xs → All (IsAt n) xs → All (IsAt n) ys
+all_at_rest n xs ys same all k d lt = is_at_rest n (get_or xs k d) (get_or ys k d) (same_at_rest xs ys k d same) (all k d (omega (arith, lt, same_length xs ys same)))
+
+table_at_rest : (entries : List TableEntry) (xs ys : List Standing) → map at_rest ys ≡ map at_rest xs → IsTaskTable xs entries → IsTaskTable ys entries
+table_at_rest entries xs ys same table = record {
+  entered = λ j. table.entered j ∙ sym (ap (λ (s : Standing). has_job s.place s.row.active j) (same_at_rest xs ys j.tenant (empty_standing 0 0) same));
+  results = λ k d lt. subst (λ (s : Standing). HasItsResults s entries) (sym (same_at_rest xs ys k d same)) (table.results k d (omega (arith, lt, same_length xs ys same)));
+}
+
+placed_at_rest : (xs ys : List Standing) → map at_rest ys ≡ map at_rest xs → ArePlaced xs → ArePlaced ys
+placed_at_rest xs ys same placed t lt =
+    ap (λ (s : Standing). s.place) (same_at_rest xs ys t (empty_standing 0 0) same) ∙ placed t (omega (arith, lt, same_length xs ys same))
+
+-- what is known of a host is kept where its tenants are but for what they have ready
+pub kept_at_rest : {long n : ℕ} {entries : List TableEntry} (xs ys : List Standing) → map at_rest ys ≡ map at_rest xs → IsWhole long n xs entries → IsWhole long n ys entries
+kept_at_rest {n = n} {entries = entries} xs ys same whole = record {
+  as_many = same_length xs ys same ∙ whole.as_many;
+  known = all_at_rest n xs ys same whole.known;
+  placed = placed_at_rest xs ys same whole.placed;
+  table = table_at_rest entries xs ys same whole.table;
+}
 
 pub stands_at_rest : (setting : Setting) (host : HostStanding) (state : HostState) (ys : List Standing) → map at_rest ys ≡ map at_rest host.tenants
     → Stands setting host state → Stands setting (record host { tenants = ys }) state
@@ -39,12 +73,10 @@ stands_at_rest setting host state ys same stands = record {
   same_clock = stands.same_clock;
   as_many = same_length host.tenants ys same ∙ stands.as_many;
   all_rows = stands.all_rows;
-  each = λ t lt.
-      let here = same_at_rest host.tenants ys t (empty_standing 0 0) same in
-      let one = stands.each t lt in
-      record { same_row = ap (λ (s : Standing). s.row) here ∙ one.same_row; same_marks = ap (λ (s : Standing). s.completed) here ∙ one.same_marks };
+  placed = placed_at_rest host.tenants ys same stands.placed;
+  each = λ t lt. ap (λ (s : Standing). s.row) (same_at_rest host.tenants ys t (empty_standing 0 0) same) ∙ stands.each t lt;
   counts = stands.counts;
-  early = stands.early;
+  results = stands.results;
 }
 
 -- what a host's fields stand for, and what its view does
@@ -54,34 +86,28 @@ stands_inside setting host state stands = stands_at_rest setting (record host { 
 pub stands_outside : (setting : Setting) (host : HostStanding) (state : HostState) → Stands setting host state → Stands setting (record host { tenants = map at_rest host.tenants }) state
 stands_outside setting host state stands = stands_at_rest setting host state (map at_rest host.tenants) (rest_twice host.tenants) stands
 
-pub readied : (xs ys : List Standing) (i : ℕ) (x s : Standing) → map at_rest xs ≡ map at_rest ys → x ≡ get_or xs i x → s.place ≡ x.place → s.row ≡ x.row → s.completed ≡ x.completed
-    → map at_rest (set xs i s) ≡ map at_rest ys
-readied xs ys i x s same here own row completed =
-    let as_it_was : at_rest s ≡ at_rest x = λ k. record { place = own k; row = row k; completed = completed k; room = 0; shared = false } in
-    map-set_same at_rest xs i s x (as_it_was ∙ ap at_rest here) ∙ same
-
--- what is gathered from rows and marks is the same
+-- what is gathered from rows is the same
 pub gathered_at_rest : {C : Type 0} (f : ℕ × Standing → List C) → ((k : ℕ) (s : Standing) → f (k, at_rest s) ≡ f (k, s)) → (n : ℕ) (xs : List Standing)
     → flat_map f (enumerate_from n (map at_rest xs)) ≡ flat_map f (enumerate_from n xs)
 gathered_at_rest f same n [] = refl
 gathered_at_rest f same n (x ∷ xs) = ap (λ ys. ys ++ flat_map f (enumerate_from (n + 1) (map at_rest xs))) (same n x) ∙ ap (λ ys. f (n, x) ++ ys) (gathered_at_rest f same (n + 1) xs)
 
-pub outstanding_at_rest : (xs : List Standing) → outstanding_from 0 (map at_rest xs) ≡ outstanding_from 0 xs
-outstanding_at_rest xs = gathered_at_rest _ (λ k s. refl) 0 xs
+pub outstanding_at_rest : (entries : List TableEntry) (xs : List Standing) → outstanding_from entries 0 (map at_rest xs) ≡ outstanding_from entries 0 xs
+outstanding_at_rest entries xs = gathered_at_rest _ (λ k s. refl) 0 xs
 
 pub outstanding_at_rest_of : (host : HostStanding) (t : ℕ) → outstanding_of (record host { tenants = map at_rest host.tenants }) t ≡ outstanding_of host t
-outstanding_at_rest_of host t = ap (λ (s : Standing). map (job_of t) (outstanding_tasks s)) (same_at_rest host.tenants (map at_rest host.tenants) t (empty_standing 0 0) (rest_twice host.tenants))
+outstanding_at_rest_of host t = ap (λ (s : Standing). map (job_of t) (outstanding_tasks s host.entries)) (same_at_rest host.tenants (map at_rest host.tenants) t (empty_standing 0 0) (rest_twice host.tenants))
 
 -- a tenant's answer to a job's name is the host's
-pub awaited_here : (xs : List Standing) (j : JobId) (x : Standing) → j.tenant < length xs → x ≡ get_or xs j.tenant x
-    → option_and_then (λ s. awaited_job s j) (slice_get (map at_rest xs) j.tenant) ≡ awaited_job x j
-awaited_here xs j x lt here =
-    ap (λ o. option_and_then (λ s. awaited_job s j) o) (slice_get-map at_rest xs j.tenant ∙ ap (option_map at_rest) (slice_get-get_or xs j.tenant x lt ∙ ap Some (sym here)))
+pub awaited_here : (entries : List TableEntry) (xs : List Standing) (j : JobId) (x : Standing) → j.tenant < length xs → x ≡ get_or xs j.tenant x
+    → option_and_then (λ s. awaited_job s entries j) (slice_get (map at_rest xs) j.tenant) ≡ awaited_job x entries j
+awaited_here entries xs j x lt here =
+    ap (λ o. option_and_then (λ s. awaited_job s entries j) o) (slice_get-map at_rest xs j.tenant ∙ ap (option_map at_rest) (slice_get-get_or xs j.tenant x lt ∙ ap Some (sym here)))
 
 pub awaited_at_rest : (host : HostStanding) (j : JobId) → awaited_in (record host { tenants = map at_rest host.tenants }) j ≡ awaited_in host j
-awaited_at_rest host j = ap (λ o. option_and_then (λ s. awaited_job s j) o) (slice_get-map at_rest host.tenants j.tenant) ∙ by (slice_get host.tenants j.tenant)
+awaited_at_rest host j = ap (λ o. option_and_then (λ s. awaited_job s host.entries j) o) (slice_get-map at_rest host.tenants j.tenant) ∙ by (slice_get host.tenants j.tenant)
   where
-    by : (o : Option Standing) → option_and_then (λ s. awaited_job s j) (option_map at_rest o) ≡ option_and_then (λ s. awaited_job s j) o
+    by : (o : Option Standing) → option_and_then (λ s. awaited_job s host.entries j) (option_map at_rest o) ≡ option_and_then (λ s. awaited_job s host.entries j) o
     by None = refl
     by (Some s) = refl
 

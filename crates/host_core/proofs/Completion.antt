@@ -1,5 +1,5 @@
 -- What a completion of the host's own comes to.
-use Rattle.std.proofs.Common.{◌≡◌, ◌<◌, ◌≤◌, ◌↔◌, ⊎_elim, Bool, true, false, not, cond, ◌&&◌, ◌∷◌, length, map, Option, Some, None, refl, sym, ap, ◌∙◌, subst, arith}
+use Rattle.std.proofs.Common.{◌≡◌, ◌<◌, ◌≤◌, ◌↔◌, ⊎_elim, Bool, true, false, not, cond, ◌&&◌, List, ◌∷◌, length, map, get_or, Option, Some, None, refl, sym, ap, ◌∙◌, subst, arith}
 use Rattle.std.specs.Prelude.{is_some, slice_get, IfSome}
 use Rattle.std.specs.List.{All}
 use Rattle.std.specs.Option.{option_and_then}
@@ -7,10 +7,12 @@ use Rattle.std.proofs.Math.ListN.{get_or-eq_default}
 use Rattle.std.proofs.lemmas.Bool.{cases_lt}
 use Rattle.std.proofs.lemmas.Option.{slice_get_past}
 use Rattle.tenant_jobs.specs.declared.jobs.JobId.{JobId}
+use Rattle.tenant_jobs.specs.Finished.{TableEntry, has_result}
 use Rattle.tenant_jobs.specs.Jobs.{JobValue}
 use Rattle.tenant_state.specs.Jobs.{is_active}
 use Rattle.tenant_state.specs.Row.{Row, empty_row}
-use Rattle.tenant_state.specs.Standing.{at_rest, awaited_job, empty_standing}
+use Rattle.tenant_state.specs.Standing.{Standing, at_rest, awaited_job, empty_standing, released_job}
+use Rattle.instant_engine.specs.Tenants.{ArePlaced}
 use Rattle.host_core.specs.declared.events.Event.TheVariants.{Done}
 use Rattle.host_core.specs.declared.hosts.Counted.{Counted}
 use Rattle.host_core.specs.declared.hosts.Counted.TheVariants as became
@@ -19,7 +21,7 @@ use Rattle.host_core.specs.HostState.{HostState, row_at, is_counted, awaits}
 use Rattle.host_core.specs.HostStanding.{HostStanding, Stands, IsOwn, awaited_in}
 use Rattle.host_core.specs.inner.HostStanding.{IsAt}
 use Rattle.host_core.specs.Setting.{Setting}
-use Rattle.host_core.proofs.AtRest.{stands_inside, awaited_at_rest}
+use Rattle.host_core.proofs.AtRest.{stands_inside, awaited_at_rest, awaited_here}
 use Rattle.host_core.proofs.HostSteps.{awaits_here}
 
 -- what isn't counted is late
@@ -27,7 +29,23 @@ late_if : (result : Counted) → (result ≡ became.Counted → ⊥) → result 
 late_if became.Counted other = absurd (other refl)
 late_if became.Late other = refl
 
-module _ (setting : Setting) (host view : HostStanding) (state : HostState) (known : All (IsAt host.clock) host.tenants) (is : record host { tenants = map at_rest host.tenants } ≡ view) (stands : Stands setting view state) where
+-- an awaited job has no result yet, and its task is active with its release
+pub awaited_parts : (s : Standing) (entries : List TableEntry) (j : JobId) (d : JobValue) → awaited_job s entries j ≡ Some d → (has_result entries j ≡ false) × (released_job s j ≡ Some d)
+awaited_parts s entries j d e = by (has_result entries j) refl e
+  where
+    by : (b : Bool) → has_result entries j ≡ b → cond b None (released_job s j) ≡ Some d → (has_result entries j ≡ false) × (released_job s j ≡ Some d)
+    by true has f = absurd (cc)
+    by false has f = (has, f)
+
+pub awaited_without : (s : Standing) (entries : List TableEntry) (j : JobId) → has_result entries j ≡ false → awaited_job s entries j ≡ released_job s j
+awaited_without s entries j e = ap (λ b. cond b None (released_job s j)) e
+
+-- what the host awaits of its own tenant
+pub awaited_own : (host view : HostStanding) → record host { tenants = map at_rest host.tenants } ≡ view → (d : JobValue) (x : Standing) → d.id.tenant < length host.tenants
+    → x ≡ get_or host.tenants d.id.tenant x → awaited_in view d.id ≡ awaited_job x host.entries d.id
+awaited_own host view is d x lt here = ap (λ (h : HostStanding). awaited_in h d.id) (sym is) ∙ awaited_here host.entries host.tenants d.id x lt here
+
+module _ (setting : Setting) (host view : HostStanding) (state : HostState) (known : All (IsAt host.clock) host.tenants) (placed : ArePlaced host.tenants) (is : record host { tenants = map at_rest host.tenants } ≡ view) (stands : Stands setting view state) where
   inside : Stands setting host state
   inside = stands_inside setting host state (subst (λ h. Stands setting h state) (sym is) stands)
 
@@ -42,12 +60,12 @@ module _ (setting : Setting) (host view : HostStanding) (state : HostState) (kno
   awaits_own j = ⊎_elim here past (cases_lt j.tenant (length setting.config.tenants)) ∙ ap is_some (sym (awaited_at_rest host j) ∙ ap (λ (h : HostStanding). awaited_in h j) is)
     where
       here : j.tenant < length setting.config.tenants → awaits state j ≡ is_some (awaited_in host j)
-      here lt = awaits_here setting host state j lt inside (known j.tenant (empty_standing 0 0) (omega (arith, inside.as_many, lt))).1
+      here lt = awaits_here setting host state j lt inside placed (known j.tenant (empty_standing 0 0) (omega (arith, inside.as_many, lt))).1.known
 
       past : length setting.config.tenants ≤ j.tenant → awaits state j ≡ is_some (awaited_in host j)
       past le =
           let none : slice_get host.tenants j.tenant ≡ None = slice_get_past host.tenants j.tenant (omega (arith, inside.as_many, le)) in
-          past_all j le ∙ sym (ap (λ o. is_some (option_and_then (λ s. awaited_job s j) o)) none)
+          past_all j le ∙ sym (ap (λ o. is_some (option_and_then (λ s. awaited_job s host.entries j) o)) none)
 
   -- the answer, and what stands behind it
   pub record ComesTo (done : JobValue) (result : Counted) (after : HostStanding) : Type 0 where

@@ -6,14 +6,14 @@ pub mod Completion
 pub mod FirstRun
 pub mod FromABase
 pub mod Histories
-pub mod HostLoops
+pub mod HostInstants
 pub mod HostSteps
+pub mod HostTables
 pub mod LaterBase
 pub mod NewHost
 pub mod NewTenants
 pub mod Outstanding
 pub mod Overrun
-pub mod Placed
 pub mod Played
 pub mod ReleasedNames
 pub mod Rig

@@ -5,12 +5,12 @@ use Rattle.std.proofs.lemmas.List.{length-map, get_or-map}
 use Rattle.std.proofs.lemmas.List.FromFn.{length-enumerate_from, get_or-enumerate_from}
 use Rattle.rig_config.specs.declared.TenantConfig.{TenantConfig}
 use Rattle.host_core.specs.Base.{new_base}
-use Rattle.host_core.specs.HostState.{row_at, is_counted}
-use Rattle.host_core.specs.HostStanding.{Stands, new_host, tenant_at}
+use Rattle.instant_engine.specs.Tenants.{tenant_at}
+use Rattle.host_core.specs.HostState.{row_at}
+use Rattle.host_core.specs.HostStanding.{Stands, new_host}
 use Rattle.host_core.specs.Setting.{Setting}
 use Rattle.rig_config.specs.Roster.{no_budgets}
-use Rattle.tenant_state.specs.Row.{ActiveTask, Row, empty_row}
-use Rattle.tenant_state.specs.Jobs.{job_of}
+use Rattle.tenant_state.specs.Row.{Row, empty_row}
 use Rattle.tenant_state.specs.Standing.{Standing, StandsFor, at_rest, empty_standing}
 
 -- a tenant of no name
@@ -35,8 +35,8 @@ module _ (setting : Setting) (n : ℕ) where
   row_empty : (t : ℕ) → t < length setting.config.tenants → row_at (new_base setting.config n) t ≡ empty_row n
   row_empty t lt = get_or-map (λ (x : TenantConfig). empty_row n) setting.config.tenants t no_tenant (empty_row n) lt
 
-  stands_empty : (t : ℕ) (completed : ActiveTask → Bool) → StandsFor (at_rest (empty_standing t n)) (empty_row n) completed
-  stands_empty t completed = record { same_row = refl; same_marks = refl }
+  stands_empty : (t : ℕ) → StandsFor (at_rest (empty_standing t n)) (empty_row n)
+  stands_empty t = refl
 
   pub new_stands : Stands setting (new_host setting.config n) (new_base setting.config n)
   new_stands = record {
@@ -44,10 +44,10 @@ module _ (setting : Setting) (n : ℕ) where
     same_clock = refl;
     as_many = as_many_places (λ place. at_rest (empty_standing place.0 n)) setting.config.tenants;
     all_rows = length-map setting.config.tenants _;
+    placed = λ t lt. ap (λ (s : Standing). s.place) (standing_empty t (omega (arith, lt, as_many_places (λ place. at_rest (empty_standing place.0 n)) setting.config.tenants)));
     each = λ t lt.
-        subst (λ (s : Standing). StandsFor s (row_at (new_base setting.config n) t) (λ a. is_counted (new_base setting.config n) (job_of t a))) (sym (standing_empty t lt))
-        (subst (λ (r : Row). StandsFor (at_rest (empty_standing t n)) r (λ a. is_counted (new_base setting.config n) (job_of t a))) (sym (row_empty t lt))
-        (stands_empty t (λ a. is_counted (new_base setting.config n) (job_of t a))));
+        subst (λ (s : Standing). StandsFor s (row_at (new_base setting.config n) t)) (sym (standing_empty t lt))
+        (subst (λ (r : Row). StandsFor (at_rest (empty_standing t n)) r) (sym (row_empty t lt)) (stands_empty t));
     counts = λ t lt. ap (λ (r : Row). r.next_tick) (row_empty t lt);
-    early = λ j e. absurd (cc);
+    results = λ j. refl;
   }

@@ -1,12 +1,18 @@
 -- The tenants of a new host, made one by one.
-use Rattle.std.proofs.Common.{◌≡◌, ◌∙◌, ℕ, ◌+◌, ◌<◌, ◌≤◌, List, [], ◌∷◌, ◌++◌, length, map, get_or, take, refl, sym, ap, subst, arith}
+use Rattle.std.proofs.Common.{◌≡◌, ◌∙◌, ⊎_elim, false, ℕ, ◌+◌, ◌<◌, ◌≤◌, List, [], ◌∷◌, ◌++◌, length, map, get_or, take, refl, sym, ap, subst, arith}
 use Rattle.std.specs.List.{enumerate_from}
+use Rattle.std.proofs.Math.ListN.{get_or-eq_default}
+use Rattle.std.proofs.lemmas.Bool.{cases_lt}
 use Rattle.std.proofs.lemmas.List.{take_more, take_all}
 use Rattle.rig_config.specs.declared.TenantConfig.{TenantConfig}
-use Rattle.host_core.specs.inner.HostStanding.{IsAt}
+use Rattle.host_core.specs.inner.HostStanding.{IsAt, IsWhole}
+use Rattle.instant_engine.specs.Tenants.{tenant_at}
+use Rattle.instant_engine.specs.inner.Tenants.{is_active_among}
+use Rattle.tenant_jobs.specs.declared.jobs.JobId.{JobId}
+use Rattle.tenant_state.specs.Jobs.{has_job}
 use Rattle.tenant_state.specs.Standing.{Standing, empty_standing}
+use Rattle.tenant_state.specs.inner.Standing.{HasItsResults}
 use Rattle.host_core.proofs.NewHost.{at_place, as_many_places}
-use Rattle.host_core.proofs.Placed.{IsWhole}
 
 module _ (n : ℕ) (roster : List TenantConfig) where
   -- the empty tenant of each place
@@ -32,9 +38,34 @@ module _ (n : ℕ) (roster : List TenantConfig) where
   pub new_all : (i : ℕ) (tenants : List Standing) → length roster ≤ i → tenants ≡ take i new_tenants → tenants ≡ new_tenants
   new_all i tenants le before = before ∙ take_all i new_tenants (omega (arith, as_many_new))
 
-  pub new_whole : IsWhole (length roster) n new_tenants
-  new_whole = (
-    as_many_new,
-    λ t d lt. subst (IsAt n) (sym (new_at t d (omega (arith, as_many_new)))) (refl, record { no_binds = refl; tasks = λ none. refl; early = tt }),
-    λ t lt. ap (λ (s : Standing). s.place) (new_at t (empty_standing 0 0) (omega (arith, as_many_new))),
-  )
+  -- no task is active
+  none_active : (j : JobId) → is_active_among new_tenants j ≡ false
+  none_active j = ⊎_elim
+      (λ lt. ap (λ (s : Standing). has_job s.place s.row.active j) (new_at j.tenant (empty_standing 0 0) lt))
+      (λ le. ap (λ (s : Standing). has_job s.place s.row.active j) (get_or-eq_default new_tenants (empty_standing 0 0) (omega (arith, le, as_many_new))))
+      (cases_lt j.tenant (length roster))
+
+  pub new_whole : IsWhole (length roster) n new_tenants []
+  new_whole = record {
+    as_many = as_many_new;
+    known = λ t d lt. subst (IsAt n) (sym (new_at t d (omega (arith, lt, as_many_new)))) (
+      refl,
+      record {
+        known = record {
+          no_binds = refl;
+          no_records = refl;
+          none_waits = refl;
+          tasks = λ none. refl;
+          rests = λ none. refl;
+          early = tt;
+          different = refl;
+        };
+        rest = refl;
+      },
+    );
+    placed = λ t lt. ap (λ (s : Standing). s.place) (new_at t (empty_standing 0 0) (omega (arith, lt, as_many_new)));
+    table = record {
+      entered = λ j. sym (none_active j);
+      results = λ t d lt. subst (λ (s : Standing). HasItsResults s []) (sym (new_at t d (omega (arith, lt, as_many_new)))) (λ p is. tt);
+    };
+  }

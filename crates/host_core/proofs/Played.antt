@@ -19,7 +19,8 @@ use Rattle.host_core.specs.Answers.{answers_along, answers_of}
 use Rattle.host_core.specs.Base.{IsBase, new_base}
 use Rattle.host_core.specs.Host.{host_after}
 use Rattle.host_core.specs.HostState.{HostState, row_at}
-use Rattle.host_core.specs.HostStanding.{HostStanding, new_host, tenant_at, Stands, released_from}
+use Rattle.host_core.specs.HostStanding.{HostStanding, new_host, Stands}
+use Rattle.instant_engine.specs.Tenants.{tenant_at, released_from}
 use Rattle.host_core.specs.Legal.{next_tick, was_released, may_follow, is_legal}
 use Rattle.host_core.specs.inner.Playing.{IsPlayed}
 use Rattle.host_core.specs.Plays.{IsSettingOf}
@@ -202,7 +203,7 @@ module _ (setting : Setting) (base : IsBase setting.config setting.base) where
   same_active : (past : List Event) (host : HostStanding) (t : ℕ) (j : JobId) → is_legal setting past ≡ true → Stands setting host (host_after setting past) → t < length setting.config.tenants
       → is_active (tenant_at host.tenants t).row j ≡ is_active (row_of setting past t) j
   same_active past host t j legal stands lt =
-      ap (λ (row : Row). is_active row j) (stands.each t lt).same_row ∙ ap (λ row. is_active row j) (same_rows setting base past t legal (is_within t lt))
+      ap (λ (row : Row). is_active row j) (stands.each t lt) ∙ ap (λ row. is_active row j) (same_rows setting base past t legal (is_within t lt))
 
   released_tick : (past : List Event) (frame : List ℤ) (host : HostStanding) (j : JobId) → is_legal setting (Tick frame ∷ past) ≡ true → Stands setting host (host_after setting (Tick frame ∷ past))
       → All (λ (s : Standing). IsKnown s.row) host.tenants

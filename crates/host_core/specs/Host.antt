@@ -1,16 +1,13 @@
 -- How each event changes the host.
 use Rattle.std.specs.Prelude.{ℕ, ◌+◌, if◌then◌else◌, ℤ, List, [], ◌∷◌, map, filter, slice_set}
 use Rattle.std.specs.List.{enumerate_from}
-use Rattle.giotto_tasks.specs.declared.names.Name.{Name}
 use Rattle.host_core.specs.declared.events.Event.{Event}
 use Rattle.host_core.specs.declared.events.Event.TheVariants.{Own, Tick, Done}
-use Rattle.host_core.specs.Grants.{granted_to}
 use Rattle.host_core.specs.HostState.{HostState, row_at, is_counted, awaits}
-use Rattle.tenant_state.specs.FirstHalf.{unfinished_tasks, first_half_of}
-use Rattle.tenant_state.specs.Jobs.{job_of, is_active}
+use Rattle.tenant_state.specs.Jobs.{is_active}
 use Rattle.tenant_state.specs.Row.{Row}
 use Rattle.host_core.specs.Setting.{Setting}
-use Rattle.host_core.specs.Views.{after_command, readings_of}
+use Rattle.host_core.specs.Views.{after_command, local_instant}
 use Rattle.tenant_state.specs.Instants.{LocalInstant, after_instant}
 
 -- these rows, with those counted jobs that are still active
@@ -20,15 +17,9 @@ with_rows host rows =
     record next { counted = filter (λ j. is_active (row_at next j.tenant) j) host.counted }
 
 module _ (setting : Setting) where
-  -- what the instant is for a tenant: granted values are taken behind the first half of all, and before the second half of any
+  -- what the instant is for a tenant, by the host's rows and counted jobs
   abbrev pub instant_of : HostState → List ℤ → ℕ → LocalInstant
-  instant_of host frame t =
-      let left : ℕ → List Name = λ u. unfinished_tasks (λ a. is_counted host (job_of u a)) (row_at host u) in
-      record {
-        readings = readings_of setting t frame;
-        unfinished = left t;
-        granted = granted_to setting.config (row_at host) (λ u. first_half_of (left u) (row_at host u)) t;
-      }
+  instant_of host frame t = local_instant setting (row_at host) (is_counted host) frame t
 
   -- a command changes its tenant's row alone, an instant all rows, a completion that is awaited the counted jobs, and another one nothing
   abbrev pub after_event : HostState → Event → HostState

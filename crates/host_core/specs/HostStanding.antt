@@ -1,5 +1,5 @@
 -- What the host's code stands for.
-use Rattle.std.specs.Prelude.{◌≡◌, ◌<◌, ℕ, true, List, map, length, slice_get, slice_index_or, Option, IfSome}
+use Rattle.std.specs.Prelude.{◌≡◌, ◌<◌, ℕ, List, [], map, length, slice_get, Option, IfSome}
 use Rattle.std.specs.List.{flat_map, enumerate_from}
 use Rattle.std.specs.Option.{option_and_then}
 use Rattle.rig_config.specs.declared.Config.{Config}
@@ -10,8 +10,10 @@ use Rattle.host_core.specs.Host.{after_event, host_after}
 use Rattle.host_core.specs.declared.events.Event.{Event}
 use Rattle.host_core.specs.HostState.{HostState, row_at, is_counted}
 use Rattle.host_core.specs.Setting.{Setting}
+use Rattle.instant_engine.specs.Tenants.{ArePlaced, tenant_at}
+use Rattle.tenant_jobs.specs.Finished.{TableEntry, has_result}
 use Rattle.tenant_jobs.specs.Jobs.{JobValue}
-use Rattle.tenant_state.specs.Jobs.{job_of, released_at}
+use Rattle.tenant_state.specs.Jobs.{job_of}
 use Rattle.tenant_state.specs.Standing.{Standing, empty_standing, at_rest, StandsFor, outstanding_tasks, awaited_job}
 
 -- the host as its code has it
@@ -19,27 +21,25 @@ pub record HostStanding : Type 0 where
   pub config : Config
   -- by their places in the roster, with nothing ready
   pub tenants : List Standing
+  -- the table of their active tasks, with the results that came
+  pub entries : List TableEntry
   -- the number of the next instant
   pub clock : ℕ
 
 -- a new host, whose first instant has this number
 abbrev pub new_host : Config → ℕ → HostStanding
-new_host config first_tick = record { config = config; tenants = map (λ (place : ℕ × TenantConfig). at_rest (empty_standing place.0 first_tick)) (enumerate_from 0 config.tenants); clock = first_tick }
+new_host config first_tick = record { config = config; tenants = map (λ (place : ℕ × TenantConfig). at_rest (empty_standing place.0 first_tick)) (enumerate_from 0 config.tenants); entries = []; clock = first_tick }
 
--- the tenant at place t
-abbrev pub tenant_at : List Standing → ℕ → Standing
-tenant_at tenants t = slice_index_or tenants t (empty_standing 0 0)
-
--- The host stands for a row for each tenant, and holds the jobs that were completed and are still active.
+-- The host stands for a row for each tenant, and has the results of the jobs that were completed and are still active.
 pub record Stands (setting : Setting) (host : HostStanding) (state : HostState) : Type 0 where
   pub same_config : host.config ≡ setting.config
   pub same_clock : host.clock ≡ state.clock
   pub as_many : length host.tenants ≡ length setting.config.tenants
   pub all_rows : length state.rows ≡ length setting.config.tenants
-  pub each : (t : ℕ) → t < length setting.config.tenants → StandsFor (tenant_at host.tenants t) (row_at state t) (λ a. is_counted state (job_of t a))
+  pub placed : ArePlaced host.tenants
+  pub each : (t : ℕ) → t < length setting.config.tenants → StandsFor (tenant_at host.tenants t) (row_at state t)
   pub counts : (t : ℕ) → t < length setting.config.tenants → (row_at state t).next_tick ≡ state.clock
-  -- what is counted was released before the next instant
-  pub early : (j : JobId) → is_counted state j ≡ true → j.tick < state.clock
+  pub results : (j : JobId) → has_result host.entries j ≡ is_counted state j
 
 -- `Holds` in each setting of each state that the host stands for there
 abbrev pub ForEachState : HostStanding → (Setting → HostState → Type 0) → Type 0
@@ -54,25 +54,21 @@ abbrev pub TakesCompletions : List JobId → HostStanding → HostStanding → T
 TakesCompletions jobs before after = (setting : Setting) (past : List Event) → Stands setting before (host_after setting past)
     → Stands setting after (host_after setting (with_completions jobs past))
 
--- the job of this name, if its completion is awaited
+-- the job of this name, if its completion is awaited: its task is active with its release, and its result didn't come
 abbrev pub awaited_in : HostStanding → JobId → Option JobValue
-awaited_in host j = option_and_then (λ s. awaited_job s j) (slice_get host.tenants j.tenant)
+awaited_in host j = option_and_then (λ s. awaited_job s host.entries j) (slice_get host.tenants j.tenant)
 
 -- a completion of the host's own: where a job of its name is awaited, it is of that job, with its body, inputs and states
 abbrev pub IsOwn : HostStanding → JobValue → Type 0
 IsOwn host done = IfSome (awaited_in host done.id) (λ job. job ≡ done)
 
--- the jobs that the instant of number n released, tenant by tenant, from this place on
-abbrev pub released_from : ℕ → ℕ → List Standing → List JobValue
-released_from n from tenants = flat_map (λ (place : ℕ × Standing). released_at place.0 n place.1.row) (enumerate_from from tenants)
-
--- the names of the outstanding jobs, tenant by tenant, from this place on
-abbrev pub outstanding_from : ℕ → List Standing → List JobId
-outstanding_from from tenants = flat_map (λ (place : ℕ × Standing). map (job_of place.0) (outstanding_tasks place.1)) (enumerate_from from tenants)
+-- the names of the jobs without a result in this table, tenant by tenant, from this place on
+abbrev pub outstanding_from : List TableEntry → ℕ → List Standing → List JobId
+outstanding_from entries from tenants = flat_map (λ (place : ℕ × Standing). map (job_of place.0) (outstanding_tasks place.1 entries)) (enumerate_from from tenants)
 
 -- those of the whole host
 abbrev pub outstanding_jobs : HostStanding → List JobId
-outstanding_jobs host = outstanding_from 0 host.tenants
+outstanding_jobs host = outstanding_from host.entries 0 host.tenants
 
 -- how many they are
 abbrev pub outstanding_count : HostStanding → ℕ
@@ -80,4 +76,4 @@ outstanding_count host = length (outstanding_jobs host)
 
 -- those of the tenant at place t
 abbrev pub outstanding_of : HostStanding → ℕ → List JobId
-outstanding_of host t = map (job_of t) (outstanding_tasks (tenant_at host.tenants t))
+outstanding_of host t = map (job_of t) (outstanding_tasks (tenant_at host.tenants t) host.entries)

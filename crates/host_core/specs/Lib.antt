@@ -2,7 +2,6 @@ pub mod Answers
 pub mod Base
 pub mod Completions
 pub mod Grants
-pub mod Halves
 pub mod Host
 pub mod HostStanding
 pub mod HostState

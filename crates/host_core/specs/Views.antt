@@ -1,8 +1,9 @@
 -- The one-tenant machine, and each tenant's view of what happens to all tenants. Lists have the newest first.
-use Rattle.std.specs.Prelude.{ℕ, ◌==◌, if◌then◌else◌, ℤ, List, [], ◌∷◌}
+use Rattle.std.specs.Prelude.{ℕ, Bool, ◌==◌, if◌then◌else◌, ℤ, List, [], ◌∷◌}
 use Rattle.giotto_tasks.specs.declared.names.Name.{Name}
 use Rattle.host_core.specs.declared.events.Event.{Event}
 use Rattle.host_core.specs.declared.events.Event.TheVariants.{Own, Tick, Done}
+use Rattle.tenant_jobs.specs.declared.jobs.JobId.{JobId}
 use Rattle.tenant_lines.specs.declared.commands.Command.{Command}
 use Rattle.rig_config.specs.Roster.{budgets_at}
 use Rattle.tenant_state.specs.Row.{Row}
@@ -35,6 +36,17 @@ module _ (setting : Setting) where
   abbrev pub readings_of : ℕ → List ℤ → Readings
   readings_of t frame = readings_within (budgets_at setting.config t).reads frame
 
+  -- What an instant is for the tenant at place t: the values of its lines, its due tasks that were not completed, and the values granted
+  -- to it, which are taken behind the first half of all, and before the second half of any. `rows` are those before the instant.
+  abbrev pub local_instant : (ℕ → Row) → (JobId → Bool) → List ℤ → ℕ → LocalInstant
+  local_instant rows completed frame t =
+      let left : ℕ → List Name = λ u. unfinished_tasks (λ a. completed (job_of u a)) (rows u) in
+      record {
+        readings = readings_of t frame;
+        unfinished = left t;
+        granted = granted_to setting.config rows (λ u. first_half_of (left u) (rows u)) t;
+      }
+
   -- A tenant's view: its own commands, and at each instant the values of its lines, its due tasks that were not completed, and the
   -- values granted to it. Of other tenants it has no more than these.
   abbrev pub view_of : List Event → ℕ → List LocalEvent
@@ -42,13 +54,7 @@ module _ (setting : Setting) where
   view_of (Own u c ∷ past) t = if u == t then command c ∷ view_of past t else view_of past t
   view_of (Done j ∷ past) t = view_of past t
   view_of (Tick frame ∷ past) t =
-      let rows : ℕ → Row = λ u. run_of u (view_of past u) in
-      let left : ℕ → List Name = λ u. unfinished_tasks (λ a. has_completion setting past (job_of u a)) (rows u) in
-      instant (record {
-        readings = readings_of t frame;
-        unfinished = left t;
-        granted = granted_to setting.config rows (λ u. first_half_of (left u) (rows u)) t;
-      }) ∷ view_of past t
+      instant (local_instant (λ u. run_of u (view_of past u)) (has_completion setting past) frame t) ∷ view_of past t
 
   -- the row of the tenant at place t after these events
   abbrev pub row_of : List Event → ℕ → Row

@@ -1,26 +1,30 @@
 //! The host of a rig: all its tenants, on one clock.
 
-ghost use Rattle.std.specs.Prelude.{◌≡◌, ◌≢◌, ◌<◌, ◌≤◌, ◌+◌, ◌-◌, ◌^◌, ◌↔◌, ℕ, ◌++◌, length, map, is_some, false, if◌then◌else◌, IsOk, IsSome, IfOk, IfSome, OnOk, OnErr, OnSome, Ok, Err, Some, None};
+ghost use Rattle.std.specs.Prelude.{◌≡◌, ◌≢◌, ◌<◌, ◌≤◌, ◌+◌, ◌-◌, ◌^◌, ◌↔◌, ◌||◌, length, map, is_some, if◌then◌else◌, IsOk, IsSome, IfOk, IfSome, OnOk, OnErr, OnSome, Ok, Err, None, false};
 ghost use Rattle.std.specs.List.{All};
-ghost use Rattle.host_core.specs.inner.Halves.{AreSecondHalves, AreStepped, IsReady, IsCompleted};
-ghost use Rattle.host_core.specs.Halves.{most_of};
+ghost use Rattle.instant_engine.specs.inner.Tables.{IsTaskTable};
+ghost use Rattle.instant_engine.specs.Tenants.{ArePlaced, most_of, released_from, tenant_at};
+ghost use Rattle.instant_engine.specs.inner.Tenants.{is_active_among};
+ghost use Rattle.instant_engine.specs.inner.Halves.{IsReady};
 ghost use Rattle.host_core.specs.HostState.{row_at, awaits};
-ghost use Rattle.host_core.specs.inner.HostStanding.{ArePlaced};
-ghost use Rattle.host_core.specs.HostStanding.{ForEachState, IsOwn, TakesCompletions, TakesEvent, new_host, tenant_at, awaited_in, released_from, outstanding_count, outstanding_from, outstanding_jobs, outstanding_of};
-ghost use Rattle.tenant_state.specs.Commands.{takes_memory};
-ghost use Rattle.tenant_state.specs.inner.Halves.{IsFirstHalf};
-ghost use Rattle.tenant_state.specs.Standing.{Standing, at_rest, IsKnown};
+ghost use Rattle.host_core.specs.HostStanding.{ForEachState, IsOwn, TakesCompletions, TakesEvent, new_host, awaited_in, outstanding_count, outstanding_from, outstanding_jobs, outstanding_of};
 ghost use Rattle.host_core.specs.Views.{after_command};
 ghost use Rattle.host_core.specs.declared.events.Event.{Event};
+ghost use Rattle.host_core.specs.declared.hosts.Counted.{Counted};
+ghost use Rattle.host_core.specs.declared.hosts.TickFault.{TickFault};
+ghost use Rattle.tenant_jobs.specs.Finished.{has_result};
+ghost use Rattle.tenant_jobs.specs.inner.Finished.{is_entered};
+ghost use Rattle.tenant_jobs.specs.declared.jobs.JobId.{JobId};
 ghost use Rattle.tenant_lines.specs.declared.replies.Refusal.{Refusal};
 ghost use Rattle.tenant_lines.specs.declared.replies.Reply.{Reply};
-ghost use Rattle.host_core.specs.declared.hosts.TickFault.{TickFault};
-ghost use Rattle.host_core.specs.declared.hosts.Counted.{Counted};
+ghost use Rattle.tenant_state.specs.Commands.{takes_memory};
+ghost use Rattle.tenant_state.specs.Standing.{IsKnown, Standing, at_rest};
 
+use instant_engine::instants::{instant, instant_without_jobs, ready};
+use instant_engine::{Done, Finished, Job, JobId, Jobs, run_job};
 use rig_config::{Config, TenantId};
 use std::alloc::{AllocError, Global};
 use std::marker::Model;
-use tenant_jobs::jobs::{Done, Job, JobId, Jobs, run_job};
 use tenant_lines::commands::Command;
 use tenant_lines::replies::Reply;
 use tenant_state::tenants::Tenant;
@@ -55,25 +59,25 @@ pub struct Host {
     alloc: Global,
     config: Config,
     tenants: Vec<Tenant>,
+    finished: Finished,
     clock: u64,
 }
 
 impl Model for Host {
-    ghost use Rattle.std.specs.Prelude.{◌≡◌, length, map};
-    ghost use Rattle.std.specs.List.{All};
+    ghost use Rattle.std.specs.Prelude.{length, map};
     ghost use Rattle.std.specs.Coded.{codes};
     ghost use Rattle.giotto_text.specs.inner.ProgramCodes.{program_code};
     ghost use Rattle.host_core.specs.HostStanding.{HostStanding};
-    ghost use Rattle.host_core.specs.inner.HostStanding.{ArePlaced, IsAt};
+    ghost use Rattle.host_core.specs.inner.HostStanding.{IsWhole};
     ghost use Rattle.tenant_state.specs.Standing.{at_rest};
 
     ghost Value = { HostStanding };
 
     ghost coded = { Prim.hlevel (codes, program_code) };
 
-    ghost view = { λ h. record { config = h.config; tenants = map at_rest h.tenants.items; clock = h.clock } };
+    ghost view = { λ h. record { config = h.config; tenants = map at_rest h.tenants.items; entries = h.finished.entries; clock = h.clock } };
 
-    ghost invariant = { λ h. (length h.tenants.items ≡ length h.config.tenants) × All (IsAt h.clock) h.tenants.items × ArePlaced h.tenants.items };
+    ghost invariant = { λ h. IsWhole (length h.config.tenants) h.clock h.tenants.items h.finished.entries };
 }
 
 impl Host {
@@ -93,6 +97,7 @@ impl Host {
             alloc,
             config: copy,
             tenants,
+            finished: Finished::new(alloc),
             clock: first_tick,
         })
     }
@@ -112,6 +117,7 @@ impl Host {
         let tenant = &mut self.tenants[tenant];
         let reply = tenant.command(budgets, command);
         let _ = tenant.next_tick();
+        tenant.leave(&mut self.finished);
         reply
     }
 
@@ -131,14 +137,14 @@ impl Host {
         ensures known { OnOk result (All (λ (s : Standing). IsKnown s.row) self.new.tenants) }
     {
         self.check(frame)?;
-        let Some(most) = all_ready(&mut self.tenants) else {
+        let Some(most) = all_ready(self.tenants.as_mut_slice(), &mut self.finished) else {
             return Err(TickFault::Memory);
         };
         let Ok(mut jobs) = Jobs::with_room(self.alloc, most) else {
             return Err(TickFault::Memory);
         };
-        first_halves(&mut self.tenants);
-        second_halves(&mut self.tenants, &self.config, frame, &mut jobs);
+        let tenants = self.tenants.as_mut_slice();
+        instant(tenants, &self.config, frame, &mut self.finished, &mut jobs);
         self.clock += 1;
         Ok(jobs)
     }
@@ -155,12 +161,11 @@ impl Host {
         ensures room { most_of self.old.tenants ≡ 0 → result ≢ Err TickFault.Memory }
     {
         self.check(frame)?;
-        let tenants = &mut self.tenants;
-        if all_ready(tenants).is_none() {
+        if all_ready(self.tenants.as_mut_slice(), &mut self.finished).is_none() {
             return Err(TickFault::Memory);
         }
-        first_halves(tenants);
-        second_halves_without_jobs(tenants, &self.config, frame);
+        let tenants = self.tenants.as_mut_slice();
+        instant_without_jobs(tenants, &self.config, frame, &mut self.finished);
         self.clock += 1;
         Ok(())
     }
@@ -195,11 +200,11 @@ impl Host {
         if place >= self.tenants.len() {
             return Counted::Late;
         }
-        if self.tenants[place].complete(done) {
-            Counted::Counted
-        } else {
-            Counted::Late
+        if !self.tenants[place].awaits(&done) || self.finished.has(&done) {
+            return Counted::Late;
         }
+        self.finished.add(done);
+        Counted::Counted
     }
 
     /// Computes and counts all outstanding jobs, in the order of the roster, and says how many they were. Takes no memory.
@@ -207,7 +212,7 @@ impl Host {
         ensures number { result ≡ outstanding_count self.old }
         ensures step { TakesCompletions (outstanding_jobs self.old) self.old self.new }
     {
-        complete_each(&mut self.tenants)
+        complete_each(self.tenants.as_slice(), &mut self.finished)
     }
 
     /// Computes and counts one tenant's outstanding jobs, and says how many they were. Takes no memory.
@@ -216,8 +221,7 @@ impl Host {
         ensures number { result ≡ length (outstanding_of self.old tenant) }
         ensures step { TakesCompletions (outstanding_of self.old tenant) self.old self.new }
     {
-        let tenant = &mut self.tenants[tenant];
-        tenant.complete_all()
+        self.tenants[tenant].complete_all(&mut self.finished)
     }
 
     /// The job of this name, where its completion is awaited.
@@ -232,7 +236,7 @@ impl Host {
         if id.tenant >= self.tenants.len() {
             return Ok(None);
         }
-        self.tenants[id.tenant].job(id)
+        self.tenants[id.tenant].job(id, &self.finished)
     }
 
     /// The rig's configuration.
@@ -255,7 +259,7 @@ impl Host {
     {
         let mut outstanding: u128 = 0;
         for tenant in &self.tenants {
-            outstanding += tenant.outstanding() as u128;
+            outstanding += tenant.outstanding(&self.finished) as u128;
         }
         outstanding
     }
@@ -279,76 +283,33 @@ pub fn complete(host: &mut Host, id: &JobId) -> Result<Counted, AllocError>
     Ok(counted)
 }
 
-// Makes what each tenant's next instant needs. How many jobs all of them can release at most, if that is a number of this size. Takes
-// no memory where they can release none.
-fn all_ready(tenants: &mut Vec<Tenant>) -> Option<usize>
-    ensures rest { map at_rest tenants.new.items ≡ map at_rest tenants.old.items }
-    ensures ready { OnSome result (All IsReady tenants.new.items) }
-    ensures most { IfSome result (λ n. n ≡ most_of tenants.new.items) }
-    ensures never_refused { most_of tenants.old.items ≡ 0 → IsSome result }
+// Makes what the next instant needs: the tenants ready, and room in the table for all that it can release. How many jobs that are at
+// most, if that is a number of this size. Takes no memory where it can release none.
+fn all_ready(tenants: &mut [Tenant], finished: &mut Finished) -> Option<usize>
+    ensures rest { map at_rest tenants.new ≡ map at_rest tenants.old }
+    ensures ready { OnSome result (All IsReady tenants.new) }
+    ensures most { IfSome result (λ n. n ≡ most_of tenants.new) }
+    ensures entries { finished.new.entries ≡ finished.old.entries }
+    ensures room { OnSome result (most_of tenants.new ≤ finished.new.room) }
+    ensures never_refused { most_of tenants.old ≡ 0 → IsSome result }
 {
-    let mut most: usize = 0;
-    for i in 0..tenants.len() {
-        let Ok(jobs) = tenants[i].ready() else {
-            return None;
-        };
-        most = most.checked_add(jobs)?;
-    }
+    let most = ready(tenants)?;
+    let entries = finished.entry_count().checked_add(most)?;
+    finished.room(entries).ok()?;
     Some(most)
 }
 
-// The first half of each tenant.
-fn first_halves(tenants: &mut Vec<Tenant>)
-    ensures halves { AreStepped (λ t. IsFirstHalf) tenants.old.items tenants.new.items }
-    ensures ready { All IsReady tenants.old.items → All IsReady tenants.new.items }
-    ensures fewer { most_of tenants.new.items ≤ most_of tenants.old.items }
-{
-    for i in 0..tenants.len() {
-        tenants[i].phase_one();
-    }
-}
-
-// The second half of each tenant, with its budgets.
-fn second_halves(tenants: &mut Vec<Tenant>, config: &Config, frame: &[i64], jobs: &mut Jobs)
-    requires tenants { length tenants.old.items ≡ length config.now.tenants }
-    requires counts { All (λ (s : Standing). s.row.next_tick < 2 ^ 64 - 1) tenants.old.items }
-    requires placed { ArePlaced tenants.old.items }
-    requires ready { All IsReady tenants.old.items }
-    requires jobs { most_of tenants.old.items ≤ jobs.old.room }
-    ensures halves { AreSecondHalves config.now frame.now tenants.old.items tenants.new.items }
-    ensures jobs { (n : ℕ) → All (λ (s : Standing). s.row.next_tick ≡ n) tenants.old.items → jobs.new.jobs ≡ jobs.old.jobs ++ released_from n 0 tenants.new.items }
-{
-    for i in 0..tenants.len() {
-        let budgets = &config.tenants.as_slice()[i].budgets;
-        let tenant = &mut tenants[i];
-        tenant.phase_two(budgets, frame, jobs);
-        let _ = tenant.next_tick();
-    }
-}
-
-// The second half of each tenant, where nobody takes the jobs.
-fn second_halves_without_jobs(tenants: &mut Vec<Tenant>, config: &Config, frame: &[i64])
-    requires tenants { length tenants.old.items ≡ length config.now.tenants }
-    requires counts { All (λ (s : Standing). s.row.next_tick < 2 ^ 64 - 1) tenants.old.items }
-    requires ready { All IsReady tenants.old.items }
-    ensures { AreSecondHalves config.now frame.now tenants.old.items tenants.new.items }
-{
-    for i in 0..tenants.len() {
-        let budgets = &config.tenants.as_slice()[i].budgets;
-        let tenant = &mut tenants[i];
-        tenant.phase_two_without_jobs(budgets, frame);
-        let _ = tenant.next_tick();
-    }
-}
-
 // Computes and counts each tenant's outstanding jobs. How many they were.
-fn complete_each(tenants: &mut Vec<Tenant>) -> u128
-    ensures completed { AreStepped (λ t. IsCompleted) tenants.old.items tenants.new.items }
-    ensures number { result ≡ length (outstanding_from 0 tenants.old.items) }
+fn complete_each(tenants: &[Tenant], finished: &mut Finished) -> u128
+    requires placed { ArePlaced tenants.now }
+    requires table { IsTaskTable tenants.now finished.old.entries }
+    ensures number { result ≡ length (outstanding_from finished.old.entries 0 tenants.now) }
+    ensures table { IsTaskTable tenants.now finished.new.entries }
+    ensures results { (j : JobId) → has_result finished.new.entries j ≡ (has_result finished.old.entries j || is_active_among tenants.now j) }
 {
     let mut number: u128 = 0;
-    for i in 0..tenants.len() {
-        number += tenants[i].complete_all() as u128;
+    for tenant in tenants {
+        number += tenant.complete_all(finished) as u128;
     }
     number
 }

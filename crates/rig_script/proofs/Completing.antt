@@ -1,5 +1,5 @@
 -- Completing outstanding jobs, of all tenants and of one.
-use Rattle.std.proofs.Common.{◌≡◌, ℕ, ◌<◌, true, ◌||◌, not, List, [], ◌∷◌, ◌++◌, length, map, reverse, ap, ◌∙◌, subst}
+use Rattle.std.proofs.Common.{◌≡◌, ℕ, ◌<◌, true, ◌||◌, not, List, [], ◌∷◌, ◌++◌, length, map, reverse, ap, ◌∙◌, subst, arith}
 use Rattle.std.specs.List.{enumerate_from, AllByRecursion}
 use Rattle.std.proofs.lemmas.Bool.{and_from}
 use Rattle.host_core.specs.declared.events.Event.{Event}
@@ -9,7 +9,8 @@ use Rattle.tenant_jobs.specs.declared.jobs.JobId.{JobId}
 use Rattle.host_core.specs.Completions.{has_completion}
 use Rattle.host_core.specs.Host.{host_after}
 use Rattle.host_core.specs.HostState.{row_at, is_counted}
-use Rattle.host_core.specs.HostStanding.{HostStanding, Stands, tenant_at, outstanding_jobs, outstanding_of}
+use Rattle.instant_engine.specs.Tenants.{tenant_at}
+use Rattle.host_core.specs.HostStanding.{HostStanding, Stands, outstanding_jobs, outstanding_of}
 use Rattle.host_core.specs.Legal.{was_released, is_legal}
 use Rattle.host_core.specs.Setting.{Setting}
 use Rattle.host_core.specs.Views.{row_of}
@@ -48,12 +49,12 @@ module _ (setting : Setting) where
 
   -- the names that the host gives are those of the definitions
   pub names_are : (past : List Event) (host : HostStanding) → IsHostAfter setting host past → outstanding_jobs host ≡ outstanding_after setting past
-  names_are past host h = code_awaits setting host (host_after setting past) h.stands ∙ same_outstanding setting h.base past h.legal
+  names_are past host h = code_awaits setting host (host_after setting past) h.stands h.stands.placed ∙ same_outstanding setting h.base past h.legal
 
   pub names_at : (past : List Event) (host : HostStanding) (t : ℕ) → t < length setting.config.tenants → IsHostAfter setting host past → outstanding_of host t ≡ outstanding_at setting past t
   names_at past host t lt h =
       let state = host_after setting past in
-      awaited_at setting (tenant_at host.tenants t) t (row_at state t) (is_counted state) (h.stands.each t lt) ∙ same_outstanding_at setting h.base past h.legal t lt
+      awaited_at setting (tenant_at host.tenants t) host.entries t (row_at state t) (is_counted state) (h.stands.each t lt) (h.stands.placed t (omega (arith, lt, h.stands.as_many))) h.stands.results ∙ same_outstanding_at setting h.base past h.legal t lt
 
   -- these jobs are completed
   completed : (past : List Event) (host later : HostStanding) (jobs : List JobId) → AllByRecursion (λ j. is_active (row_of setting past j.tenant) j ≡ true) jobs → IsHostAfter setting host past

@@ -1,47 +1,17 @@
-use Rattle.std.proofs.Common.{rules, ◌<◌, length, ap, arith}
-use Rattle.std.proofs.lemmas.List.Elements.{AllWithin-more_set}
-use Rattle.host_core.specs.inner.Halves.{IsReady}
-use Rattle.tenant_state.specs.Row.{Row}
-use Rattle.std.proofs.lemmas.List.Sums.{sum_by-take-le}
-use Rattle.tenant_state.specs.Standing.{Standing, most_released}
-use Rattle.host_core.proofs.AtRest.{readied, same_length, same_most}
-use Rattle.host_core.proofs.HostLoops.{most_more, none_of_one}
+use Rattle.std.proofs.Common.{◌≡◌, ◌+◌, ◌≤◌, length, Some, None, sym, ap, ◌∙◌, arith}
+use Rattle.std.specs.Prelude.{IsOk}
+use Rattle.std.proofs.lemmas.Bool.{false≢true}
+use Rattle.host_core.proofs.AtRest.{same_most}
 use Rattle.host_core.proofs.hosts.all_ready.Goals as goal
 
-pub returns-in_default-clause-rest : goal.returns-in_default-clause-rest
-returns-in_default-clause-rest c =
-    readied c.loop-i.tenants.items c.args.tenants.now.items c.loop-i.i c.index_mut.result.now c.ready.new.self c.loop-i.invariant.rest c.index_mut.ensures.value c.ready.ensures.place c.ready.ensures.row c.ready.ensures.completed
+pub returns-in_err-entries-clause-never_refused : goal.returns-in_err-entries-clause-never_refused
+returns-in_err-entries-clause-never_refused c = λ none.
+    let most : c.in_ok-most.most ≡ 0 = c.in_ok-most.ensures.most ∙ same_most c.args.tenants.now c.ready.new.tenants c.ready.ensures.rest ∙ none in
+    absurd (c.in_err-entries.ensures (omega (arith, most, c.entry_count.type_inv)))
 
-pub returns-in_err-most-clause-rest : goal.returns-in_err-most-clause-rest
-returns-in_err-most-clause-rest c =
-    readied c.loop-i.tenants.items c.args.tenants.now.items c.loop-i.i c.index_mut.result.now c.ready.new.self c.loop-i.invariant.rest c.index_mut.ensures.value c.ready.ensures.place c.ready.ensures.row c.ready.ensures.completed
-
-pub returns-in_default-clause-never_refused : goal.returns-in_default-clause-never_refused
-returns-in_default-clause-never_refused c = λ none.
-    let within : c.loop-i.i < length c.loop-i.tenants.items = omega (arith, c.loop-i-test.true, c.len-i-end.ensures, same_length c.args.tenants.now.items c.loop-i.tenants.items c.loop-i.invariant.rest) in
-    let given = c.ready.ensures.never_refused (none_of_one c.args.tenants.now.items c.loop-i.tenants.items c.loop-i.i c.index_mut.result.now c.loop-i.invariant.rest within c.index_mut.ensures.value none) in
-    search rules
-
-pub returns-in_err-most-clause-never_refused : goal.returns-in_err-most-clause-never_refused
-returns-in_err-most-clause-never_refused c = λ none.
-    let within : c.loop-i.i < length c.loop-i.tenants.items = omega (arith, c.loop-i-test.true, c.len-i-end.ensures, same_length c.args.tenants.now.items c.loop-i.tenants.items c.loop-i.invariant.rest) in
-    let one = none_of_one c.args.tenants.now.items c.loop-i.tenants.items c.loop-i.i c.index_mut.result.now c.loop-i.invariant.rest within c.index_mut.ensures.value none in
-    absurd (omega (
-      arith,
-      c.in_err-most.ensures,
-      c.loop-i.invariant.most,
-      c.in-Ok.ensures.most,
-      one,
-      none,
-      same_most c.args.tenants.now.items c.loop-i.tenants.items c.loop-i.invariant.rest,
-      sum_by-take-le (λ (s : Standing). most_released s.row) c.loop-i.tenants.items c.loop-i.i,
-    ))
-
-pub loop-i-preserved : goal.loop-i-preserved
-loop-i-preserved c =
-    let within : c.loop-i.i < length c.loop-i.tenants.items = omega (arith, c.loop-i-test.true, c.len-i-end.ensures, same_length c.args.tenants.now.items c.loop-i.tenants.items c.loop-i.invariant.rest) in
-    record {
-      rest = readied c.loop-i.tenants.items c.args.tenants.now.items c.loop-i.i c.index_mut.result.now c.ready.new.self c.loop-i.invariant.rest c.index_mut.ensures.value c.ready.ensures.place c.ready.ensures.row c.ready.ensures.completed;
-      ready = AllWithin-more_set c.loop-i.tenants.items c.loop-i.i c.ready.new.self within IsReady c.loop-i.invariant.ready (record { room = c.in-Ok.ensures.room; shares = c.in-Ok.ensures.shares });
-      most = omega (arith, c.in_ok-most.ensures.1, c.loop-i.invariant.most, c.in-Ok.ensures.most, ap (λ (r : Row). most_released r) c.ready.ensures.row, most_more c.loop-i.tenants.items c.loop-i.i c.ready.new.self within);
-    }
+pub returns-in_err-ok-clause-never_refused : goal.returns-in_err-ok-clause-never_refused
+returns-in_err-ok-clause-never_refused c = λ none.
+    let most : c.in_ok-most.most ≡ 0 = c.in_ok-most.ensures.most ∙ same_most c.args.tenants.now c.ready.new.tenants c.ready.ensures.rest ∙ none in
+    let entries : c.in_ok-entries.entries ≡ c.entry_count.result + c.in_ok-most.most = c.in_ok-entries.ensures.1 in
+    let given : IsOk c.room.result = c.room.ensures.never_refused (omega (arith, most, entries, c.entry_count.ensures)) in
+    absurd (false≢true (c.in_err-ok.ensures.variant ∙ given))

@@ -1,31 +1,60 @@
-use Rattle.std.proofs.Common.{◌≡◌, ◌<◌, length, take, sym, ap, ◌∙◌, arith}
-use Rattle.std.proofs.lemmas.List.{take_all}
+use Rattle.std.proofs.Common.{◌≡◌, ◌<◌, ◌||◌, Bool, true, false, not, length, take, refl, sym, ap, ◌∙◌, subst, arith}
+use Rattle.std.proofs.lemmas.List.{get_or_default, take_all}
 use Rattle.std.proofs.lemmas.List.Sums.{sum-map, sum_by_more}
 use Rattle.std.specs.List.{sum_by}
-use Rattle.host_core.specs.inner.Halves.{IsCompleted}
-use Rattle.tenant_state.specs.Standing.{empty_standing}
-use Rattle.host_core.proofs.HostLoops.{stepped_more, stepped_all, unstepped}
+use Rattle.instant_engine.specs.Tenants.{tenant_at}
+use Rattle.instant_engine.specs.inner.Tenants.{is_active_among}
+use Rattle.tenant_jobs.specs.declared.jobs.JobId.{JobId}
+use Rattle.tenant_jobs.specs.Finished.{entry_in, has_result}
+use Rattle.tenant_state.specs.Jobs.{job_of}
+use Rattle.tenant_state.specs.Standing.{Standing, empty_standing}
+use Rattle.tenant_state.specs.inner.Standing.{HasItsResults, has_active}
+use Rattle.giotto_tasks.proofs.ListLemmas.{all_of, same_filter}
+use Rattle.giotto_tasks.proofs.TestLemmas.{or_assoc}
+use Rattle.host_core.proofs.HostTables.{active_more, has_its_entries, none_before, table_completed}
 use Rattle.host_core.proofs.Outstanding.{number_outstanding, counted_in_all}
 use Rattle.host_core.proofs.hosts.complete_each.Goals as goal
 
-pub loop-i-preserved : goal.loop-i-preserved
-loop-i-preserved c =
-    let before = c.loop-i.invariant in
-    let tenants = c.args.tenants.now.items in
-    let inside : c.loop-i.i < length tenants = omega (arith, c.loop-i-test.true, c.len-i-end.ensures) in
-    let here = ap number_outstanding (c.index_mut.ensures.value ∙ unstepped (λ t. IsCompleted) c.loop-i.i tenants c.loop-i.tenants.items c.index_mut.result.now inside before.steps) in
-    record {
-      steps = stepped_more (λ t. IsCompleted) c.loop-i.i tenants c.loop-i.tenants.items c.index_mut.result.now c.complete_all.new.self inside c.index_mut.ensures.value before.steps
-          (record { row = c.complete_all.ensures.row; place = c.complete_all.ensures.place; completed = c.complete_all.ensures.completed });
-      number = omega (arith, before.number, c.complete_all.ensures.number, here, sum_by_more number_outstanding tenants c.loop-i.i (empty_standing 0 0) inside);
-      few = omega (arith, before.few);
-    }
+or_false : (b : Bool) → (b || false) ≡ b
+or_false true = refl
+or_false false = refl
 
-pub returns-clause-completed : goal.returns-clause-completed
-returns-clause-completed c = stepped_all _ c.loop-i.i c.args.tenants.now.items c.loop-i.tenants.items (omega (arith, c.loop-i-test.false, c.len-i-end.ensures)) c.loop-i.invariant.steps
+pub complete_all-requires : goal.complete_all-requires
+complete_all-requires c =
+    record { entries = has_its_entries c.args.tenants.now c.loop-tenant.finished.entries c.loop-tenant.tenant-index c.tenant-item.result c.loop-tenant-test.true c.tenant-item.is c.requires.placed c.loop-tenant.invariant.table }
+
+pub loop-tenant-preserved : goal.loop-tenant-preserved
+loop-tenant-preserved c =
+    let tenants = c.args.tenants.now in
+    let i = c.loop-tenant.tenant-index in
+    let within : i < length tenants = c.loop-tenant-test.true in
+    let before = c.loop-tenant.invariant in
+    let here : c.tenant-item.result ≡ tenant_at tenants i = c.tenant-item.is ∙ get_or_default tenants i c.tenant-item.result (empty_standing 0 0) within in
+    let number : c.complete_all.result ≡ number_outstanding c.args.finished.now.entries (tenant_at tenants i) =
+    c.complete_all.ensures.number
+    ∙ ap (number_outstanding c.loop-tenant.finished.entries) here
+    ∙ ap length (same_filter _ _ (tenant_at tenants i).row.active
+    (all_of (λ a. ap not (before.results (job_of (tenant_at tenants i).place a)
+    ∙ ap (λ b. has_result c.args.finished.now.entries (job_of (tenant_at tenants i).place a) || b) (none_before tenants i a c.requires.placed within)
+    ∙ or_false (has_result c.args.finished.now.entries (job_of (tenant_at tenants i).place a)))) (tenant_at tenants i).row.active)) in
+    record {
+      table = table_completed tenants c.loop-tenant.finished.entries c.complete_all.new.finished.entries i c.requires.placed within c.complete_all.ensures.entered
+          (subst (λ (s : Standing). HasItsResults s c.loop-tenant.finished.entries → HasItsResults s c.complete_all.new.finished.entries) here c.complete_all.ensures.right)
+          (subst (λ (s : Standing). (j : JobId) → has_active s j ≡ false → entry_in c.complete_all.new.finished.entries j ≡ entry_in c.loop-tenant.finished.entries j) here c.complete_all.ensures.others)
+          before.table;
+      results = λ j.
+          c.complete_all.ensures.results j
+          ∙ ap (λ s. has_result c.loop-tenant.finished.entries j || has_active s j) here
+          ∙ ap (λ b. b || has_active (tenant_at tenants i) j) (before.results j)
+          ∙ sym (or_assoc (has_result c.args.finished.now.entries j) (is_active_among (take i tenants) j) (has_active (tenant_at tenants i) j))
+          ∙ ap (λ b. has_result c.args.finished.now.entries j || b) (sym (active_more tenants i j c.requires.placed within));
+      number = omega (arith, before.number, number, sum_by_more (number_outstanding c.args.finished.now.entries) tenants i (empty_standing 0 0) within);
+      few = omega (arith, before.few, c.complete_all.type_inv);
+    }
 
 pub returns-clause-number : goal.returns-clause-number
 returns-clause-number c =
-    let tenants = c.args.tenants.now.items in
-    let all : take c.loop-i.i tenants ≡ tenants = take_all c.loop-i.i tenants (omega (arith, c.loop-i-test.false, c.len-i-end.ensures)) in
-    c.loop-i.invariant.number ∙ ap (sum_by number_outstanding) all ∙ sym (sum-map number_outstanding tenants) ∙ counted_in_all tenants
+    let tenants = c.args.tenants.now in
+    let entries = c.args.finished.now.entries in
+    let all : take c.loop-tenant.tenant-index tenants ≡ tenants = take_all c.loop-tenant.tenant-index tenants c.loop-tenant-test.false in
+    c.loop-tenant.invariant.number ∙ ap (sum_by (number_outstanding entries)) all ∙ sym (sum-map (number_outstanding entries) tenants) ∙ counted_in_all entries tenants

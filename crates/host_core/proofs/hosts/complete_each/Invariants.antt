@@ -1,13 +1,16 @@
-use Rattle.std.proofs.Common.{◌≡◌, ◌≤◌, ◌*◌, ◌-◌, ◌^◌, take}
+use Rattle.std.proofs.Common.{◌≡◌, ◌≤◌, ◌*◌, ◌-◌, ◌^◌, ◌||◌, take}
 use Rattle.std.specs.List.{sum_by}
-use Rattle.host_core.specs.inner.Halves.{IsCompleted}
-use Rattle.host_core.proofs.HostLoops.{AreSteppedTo}
+use Rattle.instant_engine.specs.inner.Tables.{IsTaskTable}
+use Rattle.instant_engine.specs.inner.Tenants.{is_active_among}
+use Rattle.tenant_jobs.specs.declared.jobs.JobId.{JobId}
+use Rattle.tenant_jobs.specs.Finished.{has_result}
 use Rattle.host_core.proofs.Outstanding.{number_outstanding}
 use Rattle.host_core.proofs.hosts.complete_each.Given as goal
 
-abbrev pub invariant-loop-i : goal.invariant-loop-i
-invariant-loop-i l = record {
-  steps : AreSteppedTo (λ t. IsCompleted) l.i l.initial.tenants.items l.tenants.items;
-  number : l.number ≡ sum_by number_outstanding (take l.i l.initial.tenants.items);
-  few : l.number ≤ l.i * (2 ^ 64 - 1);
+abbrev pub invariant-loop-tenant : goal.invariant-loop-tenant
+invariant-loop-tenant l = record {
+  table : IsTaskTable l.tenants l.finished.entries;
+  results : (j : JobId) → has_result l.finished.entries j ≡ (has_result l.initial.finished.entries j || is_active_among (take l.tenant-index l.tenants) j);
+  number : l.number ≡ sum_by (number_outstanding l.initial.finished.entries) (take l.tenant-index l.tenants);
+  few : l.number ≤ l.tenant-index * (2 ^ 64 - 1);
 }

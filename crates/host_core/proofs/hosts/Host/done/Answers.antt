@@ -1,56 +1,30 @@
-use Rattle.std.proofs.Common.{◌≡◌, ◌<◌, ◌≤◌, ◌+◌, List, ◌∷◌, length, map, set, sym, ap, subst, ◌∙◌, arith, refl}
-use Rattle.std.specs.Prelude.{is_some, slice_get}
-use Rattle.std.specs.Option.{option_and_then}
-use Rattle.std.proofs.Math.Seq.{map-set_same}
+use Rattle.std.proofs.Common.{◌≡◌, ◌≢◌, ◌<◌, ◌≤◌, ◌+◌, true, false, Some, None, ◌∷◌, List, length, map, get_or, refl, sym, ap, subst, ◌∙◌, arith}
+use Rattle.std.proofs.lemmas.List.{get_or_default}
+use Rattle.instant_engine.specs.Tenants.{tenant_at}
+use Rattle.tenant_jobs.specs.declared.jobs.JobId.{JobId}
+use Rattle.tenant_jobs.specs.Finished.{TableEntry, has_result}
+use Rattle.tenant_jobs.specs.inner.Finished.{is_entered}
+use Rattle.tenant_state.specs.Standing.{Standing, at_rest, awaited_job, empty_standing, released_job}
 use Rattle.host_core.specs.HostStanding.{HostStanding, Stands, IsOwn, awaited_in, outstanding_jobs}
 use Rattle.host_core.specs.HostState.{HostState}
 use Rattle.host_core.specs.Setting.{Setting}
 use Rattle.host_core.specs.declared.hosts.Counted.TheVariants as became
-use Rattle.host_core.specs.declared.hosts.Host.TheInside.{Inside}
-use Rattle.tenant_jobs.specs.declared.jobs.JobId.{JobId}
-use Rattle.tenant_state.specs.Standing.{at_rest, awaited_job}
-use Rattle.host_core.proofs.AtRest.{awaited_here, stands_inside, stands_outside, outstanding_at_rest}
-use Rattle.host_core.proofs.Completion.{ComesTo, comes_to, past_roster}
-use Rattle.host_core.proofs.HostSteps.{done_counts}
+use Rattle.host_core.proofs.AtRest.{awaited_here, outstanding_at_rest, standing, stands_inside, stands_outside}
+use Rattle.host_core.proofs.Completion.{ComesTo, awaited_own, awaited_parts, awaited_without, comes_to, past_roster}
+use Rattle.host_core.proofs.HostSteps.{stands_after_done}
+use Rattle.host_core.proofs.HostTables.{active_if_released, entered_if_released, has_added, whole_done}
 use Rattle.host_core.proofs.Outstanding.{one_fewer_in}
 use Rattle.host_core.proofs.hosts.Host.done.Goals as goal
-use Rattle.host_core.proofs.hosts.Host.done.Goals.{then-complete, else-complete}
+use Rattle.host_core.proofs.hosts.Host.done.Goals.{then-not-awaits-via-then-not-awaits, then-not-awaits-via-else-not-awaits+then-has}
 
--- the host as its code has it, and as the clauses see it behind the completion
-abbrev standing : Inside → HostStanding
-standing h = record { config = h.config; tenants = h.tenants.items; clock = h.clock }
-
-abbrev behind : goal.Joined-complete → HostStanding
-behind c = record (standing c.self.inside) { tenants = map at_rest (set c.self.inside.tenants.items c.id.result.now.tenant c.complete.new.self) }
-
-pub returns-clause-counted : goal.returns-clause-counted
-returns-clause-counted c =
-    let within : c.id.result.now.tenant < length c.self.inside.tenants.items = omega (arith, c.if-place-len.false) in
-    let same : awaited_in c.args.self.now c.args.done.id ≡ awaited_job c.index_mut.result.now c.args.done.id =
-    ap (λ (h : HostStanding). awaited_in h c.args.done.id) (sym c.self.view_is)
-    ∙ subst (λ (j : JobId). option_and_then (λ s. awaited_job s j) (slice_get (map at_rest c.self.inside.tenants.items) j.tenant) ≡ awaited_job c.index_mut.result.now j) c.id.ensures
-    (awaited_here c.self.inside.tenants.items c.id.result.now c.index_mut.result.now within c.index_mut.ensures.value) in
-    elim c.if-complete.branch [
-      | then-complete w ↦ (λ counted. same ∙ w.if-complete.ensures.counted.0 refl, λ some. w.result-is)
-      | else-complete w ↦ (λ counted. absurd (cc), λ some. absurd (let bad = w.if-complete.ensures.counted.1 (sym same ∙ some) in cc))
-    ]
-
-pub returns-clause-late : goal.returns-clause-late
-returns-clause-late c = λ late. elim c.if-complete.branch [
-  | then-complete w ↦ absurd (cc)
-  | else-complete w ↦
-      let same = map-set_same at_rest c.self.inside.tenants.items c.id.result.now.tenant c.complete.new.self c.index_mut.result.now (ap at_rest (w.if-complete.ensures.late ∙ c.index_mut.ensures.value)) in
-      (λ k. record { config = c.self.inside.config; tenants = same k; clock = c.self.inside.clock }) ∙ c.self.view_is
-]
-
--- a tenant beyond the roster: the answer, and what stands behind the completion
+-- a tenant beyond the roster
 beyond : (c : goal.After-drop-done-inside) (setting : Setting) (state : HostState) (stands : Stands setting c.args.self.now state)
-    → ComesTo setting (standing c.self.inside) c.args.self.now state c.self.invariant.1 c.self.view_is stands c.args.done became.Late c.args.self.now
+    → ComesTo setting (standing c.self.inside) c.args.self.now state c.self.invariant.known c.self.invariant.placed c.self.view_is stands c.args.done became.Late c.args.self.now
 beyond c setting state stands =
     let host : HostStanding = standing c.self.inside in
     let place : c.id.result.now.tenant ≡ c.args.done.id.tenant = ap (λ (i : JobId). i.tenant) c.id.ensures in
     let past : length host.tenants ≤ c.args.done.id.tenant = omega (arith, place, c.if-place-len.true) in
-    past_roster setting host c.args.self.now state c.self.invariant.1 c.self.view_is stands c.args.done past
+    past_roster setting host c.args.self.now state c.self.invariant.known c.self.invariant.placed c.self.view_is stands c.args.done past
 
 pub returns-then-place-len-clause-answer : goal.returns-then-place-len-clause-answer
 returns-then-place-len-clause-answer c = λ own setting state stands. (beyond c setting state stands).answer
@@ -58,37 +32,103 @@ returns-then-place-len-clause-answer c = λ own setting state stands. (beyond c 
 pub returns-then-place-len-clause-step : goal.returns-then-place-len-clause-step
 returns-then-place-len-clause-step c = λ own setting state stands. (beyond c setting state stands).step
 
--- a tenant of the roster: the answer, and what stands behind the completion
-within_roster : (c : goal.Joined-complete) (setting : Setting) (state : HostState) (stands : Stands setting c.args.self.now state) → IsOwn c.args.self.now c.args.done
-    → ComesTo setting (standing c.self.inside) c.args.self.now state c.self.invariant.1 c.self.view_is stands c.args.done c.if-complete.result (behind c)
-within_roster c setting state stands own =
+-- one that isn't awaited, or has its result
+pub returns-then-not-awaits-clause-counted : goal.returns-then-not-awaits-clause-counted
+returns-then-not-awaits-clause-counted c =
+    let host : HostStanding = standing c.self.inside in
+    let here : c.index.result.now ≡ get_or host.tenants c.args.done.id.tenant c.index.result.now = c.index.ensures ∙ ap (λ (i : JobId). get_or host.tenants i.tenant c.index.result.now) c.id.ensures in
+    let within : c.args.done.id.tenant < length host.tenants = subst (λ (i : JobId). i.tenant < length host.tenants) c.id.ensures (omega (arith, c.if-place-len.false)) in
+    let same = awaited_own host c.args.self.now c.self.view_is c.args.done c.index.result.now within here in (
+      λ counted. absurd (cc),
+      λ some.
+          let parts = awaited_parts c.index.result.now host.entries c.args.done.id c.args.done (sym same ∙ some) in
+          elim c.then-not-awaits.branch [
+            | then-not-awaits-via-then-not-awaits w ↦ absurd (let bad = w.if-not-awaits.ensures.1 parts.1 in cc)
+            | then-not-awaits-via-else-not-awaits+then-has w ↦ absurd (let bad = w.if-has.ensures ∙ parts.0 in cc)
+          ],
+    )
+
+late : (c : goal.After-drop-done-inside-then-not-awaits) (setting : Setting) (state : HostState) (stands : Stands setting c.args.self.now state) → IsOwn c.args.self.now c.args.done
+    → ComesTo setting (standing c.self.inside) c.args.self.now state c.self.invariant.known c.self.invariant.placed c.self.view_is stands c.args.done became.Late c.args.self.now
+late c setting state stands own =
+    comes_to setting (standing c.self.inside) c.args.self.now state c.self.invariant.known c.self.invariant.placed c.self.view_is stands c.args.done became.Late c.args.self.now
+    (returns-then-not-awaits-clause-counted c) (λ late. refl) (λ counted. absurd (cc)) own
+
+pub returns-then-not-awaits-clause-answer : goal.returns-then-not-awaits-clause-answer
+returns-then-not-awaits-clause-answer c = λ own setting state stands. (late c setting state stands own).answer
+
+pub returns-then-not-awaits-clause-step : goal.returns-then-not-awaits-clause-step
+returns-then-not-awaits-clause-step c = λ own setting state stands. (late c setting state stands own).step
+
+-- one that counts
+pub add-requires-clause-entered : goal.add-requires-clause-entered
+add-requires-clause-entered c =
+    let host : HostStanding = standing c.self.inside in
+    let here : c.index.result.now ≡ get_or host.tenants c.args.done.id.tenant c.index.result.now = c.index.ensures ∙ ap (λ (i : JobId). get_or host.tenants i.tenant c.index.result.now) c.id.ensures in
+    let within : c.args.done.id.tenant < length host.tenants = subst (λ (i : JobId). i.tenant < length host.tenants) c.id.ensures (omega (arith, c.if-place-len.false)) in
+    entered_if_released host.tenants host.entries c.args.done c.self.invariant c.index.result.now within here (c.if-not-awaits.ensures.0 refl)
+
+module _ (c : goal.After-add) where
+  host : HostStanding
+  host = standing c.self.inside
+
+  here : c.index.result.now ≡ get_or c.self.inside.tenants.items c.args.done.id.tenant c.index.result.now
+  here = c.index.ensures ∙ ap (λ (i : JobId). get_or c.self.inside.tenants.items i.tenant c.index.result.now) c.id.ensures
+
+  within : c.args.done.id.tenant < length c.self.inside.tenants.items
+  within = subst (λ (i : JobId). i.tenant < length c.self.inside.tenants.items) c.id.ensures (omega (arith, c.if-place-len.false))
+
+  released : released_job (tenant_at c.self.inside.tenants.items c.args.done.id.tenant) c.args.done.id ≡ Some c.args.done
+  released =
+      subst (λ (s : Standing). released_job s c.args.done.id ≡ Some c.args.done)
+      (here ∙ get_or_default c.self.inside.tenants.items c.args.done.id.tenant c.index.result.now (empty_standing 0 0) within) (c.if-not-awaits.ensures.0 refl)
+
+  none : has_result c.self.inside.finished.entries c.args.done.id ≡ false
+  none = sym c.if-has.ensures
+
+  entered : is_entered c.self.inside.finished.entries c.args.done.id ≡ true
+  entered = entered_if_released c.self.inside.tenants.items c.self.inside.finished.entries c.args.done c.self.invariant c.index.result.now within here (c.if-not-awaits.ensures.0 refl)
+
+  abbrev behind : HostStanding
+  behind = record (standing c.self.inside) { tenants = map at_rest c.self.inside.tenants.items; entries = c.add.new.self.entries }
+
+pub invariant_of-self : goal.invariant_of-self
+invariant_of-self c = whole_done c.self.inside.tenants.items c.self.inside.finished.entries c.add.new.self.entries c.args.done c.self.invariant (within c) (released c) (entered c) c.add.ensures.entries
+
+pub returns-clause-counted : goal.returns-clause-counted
+returns-clause-counted c = (
+  λ counted.
+      awaited_own (standing c.self.inside) c.args.self.now c.self.view_is c.args.done c.index.result.now (within c) (here c)
+      ∙ awaited_without c.index.result.now c.self.inside.finished.entries c.args.done.id (none c) ∙ c.if-not-awaits.ensures.0 refl,
+  λ some. refl,
+)
+
+counted : (c : goal.After-add) (setting : Setting) (state : HostState) (stands : Stands setting c.args.self.now state) → IsOwn c.args.self.now c.args.done
+    → ComesTo setting (standing c.self.inside) c.args.self.now state c.self.invariant.known c.self.invariant.placed c.self.view_is stands c.args.done became.Counted (behind c)
+counted c setting state stands own =
     let host : HostStanding = standing c.self.inside in
     let inside : Stands setting host state = stands_inside setting host state (subst (λ h. Stands setting h state) (sym c.self.view_is) stands) in
-    let within : c.id.result.now.tenant < length host.tenants = omega (arith, c.if-place-len.false) in
-    comes_to setting host c.args.self.now state c.self.invariant.1 c.self.view_is stands c.args.done c.if-complete.result (behind c) (returns-clause-counted c) (returns-clause-late c)
-    (λ counted. elim c.if-complete.branch [
-      | then-complete w ↦
-          stands_outside setting (record host { tenants = set host.tenants c.id.result.now.tenant c.complete.new.self }) (record state { counted = c.args.done.id ∷ state.counted })
-          (done_counts setting host state c.args.done.id c.id.result.now.tenant c.index_mut.result.now c.complete.new.self (ap (λ (i : JobId). i.tenant) c.id.ensures) inside within c.index_mut.ensures.value
-          c.self.invariant.1 (ap is_some (w.if-complete.ensures.counted.0 refl)) w.if-complete.ensures.step)
-      | else-complete w ↦ absurd (cc)
-    ]) own
+    comes_to setting host c.args.self.now state c.self.invariant.known c.self.invariant.placed c.self.view_is stands c.args.done became.Counted (behind c)
+    (returns-clause-counted c) (λ late. absurd (cc))
+    (λ counted.
+    stands_outside setting (record host { entries = c.add.new.self.entries }) (record state { counted = c.args.done.id ∷ state.counted })
+    (stands_after_done setting host state c.args.done.id c.add.new.self.entries inside
+    (has_added c.self.inside.tenants.items c.self.inside.finished.entries c.add.new.self.entries c.args.done c.self.invariant (within c) (released c) (entered c) c.add.ensures.entries))) own
 
 pub returns-clause-answer : goal.returns-clause-answer
-returns-clause-answer c = λ own setting state stands. (within_roster c setting state stands own).answer
+returns-clause-answer c = λ own setting state stands. (counted c setting state stands own).answer
 
 pub returns-clause-step : goal.returns-clause-step
-returns-clause-step c = λ own setting state stands. (within_roster c setting state stands own).step
+returns-clause-step c = λ own setting state stands. (counted c setting state stands own).step
 
 pub returns-clause-left : goal.returns-clause-left
 returns-clause-left c = λ counted.
-    let host : HostStanding = standing c.self.inside in
-    let within : c.id.result.now.tenant < length host.tenants = omega (arith, c.if-place-len.false) in
-    elim c.if-complete.branch [
-      | then-complete w ↦
-          ap (λ (h : HostStanding). length (outstanding_jobs h)) (sym c.self.view_is)
-          ∙ (ap length (outstanding_at_rest host.tenants)
-          ∙ (one_fewer_in host.tenants c.id.result.now.tenant c.index_mut.result.now c.complete.new.self within c.index_mut.ensures.value w.if-complete.ensures.left
-          ∙ ap (λ (js : List JobId). length js + 1) (sym (outstanding_at_rest (set host.tenants c.id.result.now.tenant c.complete.new.self)))))
-      | else-complete w ↦ absurd (cc)
-    ]
+    let tenants = c.self.inside.tenants.items in
+    let entries = c.self.inside.finished.entries in
+    ap (λ (h : HostStanding). length (outstanding_jobs h)) (sym c.self.view_is)
+    ∙ (ap length (outstanding_at_rest entries tenants)
+    ∙ (one_fewer_in tenants c.args.done.id entries c.add.new.self.entries (within c) c.self.invariant.placed
+    (has_added tenants entries c.add.new.self.entries c.args.done c.self.invariant (within c) (released c) (entered c) c.add.ensures.entries) (none c)
+    (active_if_released tenants entries c.args.done c.self.invariant (within c) (released c))
+    (c.self.invariant.known c.args.done.id.tenant (empty_standing 0 0) (within c)).1.known.different
+    ∙ ap (λ (js : List JobId). length js + 1) (sym (outstanding_at_rest c.add.new.self.entries tenants))))

@@ -4,9 +4,10 @@ use Rattle.std.proofs.lemmas.Simd.{map-map}
 use Rattle.rig_config.specs.declared.Config.{Config}
 use Rattle.rig_config.specs.declared.TenantConfig.{TenantConfig}
 use Rattle.host_core.specs.HostStanding.{new_host}
+use Rattle.tenant_jobs.specs.Finished.{TaskTable}
 use Rattle.tenant_state.specs.Standing.{Standing, at_rest, empty_standing}
 use Rattle.host_core.proofs.NewTenants.{new_more, new_all, new_whole}
-use Rattle.host_core.proofs.Placed.{IsWhole}
+use Rattle.host_core.specs.inner.HostStanding.{IsWhole}
 use Rattle.host_core.proofs.hosts.Host.new.Goals as goal
 
 pub loop-place-preserved : goal.loop-place-preserved
@@ -19,12 +20,13 @@ pub invariant_of-result : goal.invariant_of-result
 invariant_of-result c =
     let same : length c.as_slice-place-end.result.now ≡ length c.in_ok-copy.copy.tenants = ap length c.as_slice-place-end.ensures in
     let all = new_all c.args.first_tick c.in_ok-copy.copy.tenants c.loop-place.place c.loop-place.tenants.items (omega (arith, same, c.loop-place-test.false)) c.loop-place.invariant in
-    subst (IsWhole (length c.in_ok-copy.copy.tenants) c.args.first_tick) (sym all) (new_whole c.args.first_tick c.in_ok-copy.copy.tenants)
+    rw (all, c.new-2.ensures) (new_whole c.args.first_tick c.in_ok-copy.copy.tenants)
 
 pub returns : goal.returns
 returns c =
     let same : length c.as_slice-place-end.result.now ≡ length c.in_ok-copy.copy.tenants = ap length c.as_slice-place-end.ensures in
     let all = new_all c.args.first_tick c.in_ok-copy.copy.tenants c.loop-place.place c.loop-place.tenants.items (omega (arith, same, c.loop-place-test.false)) c.loop-place.invariant in
-    ap (λ (xs : List Standing). record { config = c.in_ok-copy.copy; tenants = xs; clock = c.args.first_tick })
+    ap (λ (xs : List Standing). record { config = c.in_ok-copy.copy; tenants = xs; entries = c.new-2.result.entries; clock = c.args.first_tick })
     (ap (map at_rest) all ∙ map-map at_rest (λ (place : ℕ × TenantConfig). empty_standing place.0 c.args.first_tick) (enumerate_from 0 c.in_ok-copy.copy.tenants))
+    ∙ ap (λ (t : TaskTable). record (new_host c.in_ok-copy.copy c.args.first_tick) { entries = t.entries }) c.new-2.ensures
     ∙ ap (λ (k : Config). new_host k c.args.first_tick) c.in_ok-copy.ensures

@@ -1,49 +1,71 @@
-use Rattle.std.proofs.Common.{List, map, ap, sym, subst, ◌++◌, ◌∙◌, arith, refl}
+use Rattle.std.proofs.Common.{◌-◌, ◌<◌, ◌^◌, map, refl, ap, sym, subst, ◌∙◌, arith}
 use Rattle.std.proofs.lemmas.List.Elements.{All-map}
-use Rattle.host_core.specs.HostStanding.{HostStanding, Stands, released_from}
-use Rattle.tenant_jobs.specs.Jobs.{JobValue}
+use Rattle.instant_engine.specs.Tenants.{released_from}
+use Rattle.host_core.specs.HostStanding.{HostStanding, Stands}
 use Rattle.tenant_state.specs.Standing.{Standing, at_rest, IsKnown}
 use Rattle.host_core.proofs.AtRest.{gathered_at_rest}
-use Rattle.host_core.proofs.HostLoops.{counts_middle, placed_middle, is_instant}
-use Rattle.host_core.proofs.Placed.{kept_at_rest}
+use Rattle.host_core.proofs.HostInstants.{counts_again, stands_behind, whole_again, whole_behind, whole_ready, written_behind}
 use Rattle.host_core.proofs.hosts.Host.tick.Goals as goal
 
 pub invariant_of-self : goal.invariant_of-self
-invariant_of-self c = kept_at_rest c.self.inside.tenants.items c.all_ready.new.tenants.items c.all_ready.ensures.rest c.self.invariant
+invariant_of-self c =
+    whole_ready c.self.inside.config c.self.inside.clock c.self.inside.tenants.len c.self.inside.tenants.items c.as_mut_slice.result.now c.all_ready.new.tenants c.self.inside.finished.entries c.all_ready.new.finished.entries
+    c.as_mut_slice.ensures.value c.as_mut_slice.ensures.len c.all_ready.ensures.rest c.all_ready.ensures.entries c.self.invariant
 
 pub invariant_of-self-in_default-with_room : goal.invariant_of-self-in_default-with_room
-invariant_of-self-in_default-with_room c = kept_at_rest c.self.inside.tenants.items c.all_ready.new.tenants.items c.all_ready.ensures.rest c.self.invariant
+invariant_of-self-in_default-with_room c =
+    whole_ready c.self.inside.config c.self.inside.clock c.self.inside.tenants.len c.self.inside.tenants.items c.as_mut_slice.result.now c.all_ready.new.tenants c.self.inside.finished.entries c.all_ready.new.finished.entries
+    c.as_mut_slice.ensures.value c.as_mut_slice.ensures.len c.all_ready.ensures.rest c.all_ready.ensures.entries c.self.invariant
 
-pub second_halves-requires-clause-counts : goal.second_halves-requires-clause-counts
-second_halves-requires-clause-counts c = λ k d lt.
-    let count = counts_middle c.self.inside.tenants.items c.all_ready.ensures.rest c.self.invariant c.first_halves.ensures.halves k d lt in
-    omega (arith, count, c.in_ok-check.ensures.next, ap (λ (h : HostStanding). h.clock) c.self.view_is)
+pub instant-requires-clause-placed : goal.instant-requires-clause-placed
+instant-requires-clause-placed c =
+    (whole_again c.self.inside.config c.self.inside.clock c.self.inside.tenants.len c.self.inside.tenants.items c.as_mut_slice.result.now c.all_ready.new.tenants c.self.inside.finished.entries c.all_ready.new.finished.entries
+    c.as_mut_slice.ensures.value c.as_mut_slice.ensures.len c.all_ready.ensures.rest c.all_ready.ensures.entries c.self.invariant c.as_mut_slice-tenants.result.now c.as_mut_slice-tenants.ensures.value).placed
 
-pub second_halves-requires-clause-placed : goal.second_halves-requires-clause-placed
-second_halves-requires-clause-placed c = placed_middle c.self.inside.tenants.items c.all_ready.ensures.rest c.self.invariant c.first_halves.ensures.halves
+pub instant-requires-clause-between : goal.instant-requires-clause-between
+instant-requires-clause-between c =
+    λ k d lt. ((whole_again c.self.inside.config c.self.inside.clock c.self.inside.tenants.len c.self.inside.tenants.items c.as_mut_slice.result.now c.all_ready.new.tenants c.self.inside.finished.entries c.all_ready.new.finished.entries
+    c.as_mut_slice.ensures.value c.as_mut_slice.ensures.len c.all_ready.ensures.rest c.all_ready.ensures.entries c.self.invariant c.as_mut_slice-tenants.result.now c.as_mut_slice-tenants.ensures.value).known k d lt).1
+
+pub instant-requires-clause-table : goal.instant-requires-clause-table
+instant-requires-clause-table c =
+    (whole_again c.self.inside.config c.self.inside.clock c.self.inside.tenants.len c.self.inside.tenants.items c.as_mut_slice.result.now c.all_ready.new.tenants c.self.inside.finished.entries c.all_ready.new.finished.entries
+    c.as_mut_slice.ensures.value c.as_mut_slice.ensures.len c.all_ready.ensures.rest c.all_ready.ensures.entries c.self.invariant c.as_mut_slice-tenants.result.now c.as_mut_slice-tenants.ensures.value).table
+
+pub instant-requires-clause-counts : goal.instant-requires-clause-counts
+instant-requires-clause-counts c =
+    counts_again c.self.inside.config c.self.inside.clock c.self.inside.tenants.len c.self.inside.tenants.items c.as_mut_slice.result.now c.all_ready.new.tenants c.self.inside.finished.entries c.all_ready.new.finished.entries
+    c.as_mut_slice.ensures.value c.as_mut_slice.ensures.len c.all_ready.ensures.rest c.all_ready.ensures.entries c.self.invariant c.as_mut_slice-tenants.result.now c.as_mut_slice-tenants.ensures.value
+    (subst (λ n. n < 2 ^ 64 - 1) (ap (λ (h : HostStanding). h.clock) (sym c.self.view_is)) c.in_ok-check.ensures.next)
 
 pub invariant_of-self-2 : goal.invariant_of-self-2
 invariant_of-self-2 c =
-    let instant = is_instant c.self.inside.tenants.items c.all_ready.ensures.rest c.self.invariant c.first_halves.ensures.halves
-    c.self.inside.config c.args.frame.now c.second_halves.new.tenants.items c.second_halves.ensures.halves in
-    instant.later
+    whole_behind c.self.inside.config c.self.inside.clock c.self.inside.tenants.len c.self.inside.tenants.items c.as_mut_slice.result.now c.all_ready.new.tenants c.self.inside.finished.entries c.all_ready.new.finished.entries
+    c.as_mut_slice.ensures.value c.as_mut_slice.ensures.len c.all_ready.ensures.rest c.all_ready.ensures.entries c.self.invariant c.as_mut_slice-tenants.result.now c.as_mut_slice-tenants.ensures.value
+    c.args.frame.now c.instant.new.tenants c.instant.new.finished.entries c.instant.ensures.instants c.instant.ensures.table
 
 pub returns-clause-step : goal.returns-clause-step
 returns-clause-step c = λ setting state stands.
-    let instant = is_instant c.self.inside.tenants.items c.all_ready.ensures.rest c.self.invariant c.first_halves.ensures.halves
-    c.self.inside.config c.args.frame.now c.second_halves.new.tenants.items c.second_halves.ensures.halves in
-    instant.stands setting state (subst (λ (h : HostStanding). Stands setting h state) (sym c.self.view_is) stands)
+    stands_behind c.self.inside.config c.self.inside.clock c.self.inside.tenants.len c.self.inside.tenants.items c.as_mut_slice.result.now c.all_ready.new.tenants c.self.inside.finished.entries c.all_ready.new.finished.entries
+    c.as_mut_slice.ensures.value c.as_mut_slice.ensures.len c.all_ready.ensures.rest c.all_ready.ensures.entries c.self.invariant c.as_mut_slice-tenants.result.now c.as_mut_slice-tenants.ensures.value
+    c.args.frame.now c.instant.new.tenants c.instant.new.finished.entries c.instant.ensures.instants c.instant.ensures.table
+    c.instant.ensures.entries setting state (subst (λ (h : HostStanding). Stands setting h state) (sym c.self.view_is) stands)
 
 pub returns-clause-jobs : goal.returns-clause-jobs
 returns-clause-jobs c =
-    let counts = counts_middle c.self.inside.tenants.items c.all_ready.ensures.rest c.self.invariant c.first_halves.ensures.halves in
-    c.second_halves.ensures.jobs c.self.inside.clock counts
-    ∙ (ap (λ (js : List JobValue). js ++ released_from c.self.inside.clock 0 c.second_halves.new.tenants.items) c.in-Ok.ensures.jobs
-    ∙ (sym (gathered_at_rest _ (λ k s. refl) 0 c.second_halves.new.tenants.items)
-    ∙ ap (λ (h : HostStanding). released_from h.clock 0 (map at_rest c.second_halves.new.tenants.items)) c.self.view_is))
+    let ready = whole_again c.self.inside.config c.self.inside.clock c.self.inside.tenants.len c.self.inside.tenants.items c.as_mut_slice.result.now c.all_ready.new.tenants c.self.inside.finished.entries c.all_ready.new.finished.entries
+    c.as_mut_slice.ensures.value c.as_mut_slice.ensures.len c.all_ready.ensures.rest c.all_ready.ensures.entries c.self.invariant c.as_mut_slice-tenants.result.now c.as_mut_slice-tenants.ensures.value in
+    let behind = written_behind c.self.inside.config c.self.inside.clock c.self.inside.tenants.len c.self.inside.tenants.items c.as_mut_slice.result.now c.all_ready.new.tenants c.self.inside.finished.entries c.all_ready.new.finished.entries
+    c.as_mut_slice.ensures.value c.as_mut_slice.ensures.len c.all_ready.ensures.rest c.all_ready.ensures.entries c.self.invariant c.as_mut_slice-tenants.result.now c.as_mut_slice-tenants.ensures.value
+    c.args.frame.now c.instant.new.tenants c.instant.new.finished.entries c.instant.ensures.instants c.instant.ensures.table in
+    c.instant.ensures.jobs c.self.inside.clock (λ k d lt. (ready.known k d lt).0)
+    ∙ (sym (gathered_at_rest _ (λ k s. refl) 0 c.instant.new.tenants)
+    ∙ (ap (λ (h : HostStanding). released_from h.clock 0 (map at_rest c.instant.new.tenants)) c.self.view_is
+    ∙ ap (λ xs. released_from c.args.self.now.clock 0 (map at_rest xs)) (sym behind)))
 
 pub returns-clause-known : goal.returns-clause-known
 returns-clause-known c =
-    let instant = is_instant c.self.inside.tenants.items c.all_ready.ensures.rest c.self.invariant c.first_halves.ensures.halves
-    c.self.inside.config c.args.frame.now c.second_halves.new.tenants.items c.second_halves.ensures.halves in
-    All-map (λ (s : Standing). IsKnown s.row) at_rest c.second_halves.new.tenants.items (λ k d lt. (instant.later.1 k d lt).1)
+    let whole = whole_behind c.self.inside.config c.self.inside.clock c.self.inside.tenants.len c.self.inside.tenants.items c.as_mut_slice.result.now c.all_ready.new.tenants c.self.inside.finished.entries c.all_ready.new.finished.entries
+    c.as_mut_slice.ensures.value c.as_mut_slice.ensures.len c.all_ready.ensures.rest c.all_ready.ensures.entries c.self.invariant c.as_mut_slice-tenants.result.now c.as_mut_slice-tenants.ensures.value
+    c.args.frame.now c.instant.new.tenants c.instant.new.finished.entries c.instant.ensures.instants c.instant.ensures.table in
+    All-map (λ (s : Standing). IsKnown s.row) at_rest _ (λ k d lt. (whole.known k d lt).1.known)

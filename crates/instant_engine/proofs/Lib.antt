@@ -1,0 +1,7 @@
+pub mod AtRest
+pub mod Between
+pub mod Entered
+pub mod Kept
+pub mod Loops
+pub mod Named
+pub mod Released

@@ -1,0 +1,12 @@
+use Rattle.std.proofs.Common.{◌≡◌, ◌≤◌}
+use Rattle.instant_engine.specs.inner.Halves.{without_ended}
+use Rattle.instant_engine.proofs.Kept.{AreLeftTo}
+use Rattle.instant_engine.proofs.Loops.{AreSteppedTo}
+use Rattle.instant_engine.proofs.instants.keep.Given as goal
+
+abbrev pub invariant-loop-i : goal.invariant-loop-i
+invariant-loop-i l = record {
+  steps : AreSteppedTo (λ t x y. y ≡ without_ended x) l.i l.initial.tenants l.tenants;
+  left : AreLeftTo l.i l.initial.tenants l.initial.finished.entries l.finished.entries;
+  room : l.initial.finished.room ≤ l.finished.room;
+}

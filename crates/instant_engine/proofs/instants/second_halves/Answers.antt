@@ -1,0 +1,59 @@
+use Rattle.std.proofs.Common.{◌≡◌, ◌<◌, length, get_or, ap, sym, subst, ◌∙◌, arith}
+use Rattle.std.specs.List.{AllByRecursion}
+use Rattle.tenant_state.specs.Row.{ActiveTask}
+use Rattle.tenant_state.specs.Standing.{Standing, empty_standing}
+use Rattle.tenant_state.specs.inner.Standing.{HasRoom, HasShares}
+use Rattle.instant_engine.specs.Tenants.{tenant_at}
+use Rattle.instant_engine.specs.inner.Halves.{IsReady}
+use Rattle.instant_engine.proofs.Loops.{second_more, stepped_none, stepped_all, unstepped, most_left, jobs_more}
+use Rattle.instant_engine.proofs.Released.{released_none, released_more, released_all}
+use Rattle.instant_engine.proofs.instants.second_halves.Goals as goal
+
+pub loop-i-init : goal.loop-i-init
+loop-i-init c = record {
+  halves = stepped_none _ c.args.tenants.now;
+  space = c.requires.jobs;
+  released = released_none c.args.tenants.now c.args.jobs.now.jobs c.requires.none;
+  jobs = λ n counts. c.requires.none;
+}
+
+pub phase_two-requires : goal.phase_two-requires
+phase_two-requires c =
+    let d : Standing = c.index-tenants-i.result in
+    let inside : c.loop-i.i < length c.args.tenants.now = omega (arith, c.loop-i-test.true) in
+    let here = unstepped _ c.loop-i.i c.args.tenants.now c.loop-i.tenants d inside c.loop-i.invariant.halves in
+    let ready : IsReady (tenant_at c.args.tenants.now c.loop-i.i) = c.requires.ready c.loop-i.i (empty_standing 0 0) inside in
+    record {
+      rest = ap (λ (s : Standing). s.ended) here ∙ c.requires.rest c.loop-i.i (empty_standing 0 0) inside;
+      next_tick = omega (arith, ap (λ (s : Standing). s.row.next_tick) here, c.requires.counts c.loop-i.i (empty_standing 0 0) inside);
+      room = subst HasRoom (sym here) ready.room;
+      shares = subst HasShares (sym here) ready.shares;
+      jobs = omega (arith, c.loop-i.invariant.space, most_left _ c.loop-i.i c.args.tenants.now c.loop-i.tenants d inside c.loop-i.invariant.halves);
+    }
+
+pub loop-i-preserved : goal.loop-i-preserved
+loop-i-preserved c =
+    let d : Standing = c.index-tenants-i.result in
+    let x : Standing = get_or c.loop-i.tenants c.loop-i.i d in
+    let inside : c.loop-i.i < length c.args.tenants.now = omega (arith, c.loop-i-test.true) in
+    let within : c.loop-i.i < length c.loop-i.tenants = omega (arith, inside, c.loop-i.invariant.halves.as_many) in
+    let here : x ≡ tenant_at c.args.tenants.now c.loop-i.i = unstepped _ c.loop-i.i c.args.tenants.now c.loop-i.tenants d inside c.loop-i.invariant.halves in
+    let own : x.place ≡ c.loop-i.i = ap (λ (s : Standing). s.place) here ∙ c.requires.placed c.loop-i.i inside in
+    let left = most_left _ c.loop-i.i c.args.tenants.now c.loop-i.tenants d inside c.loop-i.invariant.halves in
+    record {
+      halves = second_more c.args.config.now c.args.frame.now c.loop-i.i c.args.tenants.now c.loop-i.tenants d c.phase_two.new.self c.as_slice.result.now c.index-as_slice-i.result inside
+          c.requires.tenants c.as_slice.ensures c.loop-i.invariant.halves (record { half = c.phase_two.ensures.half; released = c.phase_two.ensures.released; known = c.next_tick.ensures.known });
+      space = omega (arith, c.loop-i.invariant.space, c.phase_two.ensures.room, left);
+      released = released_more c.loop-i.i c.args.tenants.now c.loop-i.tenants x c.phase_two.new.self c.loop-i.jobs.jobs c.phase_two.new.jobs.jobs within here own c.phase_two.ensures.half.place left
+          (subst (λ (s : Standing). AllByRecursion (λ (a : ActiveTask). a.release < s.row.next_tick) s.row.active) (sym here) (c.requires.early c.loop-i.i (empty_standing 0 0) inside))
+          c.phase_two.ensures.released c.next_tick.ensures.known c.phase_two.ensures.jobs c.loop-i.invariant.released;
+      jobs = λ n counts.
+          jobs_more n c.loop-i.i c.loop-i.tenants c.phase_two.new.self x c.loop-i.jobs.jobs c.phase_two.new.jobs.jobs within own
+          (ap (λ (s : Standing). s.row.next_tick) here ∙ counts c.loop-i.i (empty_standing 0 0) inside) c.phase_two.ensures.jobs (c.loop-i.invariant.jobs n counts);
+    }
+
+pub returns-clause-released : goal.returns-clause-released
+returns-clause-released c = released_all c.loop-i.i c.args.tenants.now c.loop-i.tenants c.loop-i.jobs.jobs (omega (arith, c.loop-i-test.false, c.loop-i.invariant.halves.as_many)) c.loop-i.invariant.released
+
+pub returns-clause-halves : goal.returns-clause-halves
+returns-clause-halves c = stepped_all _ c.loop-i.i c.args.tenants.now c.loop-i.tenants (omega (arith, c.loop-i-test.false)) c.loop-i.invariant.halves

@@ -1,0 +1,4 @@
+pub mod Halves
+pub mod Instants
+pub mod Tables
+pub mod Tenants

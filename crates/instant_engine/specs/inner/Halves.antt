@@ -1,0 +1,59 @@
+-- All tenants of a host, before and behind a step of each.
+use Rattle.std.specs.Prelude.{◌≡◌, ◌<◌, ◌≤◌, ◌&&◌, not, ℕ, ℤ, Bool, List, [], length, drop, All}
+use Rattle.std.specs.List.{AllByRecursion}
+use Rattle.rig_config.specs.declared.Config.{Config}
+use Rattle.rig_config.specs.Roster.{budgets_at}
+use Rattle.tenant_jobs.specs.declared.jobs.JobId.{JobId}
+use Rattle.tenant_jobs.specs.Finished.{TableEntry}
+use Rattle.tenant_jobs.specs.inner.Finished.{is_entered, is_job_of, JobsDiffer}
+use Rattle.tenant_jobs.specs.Jobs.{JobValue}
+use Rattle.tenant_state.specs.Jobs.{has_job}
+use Rattle.tenant_state.specs.Row.{ActiveTask}
+use Rattle.tenant_state.specs.Standing.{Standing, IsKnown}
+use Rattle.tenant_state.specs.inner.Halves.{IsSecondHalf}
+use Rattle.tenant_state.specs.inner.Standing.{HasRoom, HasShares, AreReleased}
+use Rattle.instant_engine.specs.inner.Instants.{AreStepped}
+use Rattle.instant_engine.specs.Tenants.{tenant_at, most_of}
+use Rattle.instant_engine.specs.inner.Tenants.{is_active_among}
+
+-- ready for the next instant
+pub record IsReady (s : Standing) : Type 0 where
+  pub room : HasRoom s
+  pub shares : HasShares s
+
+-- the tenant without tasks that ended
+abbrev pub without_ended : Standing → Standing
+without_ended s = record s { ended = [] }
+
+-- whether the task of the job of this name ended, and its entry is still to leave the table
+abbrev pub is_ended_among : List Standing → JobId → Bool
+is_ended_among tenants j = has_job (tenant_at tenants j.tenant).place (tenant_at tenants j.tenant).ended j
+
+-- the tasks that are told as ended are those with an entry that are active no longer
+abbrev pub AreToldEnded : List Standing → List TableEntry → Type 0
+AreToldEnded tenants entries = (j : JobId) → is_ended_among tenants j ≡ (is_entered entries j && not (is_active_among tenants j))
+
+-- the second half of a tenant that may read these lines, what it released, and what is known of it behind that
+pub record IsSecondHalfAndKnown (reads : List ℕ) (frame : List ℤ) (before after : Standing) : Type 0 where
+  pub half : IsSecondHalf reads frame before after
+  pub released : AreReleased before.row after.row
+  pub known : IsKnown after.row
+
+-- the second half of all tenants, each with the lines that it may read
+abbrev pub AreSecondHalves : Config → List ℤ → List Standing → List Standing → Type 0
+AreSecondHalves config frame before after = AreStepped (λ t. IsSecondHalfAndKnown (budgets_at config t).reads frame) before after
+
+-- each active task was released before its tenant's next instant
+abbrev pub AreEarly : List Standing → Type 0
+AreEarly tenants = All (λ (s : Standing). AllByRecursion (λ (a : ActiveTask). a.release < s.row.next_tick) s.row.active) tenants
+
+-- whether the task of the job of this name became active between these
+abbrev pub is_released_among : List Standing → List Standing → JobId → Bool
+is_released_among before after j =
+    has_job (tenant_at after j.tenant).place (drop (length (tenant_at before j.tenant).row.active) (tenant_at after j.tenant).row.active) j
+
+-- the jobs of the tasks that became active between these: no two of one name, and no more than can be released
+pub record AreReleasedJobs (before after : List Standing) (jobs : List JobValue) : Type 0 where
+  pub names : (j : JobId) → is_job_of jobs j ≡ is_released_among before after j
+  pub differ : JobsDiffer jobs
+  pub few : length jobs ≤ most_of before
