@@ -6,6 +6,8 @@
 #[cfg(test)]
 mod bodies_and_drivers;
 #[cfg(test)]
+mod completions;
+#[cfg(test)]
 mod copies;
 #[cfg(test)]
 mod plays;
