@@ -166,9 +166,22 @@ class Sources:
             if path in self.sources and parts[-1] in self.sources[path].own:
                 return self.sources[path].own[parts[-1]]
         found = [it.own[parts[-1]] for it in own if parts[-1] in it.own]
+        below = None if found else self.exported(crate, parts[-1])
+        if below:
+            return self.declared(below[0], below[1:])
         if len(found) != 1:
             raise LookupError(f"{crate} has {len(found)} types {parts[-1]}")
         return found[0]
+
+    def exported(self, crate, name):
+        """Where a type of a lower crate is that the root of this one exports, as a list of crate, modules and name."""
+        root = self.sources.get(f"crates/{crate}/src/lib.rt")
+        for path, braced in RUST_USE.findall(root.text if root else ""):
+            whole = [f"{path}::{it.strip()}" for it in braced.split(",")] if braced else [path]
+            for parts in (it.split("::") for it in whole):
+                if parts[-1] == name and parts[0] in crates() and parts[0] != crate:
+                    return parts
+        return None
 
     def lead(self, item, text, around, scope, aliases):
         """Notes on an item what the words of this text lead to."""
