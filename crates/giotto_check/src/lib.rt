@@ -39,19 +39,20 @@ use crate::numbering::Numbering;
 use crate::timetables::{SlotExit, SlotInvocation, SlotUpdate, TaskSlots, Timetable};
 use giotto_rules::first_broken;
 use giotto_text::programs::Program;
-use std::alloc::Global;
+use std::alloc::{AllocError, Global};
 use std::marker::Model;
+use std::sync::Arc;
 use thiserror::Error;
 
-/// A well-formed program, with its greatest cost and what an instant needs of it.
+// What its shares have in common.
 #[derive(Drop)]
-pub struct Checked {
+struct Contents {
     program: Program,
     cost: u64,
     numbering: Numbering,
 }
 
-impl Model for Checked {
+impl Model for Contents {
     ghost use Rattle.giotto_text.specs.Program.{GiottoProgram};
     ghost use Rattle.giotto_text.specs.inner.ProgramCodes.{program_code};
     ghost use Rattle.giotto_check.specs.inner.Checked.{IsChecked};
@@ -63,6 +64,34 @@ impl Model for Checked {
     ghost view = { λ c. c.program };
 
     ghost invariant = { λ c. IsChecked c.program c.cost c.numbering };
+}
+
+impl Contents {
+    // The timetable of the mode at this place.
+    fn timetable(&self, mode: usize) -> Option<&Timetable>
+        ensures there { (m : ModeDeclaration) → slice_get self.now.modes mode ≡ Some m → IsSomeAnd result (λ table. IsTimetable self.now m table.now) }
+        ensures none { length self.now.modes ≤ mode → result ≡ None }
+    {
+        self.numbering.modes.get(mode)
+    }
+}
+
+/// A well-formed program, with its greatest cost and what an instant needs of it. A share of it takes no copy.
+#[derive(Drop)]
+pub struct Checked {
+    contents: Arc<Contents, Global>,
+}
+
+impl Model for Checked {
+    ghost use Rattle.std.specs.Arc.{arc_value};
+    ghost use Rattle.giotto_text.specs.Program.{GiottoProgram};
+    ghost use Rattle.giotto_text.specs.inner.ProgramCodes.{program_code};
+
+    ghost Value = { GiottoProgram };
+
+    ghost coded = { program_code };
+
+    ghost view = { λ c. arc_value c.contents };
 }
 
 /// Why a program is refused.
@@ -83,21 +112,36 @@ impl Checked {
         ensures rules { KeepsRules self.now }
         ensures fits { ProgramFits self.now }
     {
-        &self.program
+        let contents: &Contents = &self.contents;
+        &contents.program
+    }
+
+    /// A share of the same program.
+    ///
+    /// # Errors
+    /// The share is refused.
+    pub fn share(&self) -> Result<Checked, AllocError>
+        ensures { IfOk result (λ c. c ≡ self.now) }
+    {
+        Ok(Checked {
+            contents: Arc::try_clone(&self.contents)?,
+        })
     }
 
     /// The greatest cost over its bodies and drivers, in steps; `u64::MAX` where it is greater, and 0 where there are none.
     pub fn greatest_cost(&self) -> u64
         ensures { result ≡ min (greatest_cost_of self.now) (2 ^ 64 - 1) }
     {
-        self.cost
+        let contents: &Contents = &self.contents;
+        contents.cost
     }
 
     /// How many ports it has: their slots are the numbers below.
     pub fn slots(&self) -> usize
         ensures { result ≡ slots_of self.now }
     {
-        self.numbering.slots
+        let contents: &Contents = &self.contents;
+        contents.numbering.slots
     }
 
     /// The slot of a port: an input or a state of a task, if one is named, and else a sensor, an actuator or an output.
@@ -107,14 +151,15 @@ impl Checked {
     {
         // They can be counted, so no sum below is too large.
         let _slots = self.slots();
-        slots::slot(&self.program, task, name)
+        slots::slot(self.program(), task, name)
     }
 
     /// Where the ports of each task lie, in text order.
     pub fn tasks(&self) -> &[TaskSlots]
         ensures { AreEach (AreTaskSlots self.now) self.now.tasks result.now }
     {
-        self.numbering.tasks.as_slice()
+        let contents: &Contents = &self.contents;
+        contents.numbering.tasks.as_slice()
     }
 
     /// The updates of the mode at this place, in text order; none where there is no such mode.
@@ -122,7 +167,8 @@ impl Checked {
         ensures there { (m : ModeDeclaration) → slice_get self.now.modes mode ≡ Some m → AreUpdates self.now m result.now }
         ensures none { length self.now.modes ≤ mode → result.now ≡ [] }
     {
-        match self.timetable(mode) {
+        let contents: &Contents = &self.contents;
+        match contents.timetable(mode) {
             Some(table) => table.updates.as_slice(),
             None => &[],
         }
@@ -133,7 +179,8 @@ impl Checked {
         ensures there { (m : ModeDeclaration) → slice_get self.now.modes mode ≡ Some m → AreExits self.now m result.now }
         ensures none { length self.now.modes ≤ mode → result.now ≡ [] }
     {
-        match self.timetable(mode) {
+        let contents: &Contents = &self.contents;
+        match contents.timetable(mode) {
             Some(table) => table.exits.as_slice(),
             None => &[],
         }
@@ -144,17 +191,11 @@ impl Checked {
         ensures there { (m : ModeDeclaration) → slice_get self.now.modes mode ≡ Some m → AreInvocations self.now m result.now }
         ensures none { length self.now.modes ≤ mode → result.now ≡ [] }
     {
-        match self.timetable(mode) {
+        let contents: &Contents = &self.contents;
+        match contents.timetable(mode) {
             Some(table) => table.invocations.as_slice(),
             None => &[],
         }
-    }
-
-    fn timetable(&self, mode: usize) -> Option<&Timetable>
-        ensures there { (m : ModeDeclaration) → slice_get self.now.modes mode ≡ Some m → IsSomeAnd result (λ table. IsTimetable self.now m table.now) }
-        ensures none { length self.now.modes ≤ mode → result ≡ None }
-    {
-        self.numbering.modes.get(mode)
     }
 }
 
@@ -188,9 +229,13 @@ pub fn check(alloc: Global, program: Program) -> Result<Checked, (Program, Check
         return Err((program, CheckFault::Memory));
     };
     let cost = greatest_cost(&program);
-    Ok(Checked {
+    let contents = Contents {
         program,
         cost,
         numbering,
-    })
+    };
+    match Arc::new(alloc, contents) {
+        Ok(contents) => Ok(Checked { contents }),
+        Err(refused) => Err((refused.value.program, CheckFault::Memory)),
+    }
 }

@@ -7,7 +7,7 @@ ghost use Rattle.instant_engine.specs.Tenants.{ArePlaced, most_of, released_from
 ghost use Rattle.instant_engine.specs.inner.Tenants.{is_active_among};
 ghost use Rattle.instant_engine.specs.inner.Halves.{AreEarly, AreReleasedJobs, AreSecondHalves, AreToldEnded, IsReady, is_released_among, without_ended};
 ghost use Rattle.tenant_jobs.specs.Finished.{entry_in, result_in};
-ghost use Rattle.tenant_jobs.specs.inner.Finished.{is_entered};
+ghost use Rattle.tenant_jobs.specs.inner.Finished.{entry_put, is_entered};
 ghost use Rattle.tenant_jobs.specs.declared.jobs.JobId.{JobId};
 ghost use Rattle.tenant_state.specs.inner.Halves.{IsFirstHalf};
 ghost use Rattle.tenant_state.specs.Standing.{Standing, at_rest};
@@ -158,7 +158,7 @@ fn second_halves_without_jobs(
     requires new { (t : ℕ) (j : JobId) → t < length tenants.old → j.tenant ≡ t → (tenant_at tenants.old t).row.next_tick ≡ j.tick → is_entered finished.old.entries j ≡ false }
     ensures halves { AreSecondHalves config.now frame.now tenants.old tenants.new }
     ensures entries { (j : JobId) → entry_in finished.new.entries j
-        ≡ (if is_released_among tenants.old tenants.new j then Some (record { id = j; result = None }) else entry_in finished.old.entries j) }
+        ≡ entry_put (is_released_among tenants.old tenants.new j) j None finished.old.entries }
 {
     for i in 0..tenants.len() {
         let budgets = &config.tenants.as_slice()[i].budgets;

@@ -1,12 +1,13 @@
 -- The entry of a name in a list of entries where no two have one name.
-use Rattle.std.proofs.Common.{◌≡◌, ℕ, ◌+◌, ◌≤◌, Bool, true, false, cond, List, [], ◌∷◌, ◌++◌, length, Option, Some, None, is_some, IsSomeAnd, count_by, find, option_to_list, refl, sym, ap, ◌∙◌, arith}
+use Rattle.std.proofs.Common.{◌≡◌, ℕ, ◌+◌, ◌≤◌, Bool, true, false, cond, List, [], ◌∷◌, ◌++◌, length, Option, Some, None, is_some, IsSomeAnd, count_by, find, option_to_list, refl, sym, ap, ◌∙◌, arith, nat_eq, ◌&&◌}
+use Rattle.std.proofs.lemmas.Bool.{eq-eqb, eqb-false, eqb-true, false_from_ne_true}
 use Rattle.std.proofs.lemmas.List.Sums.{sum_by-cons, sum_by-append, count_by-le-length}
 use Rattle.std.proofs.lemmas.List.Folds.{find-append}
 use Rattle.slab.specs.Slab.{Slab, get, values}
 use Rattle.tenant_jobs.specs.declared.jobs.JobId.{JobId}
 use Rattle.tenant_jobs.specs.Jobs.{same_job}
 use Rattle.tenant_jobs.specs.Finished.{TableEntry, entry_in, has_result}
-use Rattle.tenant_jobs.specs.inner.Finished.{is_entered, result_count, NamesDiffer}
+use Rattle.tenant_jobs.specs.inner.Finished.{is_complete, is_entered, result_count, NamesDiffer}
 use Rattle.tenant_jobs.proofs.Slots.{one_slot, stored}
 
 abbrev pub weight_of : Bool → ℕ
@@ -83,3 +84,28 @@ all_came (e ∷ rest) j complete = by_first (all_came rest j) (is_some e.result)
     by_first later false named none at = absurd (omega (arith, complete, sum_by-cons weight e rest, weigh none, count_by-le-length (λ (d : TableEntry). is_some d.result) rest))
     by_first later true true came at = rw at came
     by_first later true false came at = rw at (later (omega (arith, complete, sum_by-cons weight e rest, weigh came)))
+
+-- there are as many results as entries just where each entry has its result
+pub complete_is : (entries : List TableEntry) → nat_eq (result_count entries) (length entries) ≡ is_complete entries
+complete_is [] = refl
+complete_is (e ∷ rest) = by_first (complete_is rest) (is_some e.result) refl
+  where
+    weight : TableEntry → ℕ
+    weight d = cond (is_some d.result) 1 0
+
+    more : (came : Bool) → is_some e.result ≡ came → result_count (e ∷ rest) ≡ weight_of came + result_count rest
+    more came at = omega (arith, sum_by-cons weight e rest, weigh at)
+
+    first : (came : Bool) → is_some e.result ≡ came → is_complete (e ∷ rest) ≡ (came && is_complete rest)
+    first came at = ap (λ b. b && is_complete rest) at
+
+    same_test : is_some e.result ≡ true → (t : Bool) → nat_eq (result_count rest) (length rest) ≡ t → nat_eq (result_count (e ∷ rest)) (length (e ∷ rest)) ≡ t
+    same_test at true equal = eq-eqb _ _ (omega (arith, eqb-true _ _ equal, more true at))
+    same_test at false differ = false_from_ne_true _ (λ equal. eqb-false _ _ differ (omega (arith, eqb-true _ _ equal, more true at)))
+
+    too_few : nat_eq (result_count (e ∷ rest)) (length (e ∷ rest)) ≡ true → is_some e.result ≡ false → ⊥
+    too_few equal none = absurd (omega (arith, eqb-true _ _ equal, more false none, count_by-le-length (λ (d : TableEntry). is_some d.result) rest))
+
+    by_first : nat_eq (result_count rest) (length rest) ≡ is_complete rest → (came : Bool) → is_some e.result ≡ came → nat_eq (result_count (e ∷ rest)) (length (e ∷ rest)) ≡ is_complete (e ∷ rest)
+    by_first later true at = same_test at _ later ∙ sym (first true at)
+    by_first later false at = false_from_ne_true _ (λ equal. too_few equal at) ∙ sym (first false at)

@@ -5,7 +5,7 @@ ghost use Rattle.std.specs.Bool.{OnTrue};
 ghost use Rattle.giotto_tasks.specs.Sound.{IsSound};
 ghost use Rattle.slab.specs.Slab.{get, values};
 ghost use Rattle.tenant_jobs.specs.Finished.{entry_in, result_in, has_result};
-ghost use Rattle.tenant_jobs.specs.inner.Finished.{is_entered, result_count, result_of, is_job_of, JobsDiffer};
+ghost use Rattle.tenant_jobs.specs.inner.Finished.{computed, entry_put, is_complete, is_entered, result_count, result_of, is_job_of, JobsDiffer};
 ghost use Rattle.tenant_jobs.specs.Jobs.{JobValue, same_job};
 ghost use Rattle.tenant_jobs.specs.declared.jobs.JobId.{JobId};
 
@@ -84,7 +84,7 @@ impl Finished {
         requires new { All (λ (k : JobValue). is_entered self.old.entries k.id ≡ false) jobs.old.jobs }
         requires differ { JobsDiffer jobs.old.jobs }
         ensures entries { (j : JobId) → entry_in self.new.entries j
-            ≡ (if is_job_of jobs.old.jobs j then Some (record { id = j; result = None }) else entry_in self.old.entries j) }
+            ≡ entry_put (is_job_of jobs.old.jobs j) j None self.old.entries }
         ensures results { result_count self.new.entries ≡ result_count self.old.entries }
         ensures count { length self.new.entries ≡ length self.old.entries + length jobs.old.jobs }
         ensures room { self.new.room + length jobs.old.jobs ≡ self.old.room }
@@ -105,7 +105,7 @@ impl Finished {
         requires room { 0 < self.old.room }
         requires new { is_entered self.old.entries id ≡ false }
         ensures entries { (j : JobId) → entry_in self.new.entries j
-            ≡ (if same_job id j then Some (record { id = j; result = None }) else entry_in self.old.entries j) }
+            ≡ entry_put (same_job id j) j None self.old.entries }
         ensures results { result_count self.new.entries ≡ result_count self.old.entries }
         ensures count { length self.new.entries ≡ length self.old.entries + 1 }
         ensures room { self.new.room + 1 ≡ self.old.room }
@@ -118,7 +118,7 @@ impl Finished {
         requires entered { is_entered self.old.entries done.id ≡ true }
         requires none { has_result self.old.entries done.id ≡ false }
         ensures entries { (j : JobId) → entry_in self.new.entries j
-            ≡ (if same_job done.id j then Some (record { id = j; result = Some (result_of done) }) else entry_in self.old.entries j) }
+            ≡ entry_put (same_job done.id j) j (Some (result_of done)) self.old.entries }
         ensures results { result_count self.new.entries ≡ result_count self.old.entries + 1 }
         ensures count { length self.new.entries ≡ length self.old.entries }
         ensures room { self.new.room ≡ self.old.room }
@@ -151,9 +151,7 @@ impl Finished {
         requires entered { is_entered self.old.entries id.now ≡ true }
         ensures computed { result ≡ not (has_result self.old.entries id.now) }
         ensures entries { (j : JobId) → entry_in self.new.entries j
-            ≡ (if result && same_job id.now j
-            then Some (record { id = j; result = Some (result_of (record { id = j; body = body.now; inputs = inputs.now; states = states.now })) })
-            else entry_in self.old.entries j) }
+            ≡ entry_put (result && same_job id.now j) j (Some (computed body.now inputs.now states.now)) self.old.entries }
         ensures count { length self.new.entries ≡ length self.old.entries }
         ensures room { self.new.room ≡ self.old.room }
     {
@@ -224,7 +222,8 @@ impl Finished {
 
     /// Whether the result of each entry came.
     pub fn is_complete(&self) -> bool
-        ensures { OnTrue result ((j : JobId) → has_result self.now.entries j ≡ is_entered self.now.entries j) }
+        ensures exact { result ≡ is_complete self.now.entries }
+        ensures each { OnTrue result ((j : JobId) → has_result self.now.entries j ≡ is_entered self.now.entries j) }
     {
         self.results == self.entries.len()
     }

@@ -1,15 +1,24 @@
 -- What is known of the table of active tasks, and of jobs that are entered.
-use Rattle.std.specs.Prelude.{◌≡◌, ◌≤◌, ℕ, Bool, false, List, is_some, count_by, AllPairs}
-use Rattle.std.specs.List.{list_any}
+use Rattle.std.specs.Prelude.{◌≡◌, ◌≤◌, ℕ, ℤ, Bool, false, List, Option, Some, is_some, if◌then◌else◌, count_by, AllPairs}
+use Rattle.std.specs.List.{list_all, list_any}
 use Rattle.giotto_tasks.specs.Meaning.{outputs_of, states_of}
+use Rattle.giotto_tasks.specs.Syntax.{TaskBody}
 use Rattle.tenant_jobs.specs.declared.jobs.JobId.{JobId}
 use Rattle.tenant_jobs.specs.declared.jobs.JobResult.{JobResult}
 use Rattle.tenant_jobs.specs.Finished.{TableEntry, entry_in}
 use Rattle.tenant_jobs.specs.Jobs.{JobValue, same_job}
 
+-- what the computation of a body gives, from these inputs and states
+abbrev pub computed : TaskBody → List ℤ → List ℤ → JobResult
+computed body inputs states = record { outputs = outputs_of body inputs states; states = states_of body inputs states }
+
 -- the result of a job: what its computation gives
 abbrev pub result_of : JobValue → JobResult
-result_of j = record { outputs = outputs_of j.body j.inputs j.states; states = states_of j.body j.inputs j.states }
+result_of j = computed j.body j.inputs j.states
+
+-- the entry of this name behind a change: with this result where it is put in, and as it was where it isn't
+abbrev pub entry_put : Bool → JobId → Option JobResult → List TableEntry → Option TableEntry
+entry_put put j result entries = if put then Some (record { id = j; result = result }) else entry_in entries j
 
 -- whether there is an entry of this name
 abbrev pub is_entered : List TableEntry → JobId → Bool
@@ -18,6 +27,10 @@ is_entered entries j = is_some (entry_in entries j)
 -- how many results came
 abbrev pub result_count : List TableEntry → ℕ
 result_count entries = count_by (λ e. is_some e.result) entries
+
+-- whether the result of each entry came
+abbrev pub is_complete : List TableEntry → Bool
+is_complete entries = list_all (λ e. is_some e.result) entries
 
 -- no two entries have one name
 abbrev pub NamesDiffer : List TableEntry → Type 0

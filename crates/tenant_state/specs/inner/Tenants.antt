@@ -1,6 +1,7 @@
 -- What is true of a tenant's fields at any time, and of the steps of an instant in them.
 use Rattle.std.specs.Prelude.{true, nat_eq, Bool, ◌&&◌, List, [], ◌≡◌, length, IsSomeAnd, slice_get, ◌<◌, ℕ, ◌+◌, ℤ, false, ◌++◌, map, Some, Option, None, IfSome, ◌^◌}
 use Rattle.tenant_jobs.specs.Finished.{TableEntry, result_in, has_result}
+use Rattle.tenant_jobs.specs.Jobs.{JobValue}
 use Rattle.tenant_jobs.specs.inner.Finished.{result_of}
 use Rattle.tenant_state.specs.Jobs.{job_of, job_in}
 use Rattle.tenant_state.specs.Standing.{all_different_releases}
@@ -27,13 +28,21 @@ use Rattle.tenant_slots.specs.inner.Due.{IsQuietUntil}
 abbrev pub is_of_job : GiottoProgram → JobId → Active → Bool
 is_of_job p j a = nat_eq a.release j.tick && same_name (name_of_task p a.task) j.task
 
--- whether the result of its job came, where it is a task of the tenant at this place
+-- the name of its job, where it is a task of the tenant at this place
+abbrev pub its_name : ℕ → GiottoProgram → Active → JobId
+its_name place p a = job_of place (active_of p a)
+
+-- its job
+abbrev pub its_job : ℕ → GiottoProgram → Active → JobValue
+its_job place p a = job_in p place (active_of p a)
+
+-- whether the result of its job came
 abbrev pub is_done : List TableEntry → ℕ → GiottoProgram → Active → Bool
-is_done entries place p a = has_result entries (job_of place (active_of p a))
+is_done entries place p a = has_result entries (its_name place p a)
 
 -- the result that came for its job, if one did, is that of the job
 abbrev pub IsResultRight : List TableEntry → ℕ → GiottoProgram → Active → Type 0
-IsResultRight entries place p a = IfSome (result_in entries (job_of place (active_of p a))) (λ r. r ≡ result_of (job_in p place (active_of p a)))
+IsResultRight entries place p a = IfSome (result_in entries (its_name place p a)) (λ r. r ≡ result_of (its_job place p a))
 
 -- an active task of this declaration
 pub record IsActiveAs (a : Active) (t : TaskDeclaration) : Type 0 where

@@ -8,14 +8,12 @@ ghost use Rattle.giotto_check.specs.inner.Facts.{ProgramFits};
 ghost use Rattle.giotto_text.specs.ProgramTrees.{task_of};
 ghost use Rattle.tenant_slots.specs.inner.Places.{IsTaskAt};
 ghost use Rattle.tenant_jobs.specs.Finished.{entry_in, has_result, result_in};
-ghost use Rattle.tenant_jobs.specs.inner.Finished.{is_entered, result_of};
+ghost use Rattle.tenant_jobs.specs.inner.Finished.{entry_put, is_entered, result_of};
 ghost use Rattle.tenant_jobs.specs.Jobs.{same_job};
 ghost use Rattle.tenant_jobs.specs.declared.jobs.JobId.{JobId};
-ghost use Rattle.tenant_state.specs.Jobs.{job_in, job_of};
 ghost use Rattle.tenant_state.specs.inner.Standing.{has_active, HasItsEntries, HasItsResults};
 ghost use Rattle.tenant_state.specs.Standing.{awaited_job, outstanding_tasks, released_job};
-ghost use Rattle.tenant_state.specs.inner.Tenants.{IsActiveOf, is_done};
-ghost use Rattle.tenant_state.specs.Tenants.{active_of};
+ghost use Rattle.tenant_state.specs.inner.Tenants.{IsActiveOf, is_done, its_job, its_name};
 
 use crate::tenants::{Active, Tenant};
 use giotto_check::Checked;
@@ -109,12 +107,10 @@ impl Tenant {
 // Computes the job of an active task, if it has no result yet. Whether it had none.
 fn compute(checked: &Checked, tenant: TenantId, active: &Active, finished: &mut Finished) -> bool
     requires active { IsActiveOf checked.now active.now }
-    requires entered { is_entered finished.old.entries (job_of tenant (active_of checked.now active.now)) ≡ true }
+    requires entered { is_entered finished.old.entries (its_name tenant checked.now active.now) ≡ true }
     ensures computed { result ≡ not (is_done finished.old.entries tenant checked.now active.now) }
     ensures entries { (j : JobId) → entry_in finished.new.entries j
-        ≡ (if result && same_job (job_of tenant (active_of checked.now active.now)) j
-        then Some (record { id = j; result = Some (result_of (job_in checked.now tenant (active_of checked.now active.now))) })
-        else entry_in finished.old.entries j) }
+        ≡ entry_put (result && same_job (its_name tenant checked.now active.now) j) j (Some (result_of (its_job tenant checked.now active.now))) finished.old.entries }
     ensures room { finished.new.room ≡ finished.old.room }
 {
     let task = declared(checked, active);
@@ -134,7 +130,7 @@ pub(crate) fn declared<'a>(checked: &'a Checked, active: &Active) -> &'a Task
 // The name of an active task's job.
 pub(crate) fn job_id(checked: &Checked, tenant: TenantId, active: &Active) -> JobId
     requires { IsActiveOf checked.now active.now }
-    ensures { result ≡ job_of tenant (active_of checked.now active.now) }
+    ensures { result ≡ its_name tenant checked.now active.now }
 {
     JobId {
         tenant,
@@ -151,7 +147,7 @@ pub(crate) fn result_of<'a>(
     active: &Active,
 ) -> Option<&'a JobResult>
     requires { IsActiveOf checked.now active.now }
-    ensures { option_copied result ≡ result_in finished.now.entries (job_of tenant (active_of checked.now active.now)) }
+    ensures { option_copied result ≡ result_in finished.now.entries (its_name tenant checked.now active.now) }
 {
     let id = job_id(checked, tenant, active);
     finished.result(&id, &active.key)
@@ -162,7 +158,7 @@ pub(crate) fn result_of<'a>(
 fn place_of(checked: &Checked, tenant: TenantId, active: &[Active], id: &JobId) -> Option<usize>
     requires { AllByRecursion (IsActiveOf checked.now) active.now }
     ensures within { IfSome result (λ place. place < length active.now) }
-    ensures found { find (λ a. same_job (job_of tenant (active_of checked.now a)) id.now) active.now ≡ option_and_then (slice_get active.now) result }
+    ensures found { find (λ a. same_job (its_name tenant checked.now a) id.now) active.now ≡ option_and_then (slice_get active.now) result }
 {
     if id.tenant != tenant {
         return None;
@@ -179,7 +175,7 @@ fn place_of(checked: &Checked, tenant: TenantId, active: &[Active], id: &JobId) 
 fn is_named(checked: &Checked, tenant: TenantId, active: &Active, id: &JobId) -> bool
     requires active { IsActiveOf checked.now active.now }
     requires tenant { id.now.tenant ≡ tenant }
-    ensures { result ≡ same_job (job_of tenant (active_of checked.now active.now)) id.now }
+    ensures { result ≡ same_job (its_name tenant checked.now active.now) id.now }
 {
     active.release == id.tick && declared(checked, active).name == id.task
 }

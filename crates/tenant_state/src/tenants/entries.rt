@@ -3,7 +3,7 @@
 ghost use Rattle.std.specs.Prelude.{◌≡◌, ◌<◌, ◌≤◌, ◌+◌, [], drop, true, false, if◌then◌else◌, length, map, None, Some};
 ghost use Rattle.std.specs.List.{AllByRecursion};
 ghost use Rattle.tenant_jobs.specs.Finished.{entry_in};
-ghost use Rattle.tenant_jobs.specs.inner.Finished.{is_entered};
+ghost use Rattle.tenant_jobs.specs.inner.Finished.{entry_put, is_entered};
 ghost use Rattle.tenant_jobs.specs.Jobs.{same_job};
 ghost use Rattle.tenant_jobs.specs.declared.jobs.JobId.{JobId};
 ghost use Rattle.tenant_state.specs.Jobs.{has_job, job_of};
@@ -40,11 +40,10 @@ impl Tenant {
 
     /// Enters the active tasks from this place on, the oldest at 0, and notes the keys of their entries. Takes no memory.
     pub fn enter(&mut self, from: usize, finished: &mut Finished)
-        requires rest { self.old.ended ≡ [] }
         requires room { length (drop from self.old.row.active) ≤ finished.old.room }
         requires new { AllByRecursion (λ (a : ActiveTask). is_entered finished.old.entries (job_of self.old.place a) ≡ false) (drop from self.old.row.active) }
         ensures entries { (j : JobId) → entry_in finished.new.entries j
-            ≡ (if has_job self.old.place (drop from self.old.row.active) j then Some (record { id = j; result = None }) else entry_in finished.old.entries j) }
+            ≡ entry_put (has_job self.old.place (drop from self.old.row.active) j) j None finished.old.entries }
         ensures room { finished.new.room + length (drop from self.old.row.active) ≡ finished.old.room }
         ensures same { self.new ≡ self.old }
     {
@@ -76,7 +75,7 @@ fn enter_each(
     requires room { length (drop from (map (active_of checked.now) active.old.items)) ≤ finished.old.room }
     requires new { AllByRecursion (λ (a : ActiveTask). is_entered finished.old.entries (job_of tenant a) ≡ false) (drop from (map (active_of checked.now) active.old.items)) }
     ensures entries { (j : JobId) → entry_in finished.new.entries j
-        ≡ (if has_job tenant (drop from (map (active_of checked.now) active.old.items)) j then Some (record { id = j; result = None }) else entry_in finished.old.entries j) }
+        ≡ entry_put (has_job tenant (drop from (map (active_of checked.now) active.old.items)) j) j None finished.old.entries }
     ensures room { finished.new.room + length (drop from (map (active_of checked.now) active.old.items)) ≡ finished.old.room }
     ensures same { active.new ≡ active.old }
 {
@@ -91,7 +90,7 @@ fn enter_one(checked: &Checked, tenant: TenantId, active: &mut Active, finished:
     requires room { 0 < finished.old.room }
     requires new { is_entered finished.old.entries (job_of tenant (active_of checked.now active.old)) ≡ false }
     ensures entries { (j : JobId) → entry_in finished.new.entries j
-        ≡ (if same_job (job_of tenant (active_of checked.now active.old)) j then Some (record { id = j; result = None }) else entry_in finished.old.entries j) }
+        ≡ entry_put (same_job (job_of tenant (active_of checked.now active.old)) j) j None finished.old.entries }
     ensures room { finished.new.room + 1 ≡ finished.old.room }
     ensures same { active.new ≡ active.old }
 {

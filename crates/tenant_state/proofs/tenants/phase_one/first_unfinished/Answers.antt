@@ -22,7 +22,7 @@ pub returns-then-is_complete : goal.returns-then-is_complete
 returns-then-is_complete c =
     let entries = c.args.finished.now.entries in
     let p = c.args.checked.now in
-    let complete = subst (λ b. OnTrue b ((j : JobId) → has_result entries j ≡ is_entered entries j)) c.if-is_complete.true c.is_complete.ensures in
+    let complete = subst (λ b. OnTrue b ((j : JobId) → has_result entries j ≡ is_entered entries j)) c.if-is_complete.true c.is_complete.ensures.each in
     let all = all_map _ (λ a. is_done entries c.args.tenant p a ≡ true) c.args.active.now (λ a entered. complete (job_of c.args.tenant (active_of p a)) ∙ entered) c.requires.entered in
     sym (ap (option_map (λ (i : SlotInvocation). i.task)) (all_closed c.args.time (is_done entries c.args.tenant p) c.args.active.now all c.args.invocations.now))
 
