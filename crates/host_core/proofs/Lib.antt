@@ -10,6 +10,7 @@ pub mod HostInstants
 pub mod HostSteps
 pub mod HostTables
 pub mod LaterBase
+pub mod LineValues
 pub mod NewHost
 pub mod NewTenants
 pub mod Outstanding

@@ -1,5 +1,5 @@
 -- What the host's code stands for.
-use Rattle.std.specs.Prelude.{◌≡◌, ◌<◌, ℕ, List, [], map, length, slice_get, Option, IfSome}
+use Rattle.std.specs.Prelude.{◌≡◌, ◌<◌, ℕ, ℤ, List, [], map, length, slice_get, Option, IfSome}
 use Rattle.std.specs.List.{flat_map, enumerate_from}
 use Rattle.std.specs.Option.{option_and_then}
 use Rattle.rig_config.specs.declared.Config.{Config}
@@ -9,6 +9,7 @@ use Rattle.host_core.specs.Completions.{with_completions}
 use Rattle.host_core.specs.Host.{after_event, host_after}
 use Rattle.host_core.specs.declared.events.Event.{Event}
 use Rattle.host_core.specs.HostState.{HostState, row_at, is_counted}
+use Rattle.host_core.specs.Lines.{value_of_line}
 use Rattle.host_core.specs.Setting.{Setting}
 use Rattle.instant_engine.specs.Tenants.{ArePlaced, tenant_at}
 use Rattle.tenant_jobs.specs.Finished.{TableEntry, has_result}
@@ -53,6 +54,10 @@ TakesEvent e before after = ForEachState before (λ setting state. Stands settin
 abbrev pub TakesCompletions : List JobId → HostStanding → HostStanding → Type 0
 TakesCompletions jobs before after = (setting : Setting) (past : List Event) → Stands setting before (host_after setting past)
     → Stands setting after (host_after setting (with_completions jobs past))
+
+-- the value of line k, by what the host stands for
+abbrev pub line_of : HostStanding → ℕ → ℤ
+line_of host k = value_of_line host.config (λ t. (tenant_at host.tenants t).row) k
 
 -- the job of this name, if its completion is awaited: its task is active with its release, and its result didn't come
 abbrev pub awaited_in : HostStanding → JobId → Option JobValue

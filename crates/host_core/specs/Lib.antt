@@ -6,6 +6,7 @@ pub mod Host
 pub mod HostStanding
 pub mod HostState
 pub mod Legal
+pub mod Lines
 pub mod Plays
 pub mod Setting
 pub mod Views

@@ -7,7 +7,8 @@ ghost use Rattle.instant_engine.specs.Tenants.{ArePlaced, most_of, released_from
 ghost use Rattle.instant_engine.specs.inner.Tenants.{is_active_among};
 ghost use Rattle.instant_engine.specs.inner.Halves.{IsReady};
 ghost use Rattle.host_core.specs.HostState.{row_at, awaits};
-ghost use Rattle.host_core.specs.HostStanding.{ForEachState, IsOwn, TakesCompletions, TakesEvent, new_host, awaited_in, outstanding_count, outstanding_from, outstanding_jobs, outstanding_of};
+ghost use Rattle.host_core.specs.HostStanding.{ForEachState, IsOwn, TakesCompletions, TakesEvent, new_host, awaited_in, line_of, outstanding_count, outstanding_from, outstanding_jobs, outstanding_of};
+ghost use Rattle.host_core.specs.Lines.{value_of_line, writer_of};
 ghost use Rattle.host_core.specs.Views.{after_command};
 ghost use Rattle.host_core.specs.declared.events.Event.{Event};
 ghost use Rattle.host_core.specs.declared.hosts.Counted.{Counted};
@@ -253,6 +254,18 @@ impl Host {
         self.clock
     }
 
+    /// The value of a line of the rig: that of the actuator with this line in the program of the tenant that may drive it; 0 where no
+    /// tenant may, or its program has no such actuator. Takes no memory.
+    pub fn line_value(&self, line: usize) -> i64
+        ensures value { result ≡ line_of self.now line }
+        ensures rows { ForEachState self.now (λ setting state. result ≡ value_of_line setting.config (row_at state) line) }
+    {
+        let Some(tenant) = writer(&self.config, line) else {
+            return 0;
+        };
+        self.tenants[tenant].line(line).unwrap_or(0)
+    }
+
     /// How many jobs are outstanding: their tasks are active, and not completed. Takes no memory.
     pub fn outstanding(&self) -> u128
         ensures { result ≡ outstanding_count self.now }
@@ -281,6 +294,17 @@ pub fn complete(host: &mut Host, id: &JobId) -> Result<Counted, AllocError>
     };
     let counted = host.done(run_job(job));
     Ok(counted)
+}
+
+// The place of the tenant that may drive this line, if one may.
+fn writer(config: &Config, line: usize) -> Option<TenantId>
+    ensures { result ≡ writer_of config.now line }
+{
+    config
+        .tenants
+        .as_slice()
+        .iter()
+        .position(|tenant| tenant.budgets.writes.as_slice().contains(&line))
 }
 
 // Makes what the next instant needs: the tenants ready, and room in the table for all that it can release. How many jobs that are at

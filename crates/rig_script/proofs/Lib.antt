@@ -4,6 +4,7 @@ pub mod AnsweredLines
 pub mod Completing
 pub mod CountedReads
 pub mod LineCuts
+pub mod LineValues
 pub mod NewScript
 pub mod NextLine
 pub mod Outstanding

@@ -14,7 +14,8 @@ use Rattle.tenant_lines.specs.declared.commands.Command.{Command}
 use Rattle.tenant_lines.specs.declared.replies.Reply.{Reply}
 use Rattle.host_core.specs.Host.{after_event, host_after}
 use Rattle.host_core.specs.HostState.{row_at}
-use Rattle.host_core.specs.HostStanding.{HostStanding, Stands}
+use Rattle.host_core.specs.HostStanding.{HostStanding, Stands, line_of}
+use Rattle.host_core.specs.Lines.{value_of_line}
 use Rattle.host_core.specs.Legal.{next_tick, may_follow, is_legal}
 use Rattle.host_core.specs.Setting.{Setting}
 use Rattle.host_core.specs.Views.{after_command, row_of}
@@ -24,9 +25,10 @@ use Rattle.tenant_lines.specs.Replies.{text_of_reply}
 use Rattle.tenant_lines.specs.Words.{words_of, first_word_of, behind_first_word, values_of_words}
 use Rattle.host_core.proofs.AloneAlong.{same_rows, same_clock}
 use Rattle.tenant_lines.proofs.WordLemmas.{words_first, words_none}
+use Rattle.rig_script.proofs.LineValues.{same_lines}
 use Rattle.rig_script.specs.Answered.{reply_line}
 use Rattle.rig_script.specs.inner.HostAnswers.{IsHostAfter}
-use Rattle.rig_script.specs.Script.{Step, work_of, operator, operator_line_of, operator_step, work_step, work_step_of, outstanding_at, tenant_step, only_answered}
+use Rattle.rig_script.specs.Script.{Step, lines, work_of, operator, operator_line_of, operator_step, lines_step, text_of_lines, work_step, work_step_of, outstanding_at, tenant_step, only_answered}
 use Rattle.rig_script.specs.inner.Script.{IsCarriedOut}
 
 -- this text was answered, and the events have happened
@@ -48,23 +50,28 @@ words_with line first rest word f b is some =
     let front : first_word_of line ≡ word = sym f ∙ is in
     words_first line (subst (λ w. 0 < length w) (sym front) some) ∙ ap (λ w. w ∷ words_of (behind_first_word line)) front ∙ ap (λ l. word ∷ words_of l) (sym b)
 
-other_words : (w : List ℕ) (ws : List (List ℕ)) → (w ≡ codes "tick" → ⊥) → (w ≡ codes "work" → ⊥) → operator_line_of (w ∷ ws) ≡ None
-other_words w ws no_tick no_work = by (same_name w (codes "tick")) refl (same_name w (codes "work")) refl ws
+other_words : (w : List ℕ) (ws : List (List ℕ)) → (w ≡ codes "tick" → ⊥) → (w ≡ codes "work" → ⊥) → (w ≡ codes "lines" → ⊥) → operator_line_of (w ∷ ws) ≡ None
+other_words w ws no_tick no_work no_lines = by (same_name w (codes "tick")) refl (same_name w (codes "work")) refl (same_name w (codes "lines")) refl ws
   where
-    by : (a : Bool) → same_name w (codes "tick") ≡ a → (b : Bool) → same_name w (codes "work") ≡ b → (vs : List (List ℕ)) → operator_line_of (w ∷ vs) ≡ None
-    by true e b f vs = absurd (no_tick (same_text w (codes "tick") (sym e)))
-    by false e true f vs = absurd (no_work (same_text w (codes "work") (sym f)))
-    by false e false f vs = rw (e, f) refl
+    by : (a : Bool) → same_name w (codes "tick") ≡ a → (b : Bool) → same_name w (codes "work") ≡ b → (d : Bool) → same_name w (codes "lines") ≡ d → (vs : List (List ℕ)) → operator_line_of (w ∷ vs) ≡ None
+    by true e b f d g vs = absurd (no_tick (same_text w (codes "tick") (sym e)))
+    by false e true f d g vs = absurd (no_work (same_text w (codes "work") (sym f)))
+    by false e false f true g vs = absurd (no_lines (same_text w (codes "lines") (sym g)))
+    by false e false f false g vs = rw (e, f, g) refl
 
-pub other_line : (line first : List ℕ) → first ≡ first_word_of line → (first ≡ codes "tick" → ⊥) → (first ≡ codes "work" → ⊥) → operator_line_of (words_of line) ≡ None
-other_line line first f no_tick no_work = by (first_word_of line) refl
+pub other_line : (line first : List ℕ) → first ≡ first_word_of line → (first ≡ codes "tick" → ⊥) → (first ≡ codes "work" → ⊥) → (first ≡ codes "lines" → ⊥) → operator_line_of (words_of line) ≡ None
+other_line line first f no_tick no_work no_lines = by (first_word_of line) refl
   where
     by : (w : List ℕ) → first_word_of line ≡ w → operator_line_of (words_of line) ≡ None
     by [] is = ap operator_line_of (words_none line (ap (λ (l : List ℕ). length l) is))
     by (c ∷ cs) is =
         let some : 0 < length (first_word_of line) = subst (λ (w : List ℕ). 0 < length w) (sym is) (omega arith) in
         ap operator_line_of (words_first line some)
-        ∙ other_words (first_word_of line) (words_of (behind_first_word line)) (λ e. no_tick (f ∙ e)) (λ e. no_work (f ∙ e))
+        ∙ other_words (first_word_of line) (words_of (behind_first_word line)) (λ e. no_tick (f ∙ e)) (λ e. no_work (f ∙ e)) (λ e. no_lines (f ∙ e))
+
+-- `lines` with a word behind it
+pub lines_with_more : (line : List ℕ) → 0 < length (first_word_of line) → operator_line_of (codes "lines" ∷ words_of line) ≡ None
+lines_with_more line more = ap (λ ws. operator_line_of (codes "lines" ∷ ws)) (words_first line more)
 
 -- `work` with a tenant's name behind it
 pub work_with_name : (line : List ℕ) → 0 < length (first_word_of line) → is_name (first_word_of line) ≡ true → length (first_word_of (behind_first_word line)) ≡ 0
@@ -114,6 +121,18 @@ module _ (setting : Setting) (past : List Event) (host later : HostStanding) (h 
       let steps : operator_step setting past words ≡ step = rw none refl in
       subst (λ (s : Step). IsCarriedOut s past r (IsHostAfter setting later)) (sym steps)
       (step_done step past r (IsHostAfter setting later) (reply_line operator (codes "err bad-command")) given refl (subst (λ s. IsHostAfter setting s past) (sym kept) h))
+
+  -- the values of the lines were told
+  pub lines_told : (words : List (List ℕ)) → operator_line_of words ≡ Some lines → later ≡ host → (text : List ℕ)
+      → IfOk r (λ t. string_bytes t ≡ reply_line operator text) → text ≡ codes "ok lines" ++ text_of_lines (line_of host) host.config.lines
+      → IsCarriedOut (operator_step setting past words) past r (IsHostAfter setting later)
+  lines_told words is kept text given told =
+      let same = h.stands.same_config in
+      let values : text ≡ codes "ok lines" ++ text_of_lines (value_of_line setting.config (row_of setting past)) setting.config.lines =
+      told ∙ ap (λ (c : Config). codes "ok lines" ++ text_of_lines (line_of host) c.lines) same ∙ ap (λ ls. codes "ok lines" ++ ls) (same_lines setting h.base past h.legal host h.stands setting.config.lines) in
+      let steps : operator_step setting past words ≡ lines_step setting past = rw is refl in
+      subst (λ (s : Step). IsCarriedOut s past r (IsHostAfter setting later)) (sym steps)
+      (step_done (lines_step setting past) past r (IsHostAfter setting later) (reply_line operator text) given (ap (reply_line operator) values) (subst (λ s. IsHostAfter setting s past) (sym kept) h))
 
   -- `work` of one tenant
   pub tenant_worked : (words : List (List ℕ)) (x : List ℕ) → operator_line_of words ≡ Some (work_of x) → IsCarriedOut (work_step_of setting past x) past r (IsHostAfter setting later)

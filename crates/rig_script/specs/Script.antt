@@ -1,7 +1,7 @@
 -- The text that a script is answered.
-use Rattle.std.specs.Prelude.{◌≡◌, ◌⊎◌, ℕ, ◌-◌, ◌^◌, nat_lt, not, ◌==◌, if◌then◌else◌, ℤ, List, [], ◌∷◌, ◌++◌, length, map, filter, reverse, Option, Some, None, IfSome, codes}
+use Rattle.std.specs.Prelude.{◌≡◌, ◌⊎◌, ℕ, zero, suc, ◌-◌, ◌^◌, nat_lt, not, ◌==◌, if◌then◌else◌, ℤ, List, [], ◌∷◌, ◌++◌, length, map, filter, reverse, Option, Some, None, IfSome, codes}
 use Rattle.std.specs.List.{flat_map, enumerate_from}
-use Rattle.std.specs.Fmt.{decimal}
+use Rattle.std.specs.Fmt.{decimal, signed_decimal}
 use Rattle.giotto_tasks.specs.declared.names.Name.{Name}
 use Rattle.giotto_tasks.specs.Names.{same_name}
 use Rattle.giotto_text.specs.Bytes.{is_name}
@@ -19,6 +19,7 @@ use Rattle.tenant_lines.specs.Words.{words_of, first_word_of, behind_first_word,
 use Rattle.host_core.specs.Completions.{has_completion}
 use Rattle.tenant_state.specs.Jobs.{job_of}
 use Rattle.host_core.specs.Legal.{next_tick}
+use Rattle.host_core.specs.Lines.{value_of_line}
 use Rattle.host_core.specs.Plays.{IsSettingOf}
 use Rattle.host_core.specs.Setting.{Setting}
 use Rattle.host_core.specs.Views.{after_command, row_of}
@@ -65,11 +66,14 @@ pub data OperatorLine : Type 0 where
   work : OperatorLine
   -- by the tenant's name
   work_of : Name → OperatorLine
+  lines : OperatorLine
 
--- "tick V ..", "work" or "work TENANT"
+-- "tick V ..", "work", "work TENANT" or "lines"
 abbrev pub operator_line_of : List (List ℕ) → Option OperatorLine
 operator_line_of [] = None
-operator_line_of (w ∷ ws) = if same_name w (codes "tick") then ticks (values_of_words ws) else (if same_name w (codes "work") then works ws else None)
+operator_line_of (w ∷ ws) =
+    if same_name w (codes "tick") then ticks (values_of_words ws)
+    else (if same_name w (codes "work") then works ws else (if same_name w (codes "lines") then alone ws else None))
   where
     ticks : Option (List ℤ) → Option OperatorLine
     ticks None = None
@@ -79,6 +83,10 @@ operator_line_of (w ∷ ws) = if same_name w (codes "tick") then ticks (values_o
     works [] = Some work
     works (x ∷ []) = if is_name x then Some (work_of x) else None
     works (x ∷ y ∷ ys) = None
+
+    alone : List (List ℕ) → Option OperatorLine
+    alone [] = Some lines
+    alone (x ∷ xs) = None
 
 -- what a line does: the events that it adds, the newest first, and its reply
 pub record Step : Type 0 where
@@ -91,6 +99,11 @@ only_answered reply = record { events = []; reply = reply }
 -- runs and completes the jobs that are outstanding, in their order
 abbrev pub work_step : List JobId → Step
 work_step jobs = record { events = reverse (map Done jobs); reply = reply_line operator (codes "ok work " ++ decimal (length jobs)) }
+
+-- the values of the first n lines of the rig, each behind a space
+abbrev pub text_of_lines : (ℕ → ℤ) → ℕ → List ℕ
+text_of_lines value zero = []
+text_of_lines value (suc k) = text_of_lines value k ++ (codes " " ++ signed_decimal (value k))
 
 module _ (setting : Setting) where
   -- the outstanding jobs of a tenant: its active tasks' jobs that have no completion yet
@@ -115,6 +128,10 @@ module _ (setting : Setting) where
       else (if not (nat_lt (next_tick setting past) (2 ^ 64 - 1)) then only_answered (operator_refusal (codes "clock-ended"))
       else record { events = Tick frame ∷ []; reply = reply_line operator (codes "ok tick " ++ decimal (next_tick setting past)) })
 
+  -- `lines`: the value of each line of the rig
+  abbrev pub lines_step : List Event → Step
+  lines_step past = only_answered (reply_line operator (codes "ok lines" ++ text_of_lines (value_of_line setting.config (row_of setting past)) setting.config.lines))
+
   abbrev pub operator_step : List Event → List (List ℕ) → Step
   operator_step past words = by (operator_line_of words)
     where
@@ -123,6 +140,7 @@ module _ (setting : Setting) where
       by (Some (tick frame)) = tick_step past frame
       by (Some work) = work_step (outstanding_after past)
       by (Some (work_of x)) = work_step_of past x
+      by (Some lines) = lines_step past
 
   -- a tenant's line: its command, answered as the one-tenant machine answers it
   abbrev pub tenant_step : List Event → ℕ → Name → List ℕ → Step

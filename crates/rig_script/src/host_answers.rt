@@ -1,12 +1,13 @@
 //! A host that answers the lines of a script.
 
-ghost use Rattle.std.specs.Prelude.{◌≡◌, [], ◌∷◌, ◌<◌, ◌≤◌, Some, Err, codes, length, All, IfOk, IfErr, IfSome, OnOk, string_bytes};
+ghost use Rattle.std.specs.Prelude.{◌≡◌, [], ◌∷◌, ◌++◌, ◌<◌, ◌≤◌, Some, Err, codes, length, All, IfOk, IfErr, IfSome, OnOk, string_bytes};
 ghost use Rattle.std.specs.Io.KnownBytes.{Appends};
 ghost use Rattle.tenant_lines.specs.Words.{words_of};
+ghost use Rattle.host_core.specs.HostStanding.{line_of};
 ghost use Rattle.rig_script.specs.Answered.{reply_line, IsText};
 ghost use Rattle.rig_script.specs.Lines.{cut};
 ghost use Rattle.rig_script.specs.inner.HostAnswers.{CarriesOut, IsHostAfter};
-ghost use Rattle.rig_script.specs.Script.{tenant_step, operator_step, work_step, work_step_of, outstanding_after, script_text_of, IsScriptBrokenOff, ForNewHostReading};
+ghost use Rattle.rig_script.specs.Script.{tenant_step, operator_step, text_of_lines, work_step, work_step_of, outstanding_after, script_text_of, IsScriptBrokenOff, ForNewHostReading};
 
 use crate::answers::{Answers, answer_lines};
 use crate::faults::ScriptFault;
@@ -100,6 +101,7 @@ fn operator_line(alloc: Global, host: &mut Host, line: &str) -> Result<String, A
     match words::first_word(line) {
         "tick" => tick(alloc, host, rest),
         "work" => work(alloc, host, rest),
+        "lines" => lines(alloc, host, rest),
         _ => reply_line(alloc, "op", "err bad-command"),
     }
 }
@@ -151,6 +153,30 @@ fn complete_tenant(alloc: Global, host: &mut Host, name: &str) -> Result<String,
     };
     let number = host.complete_tenant(tenant);
     format!(in alloc; "op ok work {number}\n")
+}
+
+// The step of `lines` with these words behind it.
+fn lines(alloc: Global, host: &mut Host, line: &str) -> Result<String, AllocError>
+    ensures { CarriesOut (λ setting past. operator_step setting past (codes "lines" ∷ words_of line.now)) host.old host.new result }
+{
+    if !words::first_word(line).is_empty() {
+        return reply_line(alloc, "op", "err bad-command");
+    }
+    let text = text_of_lines(alloc, host)?;
+    reply_line(alloc, "op", text.as_str())
+}
+
+// The value of each line of the rig, behind `ok lines`.
+fn text_of_lines(alloc: Global, host: &Host) -> Result<String, AllocError>
+    ensures { IfOk result (λ text. string_bytes text ≡ codes "ok lines" ++ text_of_lines (line_of host.now) host.now.config.lines) }
+{
+    let mut text = String::from_str(alloc, "ok lines")?;
+    for line in 0..host.config().lines {
+        let value = host.line_value(line);
+        let one = format!(in alloc; " {value}")?;
+        text.push_str(one.as_str())?;
+    }
+    Ok(text)
 }
 
 // A reply as it is written: who is answered, a space, the reply, and LF.

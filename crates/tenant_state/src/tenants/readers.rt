@@ -9,12 +9,13 @@ ghost use Rattle.giotto_check.specs.declared.timetables.SlotInvocation.{SlotInvo
 ghost use Rattle.tenant_slots.specs.Places.{name_of_task};
 ghost use Rattle.tenant_state.specs.FirstHalf.{names_due};
 ghost use Rattle.tenant_state.specs.inner.Standing.{has_active};
-ghost use Rattle.tenant_state.specs.Readers.{actuator_value};
+ghost use Rattle.tenant_state.specs.Readers.{actuator_value, drives, line_value};
 ghost use Rattle.tenant_state.specs.inner.Tenants.{IsActiveOf, is_of_job};
 
 use crate::tenants::{Active, State, Tenant};
 use giotto_check::Checked;
 use giotto_check::timetables::SlotInvocation;
+use giotto_tasks::names::Name;
 use giotto_text::programs::Actuator;
 use tenant_jobs::jobs::JobId;
 use tenant_slots::due::Due;
@@ -69,6 +70,17 @@ impl Tenant {
         let place = actuator_place(program.actuators(), name)?;
         let slot = program.sensors().len() + place;
         self.values.get(slot).copied()
+    }
+
+    /// The value of the actuator that drives this line, or `None` where the tenant's program has no such actuator. Takes no memory.
+    pub fn line(&self, line: usize) -> Option<i64>
+        ensures { result ≡ line_value self.now.row line }
+    {
+        let Some(checked) = &self.program else {
+            return None;
+        };
+        let name = driver_name(checked.program().actuators(), line as u64)?;
+        self.actuator(name.as_str())
     }
 }
 
@@ -127,4 +139,26 @@ fn actuator_place(actuators: &[Actuator], name: &str) -> Option<usize>
     actuators
         .iter()
         .position(|actuator| actuator.name.as_str() == name)
+}
+
+// The name of the first of these actuators that drives this line.
+fn driver_name(actuators: &[Actuator], line: u64) -> Option<Name>
+    ensures { result ≡ option_map (λ (a : Actuator). a.name) (find (λ (a : Actuator). drives line a.line) actuators.now) }
+{
+    for actuator in actuators {
+        if drives(actuator.line, line) {
+            return Some(actuator.name.copy());
+        }
+    }
+    None
+}
+
+// Whether an actuator with this line, if any, drives the other.
+fn drives(own: Option<u64>, line: u64) -> bool
+    ensures { result ≡ drives line own }
+{
+    match own {
+        Some(own) => line == own,
+        None => false,
+    }
 }

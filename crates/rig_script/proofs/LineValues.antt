@@ -1,0 +1,33 @@
+-- The values of the lines that a host tells are those of the definitions.
+use Rattle.std.proofs.Common.{◌≡◌, ℕ, zero, suc, ◌<◌, true, ℤ, List, ◌++◌, length, Option, Some, None, codes, refl, ap, ◌∙◌, arith}
+use Rattle.std.proofs.lemmas.Bool.Decides.{nat_tests}
+use Rattle.std.specs.Fmt.{signed_decimal}
+use Rattle.host_core.specs.Base.{IsBase}
+use Rattle.host_core.specs.Host.{host_after}
+use Rattle.host_core.specs.HostStanding.{HostStanding, Stands, line_of}
+use Rattle.host_core.specs.HostState.{row_at}
+use Rattle.host_core.specs.Legal.{is_legal}
+use Rattle.host_core.specs.Lines.{value_of_line}
+use Rattle.host_core.specs.Setting.{Setting}
+use Rattle.host_core.specs.Views.{row_of}
+use Rattle.host_core.specs.declared.events.Event.{Event}
+use Rattle.host_core.proofs.AloneAlong.{same_rows}
+use Rattle.host_core.proofs.LineValues.{line_of_rows, same_values}
+use Rattle.rig_config.specs.Roster.{is_tenant}
+use Rattle.rig_script.specs.Script.{text_of_lines}
+
+-- equal values are told alike
+told_alike : (f g : ℕ → ℤ) → ((k : ℕ) → f k ≡ g k) → (n : ℕ) → text_of_lines f n ≡ text_of_lines g n
+told_alike f g same zero = refl
+told_alike f g same (suc k) =
+    let rest = told_alike f g same k in
+    ap (λ ls. ls ++ (codes " " ++ signed_decimal (f k))) rest ∙ ap (λ z. text_of_lines g k ++ (codes " " ++ signed_decimal z)) (same k)
+
+module _ (setting : Setting) (base : IsBase setting.config setting.base) (past : List Event) (legal : is_legal setting past ≡ true) (host : HostStanding) (stands : Stands setting host (host_after setting past)) where
+  same_line : (k : ℕ) → line_of host k ≡ value_of_line setting.config (row_of setting past) k
+  same_line k =
+      line_of_rows setting host (host_after setting past) stands k
+      ∙ same_values setting.config (row_at (host_after setting past)) (row_of setting past) (λ t lt. same_rows setting base past t legal (grind (arith, nat_tests, lt))) k
+
+  pub same_lines : (n : ℕ) → text_of_lines (line_of host) n ≡ text_of_lines (value_of_line setting.config (row_of setting past)) n
+  same_lines n = told_alike (line_of host) (value_of_line setting.config (row_of setting past)) same_line n

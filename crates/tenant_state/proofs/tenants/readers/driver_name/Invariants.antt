@@ -1,0 +1,9 @@
+use Rattle.std.proofs.Common.{◌≡◌, find, drop}
+use Rattle.giotto_text.specs.declared.programs.Actuator.{Actuator}
+use Rattle.tenant_state.specs.Readers.{drives}
+use Rattle.tenant_state.proofs.tenants.readers.driver_name.Given as goal
+
+abbrev pub invariant-loop-actuator : goal.invariant-loop-actuator
+invariant-loop-actuator l =
+    let driving = λ (a : Actuator). drives l.line a.line in
+    find driving l.actuators ≡ find driving (drop l.actuator-index l.actuators)
