@@ -1,2 +1,3 @@
 pub mod BuiltIn
+pub mod Fields
 pub mod Roster

@@ -5,6 +5,8 @@ ghost use Rattle.std.specs.Prelude.{◌≡◌, IfOk};
 ghost use Rattle.rig_config.specs.BuiltIn.{built_in_tenant, built_in_config};
 ghost use Rattle.rig_config.specs.Roster.{place_of};
 
+pub mod faults;
+
 use giotto_tasks::lists::List;
 use giotto_tasks::names::Name;
 use std::alloc::{AllocError, Global};
