@@ -1,1 +1,2 @@
 pub mod ArrayValues
+pub mod Tenants

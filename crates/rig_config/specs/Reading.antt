@@ -2,7 +2,7 @@
 use Rattle.std.specs.Prelude.{ℕ, suc, ◌+◌, ℤ, pos, negsuc, Bool, true, false, not, ◌&&◌, if◌then◌else◌, nat_lt, List, [], ◌∷◌, map, Option, Some, None, option_map, is_some, Result, Ok, Err}
 use Rattle.std.specs.Bool.{then_some}
 use Rattle.std.specs.Option.{option_and_then, ok_or, option_map_or}
-use Rattle.toml.specs.Data.{Data, integer, table, Items, no_items, item, Members, as_str, as_array, as_table, get_member}
+use Rattle.toml.specs.Data.{Data, integer, Items, no_items, item, Members, as_str, as_array, as_table, get_member}
 use Rattle.toml.specs.Parse.{parse_document}
 use Rattle.giotto_tasks.specs.Sound.{all_different}
 use Rattle.rig_config.specs.Fields.{is_in_range, rig_field, tenant_field, word_of}
@@ -95,15 +95,16 @@ tenant_of lines t fields = do
     budgets = record { reads = reads; writes = writes; bytes = bytes; ports = ports; tasks = tasks; modes = modes; steps = steps; trace = trace; offers = offers; binds = binds };
   })
 
-abbrev pub tenant_in : ℕ → ℕ → Data → Result TenantConfig ConfigFault
-tenant_in lines t (table fields) = tenant_of lines t fields
-tenant_in lines t _ = Err (Range (rig_field field.Tenant))
+-- the fields of one of the tenants' tables
+abbrev pub fields_in : Data → Result Members ConfigFault
+fields_in value = ok_or (as_table value) (Range (rig_field field.Tenant))
 
 -- the tenants from a place on, one after the other
 abbrev pub tenants_from : ℕ → ℕ → Items → Result (List TenantConfig) ConfigFault
 tenants_from lines t no_items = Ok []
 tenants_from lines t (item value others) = do
-  tenant ← tenant_in lines t value
+  fields ← fields_in value
+  tenant ← tenant_of lines t fields
   tenants ← tenants_from lines (t + 1) others
   Ok (tenant ∷ tenants)
 

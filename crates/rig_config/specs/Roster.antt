@@ -1,5 +1,5 @@
 -- A rig, and its roster: the tenants by their places and names.
-use Rattle.std.specs.Prelude.{ℕ, Bool, nat_eq, nat_lt, List, [], Option, length, slice_get}
+use Rattle.std.specs.Prelude.{ℕ, Bool, ◌&&◌, nat_eq, nat_lt, List, [], Option, length, slice_get}
 use Rattle.std.specs.List.{list_any, position}
 use Rattle.std.specs.Option.{option_map_or}
 use Rattle.giotto_tasks.specs.declared.names.Name.{Name}
@@ -18,6 +18,10 @@ is_tenant rig t = nat_lt t (length rig.tenants)
 -- the place of the tenant with this name
 abbrev pub place_of : Rig → Name → Option ℕ
 place_of rig x = position (λ (t : TenantConfig). same_name t.name x) rig.tenants
+
+-- the place of the tenant with this name and this key
+abbrev pub greeted : Rig → List ℕ → List ℕ → Option ℕ
+greeted rig name key = position (λ (t : TenantConfig). same_name t.name name && same_name t.key key) rig.tenants
 
 -- the name of the tenant at a place; no name where the roster has no such place
 abbrev pub name_at : Rig → ℕ → Name

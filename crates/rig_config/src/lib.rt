@@ -4,7 +4,7 @@
 ghost use Rattle.std.specs.Prelude.{◌≡◌, IfOk};
 ghost use Rattle.rig_config.specs.BuiltIn.{built_in_tenant, built_in_config};
 ghost use Rattle.rig_config.specs.Ranges.{IsConfig};
-ghost use Rattle.rig_config.specs.Roster.{place_of};
+ghost use Rattle.rig_config.specs.Roster.{greeted, place_of};
 
 pub mod faults;
 mod reading;
@@ -14,6 +14,8 @@ use giotto_tasks::lists::List;
 use giotto_tasks::names::Name;
 use std::alloc::{AllocError, Global};
 use std::marker::Model;
+
+pub use reading::read_config;
 
 /// The place of a tenant in the configuration, counted from 0.
 pub type TenantId = usize;
@@ -148,6 +150,16 @@ impl Config {
             .as_slice()
             .iter()
             .position(|tenant| tenant.name.as_str() == name)
+    }
+
+    /// The place of the tenant whose name and key these are, or `None` where there is none.
+    pub fn greet(&self, name: &str, key: &str) -> Option<TenantId>
+        ensures { result ≡ greeted self.now name.now key.now }
+    {
+        self.tenants
+            .as_slice()
+            .iter()
+            .position(|tenant| tenant.name.as_str() == name && tenant.key.as_slice() == key.as_bytes())
     }
 }
 

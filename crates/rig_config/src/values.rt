@@ -1,12 +1,13 @@
 //! What a field's value has to be.
 
-ghost use Rattle.std.specs.Prelude.{◌≡◌, option_map, IfOk, IfSome, IsTrue};
+ghost use Rattle.std.specs.Prelude.{◌≡◌, length, option_map, IfOk, IfSome, IsTrue};
 ghost use Rattle.std.specs.List.{list_all};
 ghost use Rattle.std.specs.Option.{option_copied};
 ghost use Rattle.toml.specs.View.{array_view, items_view, view};
 ghost use Rattle.rig_config.specs.Fields.{from_to, is_in_range};
 ghost use Rattle.rig_config.specs.Ranges.{are_lines, is_key, is_lower, is_name_byte, is_tenant_name};
 ghost use Rattle.rig_config.specs.Reading.{are_tables, key_in, lines_in, name_in, number_in, tables_in, whole_in};
+ghost use Rattle.rig_config.specs.declared.faults.Field.TheVariants as field;
 
 use crate::faults::Field;
 use giotto_tasks::lists::List;
@@ -111,7 +112,8 @@ pub(crate) fn lines_in(alloc: Global, value: &Value, lines: usize) -> Result<Opt
 // The tenants' tables that a value is.
 #[tactic(auto, using(crate::proofs::ArrayValues::count_of_values))]
 pub(crate) fn tables_in(value: &Value) -> Option<&Array>
-    ensures { option_map (λ tables. array_view tables.now) result ≡ tables_in (view value.now) }
+    ensures value { option_map (λ tables. array_view tables.now) result ≡ tables_in (view value.now) }
+    ensures range { IfSome result (λ tables. IsTrue (is_in_range field.Tenant (length tables.now.items))) }
 {
     let tables = value.as_array()?;
     if Field::Tenant.allows(tables.len()) && are_tables(tables) {
