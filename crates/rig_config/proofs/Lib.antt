@@ -1,2 +1,3 @@
 pub mod ArrayValues
+pub mod NumbersOf
 pub mod Tenants

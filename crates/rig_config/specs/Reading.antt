@@ -8,6 +8,7 @@ use Rattle.giotto_tasks.specs.Sound.{all_different}
 use Rattle.rig_config.specs.Fields.{is_in_range, rig_field, tenant_field, word_of}
 use Rattle.rig_config.specs.Ranges.{all_drive_apart, is_key, is_tenant_name}
 use Rattle.rig_config.specs.Roster.{Rig}
+use Rattle.rig_config.specs.declared.Budgets.{Budgets}
 use Rattle.rig_config.specs.declared.TenantConfig.{TenantConfig}
 use Rattle.rig_config.specs.declared.faults.Field.{Field}
 use Rattle.rig_config.specs.declared.faults.Field.TheVariants as field
@@ -39,11 +40,15 @@ name_in value = only is_tenant_name (as_str value)
 abbrev pub key_in : Data → Option (List ℕ)
 key_in value = only is_key (as_str value)
 
--- the numbers of lines that stand in an array, each below the number of lines
+-- the number of a line that a value is, in a rig of so many lines
+abbrev pub line_in : ℕ → Data → Option ℕ
+line_in lines value = only (λ k. nat_lt k lines) (whole_in value)
+
+-- the numbers of lines that stand in an array
 abbrev pub line_numbers : ℕ → Items → Option (List ℕ)
 line_numbers lines no_items = Some []
 line_numbers lines (item value others) =
-    option_and_then (λ k. option_map (λ ks. k ∷ ks) (line_numbers lines others)) (only (λ k. nat_lt k lines) (whole_in value))
+    option_and_then (λ k. option_map (λ ks. k ∷ ks) (line_numbers lines others)) (line_in lines value)
 
 abbrev pub lines_in : ℕ → Data → Option (List ℕ)
 lines_in lines value = option_and_then (line_numbers lines) (as_array value)
@@ -74,11 +79,9 @@ read accepts at fields = do
 abbrev pub number : FieldPlace → Members → Result ℕ ConfigFault
 number at fields = read (number_in at.field) at fields
 
--- the tenant at a place of a rig with so many lines: its fields in their order
-unfoldable pub tenant_of : ℕ → ℕ → Members → Result TenantConfig ConfigFault
-tenant_of lines t fields = do
-  name ← read name_in (tenant_field t field.Name) fields
-  key ← read key_in (tenant_field t field.Key) fields
+-- the budgets of the tenant at a place of a rig with so many lines: their fields in their order
+unfoldable pub budgets_of : ℕ → ℕ → Members → Result Budgets ConfigFault
+budgets_of lines t fields = do
   reads ← read (lines_in lines) (tenant_field t field.Reads) fields
   writes ← read (lines_in lines) (tenant_field t field.Writes) fields
   bytes ← number (tenant_field t field.Bytes) fields
@@ -90,10 +93,25 @@ tenant_of lines t fields = do
   offers ← number (tenant_field t field.Offers) fields
   binds ← number (tenant_field t field.Binds) fields
   Ok (record {
-    name = name;
-    key = key;
-    budgets = record { reads = reads; writes = writes; bytes = bytes; ports = ports; tasks = tasks; modes = modes; steps = steps; trace = trace; offers = offers; binds = binds };
+    reads = reads;
+    writes = writes;
+    bytes = bytes;
+    ports = ports;
+    tasks = tasks;
+    modes = modes;
+    steps = steps;
+    trace = trace;
+    offers = offers;
+    binds = binds;
   })
+
+-- the tenant at a place of a rig with so many lines: its name, its key, its budgets
+unfoldable pub tenant_of : ℕ → ℕ → Members → Result TenantConfig ConfigFault
+tenant_of lines t fields = do
+  name ← read name_in (tenant_field t field.Name) fields
+  key ← read key_in (tenant_field t field.Key) fields
+  budgets ← budgets_of lines t fields
+  Ok (record { name = name; key = key; budgets = budgets })
 
 -- the fields of one of the tenants' tables
 abbrev pub fields_in : Data → Result Members ConfigFault

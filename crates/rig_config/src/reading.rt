@@ -4,13 +4,14 @@ ghost use Rattle.std.specs.Prelude.{◌≡◌, ◌≢◌, Ok, Err, IfOk, IfErr, 
 ghost use Rattle.std.specs.List.{list_all, list_any};
 ghost use Rattle.toml.specs.View.{array_view, items_view, table_view, view};
 ghost use Rattle.rig_config.specs.Fields.{is_in_range, rig_field, tenant_field};
-ghost use Rattle.rig_config.specs.Ranges.{all_drive_apart, are_lines, drive_apart, is_key, is_tenant_config, is_tenant_name};
-ghost use Rattle.rig_config.specs.Reading.{config_of, key_in, lines_in, name_in, number, read, rig_of, rig_with, tables_in, tenant_of, tenants_from, value_of};
+ghost use Rattle.rig_config.specs.Ranges.{all_drive_apart, are_budgets, are_lines, drive_apart, is_key, is_tenant_config, is_tenant_name};
+ghost use Rattle.rig_config.specs.Reading.{budgets_of, config_of, key_in, lines_in, name_in, number, read, rig_of, rig_with, tables_in, tenant_of, tenants_from, value_of};
 ghost use Rattle.giotto_tasks.specs.Names.{is_among};
 ghost use Rattle.giotto_tasks.specs.Sound.{all_different};
 ghost use Rattle.rig_config.specs.Roster.{may_use};
 ghost use Rattle.rig_config.specs.declared.TenantConfig.{TenantConfig};
 ghost use Rattle.rig_config.specs.inner.Gives.{Gives};
+ghost use Rattle.rig_config.specs.inner.Numbers.{are_in_range, numbers_of};
 ghost use Rattle.rig_config.specs.declared.faults.Field.TheVariants as field;
 
 use crate::faults::{ConfigFault, Field, FieldPlace};
@@ -72,6 +73,59 @@ fn line_set(alloc: Global, fields: &Table, at: FieldPlace, lines: usize) -> Resu
     lines_in(alloc, value, lines)?.ok_or(ConfigFault::Range(at))
 }
 
+// The numbers among a tenant's budgets.
+#[derive(Clone, Copy)]
+struct Numbers {
+    bytes: usize,
+    ports: usize,
+    tasks: usize,
+    modes: usize,
+    steps: usize,
+    trace: usize,
+    offers: usize,
+    binds: usize,
+}
+
+#[tactic(auto, unfolding(crate::specs::inner::Numbers::numbers_of))]
+fn numbers_of(fields: &Table, tenant: TenantId) -> Result<Numbers, ConfigFault>
+    ensures value { result ≡ numbers_of tenant (table_view fields.now) }
+    ensures ranges { IfOk result (λ n. IsTrue (are_in_range n)) }
+{
+    Ok(Numbers {
+        bytes: number(fields, FieldPlace::of_tenant(tenant, Field::Bytes))?,
+        ports: number(fields, FieldPlace::of_tenant(tenant, Field::Ports))?,
+        tasks: number(fields, FieldPlace::of_tenant(tenant, Field::Tasks))?,
+        modes: number(fields, FieldPlace::of_tenant(tenant, Field::Modes))?,
+        steps: number(fields, FieldPlace::of_tenant(tenant, Field::Steps))?,
+        trace: number(fields, FieldPlace::of_tenant(tenant, Field::Trace))?,
+        offers: number(fields, FieldPlace::of_tenant(tenant, Field::Offers))?,
+        binds: number(fields, FieldPlace::of_tenant(tenant, Field::Binds))?,
+    })
+}
+
+// The budgets of the tenant at a place of a rig with so many lines.
+#[tactic(auto, using(crate::proofs::NumbersOf::budgets_by_parts))]
+fn budgets_of(alloc: Global, fields: &Table, lines: usize, tenant: TenantId) -> Result<Budgets, ConfigFault>
+    ensures value { Gives result (budgets_of lines tenant (table_view fields.now)) }
+    ensures ranges { IfOk result (λ budgets. IsTrue (are_budgets lines budgets)) }
+{
+    let reads = line_set(alloc, fields, FieldPlace::of_tenant(tenant, Field::Reads), lines)?;
+    let writes = line_set(alloc, fields, FieldPlace::of_tenant(tenant, Field::Writes), lines)?;
+    let numbers = numbers_of(fields, tenant)?;
+    Ok(Budgets {
+        reads,
+        writes,
+        bytes: numbers.bytes,
+        ports: numbers.ports,
+        tasks: numbers.tasks,
+        modes: numbers.modes,
+        steps: numbers.steps as u64,
+        trace: numbers.trace,
+        offers: numbers.offers,
+        binds: numbers.binds,
+    })
+}
+
 // The tenant at a place of a rig with so many lines.
 #[tactic(auto, unfolding(crate::specs::Reading::tenant_of))]
 fn tenant(alloc: Global, fields: &Table, lines: usize, place: TenantId) -> Result<TenantConfig, ConfigFault>
@@ -80,20 +134,7 @@ fn tenant(alloc: Global, fields: &Table, lines: usize, place: TenantId) -> Resul
 {
     let name = name(fields, place)?;
     let key = key(alloc, fields, place)?;
-    let reads = line_set(alloc, fields, FieldPlace::of_tenant(place, Field::Reads), lines)?;
-    let writes = line_set(alloc, fields, FieldPlace::of_tenant(place, Field::Writes), lines)?;
-    let budgets = Budgets {
-        reads,
-        writes,
-        bytes: number(fields, FieldPlace::of_tenant(place, Field::Bytes))?,
-        ports: number(fields, FieldPlace::of_tenant(place, Field::Ports))?,
-        tasks: number(fields, FieldPlace::of_tenant(place, Field::Tasks))?,
-        modes: number(fields, FieldPlace::of_tenant(place, Field::Modes))?,
-        steps: number(fields, FieldPlace::of_tenant(place, Field::Steps))? as u64,
-        trace: number(fields, FieldPlace::of_tenant(place, Field::Trace))?,
-        offers: number(fields, FieldPlace::of_tenant(place, Field::Offers))?,
-        binds: number(fields, FieldPlace::of_tenant(place, Field::Binds))?,
-    };
+    let budgets = budgets_of(alloc, fields, lines, place)?;
     Ok(TenantConfig { name, key, budgets })
 }
 

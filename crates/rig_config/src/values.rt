@@ -6,7 +6,7 @@ ghost use Rattle.std.specs.Option.{option_copied};
 ghost use Rattle.toml.specs.View.{array_view, items_view, view};
 ghost use Rattle.rig_config.specs.Fields.{from_to, is_in_range};
 ghost use Rattle.rig_config.specs.Ranges.{are_lines, is_key, is_lower, is_name_byte, is_tenant_name};
-ghost use Rattle.rig_config.specs.Reading.{are_tables, key_in, lines_in, name_in, number_in, tables_in, whole_in};
+ghost use Rattle.rig_config.specs.Reading.{are_tables, key_in, line_in, lines_in, name_in, number_in, tables_in, whole_in};
 ghost use Rattle.rig_config.specs.declared.faults.Field.TheVariants as field;
 
 use crate::faults::Field;
@@ -91,6 +91,14 @@ fn are_key_bytes(bytes: &[u8]) -> bool
     bytes.iter().all(|&byte| 0x21 <= byte && byte <= 0x7e)
 }
 
+// The number of a line that a value is, in a rig of so many lines.
+fn line_in(value: &Value, lines: usize) -> Option<usize>
+    ensures { result ≡ line_in lines (view value.now) }
+{
+    let line = whole_in(value)?;
+    if line < lines { Some(line) } else { None }
+}
+
 // The numbers of lines that a value is, in a rig of so many lines.
 pub(crate) fn lines_in(alloc: Global, value: &Value, lines: usize) -> Result<Option<List<usize>>, AllocError>
     ensures value { IfOk result (λ found. found ≡ lines_in lines (view value.now)) }
@@ -101,10 +109,10 @@ pub(crate) fn lines_in(alloc: Global, value: &Value, lines: usize) -> Result<Opt
     };
     let mut numbers = Vec::new(alloc);
     for value in values {
-        match whole_in(value) {
-            Some(line) if line < lines => numbers.push(line)?,
-            _ => return Ok(None),
-        }
+        let Some(line) = line_in(value, lines) else {
+            return Ok(None);
+        };
+        numbers.push(line)?;
     }
     Ok(Some(List::from_vec(numbers)))
 }
