@@ -7,6 +7,7 @@ ghost use Rattle.rig_config.specs.Ranges.{IsConfig};
 ghost use Rattle.rig_config.specs.Roster.{greeted, place_of};
 
 pub mod faults;
+pub mod laws;
 mod reading;
 mod values;
 
