@@ -1,2 +1,6 @@
 pub mod BuiltIn
+pub mod Fields
+pub mod Ranges
+pub mod Reading
 pub mod Roster
+pub mod inner

@@ -1,31 +1,39 @@
--- The roster: the tenants of a configuration, by their places and names.
-use Rattle.std.specs.Prelude.{ℕ, Bool, nat_eq, nat_lt, List, [], Option, length, slice_get}
+-- A rig, and its roster: the tenants by their places and names.
+use Rattle.std.specs.Prelude.{ℕ, Bool, ◌&&◌, nat_eq, nat_lt, List, [], Option, length, slice_get}
 use Rattle.std.specs.List.{list_any, position}
 use Rattle.std.specs.Option.{option_map_or}
 use Rattle.giotto_tasks.specs.declared.names.Name.{Name}
 use Rattle.giotto_tasks.specs.Names.{same_name}
 use Rattle.rig_config.specs.declared.Budgets.{Budgets}
 use Rattle.rig_config.specs.declared.TenantConfig.{TenantConfig}
-use Rattle.rig_config.specs.declared.Config.{Config}
 
-abbrev pub is_tenant : Config → ℕ → Bool
-is_tenant config t = nat_lt t (length config.tenants)
+-- a rig: how many lines it has, and its tenants
+pub record Rig : Type 0 where
+  pub lines : ℕ
+  pub tenants : List TenantConfig
+
+abbrev pub is_tenant : Rig → ℕ → Bool
+is_tenant rig t = nat_lt t (length rig.tenants)
 
 -- the place of the tenant with this name
-abbrev pub place_of : Config → Name → Option ℕ
-place_of config x = position (λ (t : TenantConfig). same_name t.name x) config.tenants
+abbrev pub place_of : Rig → Name → Option ℕ
+place_of rig x = position (λ (t : TenantConfig). same_name t.name x) rig.tenants
+
+-- the place of the tenant with this name and this key
+abbrev pub greeted : Rig → List ℕ → List ℕ → Option ℕ
+greeted rig name key = position (λ (t : TenantConfig). same_name t.name name && same_name t.key key) rig.tenants
 
 -- the name of the tenant at a place; no name where the roster has no such place
-abbrev pub name_at : Config → ℕ → Name
-name_at config t = option_map_or (λ (tenant : TenantConfig). tenant.name) (slice_get config.tenants t) []
+abbrev pub name_at : Rig → ℕ → Name
+name_at rig t = option_map_or (λ (tenant : TenantConfig). tenant.name) (slice_get rig.tenants t) []
 
 -- no room for anything
 abbrev pub no_budgets : Budgets
 no_budgets = record { reads = []; writes = []; bytes = 0; ports = 0; tasks = 0; modes = 0; steps = 0; trace = 0; offers = 0; binds = 0 }
 
 -- the budgets of the tenant at a place; no room where the roster has no such place
-abbrev pub budgets_at : Config → ℕ → Budgets
-budgets_at config t = option_map_or (λ (tenant : TenantConfig). tenant.budgets) (slice_get config.tenants t) no_budgets
+abbrev pub budgets_at : Rig → ℕ → Budgets
+budgets_at rig t = option_map_or (λ (tenant : TenantConfig). tenant.budgets) (slice_get rig.tenants t) no_budgets
 
 -- whether line k is among these lines, a tenant's `reads` or `writes`
 abbrev pub may_use : List ℕ → ℕ → Bool

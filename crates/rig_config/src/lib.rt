@@ -3,11 +3,20 @@
 
 ghost use Rattle.std.specs.Prelude.{◌≡◌, IfOk};
 ghost use Rattle.rig_config.specs.BuiltIn.{built_in_tenant, built_in_config};
-ghost use Rattle.rig_config.specs.Roster.{place_of};
+ghost use Rattle.rig_config.specs.Ranges.{IsConfig};
+ghost use Rattle.rig_config.specs.Roster.{greeted, place_of};
+
+pub mod faults;
+pub mod laws;
+mod reading;
+mod values;
 
 use giotto_tasks::lists::List;
 use giotto_tasks::names::Name;
 use std::alloc::{AllocError, Global};
+use std::marker::Model;
+
+pub use reading::read_config;
 
 /// The place of a tenant in the configuration, counted from 0.
 pub type TenantId = usize;
@@ -81,16 +90,42 @@ impl TenantConfig {
     }
 }
 
-/// The configuration of a rig.
+/// The configuration of a rig: 1 to 64 lines, and 1 to 16 tenants of different names, of which no two may drive the same line.
+/// Each field is within its range, whoever made it. Contracts see it as the number of lines and the list of tenants.
 #[derive(Drop)]
 pub struct Config {
-    /// The number of lines: 1 to 64.
-    pub lines: usize,
-    /// The roster: 1 to 16 tenants of different names.
-    pub tenants: List<TenantConfig>,
+    lines: usize,
+    tenants: List<TenantConfig>,
+}
+
+impl Model for Config {
+    ghost use Rattle.rig_config.specs.Ranges.{IsConfig};
+    ghost use Rattle.rig_config.specs.Roster.{Rig};
+
+    ghost Value = { Rig };
+
+    ghost view = { λ c. record { lines = c.lines; tenants = c.tenants } };
+
+    ghost invariant = { λ c. IsConfig (record { lines = c.lines; tenants = c.tenants }) };
 }
 
 impl Config {
+    /// The number of lines: 1 to 64.
+    pub fn lines(&self) -> usize
+        ensures value { result ≡ self.now.lines }
+        ensures kept { IsConfig self.now }
+    {
+        self.lines
+    }
+
+    /// The roster: 1 to 16 tenants of different names.
+    pub fn tenants(&self) -> &[TenantConfig]
+        ensures value { result.now ≡ self.now.tenants }
+        ensures kept { IsConfig self.now }
+    {
+        self.tenants.as_slice()
+    }
+
     /// An equal configuration.
     ///
     /// # Errors
@@ -116,6 +151,16 @@ impl Config {
             .as_slice()
             .iter()
             .position(|tenant| tenant.name.as_str() == name)
+    }
+
+    /// The place of the tenant whose name and key these are, or `None` where there is none.
+    pub fn greet(&self, name: &str, key: &str) -> Option<TenantId>
+        ensures { result ≡ greeted self.now name.now key.now }
+    {
+        self.tenants
+            .as_slice()
+            .iter()
+            .position(|tenant| tenant.name.as_str() == name && tenant.key.as_slice() == key.as_bytes())
     }
 }
 
