@@ -2,7 +2,6 @@
 use Rattle.std.proofs.Common.{◌≡◌, ℕ, ◌+◌, ◌-◌, ◌<◌, ◌^◌, cond, ℤ, List, [], ◌∷◌, ◌++◌, length, map, take, drop, get_or, Some, None, refl, sym, ap, ◌∙◌, subst, arith}
 use Rattle.std.specs.List.{All}
 use Rattle.std.proofs.lemmas.List.{get_or_default}
-use Rattle.rig_config.specs.declared.Config.{Config}
 use Rattle.tenant_jobs.specs.declared.jobs.JobId.{JobId}
 use Rattle.tenant_jobs.specs.Finished.{TableEntry, entry_in, result_in}
 use Rattle.tenant_state.specs.Standing.{Standing, at_rest, empty_standing}
@@ -18,6 +17,7 @@ use Rattle.host_core.specs.inner.HostStanding.{IsAt, IsWhole}
 use Rattle.host_core.specs.Setting.{Setting}
 use Rattle.host_core.proofs.AtRest.{kept_at_rest, same_length, stands_at_rest, stands_inside, stands_outside}
 use Rattle.host_core.proofs.HostSteps.{stands_after_tick}
+use Rattle.rig_config.specs.Roster.{Rig}
 
 take_front : {X : Type 0} (xs ys : List X) → take (length xs) (xs ++ ys) ≡ xs
 take_front [] ys = refl
@@ -28,7 +28,7 @@ pub written_over : {X : Type 0} (n : ℕ) (old new : List X) → length new ≡ 
 written_over n old new e = ap (λ k. take k (new ++ drop (length new) old)) (sym e) ∙ take_front new (drop (length new) old)
 
 -- the tenants are written through a slice: first made ready, then through an instant
-module _ (config : Config) (clock places : ℕ) (old slice ready : List Standing) (before readied : List TableEntry)
+module _ (config : Rig) (clock places : ℕ) (old slice ready : List Standing) (before readied : List TableEntry)
     (value : slice ≡ old) (long : length slice ≡ places) (rest : map at_rest ready ≡ map at_rest slice) (same : readied ≡ before)
     (whole : IsWhole (length config.tenants) clock old before) where
   abbrev pub ready_items : List Standing

@@ -10,9 +10,8 @@ use Rattle.std.proofs.lemmas.List.FromFn.{length-enumerate_from, get_or-enumerat
 use Rattle.std.proofs.lemmas.Map.Views.{any-filter_same}
 use Rattle.std.proofs.lemmas.Option.{slice_get-get_or}
 use Rattle.giotto_text.specs.Program.{GiottoProgram}
-use Rattle.rig_config.specs.declared.Config.{Config}
 use Rattle.rig_config.specs.declared.TenantConfig.{TenantConfig}
-use Rattle.rig_config.specs.Roster.{budgets_at, no_budgets}
+use Rattle.rig_config.specs.Roster.{Rig, budgets_at, no_budgets}
 use Rattle.tenant_lines.specs.declared.commands.Command.{Command}
 use Rattle.tenant_lines.specs.declared.replies.Refusal.TheVariants.{Memory}
 use Rattle.tenant_lines.specs.declared.replies.Reply.{Reply}
@@ -49,7 +48,7 @@ pub same_count : (s : Standing) (row : Row) → StandsFor s row → row.next_tic
 same_count s row stands = sym (ap (λ (r : Row). r.next_tick) stands)
 
 -- the budgets of a tenant of the roster
-pub budgets_here : (config : Config) (t : ℕ) (d : TenantConfig) → t < length config.tenants → budgets_at config t ≡ (get_or config.tenants t d).budgets
+pub budgets_here : (config : Rig) (t : ℕ) (d : TenantConfig) → t < length config.tenants → budgets_at config t ≡ (get_or config.tenants t d).budgets
 budgets_here config t d lt = ap (λ o. option_map_or (λ (tenant : TenantConfig). tenant.budgets) o no_budgets) (slice_get-get_or config.tenants t d lt)
 
 -- one tenant in another's place
@@ -236,10 +235,10 @@ module _ (setting : Setting) where
       → ((row : Row) → StandsFor before row → reply ≢ Refused Memory → IsOutcome (commanded config.budgets c row) reply after)
       → reply ≢ Refused Memory → IsOutcome (after_command setting t c (row_at state t)) reply after
   own_outcome host state t c config d before after reply stands within here here_config step given =
-      let lt : t < length setting.config.tenants = subst (λ (k : Config). t < length k.tenants) stands.same_config within in
+      let lt : t < length setting.config.tenants = subst (λ (k : Rig). t < length k.tenants) stands.same_config within in
       let same : before ≡ tenant_at host.tenants t = here ∙ get_or_default host.tenants t before (empty_standing 0 0) (omega (arith, lt, stands.as_many)) in
       let budgets : config.budgets ≡ budgets_at setting.config t =
-      sym (budgets_here host.config t d within ∙ ap (λ (k : TenantConfig). k.budgets) (sym here_config)) ∙ ap (λ (k : Config). budgets_at k t) stands.same_config in
+      sym (budgets_here host.config t d within ∙ ap (λ (k : TenantConfig). k.budgets) (sym here_config)) ∙ ap (λ (k : Rig). budgets_at k t) stands.same_config in
       subst (λ b. IsOutcome (commanded b c (row_at state t)) reply after) budgets
       (step (row_at state t) (subst (λ s. StandsFor s (row_at state t)) (sym same) (stands.each t lt)) given)
 

@@ -4,7 +4,6 @@ use Rattle.std.specs.List.{list_any, AllByRecursion}
 use Rattle.std.proofs.lemmas.Bool.{cases_lt, and_parts}
 use Rattle.std.proofs.lemmas.List.{length-map, get_or-map}
 use Rattle.std.proofs.Math.ListN.{get_or-eq_default}
-use Rattle.rig_config.specs.declared.Config.{Config}
 use Rattle.rig_config.specs.declared.TenantConfig.{TenantConfig}
 use Rattle.tenant_jobs.specs.declared.jobs.JobId.{JobId}
 use Rattle.host_core.specs.declared.events.Event.{Event}
@@ -23,6 +22,7 @@ use Rattle.host_core.proofs.Histories.{releases}
 use Rattle.host_core.proofs.NewHost.{no_tenant}
 use Rattle.tenant_jobs.proofs.JobNames.{same_job_is}
 use Rattle.giotto_tasks.proofs.TestLemmas.{either}
+use Rattle.rig_config.specs.Roster.{Rig}
 
 -- a name among the jobs that pass a test passes it
 passes : (test : JobId → Bool) (j : JobId) (js : List JobId) → list_any (λ i. same_job i j) (filter test js) ≡ true → test j ≡ true
@@ -65,7 +65,7 @@ module _ (setting : Setting) (base : IsBase setting.config setting.base) where
       agrees : Agrees setting (host_after setting past) past
       agrees = agrees_along setting base past legal
 
-module _ (config : Config) (first_tick : ℕ) where
+module _ (config : Rig) (first_tick : ℕ) where
   -- each row of a new host is empty, whatever its place
   pub new_row : (t : ℕ) → row_at (new_base config first_tick) t ≡ empty_row first_tick
   new_row t = ⊎_elim

@@ -2,8 +2,7 @@
 use Rattle.std.proofs.Common.{◌≡◌, ℕ, ◌<◌, ℤ, pos, List, length, Option, Some, None, unwrap_or, option_and_then, refl, sym, ap, ◌∙◌, arith}
 use Rattle.std.specs.List.{position}
 use Rattle.giotto_check.proofs.PlaceLemmas.{place_within}
-use Rattle.rig_config.specs.Roster.{may_use}
-use Rattle.rig_config.specs.declared.Config.{Config}
+use Rattle.rig_config.specs.Roster.{Rig, may_use}
 use Rattle.rig_config.specs.declared.TenantConfig.{TenantConfig}
 use Rattle.instant_engine.specs.Tenants.{tenant_at}
 use Rattle.tenant_state.specs.Readers.{line_value}
@@ -14,11 +13,11 @@ use Rattle.host_core.specs.Lines.{value_of_line, writer_of}
 use Rattle.host_core.specs.Setting.{Setting}
 
 -- a tenant that may drive a line is one of the roster
-pub writer_within : (config : Config) (k t : ℕ) → writer_of config k ≡ Some t → t < length config.tenants
+pub writer_within : (config : Rig) (k t : ℕ) → writer_of config k ≡ Some t → t < length config.tenants
 writer_within config k t is = place_within (λ (tenant : TenantConfig). may_use tenant.budgets.writes k) 0 config.tenants t is
 
 -- rows that agree in the roster give lines the same value
-pub same_values : (config : Config) (f g : ℕ → Row) → ((t : ℕ) → t < length config.tenants → f t ≡ g t) → (k : ℕ) → value_of_line config f k ≡ value_of_line config g k
+pub same_values : (config : Rig) (f g : ℕ → Row) → ((t : ℕ) → t < length config.tenants → f t ≡ g t) → (k : ℕ) → value_of_line config f k ≡ value_of_line config g k
 same_values config f g same k = by (writer_of config k) refl
   where
     value : (ℕ → Row) → Option ℕ → ℤ
@@ -31,7 +30,7 @@ same_values config f g same k = by (writer_of config k) refl
 -- the value that the host's code gives a line is that of the rows for which it stands
 pub line_of_rows : (setting : Setting) (host : HostStanding) (state : HostState) → Stands setting host state → (k : ℕ) → line_of host k ≡ value_of_line setting.config (row_at state) k
 line_of_rows setting host state stands k =
-    ap (λ (c : Config). value_of_line c (λ t. (tenant_at host.tenants t).row) k) stands.same_config
+    ap (λ (c : Rig). value_of_line c (λ t. (tenant_at host.tenants t).row) k) stands.same_config
     ∙ by (writer_of setting.config k) refl
   where
     rows : ℕ → Row

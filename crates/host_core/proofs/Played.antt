@@ -10,7 +10,6 @@ use Rattle.std.proofs.lemmas.List.Folds.{list_any-append}
 use Rattle.giotto_text.specs.Program.{GiottoProgram}
 use Rattle.host_core.specs.declared.events.Event.{Event}
 use Rattle.host_core.specs.declared.events.Event.TheVariants.{Own, Tick, Done}
-use Rattle.rig_config.specs.declared.Config.{Config}
 use Rattle.tenant_lines.specs.declared.commands.Command.{Command}
 use Rattle.tenant_jobs.specs.declared.jobs.JobId.{JobId}
 use Rattle.tenant_lines.specs.declared.replies.Reply.{Reply}
@@ -26,7 +25,7 @@ use Rattle.host_core.specs.inner.Playing.{IsPlayed}
 use Rattle.host_core.specs.Plays.{IsSettingOf}
 use Rattle.host_core.specs.Setting.{Setting}
 use Rattle.host_core.specs.Views.{after_command, readings_of, run_of, view_of, row_of}
-use Rattle.rig_config.specs.Roster.{budgets_at, is_tenant}
+use Rattle.rig_config.specs.Roster.{Rig, budgets_at, is_tenant}
 use Rattle.tenant_state.specs.FirstHalf.{first_half_of}
 use Rattle.tenant_jobs.specs.Jobs.{JobValue, same_job}
 use Rattle.tenant_state.specs.Jobs.{job_of, job_in, is_active, released_at}
@@ -316,21 +315,21 @@ module _ (setting : Setting) (base : IsBase setting.config setting.base) where
       → lines ≡ length frame → lines ≡ host.config.lines → IsPlayed setting past host texts released → nat_lt clock (2 ^ 64 - 1) ≡ may_follow setting past (Tick frame)
   tick_legal past frame host texts released clock lines now as_many same played =
       let next : clock ≡ next_tick setting past = now ∙ (played.stands.same_clock ∙ same_clock setting past) in
-      let lines_are : length frame ≡ setting.config.lines = sym as_many ∙ (same ∙ ap (λ (k : Config). k.lines) played.stands.same_config) in
+      let lines_are : length frame ≡ setting.config.lines = sym as_many ∙ (same ∙ ap (λ (k : Rig). k.lines) played.stands.same_config) in
       let is : eqb (length frame) setting.config.lines ≡ true = ap (λ n. eqb (length frame) n) (sym lines_are) ∙ eq-eqb (length frame) (length frame) refl in
       ap (λ n. nat_lt n (2 ^ 64 - 1)) next ∙ sym (ap (λ b. b && nat_lt (next_tick setting past) (2 ^ 64 - 1)) is)
 
 -- no event yet
-pub nothing_played : (setting : Setting) (config : Config) (host : HostStanding) (texts : List (List ℕ)) → IsSettingOf config setting → host ≡ new_host config 0 → length texts ≡ length config.tenants
+pub nothing_played : (setting : Setting) (config : Rig) (host : HostStanding) (texts : List (List ℕ)) → IsSettingOf config setting → host ≡ new_host config 0 → length texts ≡ length config.tenants
     → All (λ text. text ≡ []) texts → IsPlayed setting [] host texts []
 nothing_played setting config host texts is new as_many blank = record {
-  base = subst (IsBase setting.config) (sym is.new) (subst (λ (k : Config). IsBase k (new_base config 0)) (sym is.same_config) (new_is_base config 0));
+  base = subst (IsBase setting.config) (sym is.new) (subst (λ (k : Rig). IsBase k (new_base config 0)) (sym is.same_config) (new_is_base config 0));
   legal = refl;
   stands =
       subst (λ h. Stands setting h setting.base) (sym new)
       (subst (Stands setting (new_host config 0)) (sym is.new)
-      (subst (λ (k : Config). Stands setting (new_host k 0) (new_base k 0)) is.same_config (new_stands setting 0)));
-  as_many = as_many ∙ ap (λ (k : Config). length k.tenants) (sym is.same_config);
-  each = λ t lt. blank t [] (omega (arith, as_many, ap (λ (k : Config). length k.tenants) is.same_config));
+      (subst (λ (k : Rig). Stands setting (new_host k 0) (new_base k 0)) is.same_config (new_stands setting 0)));
+  as_many = as_many ∙ ap (λ (k : Rig). length k.tenants) (sym is.same_config);
+  each = λ t lt. blank t [] (omega (arith, as_many, ap (λ (k : Rig). length k.tenants) is.same_config));
   names = λ j. sym (ap (λ (host : HostState). is_active (row_at host j.tenant) j) is.new ∙ ap (λ row. is_active row j) (new_row config 0 j.tenant));
 }

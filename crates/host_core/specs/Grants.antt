@@ -4,10 +4,9 @@ use Rattle.std.specs.List.{filter_map, list_any}
 use Rattle.std.specs.Option.{option_and_then, option_map}
 use Rattle.giotto_tasks.specs.declared.names.Name.{Name}
 use Rattle.giotto_tasks.specs.Names.{Valuation, same_name}
-use Rattle.rig_config.specs.declared.Config.{Config}
 use Rattle.tenant_state.specs.declared.grants.Offer.{Offer}
 use Rattle.tenant_state.specs.declared.grants.Bind.{Bind}
-use Rattle.rig_config.specs.Roster.{place_of, name_at}
+use Rattle.rig_config.specs.Roster.{Rig, name_at, place_of}
 use Rattle.tenant_state.specs.Readers.{actuator_value}
 use Rattle.tenant_state.specs.Row.{Row}
 
@@ -18,7 +17,7 @@ offers row actuator tenant = list_any (λ (o : Offer). same_name o.actuator actu
 abbrev pub to_sensor : Bind → ℤ → Name × ℤ
 to_sensor b z = (b.sensor, z)
 
-module _ (config : Config) (rows halves : ℕ → Row) where
+module _ (config : Rig) (rows halves : ℕ → Row) where
   -- what a supplier at place u grants to a bind of tenant t
   abbrev pub granted_by : ℕ → Bind → ℕ → Option ℤ
   granted_by t b u = if offers (rows u) b.actuator (name_at config t) then actuator_value (halves u) b.actuator else None

@@ -2,7 +2,6 @@
 use Rattle.std.specs.Prelude.{◌≡◌, ◌<◌, ℕ, ℤ, List, [], map, length, slice_get, Option, IfSome}
 use Rattle.std.specs.List.{flat_map, enumerate_from}
 use Rattle.std.specs.Option.{option_and_then}
-use Rattle.rig_config.specs.declared.Config.{Config}
 use Rattle.rig_config.specs.declared.TenantConfig.{TenantConfig}
 use Rattle.tenant_jobs.specs.declared.jobs.JobId.{JobId}
 use Rattle.host_core.specs.Completions.{with_completions}
@@ -16,10 +15,11 @@ use Rattle.tenant_jobs.specs.Finished.{TableEntry, has_result}
 use Rattle.tenant_jobs.specs.Jobs.{JobValue}
 use Rattle.tenant_state.specs.Jobs.{job_of}
 use Rattle.tenant_state.specs.Standing.{Standing, empty_standing, at_rest, StandsFor, outstanding_tasks, awaited_job}
+use Rattle.rig_config.specs.Roster.{Rig}
 
 -- the host as its code has it
 pub record HostStanding : Type 0 where
-  pub config : Config
+  pub config : Rig
   -- by their places in the roster, with nothing ready
   pub tenants : List Standing
   -- the table of their active tasks, with the results that came
@@ -28,7 +28,7 @@ pub record HostStanding : Type 0 where
   pub clock : ℕ
 
 -- a new host, whose first instant has this number
-abbrev pub new_host : Config → ℕ → HostStanding
+abbrev pub new_host : Rig → ℕ → HostStanding
 new_host config first_tick = record { config = config; tenants = map (λ (place : ℕ × TenantConfig). at_rest (empty_standing place.0 first_tick)) (enumerate_from 0 config.tenants); entries = []; clock = first_tick }
 
 -- The host stands for a row for each tenant, and has the results of the jobs that were completed and are still active.

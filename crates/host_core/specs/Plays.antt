@@ -1,14 +1,14 @@
 -- What a list of events gives that is played on a new host. The events stand in their order, the oldest first.
 use Rattle.std.specs.Prelude.{◌≡◌, ◌<◌, ◌+◌, ℕ, true, false, List, [], reverse, take, length, slice_index_or}
 use Rattle.host_core.specs.declared.events.Event.{Event}
-use Rattle.rig_config.specs.declared.Config.{Config}
 use Rattle.host_core.specs.Answers.{answers_of}
 use Rattle.host_core.specs.Base.{new_base}
 use Rattle.host_core.specs.Legal.{is_legal}
 use Rattle.host_core.specs.Setting.{Setting}
+use Rattle.rig_config.specs.Roster.{Rig}
 
 -- the setting of a new host of this configuration, whose first instant is 0
-pub record IsSettingOf (config : Config) (setting : Setting) : Type 0 where
+pub record IsSettingOf (config : Rig) (setting : Setting) : Type 0 where
   pub same_config : setting.config ≡ config
   pub new : setting.base ≡ new_base config 0
 

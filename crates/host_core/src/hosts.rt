@@ -91,7 +91,7 @@ impl Host {
     {
         let copy = config.copy(alloc)?;
         let mut tenants = Vec::new(alloc);
-        for place in 0..copy.tenants.as_slice().len() {
+        for place in 0..copy.tenants().len() {
             tenants.push(Tenant::new(alloc, place, first_tick))?;
         }
         Ok(Host {
@@ -114,7 +114,7 @@ impl Host {
             → ForEachState self.old (λ setting state. result ≡ (after_command setting tenant command (row_at state tenant)).reply) }
         ensures step { result ≢ Reply.Refused Refusal.Memory → TakesEvent (Event.Own tenant command) self.old self.new }
     {
-        let budgets = &self.config.tenants.as_slice()[tenant].budgets;
+        let budgets = &self.config.tenants()[tenant].budgets;
         let tenant = &mut self.tenants[tenant];
         let reply = tenant.command(budgets, command);
         let _ = tenant.next_tick();
@@ -178,7 +178,7 @@ impl Host {
         ensures room { result ≢ Err TickFault.Memory }
         ensures next { OnOk result (self.now.clock < 2 ^ 64 - 1) }
     {
-        if frame.len() != self.config.lines {
+        if frame.len() != self.config.lines() {
             return Err(TickFault::BadFrame);
         }
         if self.clock == u64::MAX {
@@ -301,8 +301,7 @@ fn writer(config: &Config, line: usize) -> Option<TenantId>
     ensures { result ≡ writer_of config.now line }
 {
     config
-        .tenants
-        .as_slice()
+        .tenants()
         .iter()
         .position(|tenant| tenant.budgets.writes.as_slice().contains(&line))
 }

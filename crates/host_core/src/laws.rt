@@ -3,7 +3,7 @@
 ghost use Rattle.std.specs.Prelude.{◌≡◌, ℕ, List, true};
 ghost use Rattle.tenant_jobs.specs.declared.jobs.JobId.{JobId};
 ghost use Rattle.rig_config.specs.Roster.{is_tenant};
-ghost use Rattle.rig_config.specs.declared.Config.{Config};
+ghost use Rattle.rig_config.specs.Roster.{Rig};
 ghost use Rattle.host_core.specs.Base.{IsBase, new_base};
 ghost use Rattle.host_core.specs.Host.{host_after};
 ghost use Rattle.host_core.specs.HostState.{row_at, awaits};
@@ -32,7 +32,7 @@ pub fn whole_host()
 
 /// A new host is a base: a history can begin with it.
 pub fn new_host_is_a_base()
-    ensures { (config : Config) (first_tick : ℕ) → IsBase config (new_base config first_tick) }
+    ensures { (config : Rig) (first_tick : ℕ) → IsBase config (new_base config first_tick) }
 {}
 
 /// What stands behind a legal list of events, the newest first, that begins with a base is a base again.

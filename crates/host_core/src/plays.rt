@@ -72,7 +72,7 @@ impl Stage {
     fn new(alloc: Global, config: &Config) -> Result<Stage, AllocError>
         ensures { IfOk result (λ stage. (setting : Setting) → IsSettingOf config.now setting → IsStage setting [] stage) }
     {
-        let texts = blank_texts(alloc, config.tenants.as_slice().len())?;
+        let texts = blank_texts(alloc, config.tenants().len())?;
         Ok(Stage {
             host: Host::new(alloc, config, 0)?,
             texts,
@@ -104,10 +104,10 @@ impl Stage {
     {
         match event {
             Event::Own(tenant, _) => {
-                *tenant < self.host.config().tenants.as_slice().len() && *tenant < self.texts.len()
+                *tenant < self.host.config().tenants().len() && *tenant < self.texts.len()
             }
             Event::Tick(frame) => {
-                frame.as_slice().len() == self.host.config().lines && self.host.clock() < u64::MAX
+                frame.as_slice().len() == self.host.config().lines() && self.host.clock() < u64::MAX
             }
             Event::Done(id) => self.released.contains(id),
         }

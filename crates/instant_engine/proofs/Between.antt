@@ -9,8 +9,7 @@ use Rattle.std.proofs.lemmas.List.{get_or_default, length-map}
 use Rattle.std.proofs.lemmas.List.Folds.{list_any-append, list_any_at}
 use Rattle.std.proofs.lemmas.List.Sums.{sum-map}
 use Rattle.std.proofs.lemmas.Simd.{map-map}
-use Rattle.rig_config.specs.declared.Config.{Config}
-use Rattle.rig_config.specs.Roster.{budgets_at}
+use Rattle.rig_config.specs.Roster.{Rig, budgets_at}
 use Rattle.tenant_jobs.specs.declared.jobs.JobId.{JobId}
 use Rattle.tenant_jobs.specs.declared.jobs.JobResult.{JobResult}
 use Rattle.tenant_jobs.specs.Finished.{TableEntry, entry_in, result_in, has_result}
@@ -188,7 +187,7 @@ module _ {before : List Standing} {entries : List TableEntry} (placed : ArePlace
         ap is_some (stays j) ∙ ap (λ b. is_some (cond b (entry_in entries j) None)) (not_left j within here)
 
     -- behind the second halves
-    module _ (config : Config) (frame : List ℤ) {after : List Standing} (second : AreSecondHalves config frame (map without_ended middle) after) where
+    module _ (config : Rig) (frame : List ℤ) {after : List Standing} (second : AreSecondHalves config frame (map without_ended middle) after) where
       as_many : length after ≡ length before
       as_many = second.as_many ∙ length-map middle without_ended ∙ first.as_many
 

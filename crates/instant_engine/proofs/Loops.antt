@@ -6,9 +6,8 @@ use Rattle.std.proofs.lemmas.List.{get_or-set_same, get_or-set_other, get_or_def
 use Rattle.std.proofs.lemmas.List.Sums.{sum_by-append, sum_by-cons, sum_by-drop_more, get_or-le-sum_by}
 use Rattle.std.proofs.lemmas.Option.{slice_get-get_or}
 use Rattle.rig_config.specs.declared.Budgets.{Budgets}
-use Rattle.rig_config.specs.declared.Config.{Config}
 use Rattle.rig_config.specs.declared.TenantConfig.{TenantConfig}
-use Rattle.rig_config.specs.Roster.{budgets_at, no_budgets}
+use Rattle.rig_config.specs.Roster.{Rig, budgets_at, no_budgets}
 use Rattle.tenant_jobs.specs.Jobs.{JobValue}
 use Rattle.tenant_state.specs.Jobs.{released_at}
 use Rattle.tenant_state.specs.Standing.{Standing, at_rest, empty_standing, most_released}
@@ -23,7 +22,7 @@ pub record AreSteppedTo (step : ℕ → Standing → Standing → Type 0) (n : �
   pub stepped : (t : ℕ) → t < n → step t (tenant_at before t) (tenant_at now t)
   pub others : (t : ℕ) → n ≤ t → tenant_at now t ≡ tenant_at before t
 
-abbrev pub AreSecondHalvesTo : Config → List ℤ → ℕ → List Standing → List Standing → Type 0
+abbrev pub AreSecondHalvesTo : Rig → List ℤ → ℕ → List Standing → List Standing → Type 0
 AreSecondHalvesTo config frame = AreSteppedTo (λ t. IsSecondHalfAndKnown (budgets_at config t).reads frame)
 
 -- at the loop's end
@@ -52,11 +51,11 @@ stepped_more R i before now d s lt steps one = record {
 }
 
 -- the budgets of a tenant of the roster
-budgets_here : (config : Config) (t : ℕ) (d : TenantConfig) → t < length config.tenants → budgets_at config t ≡ (get_or config.tenants t d).budgets
+budgets_here : (config : Rig) (t : ℕ) (d : TenantConfig) → t < length config.tenants → budgets_at config t ≡ (get_or config.tenants t d).budgets
 budgets_here config t d lt = ap (λ o. option_map_or (λ (tenant : TenantConfig). tenant.budgets) o no_budgets) (slice_get-get_or config.tenants t d lt)
 
 -- a second half, for the tenant's own budgets
-pub second_more : (config : Config) (frame : List ℤ) (i : ℕ) (before now : List Standing) (d s : Standing) (tenants : List TenantConfig) (t : TenantConfig) → i < length before
+pub second_more : (config : Rig) (frame : List ℤ) (i : ℕ) (before now : List Standing) (d s : Standing) (tenants : List TenantConfig) (t : TenantConfig) → i < length before
     → length before ≡ length config.tenants → tenants ≡ config.tenants → AreSecondHalvesTo config frame i before now → IsSecondHalfAndKnown (get_or tenants i t).budgets.reads frame (get_or now i d) s
     → AreSecondHalvesTo config frame (i + 1) before (set now i s)
 second_more config frame i before now d s tenants t lt long same steps one =

@@ -135,7 +135,7 @@ fn second_halves(tenants: &mut [Tenant], config: &Config, frame: &[i64], jobs: &
     ensures jobs { (n : ℕ) → All (λ (s : Standing). s.row.next_tick ≡ n) tenants.old → jobs.new.jobs ≡ released_from n 0 tenants.new }
 {
     for i in 0..tenants.len() {
-        let budgets = &config.tenants.as_slice()[i].budgets;
+        let budgets = &config.tenants()[i].budgets;
         let tenant = &mut tenants[i];
         tenant.phase_two(budgets, frame, jobs);
         let _ = tenant.next_tick();
@@ -161,7 +161,7 @@ fn second_halves_without_jobs(
         ≡ entry_put (is_released_among tenants.old tenants.new j) j None finished.old.entries }
 {
     for i in 0..tenants.len() {
-        let budgets = &config.tenants.as_slice()[i].budgets;
+        let budgets = &config.tenants()[i].budgets;
         let tenant = &mut tenants[i];
         let before = tenant.active();
         tenant.phase_two_without_jobs(budgets, frame);

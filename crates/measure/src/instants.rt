@@ -31,7 +31,7 @@ pub(crate) fn instants<R: Read + Drop>(
     reader.read_to_string(&mut text)?;
     let mut host = Host::new(alloc, &roster(alloc, work.tenants)?, 0)?;
     for tenant in 0..work.running {
-        if tenant >= host.config().tenants.as_slice().len() {
+        if tenant >= host.config().tenants().len() {
             return Ok(-1);
         }
         let _ = host.command(tenant, Command::Load(Text::from_str(alloc, text.as_str())?));

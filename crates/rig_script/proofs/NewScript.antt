@@ -5,7 +5,6 @@ use Rattle.host_core.specs.Base.{IsBase, new_base}
 use Rattle.host_core.specs.HostStanding.{HostStanding, Stands, new_host}
 use Rattle.host_core.specs.Setting.{Setting}
 use Rattle.host_core.specs.declared.events.Event.{Event}
-use Rattle.rig_config.specs.declared.Config.{Config}
 use Rattle.host_core.specs.Plays.{IsSettingOf}
 use Rattle.host_core.proofs.LaterBase.{new_is_base}
 use Rattle.host_core.proofs.NewHost.{new_stands}
@@ -16,6 +15,7 @@ use Rattle.rig_script.specs.inner.Reading.{IsLeft, reads_of}
 use Rattle.rig_script.specs.declared.lines.Lines.{Lines}
 use Rattle.rig_script.specs.Script.{script_from, script_text_of, AreBrokenOff, IsScriptBrokenOff, ForNewHostReading}
 use Rattle.rig_script.specs.declared.faults.ScriptFault.{ScriptFault}
+use Rattle.rig_config.specs.Roster.{Rig}
 
 -- what a reader has is left of new lines
 pub all_left : (lines : Lines) (known : Option (List ℕ)) → ((bytes : List ℕ) → IsLeft lines (Some bytes) bytes) → IfSome known (IsLeft lines known)
@@ -43,15 +43,15 @@ pub many_bytes : (new : Lines) (known : Option (List ℕ)) → ((bytes : List �
 many_bytes new None left none many = tt
 many_bytes new (Some bytes) left none many = let all = many bytes (left bytes) in omega (arith, none, all)
 
-module _ (host : HostStanding) (config : Config) (is : host ≡ new_host config 0) where
+module _ (host : HostStanding) (config : Rig) (is : host ≡ new_host config 0) where
   starts : (setting : Setting) → IsSettingOf config setting → IsHostAfter setting host []
   starts setting of = record {
-    base = subst (IsBase setting.config) (sym of.new) (subst (λ (c : Config). IsBase c (new_base config 0)) (sym of.same_config) (new_is_base config 0));
+    base = subst (IsBase setting.config) (sym of.new) (subst (λ (c : Rig). IsBase c (new_base config 0)) (sym of.same_config) (new_is_base config 0));
     legal = refl;
     stands =
         subst (λ h. Stands setting h setting.base) (sym is)
         (subst (Stands setting (new_host config 0)) (sym of.new)
-        (subst (λ (c : Config). Stands setting (new_host c 0) (new_base c 0)) of.same_config (new_stands setting 0)));
+        (subst (λ (c : Rig). Stands setting (new_host c 0) (new_base c 0)) of.same_config (new_stands setting 0)));
   }
 
   pub all_written : {T E : Type 0} (r : Result T E) (known : Option (List ℕ)) (Left Written : List ℕ → Type 0) → IfSome known Left

@@ -4,15 +4,14 @@ use Rattle.std.specs.List.{position_or_len}
 use Rattle.std.proofs.lemmas.Bool.Decides.{nat_tests}
 use Rattle.giotto_tasks.specs.declared.names.Name.{Name}
 use Rattle.giotto_tasks.specs.Names.{same_name}
-use Rattle.rig_config.specs.declared.Config.{Config}
 use Rattle.rig_config.specs.declared.TenantConfig.{TenantConfig}
-use Rattle.rig_config.specs.Roster.{place_of}
+use Rattle.rig_config.specs.Roster.{Rig, place_of}
 use Rattle.tenant_lines.specs.Words.{first_word_of}
 use Rattle.rig_script.specs.declared.speakers.Speaker.TheVariants.{Nobody, Operator, Tenant, Unknown}
 use Rattle.rig_script.specs.Script.{operator, speaker_of}
 
 -- a place that was found is one of the roster
-pub place_within : (config : Config) (x : Name) (u : ℕ) → place_of config x ≡ Some u → u < length config.tenants
+pub place_within : (config : Rig) (x : Name) (u : ℕ) → place_of config x ≡ Some u → u < length config.tenants
 place_within config x u e = by (nat_lt k (length config.tenants)) refl
   where
     k : ℕ
@@ -22,7 +21,7 @@ place_within config x u e = by (nat_lt k (length config.tenants)) refl
     by true is = let found : Some k ≡ Some u = rw is at e in let same : k ≡ u = cc in subst (λ n. n < length config.tenants) same (grind (arith, nat_tests, is))
     by false is = let found : None ≡ Some u = rw is at e in absurd (cc)
 
-module _ (config : Config) (line : List ℕ) (t : ℕ) (e : speaker_of config line ≡ Tenant t) where
+module _ (config : Rig) (line : List ℕ) (t : ℕ) (e : speaker_of config line ≡ Tenant t) where
   by_place : (c : ℕ) (cs : List ℕ) → first_word_of line ≡ c ∷ cs → same_name (c ∷ cs) operator ≡ false → (place : Option ℕ) → place_of config (c ∷ cs) ≡ place → t < length config.tenants
   by_place c cs is other None p = let found : Unknown ≡ Tenant t = rw (is, other, p) at e in absurd (cc)
   by_place c cs is other (Some u) p =

@@ -9,7 +9,6 @@ use Rattle.giotto_tasks.specs.Names.{same_name}
 use Rattle.giotto_text.specs.Bytes.{is_name}
 use Rattle.host_core.specs.declared.events.Event.{Event}
 use Rattle.host_core.specs.declared.events.Event.TheVariants.{Own, Tick}
-use Rattle.rig_config.specs.declared.Config.{Config}
 use Rattle.tenant_lines.specs.declared.commands.Command.{Command}
 use Rattle.tenant_lines.specs.declared.replies.Reply.{Reply}
 use Rattle.host_core.specs.Host.{after_event, host_after}
@@ -19,7 +18,7 @@ use Rattle.host_core.specs.Lines.{value_of_line}
 use Rattle.host_core.specs.Legal.{next_tick, may_follow, is_legal}
 use Rattle.host_core.specs.Setting.{Setting}
 use Rattle.host_core.specs.Views.{after_command, row_of}
-use Rattle.rig_config.specs.Roster.{is_tenant, place_of}
+use Rattle.rig_config.specs.Roster.{Rig, is_tenant, place_of}
 use Rattle.tenant_lines.specs.CommandLine.{command_of_line}
 use Rattle.tenant_lines.specs.Replies.{text_of_reply}
 use Rattle.tenant_lines.specs.Words.{words_of, first_word_of, behind_first_word, values_of_words}
@@ -103,7 +102,7 @@ module _ (setting : Setting) (past : List Event) (host later : HostStanding) (h 
       → IfOk r (λ text. string_bytes text ≡ reply_line name (text_of_reply reply)) → IsCarriedOut (tenant_step setting past t name line) past r (IsHostAfter setting later)
   command_done t name line command reply lt spelled answered after given =
       let same = h.stands.same_config in
-      let within : t < length setting.config.tenants = subst (λ (c : Config). t < length c.tenants) same lt in
+      let within : t < length setting.config.tenants = subst (λ (c : Rig). t < length c.tenants) same lt in
       let is : is_tenant setting.config t ≡ true = grind (arith, nat_tests, within) in
       let row = same_rows setting h.base past t h.legal is in
       let step : Step = record { events = Own t command ∷ []; reply = reply_line name (text_of_reply (after_command setting t command (row_of setting past t)).reply) } in
@@ -129,7 +128,7 @@ module _ (setting : Setting) (past : List Event) (host later : HostStanding) (h 
   lines_told words is kept text given told =
       let same = h.stands.same_config in
       let values : text ≡ codes "ok lines" ++ text_of_lines (value_of_line setting.config (row_of setting past)) setting.config.lines =
-      told ∙ ap (λ (c : Config). codes "ok lines" ++ text_of_lines (line_of host) c.lines) same ∙ ap (λ ls. codes "ok lines" ++ ls) (same_lines setting h.base past h.legal host h.stands setting.config.lines) in
+      told ∙ ap (λ (c : Rig). codes "ok lines" ++ text_of_lines (line_of host) c.lines) same ∙ ap (λ ls. codes "ok lines" ++ ls) (same_lines setting h.base past h.legal host h.stands setting.config.lines) in
       let steps : operator_step setting past words ≡ lines_step setting past = rw is refl in
       subst (λ (s : Step). IsCarriedOut s past r (IsHostAfter setting later)) (sym steps)
       (step_done (lines_step setting past) past r (IsHostAfter setting later) (reply_line operator text) given (ap (reply_line operator) values) (subst (λ s. IsHostAfter setting s past) (sym kept) h))
@@ -155,7 +154,7 @@ module _ (setting : Setting) (past : List Event) (host later : HostStanding) (h 
         → IfOk r (λ text. string_bytes text ≡ reply_line operator (codes "ok tick " ++ decimal n)) → IsCarriedOut (operator_step setting past (codes "tick" ∷ words)) past r (IsHostAfter setting later)
     tick_done n is fits whole goes_on after given =
         let long : length frame ≡ host.config.lines = decided (length frame) host.config.lines whole in
-        let lines : length frame ≡ setting.config.lines = long ∙ ap (λ (c : Config). c.lines) h.stands.same_config in
+        let lines : length frame ≡ setting.config.lines = long ∙ ap (λ (c : Rig). c.lines) h.stands.same_config in
         let next : n ≡ next_tick setting past = is ∙ h.stands.same_clock ∙ same_clock setting past in
         let last : n ≡ 2 ^ 64 - 1 → ⊥ = λ e. goes_on (long, sym is ∙ e) in
         let low : n < 2 ^ 64 - 1 = below n fits last in
@@ -174,7 +173,7 @@ module _ (setting : Setting) (past : List Event) (host later : HostStanding) (h 
     pub tick_ended : length frame ≡ host.config.lines → host.clock ≡ 2 ^ 64 - 1 → later ≡ host
         → IfOk r (λ text. string_bytes text ≡ reply_line operator (codes "err clock-ended")) → IsCarriedOut (operator_step setting past (codes "tick" ∷ words)) past r (IsHostAfter setting later)
     tick_ended long ended kept given =
-        let lines : length frame ≡ setting.config.lines = long ∙ ap (λ (c : Config). c.lines) h.stands.same_config in
+        let lines : length frame ≡ setting.config.lines = long ∙ ap (λ (c : Rig). c.lines) h.stands.same_config in
         let next : next_tick setting past ≡ 2 ^ 64 - 1 = sym (h.stands.same_clock ∙ same_clock setting past) ∙ ended in
         let lines_fit : (length frame == setting.config.lines) ≡ true = grind (arith, nat_tests, lines) in
         let clock_ends : nat_lt (next_tick setting past) (2 ^ 64 - 1) ≡ false = subst (λ k. nat_lt k (2 ^ 64 - 1) ≡ false) (sym next) refl in

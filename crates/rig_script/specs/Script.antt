@@ -8,11 +8,10 @@ use Rattle.giotto_text.specs.Bytes.{is_name}
 use Rattle.host_core.specs.declared.events.Event.{Event}
 use Rattle.host_core.specs.declared.events.Event.TheVariants.{Own, Tick, Done}
 use Rattle.tenant_jobs.specs.declared.jobs.JobId.{JobId}
-use Rattle.rig_config.specs.declared.Config.{Config}
 use Rattle.rig_config.specs.declared.TenantConfig.{TenantConfig}
 use Rattle.tenant_lines.specs.declared.commands.Command.{Command}
 use Rattle.tenant_lines.specs.declared.replies.Refusal.TheVariants.{BadCommand}
-use Rattle.rig_config.specs.Roster.{place_of}
+use Rattle.rig_config.specs.Roster.{Rig, place_of}
 use Rattle.tenant_lines.specs.CommandLine.{command_of_line}
 use Rattle.tenant_lines.specs.Replies.{text_of_reply, text_of_refusal}
 use Rattle.tenant_lines.specs.Words.{words_of, first_word_of, behind_first_word, values_of_words}
@@ -35,7 +34,7 @@ abbrev pub operator : List ℕ
 operator = codes "op"
 
 -- A line begins with who speaks: the operator, or a tenant by its name.
-abbrev pub speaker_of : Config → List ℕ → Speaker
+abbrev pub speaker_of : Rig → List ℕ → Speaker
 speaker_of config line = by (first_word_of line)
   where
     of_place : Option ℕ → Speaker
@@ -193,5 +192,5 @@ abbrev pub IsScriptBrokenOff : Option (List ℕ) → (List ℕ → Type 0) → S
 IsScriptBrokenOff left Written fault setting bytes = ((fault ≡ Memory) × (left ≡ Some bytes) × Written []) ⊎ AreBrokenOff Written fault setting [] (cut bytes)
 
 -- `Holds` in the setting of a new host with this configuration, of the bytes that a reader is known to have
-abbrev pub ForNewHostReading : Config → Option (List ℕ) → (Setting → List ℕ → Type 0) → Type 0
+abbrev pub ForNewHostReading : Rig → Option (List ℕ) → (Setting → List ℕ → Type 0) → Type 0
 ForNewHostReading config known Holds = (setting : Setting) → IsSettingOf config setting → IfSome known (Holds setting)

@@ -171,7 +171,7 @@ fn text_of_lines(alloc: Global, host: &Host) -> Result<String, AllocError>
     ensures { IfOk result (λ text. string_bytes text ≡ codes "ok lines" ++ text_of_lines (line_of host.now) host.now.config.lines) }
 {
     let mut text = String::from_str(alloc, "ok lines")?;
-    for line in 0..host.config().lines {
+    for line in 0..host.config().lines() {
         let value = host.line_value(line);
         let one = format!(in alloc; " {value}")?;
         text.push_str(one.as_str())?;

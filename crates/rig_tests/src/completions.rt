@@ -18,7 +18,7 @@ const BETA: TenantId = 1;
 
 // The tenant takes this command, if it is one of the host's.
 fn take(host: &mut Host, tenant: TenantId, command: Command) {
-    if tenant >= host.config().tenants.as_slice().len() {
+    if tenant >= host.config().tenants().len() {
         return;
     }
     let _ = host.command(tenant, command);

@@ -4,7 +4,6 @@ use Rattle.std.specs.List.{list_any}
 use Rattle.host_core.specs.declared.events.Event.{Event}
 use Rattle.host_core.specs.declared.events.Event.TheVariants.{Own, Tick, Done}
 use Rattle.host_core.specs.declared.plays.Stage.{Stage}
-use Rattle.rig_config.specs.declared.Config.{Config}
 use Rattle.tenant_jobs.specs.declared.jobs.JobId.{JobId}
 use Rattle.host_core.specs.Answers.{answers_of}
 use Rattle.host_core.specs.Base.{IsBase}
@@ -13,6 +12,7 @@ use Rattle.host_core.specs.HostStanding.{HostStanding, Stands, awaited_in}
 use Rattle.host_core.specs.Legal.{may_follow, was_released, is_legal}
 use Rattle.host_core.specs.Setting.{Setting}
 use Rattle.tenant_jobs.specs.Jobs.{same_job}
+use Rattle.rig_config.specs.Roster.{Rig}
 
 -- The host, each tenant's text and the names of the released jobs are those behind these events, the newest first.
 pub record IsPlayed (setting : Setting) (past : List Event) (host : HostStanding) (texts : List (List ℕ)) (released : List JobId) : Type 0 where
@@ -38,7 +38,7 @@ IsLate (Tick frame) host = ⊥
 IsLate (Done j) host = awaited_in host j ≡ None
 
 -- a command's tenant is one of the host, and has a text
-abbrev pub HasPlace : Event → Config → List (List ℕ) → Type 0
+abbrev pub HasPlace : Event → Rig → List (List ℕ) → Type 0
 HasPlace (Own t c) config texts = (t < length config.tenants) × (t < length texts)
 HasPlace (Tick frame) config texts = ⊤
 HasPlace (Done j) config texts = ⊤

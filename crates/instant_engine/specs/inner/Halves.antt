@@ -1,8 +1,7 @@
 -- All tenants of a host, before and behind a step of each.
 use Rattle.std.specs.Prelude.{◌≡◌, ◌<◌, ◌≤◌, ◌&&◌, not, ℕ, ℤ, Bool, List, [], length, drop, All}
 use Rattle.std.specs.List.{AllByRecursion}
-use Rattle.rig_config.specs.declared.Config.{Config}
-use Rattle.rig_config.specs.Roster.{budgets_at}
+use Rattle.rig_config.specs.Roster.{Rig, budgets_at}
 use Rattle.tenant_jobs.specs.declared.jobs.JobId.{JobId}
 use Rattle.tenant_jobs.specs.Finished.{TableEntry}
 use Rattle.tenant_jobs.specs.inner.Finished.{is_entered, is_job_of, JobsDiffer}
@@ -40,7 +39,7 @@ pub record IsSecondHalfAndKnown (reads : List ℕ) (frame : List ℤ) (before af
   pub known : IsKnown after.row
 
 -- the second half of all tenants, each with the lines that it may read
-abbrev pub AreSecondHalves : Config → List ℤ → List Standing → List Standing → Type 0
+abbrev pub AreSecondHalves : Rig → List ℤ → List Standing → List Standing → Type 0
 AreSecondHalves config frame before after = AreStepped (λ t. IsSecondHalfAndKnown (budgets_at config t).reads frame) before after
 
 -- each active task was released before its tenant's next instant

@@ -1,7 +1,6 @@
 -- An instant of all tenants.
 use Rattle.std.specs.Prelude.{◌≡◌, ◌+◌, ◌<◌, ℕ, ℤ, List, [], length}
-use Rattle.rig_config.specs.declared.Config.{Config}
-use Rattle.rig_config.specs.Roster.{budgets_at}
+use Rattle.rig_config.specs.Roster.{Rig, budgets_at}
 use Rattle.tenant_jobs.specs.Finished.{TableEntry, has_result}
 use Rattle.tenant_slots.specs.Readings.{readings_within}
 use Rattle.tenant_state.specs.FirstHalf.{unfinished_tasks}
@@ -38,5 +37,5 @@ pub record AreStepped (step : ℕ → Standing → Standing → Type 0) (before 
   pub each : (t : ℕ) → t < length before → step t (tenant_at before t) (tenant_at after t)
 
 -- an instant of all tenants, each with the lines that it may read
-abbrev pub AreInstants : Config → List ℤ → List TableEntry → List Standing → List Standing → Type 0
+abbrev pub AreInstants : Rig → List ℤ → List TableEntry → List Standing → List Standing → Type 0
 AreInstants config frame entries before after = AreStepped (λ t. IsInstant (budgets_at config t).reads frame entries) before after

@@ -1,6 +1,5 @@
 use Rattle.std.proofs.Common.{◌≡◌, ◌<◌, List, Some, length, refl, sym, ap, ◌∙◌}
-use Rattle.rig_config.specs.Roster.{place_of}
-use Rattle.rig_config.specs.declared.Config.{Config}
+use Rattle.rig_config.specs.Roster.{Rig, place_of}
 use Rattle.tenant_jobs.specs.declared.jobs.JobId.{JobId}
 use Rattle.rig_script.specs.inner.HostAnswers.{IsHostAfter}
 use Rattle.rig_script.specs.Script.{outstanding_at, work_step}
@@ -11,13 +10,13 @@ use Rattle.rig_script.proofs.host_answers.complete_tenant.Goals as goal
 
 pub complete_tenant-number-requires : goal.complete_tenant-number-requires
 complete_tenant-number-requires c =
-    place_within c.args.host.now.config c.args.name.now c.in-Some.tenant (ap (λ (config : Config). place_of config c.args.name.now) (sym c.config.ensures) ∙ (sym c.place_of.ensures ∙ c.in-Some.is))
+    place_within c.args.host.now.config c.args.name.now c.in-Some.tenant (ap (λ (config : Rig). place_of config c.args.name.now) (sym c.config.ensures) ∙ (sym c.place_of.ensures ∙ c.in-Some.is))
 
 pub returns : goal.returns
 returns c = λ setting past h.
     let later = c.complete_tenant-number.new.self in
     let place : place_of setting.config c.args.name.now ≡ Some c.in-Some.tenant =
-    ap (λ (config : Config). place_of config c.args.name.now) (sym (c.config.ensures ∙ h.stands.same_config)) ∙ (sym c.place_of.ensures ∙ c.in-Some.is) in
+    ap (λ (config : Rig). place_of config c.args.name.now) (sym (c.config.ensures ∙ h.stands.same_config)) ∙ (sym c.place_of.ensures ∙ c.in-Some.is) in
     let within : c.in-Some.tenant < length setting.config.tenants = place_within setting.config c.args.name.now c.in-Some.tenant place in
     let number : c.complete_tenant-number.result ≡ length (outstanding_at setting past c.in-Some.tenant) =
     c.complete_tenant-number.ensures.number ∙ ap (λ (js : List JobId). length js) (names_at setting past c.args.host.now c.in-Some.tenant within h) in

@@ -2,7 +2,6 @@ use Rattle.std.proofs.Common.{◌≡◌, ◌<◌, List, [], length, get_or, map,
 use Rattle.std.proofs.lemmas.List.{get_or_default}
 use Rattle.host_core.specs.Host.{after_event}
 use Rattle.host_core.specs.declared.events.Event.TheVariants.{Own}
-use Rattle.rig_config.specs.declared.Config.{Config}
 use Rattle.rig_config.specs.declared.TenantConfig.{TenantConfig}
 use Rattle.host_core.specs.HostState.{HostState}
 use Rattle.host_core.specs.HostStanding.{HostStanding, Stands}
@@ -16,6 +15,7 @@ use Rattle.host_core.proofs.HostSteps.{own_outcome, stands_after_command}
 use Rattle.host_core.proofs.HostTables.{command_still, whole_behind}
 use Rattle.host_core.proofs.hosts.Host.command.Goals as goal
 use Rattle.host_core.proofs.hosts.Host.command.Goals.{After-self-1}
+use Rattle.rig_config.specs.Roster.{Rig}
 
 module _ (c : After-self-1) where
   -- the tenant of the command is one of the host's
@@ -55,7 +55,7 @@ returns-clause-step c = λ given setting state stands.
     subst (λ (s : Standing). Stands setting (record behind { tenants = map at_rest (set host.tenants c.args.tenant s) }) (after_event setting state (Own c.args.tenant c.args.command))) (sym c.leave.ensures.same)
     (stands_outside setting behind (after_event setting state (Own c.args.tenant c.args.command))
     (stands_after_command setting host state c.args.tenant c.args.command (record c.command-reply.new.self { ended = [] }) c.leave.new.finished.entries inside
-    (subst (λ (k : Config). c.args.tenant < length k.tenants) inside.same_config (within c)) outcome.stands count place c.self.invariant.placed still))
+    (subst (λ (k : Rig). c.args.tenant < length k.tenants) inside.same_config (within c)) outcome.stands count place c.self.invariant.placed still))
 
 pub returns-clause-room : goal.returns-clause-room
 returns-clause-room c = λ none.

@@ -1,7 +1,6 @@
 use Rattle.std.proofs.Common.{◌≡◌, ◌∙◌, ℕ, List, length, map, ap, sym, subst, arith}
 use Rattle.std.specs.List.{enumerate_from}
 use Rattle.std.proofs.lemmas.Simd.{map-map}
-use Rattle.rig_config.specs.declared.Config.{Config}
 use Rattle.rig_config.specs.declared.TenantConfig.{TenantConfig}
 use Rattle.host_core.specs.HostStanding.{new_host}
 use Rattle.tenant_jobs.specs.Finished.{TaskTable}
@@ -9,6 +8,7 @@ use Rattle.tenant_state.specs.Standing.{Standing, at_rest, empty_standing}
 use Rattle.host_core.proofs.NewTenants.{new_more, new_all, new_whole}
 use Rattle.host_core.specs.inner.HostStanding.{IsWhole}
 use Rattle.host_core.proofs.hosts.Host.new.Goals as goal
+use Rattle.rig_config.specs.Roster.{Rig}
 
 pub loop-place-preserved : goal.loop-place-preserved
 loop-place-preserved c =
@@ -29,4 +29,4 @@ returns c =
     ap (λ (xs : List Standing). record { config = c.in_ok-copy.copy; tenants = xs; entries = c.new-2.result.entries; clock = c.args.first_tick })
     (ap (map at_rest) all ∙ map-map at_rest (λ (place : ℕ × TenantConfig). empty_standing place.0 c.args.first_tick) (enumerate_from 0 c.in_ok-copy.copy.tenants))
     ∙ ap (λ (t : TaskTable). record (new_host c.in_ok-copy.copy c.args.first_tick) { entries = t.entries }) c.new-2.ensures
-    ∙ ap (λ (k : Config). new_host k c.args.first_tick) c.in_ok-copy.ensures
+    ∙ ap (λ (k : Rig). new_host k c.args.first_tick) c.in_ok-copy.ensures

@@ -1,14 +1,14 @@
 use Rattle.std.proofs.Common.{◌∙◌, sym, ap, length}
 use Rattle.host_core.specs.Legal.{may_follow}
-use Rattle.rig_config.specs.declared.Config.{Config}
 use Rattle.host_core.proofs.Played.{tick_legal}
 use Rattle.host_core.proofs.ReleasedNames.{found_in}
 use Rattle.host_core.proofs.plays.Stage.may_follow.Goals as goal
+use Rattle.rig_config.specs.Roster.{Rig}
 
 pub returns-then-as_slice-config-clause-legal : goal.returns-then-as_slice-config-clause-legal
 returns-then-as_slice-config-clause-legal c = λ setting past played.
     tick_legal setting played.base past c.in-Tick.frame c.args.self.now.host c.args.self.now.texts.items c.args.self.now.released.keys c.clock.result c.config-in-Tick.result.now.lines
-    c.clock.ensures (sym c.if-as_slice-config.true ∙ ap length c.as_slice-in-Tick.ensures) (ap (λ (k : Config). k.lines) c.config-in-Tick.ensures) played
+    c.clock.ensures (sym c.if-as_slice-config.true ∙ ap length c.as_slice-in-Tick.ensures) (ap (λ (k : Rig). k.lines) c.config-in-Tick.ensures) played
     ∙ ap (may_follow setting past) (sym c.in-Tick.is)
 
 pub returns-in-Done-clause-legal : goal.returns-in-Done-clause-legal
