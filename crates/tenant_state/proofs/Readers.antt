@@ -1,6 +1,6 @@
 -- What a host reads of a tenant's row, over what the tenant's code keeps.
 use Rattle.std.proofs.Common.{◌≡◌, ℕ, zero, suc, ◌+◌, ◌<◌, ◌%◌, ◌==◌, nat_eq, Bool, true, false, cond, ◌&&◌, ℤ, List, [], ◌∷◌, ◌++◌, map, filter, find, length, is_some, Option, Some, None, refl, sym, ap, ◌∙◌, append_assoc, arith}
-use Rattle.std.specs.Prelude.{slice_get}
+use Rattle.std.specs.Prelude.{slice_get, option_and_then, option_map}
 use Rattle.std.specs.List.{list_any, flat_map, position_from, AllByRecursion}
 use Rattle.std.proofs.lemmas.Bool.{eq-eqb}
 use Rattle.std.proofs.lemmas.List.{length-map}
@@ -34,6 +34,7 @@ use Rattle.tenant_jobs.specs.Jobs.{same_job}
 use Rattle.tenant_state.specs.Jobs.{has_job, job_of}
 use Rattle.tenant_state.specs.Row.{ActiveTask, Row}
 use Rattle.tenant_state.specs.Tenants.{active_of, standing_of}
+use Rattle.tenant_state.specs.Readers.{actuator_value, driver_of, drives, line_value}
 use Rattle.tenant_state.specs.inner.Tenants.{IsActiveOf, is_of_job}
 use Rattle.tenant_state.proofs.DueTasks as tasks
 use Rattle.tenant_state.proofs.DueTasks.{group, ends, names_of_tasks}
@@ -156,3 +157,30 @@ module _ (p : GiottoProgram) (fits : ProgramFits p) (m : ModeDeclaration) (mode 
       ∙ ap (λ b. nat_eq a.task e.task && b) (sym (invocation_due p fits time m i e entry)))
       m.invocations es each in
       sym (named_due (Some a) found ∙ and_true is_ended ∙ alike)
+
+-- the name of the actuator that drives a line, among these that are the program's
+pub named_driver : (p : GiottoProgram) (k : ℕ) (as' : List Actuator) → map actuator_of as' ≡ p.actuators
+    → option_map (λ (d : ActuatorDeclaration). d.name) (driver_of k p) ≡ option_map (λ (a : Actuator). a.name) (find (λ (a : Actuator). drives k a.line) as')
+named_driver p k as' are = ap (λ (ds : List ActuatorDeclaration). option_map (λ (d : ActuatorDeclaration). d.name) (find (λ (d : ActuatorDeclaration). drives k d.line) ds)) (sym are) ∙ through as'
+  where
+    through : (xs : List Actuator)
+        → option_map (λ (d : ActuatorDeclaration). d.name) (find (λ (d : ActuatorDeclaration). drives k d.line) (map actuator_of xs)) ≡ option_map (λ (a : Actuator). a.name) (find (λ (a : Actuator). drives k a.line) xs)
+    through [] = refl
+    through (a ∷ xs) = by (drives k a.line) (through xs)
+      where
+        by : (b : Bool)
+            → option_map (λ (d : ActuatorDeclaration). d.name) (find (λ (d : ActuatorDeclaration). drives k d.line) (map actuator_of xs)) ≡ option_map (λ (a : Actuator). a.name) (find (λ (a : Actuator). drives k a.line) xs)
+            → option_map (λ (d : ActuatorDeclaration). d.name) (cond b (Some (actuator_of a)) (find (λ (d : ActuatorDeclaration). drives k d.line) (map actuator_of xs)))
+            ≡ option_map (λ (a : Actuator). a.name) (cond b (Some a) (find (λ (a : Actuator). drives k a.line) xs))
+        by true rest = refl
+        by false rest = rest
+
+-- the value of a line is that of the actuator of this name
+pub line_named : (row : Row) (p : GiottoProgram) → row.program ≡ Some p → (k : ℕ) (o : Option Name) → option_map (λ (d : ActuatorDeclaration). d.name) (driver_of k p) ≡ o
+    → line_value row k ≡ option_and_then (actuator_value row) o
+line_named row p has k o named =
+    ap (λ q. option_and_then (λ (d : ActuatorDeclaration). actuator_value row d.name) (option_and_then (driver_of k) q)) has ∙ by (driver_of k p) ∙ ap (option_and_then (actuator_value row)) named
+  where
+    by : (d : Option ActuatorDeclaration) → option_and_then (λ (e : ActuatorDeclaration). actuator_value row e.name) d ≡ option_and_then (actuator_value row) (option_map (λ (e : ActuatorDeclaration). e.name) d)
+    by None = refl
+    by (Some d) = refl

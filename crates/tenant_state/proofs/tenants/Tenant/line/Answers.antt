@@ -1,0 +1,20 @@
+use Rattle.std.proofs.Common.{◌≡◌, None, Some, ap, sym, ◌∙◌}
+use Rattle.tenant_state.specs.Readers.{actuator_value}
+use Rattle.tenant_state.specs.Standing.{Standing}
+use Rattle.tenant_state.proofs.Readers.{line_named, named_driver}
+use Rattle.tenant_state.proofs.tenants.Tenant.line.Goals as goal
+
+pub returns-in_err-name : goal.returns-in_err-name
+returns-in_err-name c =
+    let s = c.args.self.now in
+    let are = rw c.program.ensures.tree at c.actuators.ensures in
+    let program : s.row.program ≡ Some c.in-Some.checked = ap (λ (t : Standing). t.row.program) (sym c.self.view_is) ∙ c.in-Some.is in
+    c.from_residual.ensures ∙ sym (line_named s.row c.in-Some.checked program c.args.line None (named_driver c.in-Some.checked c.args.line c.actuators.result.now are ∙ sym c.in_err-name.ensures))
+
+pub returns : goal.returns
+returns c =
+    let s = c.args.self.now in
+    let are = rw c.program.ensures.tree at c.actuators.ensures in
+    let program : s.row.program ≡ Some c.in-Some.checked = ap (λ (t : Standing). t.row.program) (sym c.self.view_is) ∙ c.in-Some.is in
+    c.actuator.ensures ∙ ap (actuator_value s.row) c.as_str.ensures
+    ∙ sym (line_named s.row c.in-Some.checked program c.args.line (Some c.in_ok-name.name) (named_driver c.in-Some.checked c.args.line c.actuators.result.now are ∙ sym c.in_ok-name.ensures))
