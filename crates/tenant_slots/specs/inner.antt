@@ -1,3 +1,4 @@
+pub mod CommonPeriods
 pub mod Due
 pub mod Places
 pub mod Readings

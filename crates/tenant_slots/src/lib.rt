@@ -4,7 +4,8 @@
 //! `valuation_of` from names to values. [`beginning::initial_values`] begins it, [`beginning::reset_ports`] begins
 //! it anew in place, [`names::port_value`] reads a port by its name, and the others are steps of an instant: sensors are
 //! read, actuators updated or reset, a switch is taken, and tasks are given their inputs and write their results.
-//! [`due::Due`] tells what is due at a mode time, and [`due::next_due`] until when nothing is.
+//! [`due::Due`] tells what is due at a mode time, and [`due::next_due`] until when nothing is; [`periods::period_of`] how far apart
+//! a mode invokes a task.
 #![tactic(auto)]
 
 pub mod actuators;
@@ -12,6 +13,7 @@ pub mod beginning;
 pub mod drivers;
 pub mod due;
 pub mod names;
+pub mod periods;
 pub mod sensors;
 pub mod switches;
 pub mod tasks;

@@ -5,7 +5,6 @@ use Rattle.std.specs.Option.{option_map}
 use Rattle.std.specs.List.{AllByRecursion}
 use Rattle.giotto_tasks.specs.declared.names.Name.{Name}
 use Rattle.giotto_tasks.specs.Names.{Valuation}
-use Rattle.giotto_text.specs.declared.faults.ReadFault.{ReadFault}
 use Rattle.giotto_text.specs.Program.{TaskDeclaration, TaskInvocation, ModeDeclaration, GiottoProgram}
 use Rattle.rig_config.specs.declared.Budgets.{Budgets}
 use Rattle.tenant_lines.specs.declared.commands.Command.{Command}
@@ -13,14 +12,14 @@ use Rattle.tenant_lines.specs.declared.commands.Command.TheVariants.{Load, Start
 use Rattle.tenant_lines.specs.declared.ports.PortName.{PortName}
 use Rattle.tenant_lines.specs.declared.replies.Budget.{Budget}
 use Rattle.giotto_rules.specs.Declarations.{task_named, mode_named}
-use Rattle.giotto_rules.specs.Rules.{first_broken_rule}
+use Rattle.tenant_lines.specs.declared.replies.Refusal.{Refusal}
 use Rattle.tenant_lines.specs.declared.replies.Refusal.TheVariants.{NotRunning}
 use Rattle.tenant_lines.specs.declared.replies.Reply.TheVariants.{Stopped}
 use Rattle.tenant_state.specs.Row.{ActiveTask, Row, StopReason, asked, overrun, is_running, where_some, in_program, in_mode}
-use Rattle.giotto_text.specs.Parsing.{parsed}
-use Rattle.tenant_state.specs.Commands.{Outcome, refused, load_within, load_checked, load_read, broken_budget, start_program, stop_program, show_value, show_port, show_all, commanded}
+use Rattle.tenant_state.specs.Commands.{Outcome, refused, load_within, load_read, start_program, stop_program, show_value, show_port, show_all, commanded}
 use Rattle.tenant_state.specs.FirstHalf.{stopped_with, completed_in_mode, first_half_with, first_half_of}
 use Rattle.tenant_state.specs.SecondHalf.{installed, replaced_if_due, sensed, entered, switched, is_invoked, released, invoked, all_released, invoked_in_mode, second_half_running}
+use Rattle.tenant_programs.specs.Admission.{broken_budget, program_of}
 use Rattle.tenant_slots.specs.Readings.{Readings}
 use Rattle.tenant_slots.specs.Switches.{switch_taken}
 use Rattle.tenant_state.specs.Instants.{LocalInstant, after_instant}
@@ -111,13 +110,9 @@ module _ (P : ActiveTask → Type 0) (n : ℕ) where
   keeps_outcome_if true x y kx ky = kx
   keeps_outcome_if false x y kx ky = ky
 
-  keeps_checked : (budgets : Budgets) (p : GiottoProgram) (row : Row) (o : Option ℕ) → Keeps row → Keeps (load_checked budgets p row o).row
-  keeps_checked budgets p row (Some r) k = k
-  keeps_checked budgets p row None k = keeps_outcome_if _ _ (load_within p row (broken_budget budgets p)) k (keeps_within p row _ k)
-
-  keeps_read : (budgets : Budgets) (row : Row) (r : Result GiottoProgram ReadFault) → Keeps row → Keeps (load_read budgets row r).row
-  keeps_read budgets row (Err fault) k = k
-  keeps_read budgets row (Ok p) k = keeps_checked budgets p row (first_broken_rule p) k
+  keeps_read : (budgets : Budgets) (row : Row) (r : Result GiottoProgram Refusal) → Keeps row → Keeps (load_read budgets row r).row
+  keeps_read budgets row (Err refusal) k = k
+  keeps_read budgets row (Ok p) k = keeps_outcome_if _ _ (load_within p row (broken_budget budgets p)) k (keeps_within p row _ k)
 
   keeps_started : (row : Row) (o : Option GiottoProgram) → Keeps row → Keeps (start_program row o).row
   keeps_started row None k = k
@@ -139,7 +134,7 @@ module _ (P : ActiveTask → Type 0) (n : ℕ) where
   keeps_all_shown row (Some p) k = k
 
   pub kept_by_command : (budgets : Budgets) (c : Command) (row : Row) → Keeps row → Keeps (commanded budgets c row).row
-  kept_by_command budgets (Load text) row k = keeps_read budgets row (parsed text) k
+  kept_by_command budgets (Load text) row k = keeps_read budgets row (program_of text) k
   kept_by_command budgets Start row k = keeps_outcome_if _ _ (start_program row row.program) k (keeps_started row row.program k)
   kept_by_command budgets Stop row k = keeps_asked row k
   kept_by_command budgets ShowMode row k = k

@@ -4,7 +4,8 @@ use Rattle.std.specs.Prelude.{codes}
 use Rattle.giotto_tasks.specs.declared.names.Name.{Name}
 use Rattle.giotto_text.specs.Program.{TaskInvocation, ModeDeclaration}
 use Rattle.tenant_state.specs.Row.{ActiveTask}
-use Rattle.tenant_state.specs.SecondHalf.{least_common_multiple, entry_time}
+use Rattle.tenant_slots.specs.CommonPeriods.{least_common_multiple}
+use Rattle.tenant_state.specs.SecondHalf.{entry_time}
 
 pub of_two_and_three : least_common_multiple 6 (2 ∷ 3 ∷ []) ≡ 6
 of_two_and_three = refl

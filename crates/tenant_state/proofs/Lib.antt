@@ -1,7 +1,6 @@
 pub mod ActiveTasks
 pub mod AddedJobs
 pub mod AwaitedTasks
-pub mod CommonMultiples
 pub mod Completing
 pub mod Dropped
 pub mod DueTasks
@@ -13,12 +12,10 @@ pub mod FirstHalfOf
 pub mod GreatestOf
 pub mod HalfStands
 pub mod JobNames
-pub mod ProgramLines
 pub mod Readers
 pub mod Released
 pub mod SecondHalfSteps
 pub mod Shares
-pub mod ShownPorts
 pub mod Stops
 pub mod SwitchRows
 pub mod TaskEntries

@@ -1,15 +1,10 @@
 -- What a tenant's commands do, over what its code keeps.
-use Rattle.std.proofs.Common.{◌≡◌, ℕ, ℤ, List, [], ◌∷◌, map, Option, Some, None, refl, ap, ◌∙◌}
-use Rattle.std.specs.Prelude.{Ok, Err}
+use Rattle.std.proofs.Common.{◌≡◌, ℕ, ℤ, List, [], ◌∷◌, map, Option, Some, None, refl, ap}
 use Rattle.giotto_tasks.specs.Syntax.{TaskBody}
-use Rattle.giotto_text.specs.declared.faults.ReadFault.{ReadFault}
 use Rattle.giotto_text.specs.Program.{GiottoProgram, TaskDeclaration}
-use Rattle.giotto_text.specs.Parsing.{parsed}
-use Rattle.rig_config.specs.declared.Budgets.{Budgets}
 use Rattle.tenant_state.specs.declared.tenants.Active.{Active}
 use Rattle.tenant_state.specs.declared.tenants.State as code
-use Rattle.giotto_rules.specs.Rules.{first_broken_rule}
-use Rattle.tenant_state.specs.Commands.{refusal_of, refused, at_beginning, load_kept, load_checked, load_read}
+use Rattle.tenant_state.specs.Commands.{at_beginning}
 use Rattle.giotto_text.specs.declared.programs.Task.{Task}
 use Rattle.giotto_text.specs.ProgramTrees.{task_of}
 use Rattle.giotto_check.specs.inner.Timetables.{AreEach}
@@ -21,13 +16,6 @@ use Rattle.tenant_state.specs.Standing.{without_records}
 use Rattle.tenant_state.specs.Tenants.{state_of}
 use Rattle.tenant_state.proofs.Stops.{row_of}
 use Rattle.tenant_state.specs.inner.Tenants.{IsShareOf}
-
-module _ (text : List ℕ) (budgets : Budgets) (row : Row) where
-  pub refused_by_reader : (f : ReadFault) → parsed text ≡ Err f → load_read budgets row (parsed text) ≡ refused row (refusal_of f)
-  refused_by_reader f e = ap (load_read budgets row) e
-
-  pub kept_if : (p : GiottoProgram) → parsed text ≡ Ok p → first_broken_rule p ≡ None → load_read budgets row (parsed text) ≡ load_kept budgets p row
-  kept_if p e kept = ap (load_read budgets row) e ∙ ap (load_checked budgets p row) kept
 
 -- what stands after a program was put at its beginning
 pub stands_at_beginning : (state : code.State) (program : Option GiottoProgram) (mode time : ℕ) (active : List Active) (values : List ℤ) (count : ℕ) (row : Row) (next : code.State) (p : GiottoProgram) (start : ℕ) (new : List ℤ)

@@ -1,6 +1,5 @@
 pub mod ActiveTasks
 pub mod Commands
-pub mod CommonPeriods
 pub mod FirstHalf
 pub mod Instants
 pub mod Jobs

@@ -1,5 +1,5 @@
 -- The second half of an instant: a waiting program is installed, sensors are read, a switch may be taken, tasks are invoked, and the mode time moves on.
-use Rattle.std.specs.Prelude.{ℕ, zero, suc, ◌+◌, ◌-◌, ◌%◌, ◌==◌, Bool, ◌&&◌, ◌||◌, if◌then◌else◌, ℤ, List, [], ◌∷◌, ◌++◌, map, Some, None, unwrap_or, option_to_list}
+use Rattle.std.specs.Prelude.{ℕ, ◌+◌, ◌-◌, ◌%◌, ◌==◌, Bool, ◌&&◌, ◌||◌, if◌then◌else◌, ℤ, List, [], ◌∷◌, ◌++◌, map, Some, None, unwrap_or, option_to_list}
 use Rattle.std.specs.List.{filter_map}
 use Rattle.std.specs.Option.{option_map, option_map_or}
 use Rattle.giotto_tasks.specs.declared.names.Name.{Name}
@@ -8,9 +8,9 @@ use Rattle.giotto_tasks.specs.Meaning.{value_of}
 use Rattle.giotto_text.specs.Program.{TaskDeclaration, ModeSwitch, TaskInvocation, ModeDeclaration, GiottoProgram, names_of}
 use Rattle.tenant_state.specs.declared.trace.Happening.TheVariants as happening
 use Rattle.giotto_rules.specs.Declarations.{sensor_names, actuator_names, task_named, mode_named, period_of_task}
-use Rattle.tenant_state.specs.CommonPeriods.{is_common_multiple}
 use Rattle.tenant_state.specs.Row.{ActiveTask, Row, is_running, where_some, in_program, in_mode, recorded}
 use Rattle.giotto_text.specs.PortNames.{own_ports, with_values}
+use Rattle.tenant_slots.specs.CommonPeriods.{least_common_multiple}
 use Rattle.tenant_slots.specs.Ports.{initial_ports, holds}
 use Rattle.tenant_slots.specs.Due.{is_due_at}
 use Rattle.tenant_slots.specs.Readings.{Readings, reading_taken}
@@ -45,15 +45,6 @@ replaced_if_due row = if row.mode_time == 0 then where_some installed row.waitin
 -- each sensor of the program takes its reading
 abbrev pub sensed : Readings → Valuation → GiottoProgram → Row → Row
 sensed readings granted p row = record row { ports = with_values row.ports (sensor_names p) (map (reading_taken readings granted) p.sensors) }
-
--- the first number from n on that all of these divide, looked for among the next `more` numbers
-abbrev pub common_multiple_from : ℕ → ℕ → List ℕ → ℕ
-common_multiple_from zero n ks = n
-common_multiple_from (suc more) n ks = if is_common_multiple ks n then n else common_multiple_from more (n + 1) ks
-
--- the least common multiple of numbers that divide the period
-abbrev pub least_common_multiple : ℕ → List ℕ → ℕ
-least_common_multiple period ks = common_multiple_from period 1 ks
 
 -- as far from the end of the target's period as tasks of these periods are from their next common deadline
 abbrev pub time_before_end : ModeDeclaration → ModeDeclaration → ℕ → List ℕ → ℕ

@@ -1,39 +1,32 @@
 //! What a tenant's commands do.
 
-ghost use Rattle.std.specs.Prelude.{◌≡◌, ◌≢◌, ◌⊎◌, ◌&&◌, ℕ, [], true, false, Ok, Err, None, IfOk, IfErr, OnOk, OnErr, if◌then◌else◌, Some, length, map};
+ghost use Rattle.std.specs.Prelude.{◌≡◌, ◌≢◌, ◌⊎◌, [], false, Err, None, IfOk, IfErr, OnOk, OnErr, length, map};
 ghost use Rattle.rig_config.specs.declared.Budgets.{Budgets};
-ghost use Rattle.tenant_lines.specs.declared.replies.Budget.{Budget};
 ghost use Rattle.std.specs.Arc.{arc_value};
-ghost use Rattle.std.specs.List.{list_all};
 ghost use Rattle.std.specs.Option.{option_map};
-ghost use Rattle.giotto_text.specs.Parsing.{parsed};
 ghost use Rattle.tenant_lines.specs.declared.commands.Command.{Command};
 ghost use Rattle.tenant_lines.specs.declared.replies.Refusal.{Refusal};
 ghost use Rattle.tenant_lines.specs.declared.replies.Reply.{Reply};
-ghost use Rattle.giotto_rules.specs.Declarations.{lines_read, lines_written};
-ghost use Rattle.giotto_rules.specs.Rules.{first_broken_rule};
 ghost use Rattle.giotto_check.specs.inner.Slots.{slots_of};
 ghost use Rattle.giotto_check.specs.Slots.{valuation_of};
-ghost use Rattle.giotto_check.specs.declared.CheckFault.{CheckFault};
-ghost use Rattle.rig_config.specs.Roster.{may_use};
 ghost use Rattle.tenant_slots.specs.Ports.{initial_ports};
-ghost use Rattle.tenant_state.specs.Commands.{at_beginning, commanded, takes_memory, refusal_of, load_kept, load_read, refused, broken_budget};
+ghost use Rattle.tenant_state.specs.Commands.{at_beginning, commanded, takes_memory, load_kept};
 ghost use Rattle.tenant_state.specs.Row.{Row, is_running, loaded};
 ghost use Rattle.tenant_state.specs.inner.Standing.{AreEnded, HoldsOfRow, IsAnswered, IsBehind, IsOutcome, IsRefused};
 ghost use Rattle.tenant_state.specs.Standing.{without_records};
 
 use crate::tenants::{Reason, State, Tenant};
-use giotto_check::{self, CheckFault, Checked};
-use giotto_read::read;
+use giotto_check::Checked;
 use giotto_tasks::bodies::Body;
-use giotto_text::faults::ReadFault;
-use giotto_text::programs::{Actuator, Program, Sensor, Source, Task};
+use giotto_text::programs::Task;
 use rig_config::Budgets;
 use std::alloc::{AllocError, Global};
 use std::sync::Arc;
 use tenant_lines::commands::Command;
 use tenant_lines::ports::PortValue;
-use tenant_lines::replies::{Budget, Refusal, Reply};
+use tenant_lines::replies::{Refusal, Reply};
+use tenant_programs::admission::read_program;
+use tenant_programs::budgets::broken_budget;
 use tenant_slots::beginning::{initial_values, reset_ports};
 use tenant_slots::names::start_place;
 
@@ -123,8 +116,8 @@ impl Tenant {
         if self.is_running() {
             return Err(Refusal::Running);
         }
-        if !is_within_lines(budgets, program.program()) {
-            return Err(Refusal::OverBudget(Budget::Lines));
+        if let Some(budget) = broken_budget(budgets, program.program()) {
+            return Err(Refusal::OverBudget(budget));
         }
         let Ok(values) = initial_values(self.alloc, program) else {
             return Err(Refusal::Memory);
@@ -200,36 +193,6 @@ impl Tenant {
     }
 }
 
-// The well-formed program that a text spells.
-fn read_program(alloc: Global, text: &str) -> Result<Checked, Refusal>
-    ensures read { IfOk result (λ p. parsed text.now ≡ Ok p) }
-    ensures checked { IfOk result (λ p. first_broken_rule p ≡ None) }
-    ensures refused { IfErr result (λ r. r ≢ Refusal.Memory → (budgets : Budgets) (row : Row) → load_read budgets row (parsed text.now) ≡ refused row r) }
-{
-    let program = match read(alloc, text) {
-        Ok(program) => program,
-        Err(fault) => return Err(refusal_of(fault)),
-    };
-    match giotto_check::check(alloc, program) {
-        Ok(checked) => Ok(checked),
-        Err((program, fault)) => {
-            drop(program);
-            Err(refusal_of_check(fault))
-        }
-    }
-}
-
-// The refusal of a program that isn't well-formed, by its fault.
-fn refusal_of_check(fault: CheckFault) -> Refusal
-    ensures memory { fault ≡ CheckFault.Memory → result ≡ Refusal.Memory }
-    ensures rule { (n : ℕ) → fault ≡ CheckFault.Rule n → result ≡ Refusal.Rule n }
-{
-    match fault {
-        CheckFault::Rule(rule) => Refusal::Rule(rule),
-        CheckFault::Memory => Refusal::Memory,
-    }
-}
-
 // A place for a share of each task's body, with none at hand.
 fn no_shares(alloc: Global, tasks: &[Task]) -> Result<Vec<Option<Arc<Body, Global>>>, AllocError>
     ensures { IfOk result (λ shares. map (option_map arc_value) shares.items ≡ map (λ t. None) tasks.now) }
@@ -239,56 +202,4 @@ fn no_shares(alloc: Global, tasks: &[Task]) -> Result<Vec<Option<Arc<Body, Globa
         shares.push(None)?;
     }
     Ok(shares)
-}
-
-fn refusal_of(fault: ReadFault) -> Refusal
-    ensures { result ≡ refusal_of fault }
-{
-    match fault {
-        ReadFault::Syntax(offset) => Refusal::Syntax(offset),
-        ReadFault::TooDeep => Refusal::TooDeep,
-        ReadFault::TooMany => Refusal::TooMany,
-        ReadFault::Memory => Refusal::Memory,
-    }
-}
-
-// Whether the program's sensors read and its actuators drive only lines that the tenant may use.
-fn is_within_lines(budgets: &Budgets, program: &Program) -> bool
-    ensures { broken_budget budgets.now program.now ≡ (if result then None else Some Budget.Lines) }
-{
-    may_read(budgets.reads.as_slice(), program) && may_drive(budgets.writes.as_slice(), program)
-}
-
-fn may_read(lines: &[usize], program: &Program) -> bool
-    ensures { result ≡ list_all (may_use lines.now) (lines_read program.now) }
-{
-    let sensors = program.sensors();
-    for sensor in sensors {
-        if let Source::Line(line) = sensor.source {
-            if !may_use(lines, line) {
-                return false;
-            }
-        }
-    }
-    true
-}
-
-fn may_drive(lines: &[usize], program: &Program) -> bool
-    ensures { result ≡ list_all (may_use lines.now) (lines_written program.now) }
-{
-    let actuators = program.actuators();
-    for actuator in actuators {
-        if let Some(line) = actuator.line {
-            if !may_use(lines, line) {
-                return false;
-            }
-        }
-    }
-    true
-}
-
-fn may_use(lines: &[usize], line: u64) -> bool
-    ensures { result ≡ may_use lines.now line }
-{
-    lines.iter().any(|other| *other as u64 == line)
 }

@@ -1,16 +1,14 @@
 //! Switches: the mode that an instant enters, and the mode time there.
 
-ghost use Rattle.std.specs.Prelude.{◌≡◌, ◌<◌, ◌≤◌, ◌*◌, ◌^◌, [], ◌∷◌, Option, None, length, map, nat_eq};
-ghost use Rattle.std.specs.List.{find, filter_map, AllByRecursion};
-ghost use Rattle.std.specs.Option.{option_map};
+ghost use Rattle.std.specs.Prelude.{◌≡◌, ◌<◌, ◌≤◌, None, length, map};
+ghost use Rattle.std.specs.List.{filter_map, AllByRecursion};
 ghost use Rattle.giotto_rules.specs.Declarations.{period_of_task};
 ghost use Rattle.giotto_check.specs.inner.Slots.{slots_of};
 ghost use Rattle.giotto_check.specs.Slots.{valuation_of};
 ghost use Rattle.giotto_text.specs.Program.{ModeDeclaration};
+ghost use Rattle.tenant_slots.specs.inner.CommonPeriods.{IsCommonPeriod};
 ghost use Rattle.tenant_slots.specs.inner.Due.{IsQuietUntil};
-ghost use Rattle.tenant_slots.specs.Places.{name_of_task};
 ghost use Rattle.tenant_slots.specs.inner.Places.{IsModeAt};
-ghost use Rattle.tenant_state.specs.inner.CommonPeriods.{IsCommonPeriod, IsLeastCommonMultiple};
 ghost use Rattle.tenant_state.specs.Row.{ActiveTask};
 ghost use Rattle.tenant_state.specs.SecondHalf.{entry_time};
 ghost use Rattle.tenant_state.specs.Tenants.{active_of};
@@ -18,7 +16,7 @@ ghost use Rattle.tenant_state.specs.inner.Tenants.{IsActiveOf, IsSwitched};
 
 use crate::tenants::Active;
 use giotto_check::Checked;
-use giotto_check::timetables::SlotInvocation;
+use tenant_slots::periods::{common_multiple, period_of};
 use tenant_slots::switches::take_switch;
 
 /// Where a switch leads.
@@ -94,51 +92,4 @@ fn common_period(checked: &Checked, mode: usize, active: &[Active]) -> Option<u6
         }
     }
     common
-}
-
-// How many ticks lie between two invocations of the task in the mode, if the mode invokes it; both by their places.
-fn period_of(checked: &Checked, mode: usize, task: usize) -> Option<u64>
-    requires task { task < length checked.now.tasks }
-    ensures there { (m : ModeDeclaration) → IsModeAt checked.now mode m → result ≡ period_of_task m (name_of_task checked.now task) }
-    ensures none { length checked.now.modes ≤ mode → result ≡ None }
-{
-    // It is well-formed.
-    let _program = checked.program();
-    interval_of(checked.invocations(mode), task)
-}
-
-// The interval of the first of these invocations that is of the task at this place.
-fn interval_of(invocations: &[SlotInvocation], task: usize) -> Option<u64>
-    ensures { result ≡ option_map (λ i. i.interval) (find (λ i. nat_eq i.task task) invocations.now) }
-{
-    invocations
-        .iter()
-        .find(|i| i.task == task)
-        .map(|i| i.interval)
-}
-
-// The least common multiple of two numbers of ticks.
-fn common_multiple(a: u64, b: u64) -> u64
-    requires positive { (0 < a) × (0 < b) }
-    requires small { a * b < 2 ^ 64 }
-    ensures { IsLeastCommonMultiple (a ∷ b ∷ []) result }
-{
-    if a < b {
-        multiple_by_steps(b, a)
-    } else {
-        multiple_by_steps(a, b)
-    }
-}
-
-// The same, where the one is no less than the other: it is found by steps of it.
-fn multiple_by_steps(most: u64, least: u64) -> u64
-    requires positive { (0 < most) × (0 < least) }
-    requires small { most * least < 2 ^ 64 }
-    ensures { IsLeastCommonMultiple (most ∷ least ∷ []) result }
-{
-    let mut multiple = most;
-    while multiple % least != 0 {
-        multiple += most;
-    }
-    multiple
 }

@@ -4,10 +4,11 @@ use Rattle.std.proofs.lemmas.List.{take_all}
 use Rattle.giotto_text.specs.Program.{ModeDeclaration}
 use Rattle.giotto_rules.specs.Declarations.{period_of_task}
 use Rattle.tenant_slots.specs.Places.{name_of_task}
+use Rattle.tenant_slots.proofs.InvokedPeriods.{period_divides}
 use Rattle.tenant_slots.proofs.Numbered.{mode_fits_at}
-use Rattle.tenant_state.specs.inner.CommonPeriods.{IsCommonPeriod}
+use Rattle.tenant_slots.specs.inner.CommonPeriods.{IsCommonPeriod}
 use Rattle.tenant_state.specs.Tenants.{active_of}
-use Rattle.tenant_state.proofs.TaskPeriods.{period_divides, periods_more, periods_of, small_product, with_first, with_more, with_none}
+use Rattle.tenant_state.proofs.TaskPeriods.{periods_more, periods_of, small_product, with_first, with_more, with_none}
 use Rattle.tenant_state.proofs.tenants.switches.common_period.Goals as goal
 use Rattle.tenant_state.proofs.tenants.switches.common_period.Goals.{in-Some+in-None, in-Some+in-Some-common, in_default}
 

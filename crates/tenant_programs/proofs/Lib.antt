@@ -1,0 +1,2 @@
+pub mod ProgramLines
+pub mod ShownPorts

@@ -1,0 +1,19 @@
+//! What is asked of a program before and beside its run: whether it may be loaded, and what it shows.
+//!
+//! [`admission::read_program`] gives the well-formed program that a text spells, or says why there is none, and
+//! [`budgets::broken_budget`] names the first budget that a program is over:
+//!
+//! ```text
+//! let checked = read_program(alloc, text)?;
+//! if let Some(budget) = broken_budget(budgets, checked.program()) {
+//!     return Err(Refusal::OverBudget(budget));
+//! }
+//! ```
+//!
+//! [`shown::port_values`] lists the ports of a program with their values, by their names in replies. Whose program it is, and
+//! what that tenant is doing, isn't known here. The definitions stand in `specs/`: `Admission`, and `ShownPorts`.
+#![tactic(auto)]
+
+pub mod admission;
+pub mod budgets;
+pub mod shown;
