@@ -1,9 +1,7 @@
 //! Instants of a host of which some tenants run a program.
 
-use giotto_tasks::lists::List;
-use giotto_tasks::names::Name;
 use host_core::hosts::Host;
-use rig_config::{Budgets, Config, TenantConfig};
+use rig_config::{Config, read_config};
 use std::alloc::Global;
 use std::io::Read;
 use tenant_lines::commands::Command;
@@ -51,29 +49,27 @@ pub(crate) fn instants<R: Read + Drop>(
     Ok(computed)
 }
 
-// So many tenants, which may read and drive the one line.
+// The other fields of each tenant: all that a budget can be.
+const FIELDS: &str = "key = \"k\"
+reads = [0]
+writes = []
+bytes = 16000
+ports = 1024
+tasks = 64
+modes = 64
+steps = 1000000
+trace = 1
+offers = 1
+binds = 1
+";
+
+// So many tenants, which may read the one line.
 pub(crate) fn roster(alloc: Global, tenants: usize) -> anyhow::Result<Config> {
-    let mut roster = Vec::new(alloc);
-    for _tenant in 0..tenants {
-        roster.push(TenantConfig {
-            name: Name::default(),
-            key: List::from_vec(Vec::new(alloc)),
-            budgets: Budgets {
-                reads: List::from_vec(Vec::from_slice(alloc, &[0])?),
-                writes: List::from_vec(Vec::from_slice(alloc, &[0])?),
-                bytes: 16000,
-                ports: 1024,
-                tasks: 64,
-                modes: 64,
-                steps: 1000000,
-                trace: 1,
-                offers: 1,
-                binds: 1,
-            },
-        })?;
+    let mut text = String::from_str(alloc, "version = 1\nlines = 1\n")?;
+    for tenant in 0..tenants {
+        let name = format!(in alloc; "[[tenant]]\nname = \"t{tenant}\"\n")?;
+        text.push_str(name.as_str())?;
+        text.push_str(FIELDS)?;
     }
-    Ok(Config {
-        lines: 1,
-        tenants: List::from_vec(roster),
-    })
+    Ok(read_config(alloc, text.as_str())?)
 }
