@@ -1,12 +1,11 @@
 -- At most one tenant may drive a line.
-use Rattle.std.proofs.Common.{◌≡◌, ℕ, zero, suc, Bool, true, false, not, ◌&&◌, ◌||◌, nat_eq, List, [], ◌∷◌, Option, Some, None, refl, ap, sym, ◌∙◌, arith, inl, inr}
+use Rattle.std.proofs.Common.{◌≡◌, ℕ, zero, suc, Bool, true, nat_eq, List, [], ◌∷◌, refl, ap, arith, inl, inr}
 use Rattle.std.proofs.lemmas.Bool.{and_parts, cases_Bool, eqb-true, false≢true}
 use Rattle.std.specs.Prelude.{slice_get}
 use Rattle.std.specs.List.{list_all, list_any}
 use Rattle.std.specs.Option.{option_map_or}
 use Rattle.rig_config.specs.Ranges.{all_drive_apart, drive_apart}
 use Rattle.rig_config.specs.Roster.{may_use, no_budgets}
-use Rattle.rig_config.specs.declared.Budgets.{Budgets}
 use Rattle.rig_config.specs.declared.TenantConfig.{TenantConfig}
 
 -- what the tenant at a place may drive
@@ -17,9 +16,9 @@ driven_at ts t = (option_map_or (λ (tenant : TenantConfig). tenant.budgets) (sl
 any_of : (xs : List ℕ) (k : ℕ) (p : ℕ → Bool) → list_any (nat_eq k) xs ≡ true → p k ≡ true → list_any p xs ≡ true
 any_of [] k p e h = absurd (false≢true e)
 any_of (x ∷ xs) k p e h = elim (cases_Bool (nat_eq k x)) [
-    | inl same ↦ (let is : k ≡ x = eqb-true k x same in rw (← is, h))
-    | inr other ↦ (let more : list_any (nat_eq k) xs ≡ true = rw other at e in grind (arith, any_of xs k p more h))
-  ]
+  | inl same ↦ (let is : k ≡ x = eqb-true k x same in rw (← is, h))
+  | inr other ↦ (let more : list_any (nat_eq k) xs ≡ true = rw other at e in grind (arith, any_of xs k p more h))
+]
 
 not_both : (t u : TenantConfig) (k : ℕ) → drive_apart t u ≡ true → may_use t.budgets.writes k ≡ true → may_use u.budgets.writes k ≡ true → ⊥
 not_both t u k apart own other = false≢true (rw (any_of t.budgets.writes k (may_use u.budgets.writes) own other) at apart)

@@ -4,8 +4,7 @@ use Rattle.std.specs.Prelude.{Result, Ok, Err}
 use Rattle.toml.specs.Data.{Members}
 use Rattle.rig_config.specs.Fields.{tenant_field}
 use Rattle.rig_config.specs.Reading.{◌>>=◌, budgets_of, lines_in, number, read}
-use Rattle.rig_config.specs.inner.Numbers.{budgets_by_parts_of, budgets_with, numbers_of}
-use Rattle.rig_config.specs.declared.Budgets.{Budgets}
+use Rattle.rig_config.specs.inner.Numbers.{budgets_by_parts_of, numbers_of}
 use Rattle.rig_config.specs.declared.faults.ConfigFault.{ConfigFault}
 use Rattle.rig_config.specs.declared.faults.Field.{Field}
 use Rattle.rig_config.specs.declared.faults.Field.TheVariants as field
@@ -32,5 +31,6 @@ budgets_by_parts lines t fields =
   where
     lines_of : Field → Result (List ℕ) ConfigFault
     lines_of f = read (lines_in lines) (tenant_field t f) fields
+
     n : Field → Result ℕ ConfigFault
     n f = number (tenant_field t f) fields

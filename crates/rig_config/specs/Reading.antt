@@ -1,5 +1,5 @@
 -- From a text to a configuration, or to the first fault.
-use Rattle.std.specs.Prelude.{ℕ, suc, ◌+◌, ℤ, pos, negsuc, Bool, true, false, not, ◌&&◌, if◌then◌else◌, nat_lt, List, [], ◌∷◌, map, Option, Some, None, option_map, is_some, Result, Ok, Err}
+use Rattle.std.specs.Prelude.{ℕ, suc, ◌+◌, pos, Bool, true, not, ◌&&◌, if◌then◌else◌, nat_lt, List, [], ◌∷◌, map, Option, Some, None, option_map, is_some, Result, Ok, Err}
 use Rattle.std.specs.Bool.{then_some}
 use Rattle.std.specs.Option.{option_and_then, ok_or, option_map_or}
 use Rattle.toml.specs.Data.{Data, integer, Items, no_items, item, Members, as_str, as_array, as_table, get_member}

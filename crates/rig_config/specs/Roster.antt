@@ -19,9 +19,13 @@ is_tenant rig t = nat_lt t (length rig.tenants)
 abbrev pub place_of : Rig → Name → Option ℕ
 place_of rig x = position (λ (t : TenantConfig). same_name t.name x) rig.tenants
 
+-- the name and the key are the tenant's own
+abbrev pub has : TenantConfig → List ℕ → List ℕ → Bool
+has tenant name key = same_name tenant.name name && same_name tenant.key key
+
 -- the place of the tenant with this name and this key
 abbrev pub greeted : Rig → List ℕ → List ℕ → Option ℕ
-greeted rig name key = position (λ (t : TenantConfig). same_name t.name name && same_name t.key key) rig.tenants
+greeted rig name key = position (λ tenant. has tenant name key) rig.tenants
 
 -- the name of the tenant at a place; no name where the roster has no such place
 abbrev pub name_at : Rig → ℕ → Name

@@ -145,7 +145,7 @@ pub enum ConfigFault {
     #[error("{0} is out of its range, or of another kind")]
     Range(FieldPlace),
     /// Two tenants have the same name, or may drive the same line.
-    #[error("two tenants have something of `{}` in common", .0.word())]
+    #[error("two tenants share a value of `{}`", .0.word())]
     Twice(Field),
     /// Want of memory.
     #[error("no memory for the configuration")]

@@ -9,12 +9,10 @@ ghost use Rattle.rig_config.specs.Roster.{Rig, budgets_at, may_use};
 /// The built-in configuration is what its text is read as.
 pub fn built_in_is_read()
     ensures { config_of built_in_text ≡ Ok built_in_config }
-{
-}
+{}
 
 /// At most one tenant may drive a line.
 pub fn one_driver()
     ensures { (rig : Rig) (k s t : ℕ) → IsConfig rig
         → IsTrue (may_use (budgets_at rig s).writes k) → IsTrue (may_use (budgets_at rig t).writes k) → s ≡ t }
-{
-}
+{}

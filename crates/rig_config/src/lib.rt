@@ -1,10 +1,14 @@
 //! The configuration of a rig: its lines, and its tenants with their budgets.
+//!
+//! [`read_config`] reads a configuration from a text in TOML, or tells the first fault in it; [`built_in`] is the one without a
+//! text. What a text means is said in `specs/Reading.antt`, one line for each field; `specs/Fields.antt` has the ranges, and
+//! `specs/Ranges.antt` what every [`Config`] keeps. `proofs/ConfigExamples.antt` has texts, read.
 #![tactic(auto)]
 
 ghost use Rattle.std.specs.Prelude.{◌≡◌, IfOk};
 ghost use Rattle.rig_config.specs.BuiltIn.{built_in_tenant, built_in_config};
 ghost use Rattle.rig_config.specs.Ranges.{IsConfig};
-ghost use Rattle.rig_config.specs.Roster.{greeted, place_of};
+ghost use Rattle.rig_config.specs.Roster.{greeted, has, place_of};
 
 pub mod faults;
 pub mod laws;
@@ -13,10 +17,9 @@ mod values;
 
 use giotto_tasks::lists::List;
 use giotto_tasks::names::Name;
+pub use reading::read_config;
 use std::alloc::{AllocError, Global};
 use std::marker::Model;
-
-pub use reading::read_config;
 
 /// The place of a tenant in the configuration, counted from 0.
 pub type TenantId = usize;
@@ -78,6 +81,13 @@ pub struct TenantConfig {
 }
 
 impl TenantConfig {
+    // Whether the name and the key are the tenant's own.
+    fn has(&self, name: &str, key: &str) -> bool
+        ensures { result ≡ has self.now name.now key.now }
+    {
+        self.name.as_str() == name && self.key.as_slice() == key.as_bytes()
+    }
+
     // An equal tenant.
     fn copy(&self, alloc: Global) -> Result<TenantConfig, AllocError>
         ensures { IfOk result (λ tenant. tenant ≡ self.now) }
@@ -160,7 +170,7 @@ impl Config {
         self.tenants
             .as_slice()
             .iter()
-            .position(|tenant| tenant.name.as_str() == name && tenant.key.as_slice() == key.as_bytes())
+            .position(|tenant| tenant.has(name, key))
     }
 }
 

@@ -65,7 +65,12 @@ fn key(alloc: Global, fields: &Table, tenant: TenantId) -> Result<List<u8>, Conf
 }
 
 // The lines of `reads` or `writes`, in a rig of so many lines.
-fn line_set(alloc: Global, fields: &Table, at: FieldPlace, lines: usize) -> Result<List<usize>, ConfigFault>
+fn line_set(
+    alloc: Global,
+    fields: &Table,
+    at: FieldPlace,
+    lines: usize,
+) -> Result<List<usize>, ConfigFault>
     ensures value { Gives result (read (lines_in lines) at (table_view fields.now)) }
     ensures range { IfOk result (λ ks. IsTrue (are_lines lines ks)) }
 {
@@ -105,12 +110,27 @@ fn numbers_of(fields: &Table, tenant: TenantId) -> Result<Numbers, ConfigFault>
 
 // The budgets of the tenant at a place of a rig with so many lines.
 #[tactic(auto, using(crate::proofs::NumbersOf::budgets_by_parts))]
-fn budgets_of(alloc: Global, fields: &Table, lines: usize, tenant: TenantId) -> Result<Budgets, ConfigFault>
+fn budgets_of(
+    alloc: Global,
+    fields: &Table,
+    lines: usize,
+    tenant: TenantId,
+) -> Result<Budgets, ConfigFault>
     ensures value { Gives result (budgets_of lines tenant (table_view fields.now)) }
     ensures ranges { IfOk result (λ budgets. IsTrue (are_budgets lines budgets)) }
 {
-    let reads = line_set(alloc, fields, FieldPlace::of_tenant(tenant, Field::Reads), lines)?;
-    let writes = line_set(alloc, fields, FieldPlace::of_tenant(tenant, Field::Writes), lines)?;
+    let reads = line_set(
+        alloc,
+        fields,
+        FieldPlace::of_tenant(tenant, Field::Reads),
+        lines,
+    )?;
+    let writes = line_set(
+        alloc,
+        fields,
+        FieldPlace::of_tenant(tenant, Field::Writes),
+        lines,
+    )?;
     let numbers = numbers_of(fields, tenant)?;
     Ok(Budgets {
         reads,
@@ -128,7 +148,12 @@ fn budgets_of(alloc: Global, fields: &Table, lines: usize, tenant: TenantId) -> 
 
 // The tenant at a place of a rig with so many lines.
 #[tactic(auto, unfolding(crate::specs::Reading::tenant_of))]
-fn tenant(alloc: Global, fields: &Table, lines: usize, place: TenantId) -> Result<TenantConfig, ConfigFault>
+fn tenant(
+    alloc: Global,
+    fields: &Table,
+    lines: usize,
+    place: TenantId,
+) -> Result<TenantConfig, ConfigFault>
     ensures value { Gives result (tenant_of lines place (table_view fields.now)) }
     ensures ranges { IfOk result (λ tenant. IsTrue (is_tenant_config lines tenant)) }
 {
@@ -192,7 +217,10 @@ fn share_a_line(lines: &[usize], others: &[usize]) -> bool
 fn drive_apart(one: &TenantConfig, other: &TenantConfig) -> bool
     ensures { result ≡ drive_apart one.now other.now }
 {
-    !share_a_line(one.budgets.writes.as_slice(), other.budgets.writes.as_slice())
+    !share_a_line(
+        one.budgets.writes.as_slice(),
+        other.budgets.writes.as_slice(),
+    )
 }
 
 // Whether no line may be driven by the one and by one of the others.

@@ -29,7 +29,11 @@ pub(crate) fn number_in(field: Field, value: &Value) -> Option<usize>
     ensures range { IfSome result (λ n. IsTrue (is_in_range field n)) }
 {
     let number = whole_in(value)?;
-    if field.allows(number) { Some(number) } else { None }
+    if field.allows(number) {
+        Some(number)
+    } else {
+        None
+    }
 }
 
 // The tenant's name that a value is.
@@ -67,9 +71,7 @@ fn is_lower(byte: u8) -> bool
 fn are_name_bytes(bytes: &[u8]) -> bool
     ensures { result ≡ list_all is_name_byte bytes.now }
 {
-    bytes
-        .iter()
-        .all(|&byte| is_lower(byte) || (b'0' <= byte && byte <= b'9') || byte == b'_')
+    bytes.iter().all(|&byte| is_lower(byte) || (b'0' <= byte && byte <= b'9') || byte == b'_')
 }
 
 // The key that a value is.
@@ -100,7 +102,11 @@ fn line_in(value: &Value, lines: usize) -> Option<usize>
 }
 
 // The numbers of lines that a value is, in a rig of so many lines.
-pub(crate) fn lines_in(alloc: Global, value: &Value, lines: usize) -> Result<Option<List<usize>>, AllocError>
+pub(crate) fn lines_in(
+    alloc: Global,
+    value: &Value,
+    lines: usize,
+) -> Result<Option<List<usize>>, AllocError>
     ensures value { IfOk result (λ found. found ≡ lines_in lines (view value.now)) }
     ensures range { IfOk result (λ found. IfSome found (λ ks. IsTrue (are_lines lines ks))) }
 {

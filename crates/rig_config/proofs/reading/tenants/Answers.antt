@@ -1,8 +1,7 @@
-use Rattle.std.proofs.Common.{rules, arith, ◌≡◌, ◌+◌, Some, Ok, ap, sym, ◌∙◌, true, length, length-append, List, ◌++◌, ◌∷◌, [], drop}
-use Rattle.std.specs.List.{list_all}
+use Rattle.std.proofs.Common.{◌≡◌, Some, Ok, ◌∙◌, length-append, ◌++◌, ◌∷◌, []}
 use Rattle.std.proofs.lemmas.List.Folds.{list_all-append}
 use Rattle.toml.specs.Data.{as_table}
-use Rattle.toml.specs.View.{items_view, view, table_view}
+use Rattle.toml.specs.View.{view, table_view}
 use Rattle.rig_config.specs.Ranges.{is_tenant_config}
 use Rattle.rig_config.specs.Reading.{tenant_of}
 use Rattle.rig_config.proofs.Tenants.{next_tenant}
@@ -17,7 +16,8 @@ loop-place-preserved c =
     let is_table : as_table (view table) ≡ Some fields = rw (← c.as_table.ensures, c.in-Some.is) in
     let is_tenant : tenant_of c.args.lines c.loop-place.place fields ≡ Ok tenant = c.in_ok-tenant.ensures.value in
     let pushed : c.push.new.self.items ≡ before ++ tenant ∷ [] = rw (c.push.ensures.items, c.in_ok-push.was) in
-    let next = next_tenant c.args.lines c.loop-place.place before c.args.tables.now table fields tenant c.loop-place-test.true c.index-tables-place.is is_table is_tenant in
-    (rw pushed (next ∙ c.loop-place.invariant.0),
-     rw (pushed, list_all-append (is_tenant_config c.args.lines) before (tenant ∷ []), c.loop-place.invariant.1, c.in_ok-tenant.ensures.ranges),
-     rw (pushed, length-append before (tenant ∷ []), c.loop-place.invariant.2))
+    let next = next_tenant c.args.lines c.loop-place.place before c.args.tables.now table fields tenant c.loop-place-test.true c.index-tables-place.is is_table is_tenant in (
+      rw pushed (next ∙ c.loop-place.invariant.0),
+      rw (pushed, list_all-append (is_tenant_config c.args.lines) before (tenant ∷ []), c.loop-place.invariant.1, c.in_ok-tenant.ensures.ranges),
+      rw (pushed, length-append before (tenant ∷ []), c.loop-place.invariant.2),
+    )
