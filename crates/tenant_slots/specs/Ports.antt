@@ -1,7 +1,7 @@
 -- The ports of a program and their values.
-use Rattle.std.specs.Prelude.{Bool, ℤ, pos, ◌++◌, map, Option, Some, None}
+use Rattle.std.specs.Prelude.{ℕ, Bool, false, nat_eq, ℤ, pos, ◌++◌, map, Option, Some, None}
 use Rattle.std.specs.List.{flat_map}
-use Rattle.std.specs.Option.{option_and_then}
+use Rattle.std.specs.Option.{option_and_then, option_map_or}
 use Rattle.giotto_tasks.specs.declared.names.Name.{Name}
 use Rattle.giotto_tasks.specs.Arithmetic.{is_true}
 use Rattle.giotto_tasks.specs.Names.{Valuation, value_at}
@@ -42,3 +42,7 @@ holds (Some e) ports = is_true (value_of e ports)
 -- the value of a port, an input or a state of a task where one is named, if the program has the port
 abbrev pub value_of_port : GiottoProgram → Valuation → Option Name → Name → Option ℤ
 value_of_port p ports task x = option_and_then (λ slot. value_at ports (shown_name (record { task = task; name = x }))) (slot_of p task x)
+
+-- whether an actuator with this line, if any, drives line k
+abbrev pub drives : ℕ → Option ℕ → Bool
+drives k line = option_map_or (nat_eq k) line false

@@ -1,17 +1,23 @@
-//! Actuators: their updates in a mode, and their reset when a program is stopped.
+//! Actuators: their places, their updates in a mode, and their reset when a program is stopped.
 
 ghost use Rattle.std.specs.Prelude.{◌≡◌, ◌≤◌, length};
+ghost use Rattle.std.specs.List.{find, position_from};
+ghost use Rattle.std.specs.Option.{option_map};
+ghost use Rattle.giotto_tasks.specs.Names.{same_name};
+ghost use Rattle.giotto_text.specs.declared.programs.Actuator.{Actuator};
 ghost use Rattle.giotto_text.specs.Program.{ModeDeclaration};
 ghost use Rattle.giotto_check.specs.inner.Slots.{slots_of};
 ghost use Rattle.giotto_check.specs.Slots.{valuation_of};
 ghost use Rattle.tenant_slots.specs.inner.Places.{IsModeAt};
-ghost use Rattle.tenant_slots.specs.Ports.{actuators_reset};
+ghost use Rattle.tenant_slots.specs.Ports.{actuators_reset, drives};
 ghost use Rattle.tenant_slots.specs.Updates.{all_updated};
 
 use crate::drivers::holds;
 use crate::due::Due;
 use giotto_check::Checked;
 use giotto_check::timetables::slot_value;
+use giotto_tasks::names::Name;
+use giotto_text::programs::Actuator;
 
 /// Gives each actuator its initial value. Takes no memory.
 pub fn reset_actuators(checked: &Checked, values: &mut [i64])
@@ -41,5 +47,36 @@ pub fn update_due(checked: &Checked, mode: usize, time: u64, values: &mut [i64])
         if due.is_due(update.interval) && holds(&update.guard, values) {
             values[update.actuator] = slot_value(&update.value, values);
         }
+    }
+}
+
+/// The place of the actuator of this name among these, counted from 0; `None` where none has it.
+pub fn actuator_place(actuators: &[Actuator], name: &str) -> Option<usize>
+    ensures { result ≡ position_from (λ (a : Actuator). same_name a.name name.now) 0 actuators.now }
+{
+    actuators
+        .iter()
+        .position(|actuator| actuator.name.as_str() == name)
+}
+
+/// The name of the first of these actuators that drives this line; `None` where none does.
+pub fn driver_name(actuators: &[Actuator], line: u64) -> Option<Name>
+    ensures { result ≡ option_map (λ (a : Actuator). a.name) (find (λ (a : Actuator). drives line a.line) actuators.now) }
+{
+    for actuator in actuators {
+        if drives(actuator.line, line) {
+            return Some(actuator.name.copy());
+        }
+    }
+    None
+}
+
+// Whether an actuator with this line, if any, drives the other.
+fn drives(own: Option<u64>, line: u64) -> bool
+    ensures { result ≡ drives line own }
+{
+    match own {
+        Some(own) => line == own,
+        None => false,
     }
 }

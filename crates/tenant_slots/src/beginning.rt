@@ -1,6 +1,8 @@
 //! The values with which a program begins.
 
-ghost use Rattle.std.specs.Prelude.{◌≡◌, ◌+◌, ◌≤◌, length, map, IfOk};
+ghost use Rattle.std.specs.Prelude.{◌≡◌, ◌+◌, ◌≤◌, length, map, None, IfOk};
+ghost use Rattle.std.specs.Arc.{arc_value};
+ghost use Rattle.std.specs.Option.{option_map};
 ghost use Rattle.giotto_check.specs.inner.Slots.{slots_of, with_range};
 ghost use Rattle.giotto_check.specs.Slots.{valuation_of};
 ghost use Rattle.giotto_text.specs.ProgramTrees.{task_of};
@@ -10,6 +12,7 @@ use giotto_check::Checked;
 use giotto_tasks::bodies::Body;
 use giotto_text::programs::Task;
 use std::alloc::{AllocError, Global};
+use std::sync::Arc;
 
 /// Gives each port its initial value. Takes no memory.
 pub fn reset_ports(checked: &Checked, values: &mut [i64])
@@ -60,4 +63,21 @@ fn reset_own(task: &Task, first: usize, values: &mut [i64]) -> usize
     values[first..states].fill(0);
     values[states..end].copy_from_slice(task.states.as_slice());
     end
+}
+
+/// A place for a share of each task's body, with none at hand.
+///
+/// # Errors
+/// Want of memory.
+pub fn no_shares(
+    alloc: Global,
+    tasks: &[Task],
+) -> Result<Vec<Option<Arc<Body, Global>>>, AllocError>
+    ensures { IfOk result (λ shares. map (option_map arc_value) shares.items ≡ map (λ t. None) tasks.now) }
+{
+    let mut shares = Vec::new(alloc);
+    for _task in tasks {
+        shares.push(None)?;
+    }
+    Ok(shares)
 }

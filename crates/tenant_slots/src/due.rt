@@ -1,11 +1,13 @@
 //! What is due at a mode time.
 
-ghost use Rattle.std.specs.Prelude.{◌≡◌, ◌<◌, ◌≤◌, ◌%◌, ◌-◌, ◌^◌, ◌==◌, ℕ, false, length};
+ghost use Rattle.std.specs.Prelude.{◌≡◌, ◌<◌, ◌≤◌, ◌%◌, ◌-◌, ◌^◌, ◌==◌, ◌&&◌, ℕ, false, length, nat_eq};
+ghost use Rattle.std.specs.List.{list_any, AllByRecursion};
 ghost use Rattle.giotto_text.specs.Program.{ModeDeclaration};
-ghost use Rattle.tenant_slots.specs.inner.Due.{IsNextDue};
+ghost use Rattle.tenant_slots.specs.inner.Due.{IsNextDue, IsQuietUntil, MarksDue, is_among_due};
 ghost use Rattle.tenant_slots.specs.inner.Places.{IsModeAt};
 
 use giotto_check::Checked;
+use giotto_check::timetables::SlotInvocation;
 use std::marker::Model;
 
 /// A mode time, asked for what is due at it. The last answer is kept, as many lines of a timetable have one interval.
@@ -84,4 +86,68 @@ fn next_multiple(time: u64, interval: u64) -> u64
         0 => time,
         rest => time.saturating_add(interval - rest),
     }
+}
+
+/// A mode time before which nothing is due, from the mode time behind an instant on; `next` is one from the instant's on.
+pub fn due_behind(checked: &Checked, mode: usize, time: u64, behind: u64, next: u64) -> u64
+    ensures { (m : ModeDeclaration) → IsModeAt checked.now mode m → IsQuietUntil m time next → IsQuietUntil m behind result }
+{
+    if behind <= time {
+        return 0;
+    }
+    if time < next {
+        return next;
+    }
+    next_due(checked, mode, behind)
+}
+
+/// For each of the first 64 tasks whether one of these invocations of it is due at this mode time.
+pub fn due_marks(invocations: &[SlotInvocation], time: u64) -> [bool; 64]
+    requires { AllByRecursion (λ i. 0 < i.interval) invocations.now }
+    ensures { MarksDue invocations.now time result }
+{
+    let mut due = Due::at(time);
+    let mut marks = [false; 64];
+    for i in invocations {
+        if i.task < 64 && due.is_due(i.interval) {
+            marks[i.task] = true;
+        }
+    }
+    marks
+}
+
+/// Whether one of these invocations of the task at this place is due at this mode time. `marks` are those of `due_marks`.
+pub fn is_task_due(
+    invocations: &[SlotInvocation],
+    time: u64,
+    marks: &[bool; 64],
+    task: usize,
+) -> bool
+    requires positive { AllByRecursion (λ i. 0 < i.interval) invocations.now }
+    requires marks { MarksDue invocations.now time marks.now }
+    ensures { result ≡ is_among_due time task invocations.now }
+{
+    if task < 64 {
+        return marks[task];
+    }
+    for i in invocations {
+        if task == i.task && time % i.interval == 0 {
+            return true;
+        }
+    }
+    false
+}
+
+/// Whether one of these invocations of the task at this place is due at this mode time.
+pub fn ends_at(invocations: &[SlotInvocation], time: u64, place: usize) -> bool
+    requires { AllByRecursion (λ i. 0 < i.interval) invocations.now }
+    ensures { result ≡ is_among_due time place invocations.now }
+{
+    let mut due = Due::at(time);
+    for invocation in invocations {
+        if place == invocation.task && due.is_due(invocation.interval) {
+            return true;
+        }
+    }
+    false
 }

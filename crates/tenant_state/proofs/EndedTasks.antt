@@ -30,7 +30,8 @@ use Rattle.tenant_slots.proofs.Numbered.{invocation_due, mode_here, same_task, t
 use Rattle.tenant_state.specs.declared.tenants.Active.{Active}
 use Rattle.tenant_state.specs.declared.tenants.State as code
 use Rattle.tenant_state.specs.declared.tenants.State.TheVariants as states
-use Rattle.tenant_state.specs.inner.EntryTable.{is_among_due, is_left_open, is_task_open}
+use Rattle.tenant_slots.specs.inner.Due.{is_among_due}
+use Rattle.tenant_state.specs.inner.EntryTable.{is_left_open, is_task_open}
 use Rattle.tenant_jobs.specs.declared.jobs.JobId.{JobId}
 use Rattle.tenant_jobs.specs.declared.jobs.JobResult.{JobResult}
 use Rattle.tenant_jobs.specs.inner.Finished.{result_of}

@@ -34,7 +34,8 @@ use Rattle.tenant_jobs.specs.Jobs.{same_job}
 use Rattle.tenant_state.specs.Jobs.{has_job, job_of}
 use Rattle.tenant_state.specs.Row.{ActiveTask, Row}
 use Rattle.tenant_state.specs.Tenants.{active_of, standing_of}
-use Rattle.tenant_state.specs.Readers.{actuator_value, driver_of, drives, line_value}
+use Rattle.tenant_slots.specs.Ports.{drives}
+use Rattle.tenant_state.specs.Readers.{actuator_value, driver_of, line_value}
 use Rattle.tenant_state.specs.inner.Tenants.{IsActiveOf, is_of_job}
 use Rattle.tenant_state.proofs.DueTasks as tasks
 use Rattle.tenant_state.proofs.DueTasks.{group, ends, names_of_tasks}

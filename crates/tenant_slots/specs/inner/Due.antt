@@ -1,6 +1,7 @@
--- Mode times at which nothing of a mode is due.
-use Rattle.std.specs.Prelude.{◌≡◌, ℕ, false, ◌<◌, ◌≤◌, ◌-◌, ◌^◌}
-use Rattle.std.specs.List.{AllByRecursion}
+-- Mode times at which nothing of a mode is due, and the tasks that are due at one.
+use Rattle.std.specs.Prelude.{◌≡◌, ℕ, Bool, false, nat_eq, ◌<◌, ◌≤◌, ◌-◌, ◌^◌, ◌%◌, ◌==◌, ◌&&◌, List, get_or}
+use Rattle.std.specs.List.{list_any, AllByRecursion}
+use Rattle.giotto_check.specs.declared.timetables.SlotInvocation.{SlotInvocation}
 use Rattle.giotto_text.specs.Program.{ActuatorUpdate, ModeSwitch, TaskInvocation, ModeDeclaration}
 use Rattle.tenant_slots.specs.Due.{is_due_at}
 
@@ -19,3 +20,11 @@ pub record IsNextDue (m : ModeDeclaration) (time next : ℕ) : Type 0 where
   pub from : time ≤ next
   pub quiet : IsQuietUntil m time next
   pub due : IsQuietAt m next → next ≡ 2 ^ 64 - 1
+
+-- whether the task at a place is due
+abbrev pub is_among_due : ℕ → ℕ → List SlotInvocation → Bool
+is_among_due time task invocations = list_any (λ (i : SlotInvocation). nat_eq task i.task && (time % i.interval == 0)) invocations
+
+-- each mark says whether its task is due
+abbrev pub MarksDue : List SlotInvocation → ℕ → List Bool → Type 0
+MarksDue invocations time marks = (t : ℕ) → t < 64 → get_or marks t false ≡ is_among_due time t invocations

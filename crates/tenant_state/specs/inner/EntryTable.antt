@@ -1,5 +1,5 @@
--- The active entries, and what is due, by the places of the tasks.
-use Rattle.std.specs.Prelude.{◌≡◌, ◌<◌, ◌≤◌, ◌-◌, ◌%◌, ◌==◌, ◌&&◌, ℕ, ℤ, nat_eq, Bool, not, false, List, map, filter, get_or, take, drop}
+-- The active entries, by the places of the tasks.
+use Rattle.std.specs.Prelude.{◌≡◌, ◌<◌, ◌≤◌, ◌-◌, ◌%◌, ◌==◌, ◌&&◌, ℕ, ℤ, nat_eq, Bool, not, List, map, filter, get_or, take, drop}
 use Rattle.std.specs.List.{list_any}
 use Rattle.giotto_check.specs.Slots.{valuation_of}
 use Rattle.giotto_check.specs.declared.timetables.SlotInvocation.{SlotInvocation}
@@ -17,10 +17,6 @@ abbrev pub IsTableOf : ℕ → List Active → List ℕ → Type 0
 IsTableOf count active table =
     (t : ℕ) → t < 64 → (get_or table t 0 ≤ count) × (entries_at t (take count active) ≡ take (get_or table t 0 - (get_or table t 0 - 1)) (drop (get_or table t 0 - 1) active))
 
--- whether the task at a place is due
-abbrev pub is_among_due : ℕ → ℕ → List SlotInvocation → Bool
-is_among_due time task invocations = list_any (λ (i : SlotInvocation). nat_eq task i.task && (time % i.interval == 0)) invocations
-
 -- whether an active entry of the task at this place isn't done
 abbrev pub is_task_open : (Active → Bool) → List Active → ℕ → Bool
 is_task_open done active task = list_any (λ (a : Active). nat_eq a.task task && not (done a)) active
@@ -28,10 +24,6 @@ is_task_open done active task = list_any (λ (a : Active). nat_eq a.task task &&
 -- whether the invocation's task is due, and left open
 abbrev pub is_left_open : ℕ → (Active → Bool) → List Active → SlotInvocation → Bool
 is_left_open time done active i = (time % i.interval == 0) && is_task_open done active i.task
-
--- each mark says whether its task is due
-abbrev pub MarksDue : List SlotInvocation → ℕ → List Bool → Type 0
-MarksDue invocations time marks = (t : ℕ) → t < 64 → get_or marks t false ≡ is_among_due time t invocations
 
 -- the values in the slots before and behind the ends of those of these entries that are due in the mode at this mode time
 abbrev pub AreDueEnded : GiottoProgram → ModeDeclaration → ℕ → List Active → List ℤ → List ℤ → Type 0

@@ -27,7 +27,7 @@ use tenant_lines::ports::PortValue;
 use tenant_lines::replies::{Refusal, Reply};
 use tenant_programs::admission::read_program;
 use tenant_programs::budgets::broken_budget;
-use tenant_slots::beginning::{initial_values, reset_ports};
+use tenant_slots::beginning::{initial_values, no_shares, reset_ports};
 use tenant_slots::names::start_place;
 
 /// What a loaded program begins with: the value of each port, by its slot, and a place for a share of each task's body.
@@ -191,15 +191,4 @@ impl Tenant {
         self.stop_with(Reason::Asked);
         Ok(())
     }
-}
-
-// A place for a share of each task's body, with none at hand.
-fn no_shares(alloc: Global, tasks: &[Task]) -> Result<Vec<Option<Arc<Body, Global>>>, AllocError>
-    ensures { IfOk result (λ shares. map (option_map arc_value) shares.items ≡ map (λ t. None) tasks.now) }
-{
-    let mut shares = Vec::new(alloc);
-    for _task in tasks {
-        shares.push(None)?;
-    }
-    Ok(shares)
 }

@@ -11,7 +11,8 @@ ghost use Rattle.tenant_slots.specs.Places.{name_of_task};
 ghost use Rattle.tenant_jobs.specs.inner.Finished.{is_entered};
 ghost use Rattle.tenant_state.specs.declared.tenants.Active.{Active};
 ghost use Rattle.tenant_state.specs.Jobs.{job_of};
-ghost use Rattle.tenant_state.specs.inner.EntryTable.{IsTableOf, AreDueEnded, MarksDue, entries_at, is_among_due, is_left_open, is_task_open};
+ghost use Rattle.tenant_slots.specs.inner.Due.{is_among_due};
+ghost use Rattle.tenant_state.specs.inner.EntryTable.{IsTableOf, AreDueEnded, entries_at, is_left_open, is_task_open};
 ghost use Rattle.tenant_state.specs.FirstHalf.{all_ended};
 ghost use Rattle.tenant_state.specs.inner.Halves.{IsFirstHalf};
 ghost use Rattle.tenant_state.specs.Standing.{most_released};
@@ -29,7 +30,7 @@ use giotto_text::programs::Program;
 use rig_config::TenantId;
 use tenant_jobs::finished::Finished;
 use tenant_slots::actuators::update_due;
-use tenant_slots::due::Due;
+use tenant_slots::due::{Due, due_marks, is_task_due};
 use tenant_slots::tasks::write_results;
 
 impl Tenant {
@@ -262,38 +263,6 @@ fn end(
         &result.states,
         values,
     );
-}
-
-// For each of the first 64 tasks whether it is due.
-fn due_marks(invocations: &[SlotInvocation], time: u64) -> [bool; 64]
-    requires { AllByRecursion (λ i. 0 < i.interval) invocations.now }
-    ensures { MarksDue invocations.now time result }
-{
-    let mut due = Due::at(time);
-    let mut marks = [false; 64];
-    for i in invocations {
-        if i.task < 64 && due.is_due(i.interval) {
-            marks[i.task] = true;
-        }
-    }
-    marks
-}
-
-// Whether a task at this place of the program is due.
-fn is_task_due(invocations: &[SlotInvocation], time: u64, marks: &[bool; 64], task: usize) -> bool
-    requires positive { AllByRecursion (λ i. 0 < i.interval) invocations.now }
-    requires marks { MarksDue invocations.now time marks.now }
-    ensures { result ≡ is_among_due time task invocations.now }
-{
-    if task < 64 {
-        return marks[task];
-    }
-    for i in invocations {
-        if task == i.task && time % i.interval == 0 {
-            return true;
-        }
-    }
-    false
 }
 
 // The due tasks end. Those that go on keep their order; one is moved up where another ends before it.

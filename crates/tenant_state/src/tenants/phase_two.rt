@@ -28,7 +28,7 @@ use rig_config::{Budgets, TenantId};
 use std::alloc::Global;
 use std::sync::Arc;
 use tenant_jobs::jobs::{Job, JobId, Jobs};
-use tenant_slots::due::next_due;
+use tenant_slots::due::due_behind;
 use tenant_slots::sensors::sense;
 
 impl Tenant {
@@ -98,19 +98,6 @@ impl Tenant {
         self.mode_time = behind;
         self.mode = mode;
     }
-}
-
-// A mode time before which nothing is due, from the mode time behind an instant on; `next` is one from the instant's on.
-fn due_behind(checked: &Checked, mode: usize, time: u64, behind: u64, next: u64) -> u64
-    ensures { (m : ModeDeclaration) → IsModeAt checked.now mode m → IsQuietUntil m time next → IsQuietUntil m behind result }
-{
-    if behind <= time {
-        return 0;
-    }
-    if time < next {
-        return next;
-    }
-    next_due(checked, mode, behind)
 }
 
 // Adds the jobs of these active tasks, which are of different tasks, in their order. Each takes the share of its body.

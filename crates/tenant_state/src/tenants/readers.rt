@@ -9,7 +9,7 @@ ghost use Rattle.giotto_check.specs.declared.timetables.SlotInvocation.{SlotInvo
 ghost use Rattle.tenant_slots.specs.Places.{name_of_task};
 ghost use Rattle.tenant_state.specs.FirstHalf.{names_due};
 ghost use Rattle.tenant_state.specs.inner.Standing.{has_active};
-ghost use Rattle.tenant_state.specs.Readers.{actuator_value, drives, line_value};
+ghost use Rattle.tenant_state.specs.Readers.{actuator_value, line_value};
 ghost use Rattle.tenant_state.specs.inner.Tenants.{IsActiveOf, is_of_job};
 
 use crate::tenants::{Active, State, Tenant};
@@ -18,7 +18,8 @@ use giotto_check::timetables::SlotInvocation;
 use giotto_tasks::names::Name;
 use giotto_text::programs::Actuator;
 use tenant_jobs::jobs::JobId;
-use tenant_slots::due::Due;
+use tenant_slots::actuators::{actuator_place, driver_name};
+use tenant_slots::due::ends_at;
 
 impl Tenant {
     /// Whether the task of this name is active and ends at the next instant. Nothing is due where no program runs. Takes no memory.
@@ -116,49 +117,4 @@ fn is_named(checked: &Checked, place: usize, name: &str) -> bool
     ensures { result ≡ same_name (name_of_task checked.now place) name.now }
 {
     checked.program().tasks()[place].name.as_str() == name
-}
-
-// Whether one of these invocations is due, and invokes the task at this place.
-fn ends_at(invocations: &[SlotInvocation], time: u64, place: usize) -> bool
-    requires { AllByRecursion (λ i. 0 < i.interval) invocations.now }
-    ensures { result ≡ list_any (λ i. nat_eq place i.task && (time % i.interval == 0)) invocations.now }
-{
-    let mut due = Due::at(time);
-    for invocation in invocations {
-        if place == invocation.task && due.is_due(invocation.interval) {
-            return true;
-        }
-    }
-    false
-}
-
-// The place of the actuator of this name among these.
-fn actuator_place(actuators: &[Actuator], name: &str) -> Option<usize>
-    ensures { result ≡ position_from (λ (a : Actuator). same_name a.name name.now) 0 actuators.now }
-{
-    actuators
-        .iter()
-        .position(|actuator| actuator.name.as_str() == name)
-}
-
-// The name of the first of these actuators that drives this line.
-fn driver_name(actuators: &[Actuator], line: u64) -> Option<Name>
-    ensures { result ≡ option_map (λ (a : Actuator). a.name) (find (λ (a : Actuator). drives line a.line) actuators.now) }
-{
-    for actuator in actuators {
-        if drives(actuator.line, line) {
-            return Some(actuator.name.copy());
-        }
-    }
-    None
-}
-
-// Whether an actuator with this line, if any, drives the other.
-fn drives(own: Option<u64>, line: u64) -> bool
-    ensures { result ≡ drives line own }
-{
-    match own {
-        Some(own) => line == own,
-        None => false,
-    }
 }

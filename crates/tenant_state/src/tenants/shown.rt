@@ -51,7 +51,10 @@ impl Tenant {
             return Err(Refusal::NotLoaded);
         };
         let values = self.values.as_slice();
-        let task = port.task.as_ref().map(|task| task.as_str());
+        let task = match &port.task {
+            Some(task) => Some(task.as_str()),
+            None => None,
+        };
         match port_value(checked, task, port.name.as_str(), values) {
             Some(value) => Ok(value),
             None => Err(Refusal::NoPort),

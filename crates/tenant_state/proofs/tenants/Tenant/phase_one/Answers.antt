@@ -16,7 +16,8 @@ use Rattle.tenant_state.specs.Jobs.{job_of}
 use Rattle.tenant_state.specs.Row.{ActiveTask, is_running_state}
 use Rattle.tenant_state.specs.Standing.{Standing, all_different_releases, most_released, without_records}
 use Rattle.tenant_state.specs.Tenants.{active_of, state_of, tasks_in}
-use Rattle.tenant_state.specs.inner.EntryTable.{is_among_due, is_left_open}
+use Rattle.tenant_slots.specs.inner.Due.{is_among_due}
+use Rattle.tenant_state.specs.inner.EntryTable.{is_left_open}
 use Rattle.tenant_state.specs.inner.Halves.{first_half_by}
 use Rattle.tenant_state.specs.inner.Tenants.{FitsProgram, FitsIts, IsActiveIn, IsActiveOf}
 use Rattle.tenant_state.proofs.DueTasks.{group}

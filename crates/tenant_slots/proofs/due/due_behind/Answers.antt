@@ -1,5 +1,5 @@
 use Rattle.std.proofs.Common.{arith}
-use Rattle.tenant_state.proofs.tenants.phase_two.due_behind.Goals as goal
+use Rattle.tenant_slots.proofs.due.due_behind.Goals as goal
 
 pub returns-then-time-next : goal.returns-then-time-next
 returns-then-time-next c m at quiet t from before = quiet t (omega (arith, from, c.if-behind-time.false)) before

@@ -1,7 +1,7 @@
 use Rattle.std.proofs.Common.{◌≡◌, find, drop}
 use Rattle.giotto_text.specs.declared.programs.Actuator.{Actuator}
-use Rattle.tenant_state.specs.Readers.{drives}
-use Rattle.tenant_state.proofs.tenants.readers.driver_name.Given as goal
+use Rattle.tenant_slots.specs.Ports.{drives}
+use Rattle.tenant_slots.proofs.actuators.driver_name.Given as goal
 
 abbrev pub invariant-loop-actuator : goal.invariant-loop-actuator
 invariant-loop-actuator l =

@@ -1,7 +1,7 @@
 use Rattle.std.proofs.Common.{◌||◌, false, refl, ap}
 use Rattle.std.proofs.lemmas.List.{get_or-replicate}
-use Rattle.tenant_state.specs.inner.EntryTable.{is_among_due}
-use Rattle.tenant_state.proofs.tenants.phase_one.due_marks.Goals as goal
+use Rattle.tenant_slots.specs.inner.Due.{is_among_due}
+use Rattle.tenant_slots.proofs.due.due_marks.Goals as goal
 
 pub loop-i-init : goal.loop-i-init
 loop-i-init c = record {

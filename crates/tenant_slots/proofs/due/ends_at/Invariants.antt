@@ -1,7 +1,7 @@
 use Rattle.std.proofs.Common.{◌≡◌, ◌<◌, ◌%◌, ◌==◌, ◌&&◌, nat_eq, drop}
 use Rattle.std.specs.List.{list_any, AllByRecursion}
 use Rattle.giotto_check.specs.declared.timetables.SlotInvocation.{SlotInvocation}
-use Rattle.tenant_state.proofs.tenants.readers.ends_at.Given as goal
+use Rattle.tenant_slots.proofs.due.ends_at.Given as goal
 
 abbrev pub invariant-loop-invocation : goal.invariant-loop-invocation
 invariant-loop-invocation l =

@@ -1,8 +1,8 @@
 use Rattle.std.proofs.Common.{◌≡◌, ◌<◌, ◌||◌, ℕ, false, drop, get_or, length}
 use Rattle.std.specs.List.{AllByRecursion}
 use Rattle.giotto_check.specs.declared.timetables.SlotInvocation.{SlotInvocation}
-use Rattle.tenant_state.specs.inner.EntryTable.{is_among_due}
-use Rattle.tenant_state.proofs.tenants.phase_one.due_marks.Given as goal
+use Rattle.tenant_slots.specs.inner.Due.{is_among_due}
+use Rattle.tenant_slots.proofs.due.due_marks.Given as goal
 
 abbrev pub invariant-loop-i : goal.invariant-loop-i
 invariant-loop-i l =

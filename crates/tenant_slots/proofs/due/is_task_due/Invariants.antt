@@ -1,7 +1,7 @@
 use Rattle.std.proofs.Common.{◌≡◌, ◌<◌, ◌%◌, ◌==◌, ◌&&◌, nat_eq, drop}
 use Rattle.std.specs.List.{list_any, AllByRecursion}
 use Rattle.giotto_check.specs.declared.timetables.SlotInvocation.{SlotInvocation}
-use Rattle.tenant_state.proofs.tenants.phase_one.is_task_due.Given as goal
+use Rattle.tenant_slots.proofs.due.is_task_due.Given as goal
 
 abbrev pub invariant-loop-i : goal.invariant-loop-i
 invariant-loop-i l =
