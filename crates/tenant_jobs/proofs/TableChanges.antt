@@ -2,7 +2,7 @@
 use Rattle.std.proofs.Common.{◌≡◌, ℕ, ◌+◌, ◌≤◌, Bool, true, false, cond, List, ◌∷◌, ◌++◌, length, Option, Some, None, count_by, find, is_some, option_to_list, refl, sym, ap, ◌∙◌, arith, subst, IsSomeAnd}
 use Rattle.std.proofs.lemmas.List.{length-append}
 use Rattle.std.proofs.lemmas.List.Sums.{count_by-le-length}
-use Rattle.slab.specs.Slab.{Slab, get, values, Updates, with_value}
+use Rattle.slab.specs.Slab.{Slab, get, slab_len, values, Updates, with_value}
 use Rattle.slab.proofs.SlabLemmas.{Updates-with_value}
 use Rattle.tenant_jobs.specs.declared.jobs.JobId.{JobId}
 use Rattle.tenant_jobs.specs.declared.jobs.JobResult.{JobResult}
@@ -176,3 +176,14 @@ is_removed_under old new key e id differ at named updates =
       found_under old key e id differ at named,
       subst (λ i. IsRemoved (values old) (values new) i e.result) (same_job_is e.id id same) (is_removed_at old new key e.id e.result updates at differ),
     )
+
+-- what holds of a table with so many results counted, so many entries that wait to be used, and room for so many of these
+abbrev pub IsTable : Slab TableEntry → ℕ → ℕ → ℕ → Type 0
+IsTable s results spare most =
+    NamesDiffer (values s) × (results ≡ count_by has_come (values s)) × (slab_len s + spare ≤ s.capacity) × (slab_len s + spare ≤ most)
+
+-- it holds of one that was only given room
+pub with_room : (was is : Slab TableEntry) (results spare most waiting : ℕ) (before : ℕ) → is ≡ record was { capacity = is.capacity } → IsTable was results waiting before
+    → slab_len was + spare ≤ is.capacity → slab_len was + spare ≤ most → IsTable is results spare most
+with_room was is results spare most waiting before same table fits holds =
+    subst (λ (s : Slab TableEntry). IsTable s results spare most) (sym same) (table.0, table.1, fits, holds)

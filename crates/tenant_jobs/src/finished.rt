@@ -1,6 +1,6 @@
 //! The table of the active tasks of all tenants of a host, with the results that came.
 
-ghost use Rattle.std.specs.Prelude.{◌≡◌, ◌<◌, ◌≤◌, ◌+◌, ◌&&◌, [], length, not, All, Some, None, IsOk, IfSome, IfNone, IsSomeAnd, OnOk, true, false, if◌then◌else◌, find, option_copied};
+ghost use Rattle.std.specs.Prelude.{◌≡◌, ◌<◌, ◌≤◌, ◌+◌, ◌&&◌, [], length, not, All, Some, None, IsOk, IfSome, IfNone, IsSomeAnd, OnOk, true, false, if◌then◌else◌, find, option_copied, vec_capacity};
 ghost use Rattle.std.specs.Bool.{OnTrue};
 ghost use Rattle.giotto_tasks.specs.Sound.{IsSound};
 ghost use Rattle.slab.specs.Slab.{get, values};
@@ -9,45 +9,38 @@ ghost use Rattle.tenant_jobs.specs.inner.Finished.{computed, entry_put, is_compl
 ghost use Rattle.tenant_jobs.specs.Jobs.{JobValue, same_job};
 ghost use Rattle.tenant_jobs.specs.declared.jobs.JobId.{JobId};
 
-use crate::jobs::{Done, JobId, JobResult, Jobs, Key, put_results};
+use crate::entries::Entry;
+use crate::jobs::{Done, JobId, JobResult, Jobs, Key};
 use giotto_tasks::bodies::Body;
 use giotto_tasks::values::Values;
 use slab::Slab;
 use std::alloc::{AllocError, Global};
 use std::marker::Model;
 
-#[derive(Drop)]
-struct Entry {
-    id: JobId,
-    result: Option<JobResult>,
-}
-
-impl Model for Entry {
-    ghost use Rattle.tenant_jobs.specs.Finished.{TableEntry};
-
-    ghost Value = { TableEntry };
-
-    ghost view = { λ e. record { id = e.id; result = e.result } };
-}
-
 /// The active tasks of all tenants of a host, with the results that came. Each is found by the name of its job, which no two have.
 #[derive(Drop)]
 pub struct Finished {
     entries: Slab<Entry>,
     results: usize,
+    // Entries that wait to be used. The slab has room for them, and they have room for all that the slab holds.
+    spare: Vec<Entry>,
+    alloc: Global,
 }
 
 impl Model for Finished {
-    ghost use Rattle.std.specs.Prelude.{◌≡◌, ◌-◌, count_by, is_some};
+    ghost use Rattle.std.specs.Prelude.{◌≡◌, ◌≤◌, ◌+◌, length, count_by, is_some, vec_capacity};
     ghost use Rattle.slab.specs.Slab.{values, slab_len};
     ghost use Rattle.tenant_jobs.specs.Finished.{TaskTable};
     ghost use Rattle.tenant_jobs.specs.inner.Finished.{NamesDiffer};
 
     ghost Value = { TaskTable };
 
-    ghost view = { λ f. record { entries = values f.entries; room = f.entries.capacity - slab_len f.entries } };
+    ghost view = { λ f. record { entries = values f.entries; room = length f.spare.items } };
 
-    ghost invariant = { λ f. NamesDiffer (values f.entries) × (f.results ≡ count_by (λ e. is_some e.result) (values f.entries)) };
+    ghost invariant = { λ f. NamesDiffer (values f.entries)
+        × (f.results ≡ count_by (λ e. is_some e.result) (values f.entries))
+        × (slab_len f.entries + length f.spare.items ≤ f.entries.capacity)
+        × (slab_len f.entries + length f.spare.items ≤ vec_capacity f.spare) };
 }
 
 impl Finished {
@@ -58,6 +51,8 @@ impl Finished {
         Finished {
             entries: Slab::new(alloc),
             results: 0,
+            spare: Vec::new(alloc),
+            alloc,
         }
     }
 
@@ -72,10 +67,14 @@ impl Finished {
         ensures never_refused { entries ≤ length self.old.entries + self.old.room → IsOk result }
         ensures had_room { entries ≤ length self.old.entries + self.old.room → self.new ≡ self.old }
     {
-        if entries <= self.entries.capacity() {
+        let spare = self.spare.len();
+        if entries <= self.entries.len() + spare {
             return Ok(());
         }
-        self.entries.reserve(entries - self.entries.len())
+        let more = entries - self.entries.len();
+        self.entries.reserve(more)?;
+        self.spare.reserve(entries - spare)?;
+        add_spare(self.alloc, more, &mut self.spare)
     }
 
     /// An entry without a result for each of these jobs, which carry its key from then on. They stay as they are, and in their order. Takes no memory.
@@ -101,6 +100,7 @@ impl Finished {
     }
 
     /// An entry of this name without a result. Gives its key. Takes no memory.
+    #[inline(always)]
     pub fn enter_task(&mut self, id: JobId) -> Key
         requires room { 0 < self.old.room }
         requires new { is_entered self.old.entries id ≡ false }
@@ -110,7 +110,11 @@ impl Finished {
         ensures count { length self.new.entries ≡ length self.old.entries + 1 }
         ensures room { self.new.room + 1 ≡ self.old.room }
     {
-        Key::new(self.entries.insert_reserved(Entry { id, result: None }))
+        let Some(mut entry) = self.spare.pop() else {
+            unreachable!()
+        };
+        entry.set_name(id);
+        Key::new(self.entries.insert_reserved(entry))
     }
 
     /// Puts the result into its entry, which has none yet. Takes no memory.
@@ -128,15 +132,13 @@ impl Finished {
         let Some(key) = entry_key(&self.entries, done.id(), done.job().key()) else {
             unreachable!()
         };
-        let Some(entry) = self.entries.get_mut(key) else {
-            unreachable!()
-        };
-        entry.result = Some(done.into_result());
+        self.entries[key].set_result(done.into_result());
         self.results += 1;
     }
 
     /// Computes the job of this name and puts the result into its entry, if none came yet. Whether none had come. The key tells nothing
     /// but where to look first. Takes no memory.
+    #[inline(always)]
     pub fn compute(
         &mut self,
         id: &JobId,
@@ -160,24 +162,17 @@ impl Finished {
         let Some(place) = entry_key(&self.entries, id, key) else {
             unreachable!()
         };
-        let Some(entry) = self.entries.get_mut(place) else {
-            unreachable!()
-        };
-        if entry.result.is_some() {
+        let entry = &mut self.entries[place];
+        if entry.has_result() {
             return false;
         }
-        let mut outputs = Values::new();
-        let mut new_states = Values::new();
-        put_results(body, inputs, states, &mut outputs, &mut new_states);
-        entry.result = Some(JobResult {
-            outputs,
-            states: new_states,
-        });
+        entry.compute(body, inputs, states);
         self.results += 1;
         true
     }
 
     /// Takes the entry of this name out, if there is one. The key tells nothing but where to look first.
+    #[inline(always)]
     pub fn remove(&mut self, id: &JobId, key: &Key)
         ensures entries { (j : JobId) → entry_in self.new.entries j ≡ (if same_job id.now j then None else entry_in self.old.entries j) }
         ensures results { result_count self.new.entries + (if has_result self.old.entries id.now then 1 else 0) ≡ result_count self.old.entries }
@@ -188,7 +183,8 @@ impl Finished {
             return;
         };
         let entry = self.entries.remove(key);
-        self.results -= usize::from(entry.result.is_some());
+        self.results -= usize::from(entry.has_result());
+        self.spare.push_reserved(entry);
     }
 
     /// Whether the result of the same name came.
@@ -199,11 +195,12 @@ impl Finished {
     }
 
     /// The result of this name, if it came. The key tells nothing but where to look first.
+    #[inline(always)]
     pub fn result(&self, id: &JobId, key: &Key) -> Option<&JobResult>
         ensures { option_copied result ≡ result_in self.now.entries id.now }
     {
         let key = entry_key(&self.entries, id, key)?;
-        self.entries.get(key)?.result.as_ref()
+        self.entries[key].result()
     }
 
     /// How many entries there are.
@@ -229,27 +226,44 @@ impl Finished {
     }
 }
 
+// Adds entries that wait to be used until there are so many.
+fn add_spare(alloc: Global, count: usize, spare: &mut Vec<Entry>) -> Result<(), AllocError>
+    requires fewer { length spare.old.items ≤ count }
+    requires room { count ≤ vec_capacity spare.old }
+    ensures all { OnOk result (length spare.new.items ≡ count) }
+    ensures kept { length spare.old.items ≤ length spare.new.items }
+    ensures bound { length spare.new.items ≤ count }
+    ensures capacity { vec_capacity spare.new ≡ vec_capacity spare.old }
+{
+    for _entry in spare.len()..count {
+        spare.push_reserved(Entry::unused(alloc)?);
+    }
+    Ok(())
+}
+
 // The key of the entry of this name: the hint, where the entry there is of this name.
+#[inline(always)]
 fn entry_key(entries: &Slab<Entry>, id: &JobId, hint: &Key) -> Option<usize>
     ensures found { IfSome result (λ key. IsSomeAnd (get entries.now key) (λ e. same_job e.id id.now ≡ true)) }
     ensures absent { IfNone result (find (λ e. same_job e.id id.now) (values entries.now) ≡ None) }
 {
     let key = hint.place();
     if let Some(entry) = entries.get(key) {
-        if entry.id == *id {
+        if entry.is_named(id) {
             return Some(key);
         }
     }
-    searched_key(entries, id)
+    searched_key(entries, id.copy())
 }
 
 // The key of the entry of this name, from a search of the whole table.
-fn searched_key(entries: &Slab<Entry>, id: &JobId) -> Option<usize>
-    ensures found { IfSome result (λ key. IsSomeAnd (get entries.now key) (λ e. same_job e.id id.now ≡ true)) }
-    ensures absent { IfNone result (find (λ e. same_job e.id id.now) (values entries.now) ≡ None) }
+#[cold]
+fn searched_key(entries: &Slab<Entry>, id: JobId) -> Option<usize>
+    ensures found { IfSome result (λ key. IsSomeAnd (get entries.now key) (λ e. same_job e.id id ≡ true)) }
+    ensures absent { IfNone result (find (λ e. same_job e.id id) (values entries.now) ≡ None) }
 {
     for (key, entry) in entries.iter() {
-        if entry.id == *id {
+        if entry.is_named(&id) {
             return Some(key);
         }
     }

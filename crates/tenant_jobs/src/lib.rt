@@ -5,5 +5,6 @@
 //! the tenant and its host. [`finished::Finished`] is the table of the active tasks of all tenants, with the results that came.
 #![tactic(auto)]
 
+mod entries;
 pub mod finished;
 pub mod jobs;

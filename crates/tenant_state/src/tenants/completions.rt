@@ -119,6 +119,7 @@ fn compute(checked: &Checked, tenant: TenantId, active: &Active, finished: &mut 
 }
 
 // The task of an active task.
+#[inline(always)]
 pub(crate) fn declared<'a>(checked: &'a Checked, active: &Active) -> &'a Task
     requires { IsActiveOf checked.now active.now }
     ensures task { IsTaskAt checked.now active.now.task (task_of result.now) }
@@ -128,6 +129,7 @@ pub(crate) fn declared<'a>(checked: &'a Checked, active: &Active) -> &'a Task
 }
 
 // The name of an active task's job.
+#[inline(always)]
 pub(crate) fn job_id(checked: &Checked, tenant: TenantId, active: &Active) -> JobId
     requires { IsActiveOf checked.now active.now }
     ensures { result ≡ its_name tenant checked.now active.now }

@@ -1,7 +1,6 @@
-use Rattle.std.proofs.Common.{◌≡◌, ap, refl, arith, sym, ◌∙◌, Bool, List, ℕ, map, find}
+use Rattle.std.proofs.Common.{ap, refl, arith, sym, ◌∙◌, Bool, List, ℕ, map, find}
 use Rattle.tenant_jobs.specs.Finished.{TableEntry}
 use Rattle.tenant_jobs.specs.Jobs.{same_job}
-use Rattle.tenant_jobs.proofs.JobNames.{same_job_eq}
 use Rattle.tenant_jobs.proofs.TableEntries.{find_past}
 use Rattle.slab.proofs.SlabLemmas.{Contains-cons, Contains-entries}
 use Rattle.tenant_jobs.proofs.Slots.{values-entries}
@@ -16,19 +15,17 @@ loop-key-init c =
       rw (left, values-entries c.args.entries.now) refl,
     )
 
-pub returns-then-eq-clause-found : goal.returns-then-eq-clause-found
-returns-then-eq-clause-found c =
+pub returns-then-is_named-clause-found : goal.returns-then-is_named-clause-found
+returns-then-is_named-clause-found c =
     let found = c.loop-key.invariant.2 c.in-Some.key c.in-Some.entry.now (rw c.in-Some.ensures.steps (0, omega arith, refl)) in
-    let same : same_job c.in-Some.entry.now.id c.args.id.now ≡ c.eq.result = ap (λ (e : TableEntry). same_job e.id c.args.id.now) (sym c.entry.view_is) ∙ (sym (same_job_eq c.entry.inside.id c.args.id.now) ∙ sym c.eq.ensures) in
-    rw found (same ∙ c.if-eq.true)
+    rw found (sym c.is_named.ensures ∙ c.if-is_named.true)
 
 pub loop-key-preserved : goal.loop-key-preserved
 loop-key-preserved c =
     let at = c.in-Some.ensures.steps in
-    let same : same_job c.in-Some.entry.now.id c.args.id.now ≡ c.eq.result = ap (λ (e : TableEntry). same_job e.id c.args.id.now) (sym c.entry.view_is) ∙ (sym (same_job_eq c.entry.inside.id c.args.id.now) ∙ sym c.eq.ensures) in
-    let is_named : TableEntry → Bool = λ e. same_job e.id c.args.id.now in (
+    let is_named : TableEntry → Bool = λ e. same_job e.id c.args.id in (
       tt,
       tt,
       λ key e there. c.loop-key.invariant.2 key e (rw at (Contains-cons _ _ _ there)),
-      sym (find_past is_named c.in-Some.entry.now (map (λ e. e.1) c.next.new.self) (same ∙ c.if-eq.false)) ∙ (ap (λ (zs : List (ℕ × TableEntry)). find is_named (map (λ e. e.1) zs)) (sym at) ∙ c.loop-key.invariant.3),
+      sym (find_past is_named c.in-Some.entry.now (map (λ e. e.1) c.next.new.self) (sym c.is_named.ensures ∙ c.if-is_named.false)) ∙ (ap (λ (zs : List (ℕ × TableEntry)). find is_named (map (λ e. e.1) zs)) (sym at) ∙ c.loop-key.invariant.3),
     )

@@ -1,23 +1,30 @@
-use Rattle.std.proofs.Common.{◌≡◌, false, Some, ap, arith, sym, ◌∙◌, subst}
-use Rattle.std.specs.Option.{option_copied_mut}
+use Rattle.std.proofs.Common.{◌≡◌, false, arith, sym, subst}
 use Rattle.slab.specs.Slab.{values, with_value}
 use Rattle.tenant_jobs.specs.Finished.{TaskTable, has_result}
 use Rattle.tenant_jobs.proofs.Slots.{length-values}
-use Rattle.tenant_jobs.proofs.TableChanges.{IsAdded, is_added_under, entry}
+use Rattle.tenant_jobs.proofs.TableChanges.{IsAdded, is_added_under}
 use Rattle.tenant_jobs.proofs.finished.Finished.add.Goals as goal
 
-added : (c : goal.After-self-2-1) → IsAdded (values c.self.inside.entries) (values (with_value c.self.inside.entries c.in-Some.key (entry c.entry.inside.id (Some c.into_result.result)))) c.args.done.id c.into_result.result
+added : (c : goal.After-self-1) → IsAdded (values c.self.inside.entries) (values (with_value c.self.inside.entries c.in-Some.key c.set_result.new.self)) c.args.done.id c.into_result.result
 added c =
-    is_added_under c.self.inside.entries c.in-Some.key (entry c.entry.inside.id c.entry.inside.result) c.args.done.id c.into_result.result c.self.invariant.0
-    (sym c.get_mut.ensures.value ∙ (ap option_copied_mut c.in-Some-get_mut.is ∙ ap Some (sym c.entry.view_is)))
+    rw c.set_result.ensures (
+    is_added_under c.self.inside.entries c.in-Some.key c.index_mut.result.now c.args.done.id c.into_result.result c.self.invariant.0 c.index_mut.ensures.value
     (rw c.id.ensures at c.in-Some.ensures.found)
     (subst (λ (t : TaskTable). has_result t.entries c.args.done.id ≡ false) (sym c.self.view_is) c.requires.none)
+    )
 
 pub overflow_add-self : goal.overflow_add-self
 overflow_add-self c = omega (arith, c.self.invariant.1, (added c).bounded, length-values c.self.inside.entries, c.len-entries.ensures, c.len-entries.type_inv)
 
 pub invariant_of-self : goal.invariant_of-self
-invariant_of-self c = ((added c.before).differ, omega (arith, c.self.invariant.1, (added c.before).results))
+invariant_of-self c =
+    let was = c.self.inside.entries in
+    let is = with_value was c.in-Some.key c.set_result.new.self in (
+      (added c.before).differ,
+      omega (arith, c.self.invariant.1, (added c.before).results),
+      omega (arith, c.self.invariant.2, (added c.before).as_many, length-values was, length-values is),
+      omega (arith, c.self.invariant.3, (added c.before).as_many, length-values was, length-values is),
+    )
 
 pub returns-clause-entries : goal.returns-clause-entries
 returns-clause-entries c j = rw (← c.self.view_is, ← c.into_result.ensures) ((added c.before).found j)

@@ -1,4 +1,4 @@
-use Rattle.std.proofs.Common.{ap, arith, nat_eq, sym, ◌∙◌}
+use Rattle.std.proofs.Common.{arith, nat_eq}
 use Rattle.std.proofs.lemmas.Bool.{OnTrue_from, eqb-true}
 use Rattle.slab.specs.Slab.{values}
 use Rattle.tenant_jobs.proofs.Slots.{length-values}
