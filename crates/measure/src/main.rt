@@ -1,6 +1,7 @@
 //! Work for the stopwatch of `bench/`: a text read many times, a body with many turns, instants of a host, and a plain loop.
 #![tactic(auto)]
 
+mod completions;
 mod drivers;
 mod instants;
 mod plays;
@@ -19,7 +20,7 @@ fn main(rt: HostRuntime) -> anyhow::Result<ExitCode> {
     let words: Vec<String> = std::env::args(&rt)?.collect(rt.alloc())?;
     let [_, work, times] = words.as_slice() else {
         eprintln!(rt;
-            "usage: measure tokens|read|check|print|drive|alone|crowded|all|quiet TIMES < TEXT, or measure evaluate|jobs|operate|loop|play TIMES"
+            "usage: measure tokens|read|check|print|drive|alone|crowded|all|quiet|done TIMES < TEXT, or measure evaluate|jobs|operate|loop|play TIMES"
         )?;
         return Ok(ExitCode::from(2));
     };
@@ -33,6 +34,7 @@ fn main(rt: HostRuntime) -> anyhow::Result<ExitCode> {
         "alone" | "crowded" | "all" | "quiet" => {
             instants::instants(rt.alloc(), rt.reader(), &work_of(work.as_str()), times)?
         }
+        "done" => completions::counted(rt.alloc(), rt.reader(), times)?,
         "play" => plays::played(rt.alloc(), times)?,
         "jobs" => turns::jobs(rt.alloc(), times)?,
         "evaluate" => turns::evaluated(rt.alloc(), times)?,

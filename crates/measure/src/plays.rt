@@ -10,16 +10,18 @@ use tenant_jobs::jobs::JobId;
 use tenant_lines::commands::Command;
 use tenant_lines::texts::Text;
 
+/// A program with one task that is released and ends at every instant.
+pub(crate) const ONE_TASK: &str =
+    "output o := 0; task T() output o { o := 1; } mode m period 1 { taskfreq 1 do T(); } start m;";
+
 /// Plays so many instants, each with the completion of the job that it releases. How many bytes one tenant was answered; -1 where
 /// the events are refused.
 ///
 /// # Errors
 /// Want of memory.
 pub(crate) fn played(alloc: Global, times: u64) -> anyhow::Result<i64> {
-    let text =
-        "output o := 0; task T() output o { o := 1; } mode m period 1 { taskfreq 1 do T(); } start m;";
     let mut events = Vec::new(alloc);
-    events.push(Event::Own(0, Command::Load(Text::from_str(alloc, text)?)))?;
+    events.push(Event::Own(0, Command::Load(Text::from_str(alloc, ONE_TASK)?)))?;
     events.push(Event::Own(0, Command::Start))?;
     for tick in 0..times {
         add_instant(alloc, tick, &mut events)?;
