@@ -9,7 +9,7 @@ use tenant_jobs::jobs::{Jobs, run_job};
 use tenant_lines::commands::Command;
 use tenant_lines::texts::Text;
 
-/// Runs a program with one task that is released and ends at every instant, beside 16 tenants that run the program of a reader's text,
+/// Runs a program with one task that is released and ends at every instant, beside 15 tenants that run the program of a reader's text,
 /// for so many instants. Each job is run, and its result brought to the host. How many counted; -1 where the host has fewer tenants, or an
 /// instant is refused.
 pub(crate) fn counted<R: Read + Drop>(
@@ -19,9 +19,9 @@ pub(crate) fn counted<R: Read + Drop>(
 ) -> anyhow::Result<i64> {
     let mut text = String::new(alloc);
     reader.read_to_string(&mut text)?;
-    let mut host = Host::new(alloc, &roster(alloc, 17)?, 0)?;
-    for tenant in 0..17 {
-        if tenant >= host.config().tenants.as_slice().len() {
+    let mut host = Host::new(alloc, &roster(alloc, 16)?, 0)?;
+    for tenant in 0..16 {
+        if tenant >= host.config().tenants().len() {
             return Ok(-1);
         }
         let program = if tenant == 0 { ONE_TASK } else { text.as_str() };
