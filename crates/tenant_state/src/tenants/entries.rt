@@ -105,16 +105,24 @@ fn note_each(next_tick: u64, jobs: &Jobs, first: usize, active: &mut ActiveTasks
     // One more than the place of a job fits.
     let _jobs = jobs.len();
     let mut next = first;
-    for place in 0..active.count {
-        let entry = &mut active.entries[place];
-        if next_tick.wrapping_sub(entry.release) != 1 {
-            continue;
-        }
+    for place in first_released(next_tick, active.as_slice())..active.count {
         let Some(job) = jobs.get(next) else {
             return next;
         };
-        entry.key = job.key().copy();
+        active.entries[place].key = job.key().copy();
         next += 1;
     }
     next
+}
+
+// The place of the first of those tasks that were released at the instant before this one. They stand behind all others.
+fn first_released(next_tick: u64, active: &[Active]) -> usize
+    ensures { result ≤ length active.now }
+{
+    for place in (0..active.len()).rev() {
+        if next_tick.wrapping_sub(active[place].release) != 1 {
+            return place + 1;
+        }
+    }
+    0
 }
