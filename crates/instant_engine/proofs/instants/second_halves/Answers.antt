@@ -41,8 +41,8 @@ loop-i-preserved c =
     let own : x.place ≡ c.loop-i.i = ap (λ (s : Standing). s.place) here ∙ c.requires.placed c.loop-i.i inside in
     let left = most_left _ c.loop-i.i c.args.tenants.now c.loop-i.tenants d inside c.loop-i.invariant.halves in
     record {
-      halves = second_more c.args.config.now c.args.frame.now c.loop-i.i c.args.tenants.now c.loop-i.tenants d c.phase_two.new.self c.as_slice.result.now c.index-as_slice-i.result inside
-          c.requires.tenants c.as_slice.ensures c.loop-i.invariant.halves (record { half = c.phase_two.ensures.half; released = c.phase_two.ensures.released; known = c.next_tick.ensures.known });
+      halves = second_more c.args.config.now c.args.frame.now c.loop-i.i c.args.tenants.now c.loop-i.tenants d c.phase_two.new.self c.tenants.result.now c.index-tenants-i.result inside
+          c.requires.tenants c.tenants.ensures.value c.loop-i.invariant.halves (record { half = c.phase_two.ensures.half; released = c.phase_two.ensures.released; known = c.next_tick.ensures.known });
       space = omega (arith, c.loop-i.invariant.space, c.phase_two.ensures.room, left);
       released = released_more c.loop-i.i c.args.tenants.now c.loop-i.tenants x c.phase_two.new.self c.loop-i.jobs.jobs c.phase_two.new.jobs.jobs within here own c.phase_two.ensures.half.place left
           (subst (λ (s : Standing). AllByRecursion (λ (a : ActiveTask). a.release < s.row.next_tick) s.row.active) (sym here) (c.requires.early c.loop-i.i (empty_standing 0 0) inside))

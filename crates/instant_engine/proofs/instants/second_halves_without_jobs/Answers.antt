@@ -57,7 +57,7 @@ loop-i-preserved c =
     let known : IsKnown s.row = subst (λ (y : Standing). IsKnown y.row) c.enter.ensures.same c.next_tick.ensures.known in
     record {
       halves = rw (c.enter.ensures.same)
-          (second_more c.args.config.now c.args.frame.now c.loop-i.i c.args.tenants.now c.loop-i.tenants d s c.as_slice.result.now c.index-as_slice-i.result inside c.requires.tenants c.as_slice.ensures
+          (second_more c.args.config.now c.args.frame.now c.loop-i.i c.args.tenants.now c.loop-i.tenants d s c.tenants.result.now c.index-tenants-i.result inside c.requires.tenants c.tenants.ensures.value
           c.loop-i.invariant.halves (record { half = c.phase_two_without_jobs.ensures.half; released = c.phase_two_without_jobs.ensures.released; known = known }));
       space = omega (
         arith,

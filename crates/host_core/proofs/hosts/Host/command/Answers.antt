@@ -38,16 +38,16 @@ pub returns-clause-reply : goal.returns-clause-reply
 returns-clause-reply c = λ given setting state stands.
     let host : HostStanding = standing c.self.inside in
     let inside : Stands setting host state = stands_inside setting host state (subst (λ h. Stands setting h state) (sym c.self.view_is) stands) in
-    (own_outcome setting host state c.args.tenant c.args.command (get_or c.as_slice.result.now c.args.tenant c.index-as_slice-tenant.result) c.index-as_slice-tenant.result c.index_mut-tenant.result.now c.command-reply.new.self c.command-reply.result inside (within c)
-    c.index_mut-tenant.ensures.value (ap (λ (xs : List TenantConfig). get_or xs c.args.tenant c.index-as_slice-tenant.result) c.as_slice.ensures) c.command-reply.ensures.step given).same_reply
+    (own_outcome setting host state c.args.tenant c.args.command (get_or c.tenants.result.now c.args.tenant c.index-tenants-tenant.result) c.index-tenants-tenant.result c.index_mut-tenant.result.now c.command-reply.new.self c.command-reply.result inside (within c)
+    c.index_mut-tenant.ensures.value (ap (λ (xs : List TenantConfig). get_or xs c.args.tenant c.index-tenants-tenant.result) c.tenants.ensures.value) c.command-reply.ensures.step given).same_reply
 
 pub returns-clause-step : goal.returns-clause-step
 returns-clause-step c = λ given setting state stands.
     let host : HostStanding = standing c.self.inside in
     let behind : HostStanding = record host { tenants = set host.tenants c.args.tenant (record c.command-reply.new.self { ended = [] }); entries = c.leave.new.finished.entries } in
     let inside : Stands setting host state = stands_inside setting host state (subst (λ h. Stands setting h state) (sym c.self.view_is) stands) in
-    let outcome = own_outcome setting host state c.args.tenant c.args.command (get_or c.as_slice.result.now c.args.tenant c.index-as_slice-tenant.result) c.index-as_slice-tenant.result c.index_mut-tenant.result.now c.command-reply.new.self c.command-reply.result inside (within c)
-    c.index_mut-tenant.ensures.value (ap (λ (xs : List TenantConfig). get_or xs c.args.tenant c.index-as_slice-tenant.result) c.as_slice.ensures) c.command-reply.ensures.step given in
+    let outcome = own_outcome setting host state c.args.tenant c.args.command (get_or c.tenants.result.now c.args.tenant c.index-tenants-tenant.result) c.index-tenants-tenant.result c.index_mut-tenant.result.now c.command-reply.new.self c.command-reply.result inside (within c)
+    c.index_mut-tenant.ensures.value (ap (λ (xs : List TenantConfig). get_or xs c.args.tenant c.index-tenants-tenant.result) c.tenants.ensures.value) c.command-reply.ensures.step given in
     let count = c.command-reply.ensures.next_tick ∙ ap (λ (s : Standing). s.row.next_tick) (here c) ∙ (c.self.invariant.known c.args.tenant (empty_standing 0 0) (among c)).0 in
     let place = c.command-reply.ensures.place ∙ ap (λ (s : Standing). s.place) (here c) ∙ c.self.invariant.placed c.args.tenant (among c) in
     let still = command_still c.self.inside.tenants.items c.self.inside.finished.entries c.leave.new.finished.entries c.args.tenant c.index_mut-tenant.result.now c.command-reply.new.self c.self.invariant (among c) (here c)
