@@ -19,7 +19,7 @@ loop-i-init c = record {
 
 pub phase_two-requires : goal.phase_two-requires
 phase_two-requires c =
-    let d : Standing = c.index-tenants-i.result in
+    let d : Standing = c.index-tenants-i-in-loop-i.result in
     let inside : c.loop-i.i < length c.args.tenants.now = omega (arith, c.loop-i-test.true) in
     let here = unstepped _ c.loop-i.i c.args.tenants.now c.loop-i.tenants d inside c.loop-i.invariant.halves in
     let ready : IsReady (tenant_at c.args.tenants.now c.loop-i.i) = c.requires.ready c.loop-i.i (empty_standing 0 0) inside in
@@ -33,7 +33,7 @@ phase_two-requires c =
 
 pub loop-i-preserved : goal.loop-i-preserved
 loop-i-preserved c =
-    let d : Standing = c.index-tenants-i.result in
+    let d : Standing = c.index-tenants-i-in-loop-i.result in
     let x : Standing = get_or c.loop-i.tenants c.loop-i.i d in
     let inside : c.loop-i.i < length c.args.tenants.now = omega (arith, c.loop-i-test.true) in
     let within : c.loop-i.i < length c.loop-i.tenants = omega (arith, inside, c.loop-i.invariant.halves.as_many) in

@@ -17,7 +17,7 @@ loop-i-init c = record { halves = stepped_none _ c.args.tenants.now; space = c.r
 pub phase_two_without_jobs-requires : goal.phase_two_without_jobs-requires
 phase_two_without_jobs-requires c =
     let inside : c.loop-i.i < length c.args.tenants.now = omega (arith, c.loop-i-test.true) in
-    let here = unstepped _ c.loop-i.i c.args.tenants.now c.loop-i.tenants c.index-tenants-i.result inside c.loop-i.invariant.halves in
+    let here = unstepped _ c.loop-i.i c.args.tenants.now c.loop-i.tenants c.index-tenants-i-in-loop-i.result inside c.loop-i.invariant.halves in
     record {
       rest = ap (λ (s : Standing). s.ended) here ∙ c.requires.rest c.loop-i.i (empty_standing 0 0) inside;
       next_tick = omega (arith, ap (λ (s : Standing). s.row.next_tick) here, c.requires.counts c.loop-i.i (empty_standing 0 0) inside);
@@ -26,13 +26,12 @@ phase_two_without_jobs-requires c =
 
 pub enter-requires : goal.enter-requires
 enter-requires c =
-    let d : Standing = c.index-tenants-i.result in
+    let d : Standing = c.index-tenants-i-in-loop-i.result in
     let x : Standing = get_or c.loop-i.tenants c.loop-i.i d in
     let s : Standing = c.phase_two_without_jobs.new.self in
     let inside : c.loop-i.i < length c.args.tenants.now = omega (arith, c.loop-i-test.true) in
     let here : x ≡ tenant_at c.args.tenants.now c.loop-i.i = unstepped _ c.loop-i.i c.args.tenants.now c.loop-i.tenants d inside c.loop-i.invariant.halves in
     record {
-      rest = c.phase_two_without_jobs.ensures.half.ended;
       room = omega (
         arith,
         c.active-before.ensures,
@@ -48,7 +47,7 @@ enter-requires c =
 
 pub loop-i-preserved : goal.loop-i-preserved
 loop-i-preserved c =
-    let d : Standing = c.index-tenants-i.result in
+    let d : Standing = c.index-tenants-i-in-loop-i.result in
     let x : Standing = get_or c.loop-i.tenants c.loop-i.i d in
     let s : Standing = c.phase_two_without_jobs.new.self in
     let inside : c.loop-i.i < length c.args.tenants.now = omega (arith, c.loop-i-test.true) in
