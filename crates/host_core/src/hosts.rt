@@ -91,7 +91,7 @@ impl Host {
     {
         let copy = config.copy(alloc)?;
         let mut tenants = Vec::new(alloc);
-        for place in 0..copy.tenants().len() {
+        for place in 0..config.tenants().len() {
             tenants.push(Tenant::new(alloc, place, first_tick))?;
         }
         Ok(Host {

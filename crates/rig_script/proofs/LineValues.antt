@@ -1,5 +1,5 @@
 -- The values of the lines that a host tells are those of the definitions.
-use Rattle.std.proofs.Common.{◌≡◌, ℕ, zero, suc, ◌<◌, true, ℤ, List, ◌++◌, length, Option, Some, None, codes, refl, ap, ◌∙◌, arith}
+use Rattle.std.proofs.Common.{◌≡◌, ℕ, zero, suc, ◌+◌, ◌<◌, true, ℤ, List, ◌++◌, length, Option, Some, None, codes, refl, ap, ◌∙◌, arith}
 use Rattle.std.proofs.lemmas.Bool.Decides.{nat_tests}
 use Rattle.std.specs.Fmt.{signed_decimal}
 use Rattle.host_core.specs.Base.{IsBase}
@@ -15,6 +15,10 @@ use Rattle.host_core.proofs.AloneAlong.{same_rows}
 use Rattle.host_core.proofs.LineValues.{line_of_rows, same_values}
 use Rattle.rig_config.specs.Roster.{is_tenant}
 use Rattle.rig_script.specs.Script.{text_of_lines}
+
+-- one line more
+pub told_more : (f : ℕ → ℤ) (k : ℕ) → text_of_lines f (k + 1) ≡ text_of_lines f k ++ (codes " " ++ signed_decimal (f k))
+told_more f k = let next : k + 1 ≡ suc k = omega arith in ap (text_of_lines f) next
 
 -- equal values are told alike
 told_alike : (f g : ℕ → ℤ) → ((k : ℕ) → f k ≡ g k) → (n : ℕ) → text_of_lines f n ≡ text_of_lines g n

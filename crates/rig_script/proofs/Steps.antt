@@ -27,7 +27,7 @@ use Rattle.tenant_lines.proofs.WordLemmas.{words_first, words_none}
 use Rattle.rig_script.proofs.LineValues.{same_lines}
 use Rattle.rig_script.specs.Answered.{reply_line}
 use Rattle.rig_script.specs.inner.HostAnswers.{IsHostAfter}
-use Rattle.rig_script.specs.Script.{Step, lines, work_of, operator, operator_line_of, operator_step, lines_step, text_of_lines, work_step, work_step_of, outstanding_at, tenant_step, only_answered}
+use Rattle.rig_script.specs.Script.{Step, line_values, work_of, operator, operator_line_of, operator_step, lines_step, text_of_lines, work_step, work_step_of, outstanding_at, tenant_step, only_answered}
 use Rattle.rig_script.specs.inner.Script.{IsCarriedOut}
 
 -- this text was answered, and the events have happened
@@ -122,7 +122,7 @@ module _ (setting : Setting) (past : List Event) (host later : HostStanding) (h 
       (step_done step past r (IsHostAfter setting later) (reply_line operator (codes "err bad-command")) given refl (subst (λ s. IsHostAfter setting s past) (sym kept) h))
 
   -- the values of the lines were told
-  pub lines_told : (words : List (List ℕ)) → operator_line_of words ≡ Some lines → later ≡ host → (text : List ℕ)
+  pub lines_told : (words : List (List ℕ)) → operator_line_of words ≡ Some line_values → later ≡ host → (text : List ℕ)
       → IfOk r (λ t. string_bytes t ≡ reply_line operator text) → text ≡ codes "ok lines" ++ text_of_lines (line_of host) host.config.lines
       → IsCarriedOut (operator_step setting past words) past r (IsHostAfter setting later)
   lines_told words is kept text given told =

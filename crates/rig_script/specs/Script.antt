@@ -65,7 +65,7 @@ pub data OperatorLine : Type 0 where
   work : OperatorLine
   -- by the tenant's name
   work_of : Name → OperatorLine
-  lines : OperatorLine
+  line_values : OperatorLine
 
 -- "tick V ..", "work", "work TENANT" or "lines"
 abbrev pub operator_line_of : List (List ℕ) → Option OperatorLine
@@ -84,7 +84,7 @@ operator_line_of (w ∷ ws) =
     works (x ∷ y ∷ ys) = None
 
     alone : List (List ℕ) → Option OperatorLine
-    alone [] = Some lines
+    alone [] = Some line_values
     alone (x ∷ xs) = None
 
 -- what a line does: the events that it adds, the newest first, and its reply
@@ -139,7 +139,7 @@ module _ (setting : Setting) where
       by (Some (tick frame)) = tick_step past frame
       by (Some work) = work_step (outstanding_after past)
       by (Some (work_of x)) = work_step_of past x
-      by (Some lines) = lines_step past
+      by (Some line_values) = lines_step past
 
   -- a tenant's line: its command, answered as the one-tenant machine answers it
   abbrev pub tenant_step : List Event → ℕ → Name → List ℕ → Step

@@ -12,21 +12,24 @@ use Rattle.rig_config.specs.Roster.{Rig}
 
 pub loop-place-preserved : goal.loop-place-preserved
 loop-place-preserved c =
-    let same : length c.tenants-place-end.result.now ≡ length c.in_ok-copy.copy.tenants = ap length c.tenants-place-end.ensures.value in
-    new_more c.args.first_tick c.in_ok-copy.copy.tenants c.loop-place.place c.loop-place.tenants.items c.push.new.self.items c.new.result
+    let tenants = c.args.config.now.tenants in
+    let same : length c.tenants-place-end.result.now ≡ length tenants = ap length c.tenants-place-end.ensures.value in
+    new_more c.args.first_tick tenants c.loop-place.place c.loop-place.tenants.items c.push.new.self.items c.new.result
     (omega (arith, same, c.loop-place-test.true)) c.loop-place.invariant c.in_ok-push.ensures.items c.new.ensures
 
 pub invariant_of-result : goal.invariant_of-result
 invariant_of-result c =
-    let same : length c.tenants-place-end.result.now ≡ length c.in_ok-copy.copy.tenants = ap length c.tenants-place-end.ensures.value in
-    let all = new_all c.args.first_tick c.in_ok-copy.copy.tenants c.loop-place.place c.loop-place.tenants.items (omega (arith, same, c.loop-place-test.false)) c.loop-place.invariant in
-    rw (all, c.new-2.ensures) (new_whole c.args.first_tick c.in_ok-copy.copy.tenants)
+    let tenants = c.args.config.now.tenants in
+    let same : length c.tenants-place-end.result.now ≡ length tenants = ap length c.tenants-place-end.ensures.value in
+    let all = new_all c.args.first_tick tenants c.loop-place.place c.loop-place.tenants.items (omega (arith, same, c.loop-place-test.false)) c.loop-place.invariant in
+    rw (c.in_ok-copy.ensures, all, c.new-2.ensures) (new_whole c.args.first_tick tenants)
 
 pub returns : goal.returns
 returns c =
-    let same : length c.tenants-place-end.result.now ≡ length c.in_ok-copy.copy.tenants = ap length c.tenants-place-end.ensures.value in
-    let all = new_all c.args.first_tick c.in_ok-copy.copy.tenants c.loop-place.place c.loop-place.tenants.items (omega (arith, same, c.loop-place-test.false)) c.loop-place.invariant in
+    let tenants = c.args.config.now.tenants in
+    let same : length c.tenants-place-end.result.now ≡ length tenants = ap length c.tenants-place-end.ensures.value in
+    let all = new_all c.args.first_tick tenants c.loop-place.place c.loop-place.tenants.items (omega (arith, same, c.loop-place-test.false)) c.loop-place.invariant in
     ap (λ (xs : List Standing). record { config = c.in_ok-copy.copy; tenants = xs; entries = c.new-2.result.entries; clock = c.args.first_tick })
-    (ap (map at_rest) all ∙ map-map at_rest (λ (place : ℕ × TenantConfig). empty_standing place.0 c.args.first_tick) (enumerate_from 0 c.in_ok-copy.copy.tenants))
-    ∙ ap (λ (t : TaskTable). record (new_host c.in_ok-copy.copy c.args.first_tick) { entries = t.entries }) c.new-2.ensures
-    ∙ ap (λ (k : Rig). new_host k c.args.first_tick) c.in_ok-copy.ensures
+    (ap (map at_rest) all ∙ map-map at_rest (λ (place : ℕ × TenantConfig). empty_standing place.0 c.args.first_tick) (enumerate_from 0 tenants))
+    ∙ ap (λ (t : TaskTable). record (new_host c.args.config.now c.args.first_tick) { config = c.in_ok-copy.copy; entries = t.entries }) c.new-2.ensures
+    ∙ ap (λ (k : Rig). record (new_host c.args.config.now c.args.first_tick) { config = k }) c.in_ok-copy.ensures
