@@ -1,7 +1,6 @@
 -- The value of a line, by the rows of the tenants.
 use Rattle.std.proofs.Common.{◌≡◌, ℕ, ◌<◌, ℤ, pos, List, length, Option, Some, None, unwrap_or, option_and_then, refl, sym, ap, ◌∙◌, arith}
-use Rattle.std.specs.List.{position}
-use Rattle.giotto_check.proofs.PlaceLemmas.{place_within}
+use Rattle.std.proofs.lemmas.List.Quantifiers.{position-Some}
 use Rattle.rig_config.specs.Roster.{Rig, may_use}
 use Rattle.rig_config.specs.declared.TenantConfig.{TenantConfig}
 use Rattle.instant_engine.specs.Tenants.{tenant_at}
@@ -11,10 +10,11 @@ use Rattle.host_core.specs.HostStanding.{HostStanding, Stands, line_of}
 use Rattle.host_core.specs.HostState.{HostState, row_at}
 use Rattle.host_core.specs.Lines.{value_of_line, writer_of}
 use Rattle.host_core.specs.Setting.{Setting}
+use Rattle.host_core.proofs.NewHost.{no_tenant}
 
 -- a tenant that may drive a line is one of the roster
 pub writer_within : (config : Rig) (k t : ℕ) → writer_of config k ≡ Some t → t < length config.tenants
-writer_within config k t is = place_within (λ (tenant : TenantConfig). may_use tenant.budgets.writes k) 0 config.tenants t is
+writer_within config k t is = (position-Some (λ (tenant : TenantConfig). may_use tenant.budgets.writes k) config.tenants t no_tenant is).0
 
 -- rows that agree in the roster give lines the same value
 pub same_values : (config : Rig) (f g : ℕ → Row) → ((t : ℕ) → t < length config.tenants → f t ≡ g t) → (k : ℕ) → value_of_line config f k ≡ value_of_line config g k
