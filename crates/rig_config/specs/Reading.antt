@@ -7,7 +7,7 @@ use Rattle.toml.specs.Parse.{parse_document}
 use Rattle.giotto_tasks.specs.Sound.{all_different}
 use Rattle.rig_config.specs.Fields.{is_in_range, rig_field, tenant_field, word_of}
 use Rattle.rig_config.specs.Ranges.{all_drive_apart, is_key, is_tenant_name}
-use Rattle.rig_config.specs.Roster.{Rig}
+use Rattle.rig_config.specs.declared.Config.{Config}
 use Rattle.rig_config.specs.declared.Budgets.{Budgets}
 use Rattle.rig_config.specs.declared.TenantConfig.{TenantConfig}
 use Rattle.rig_config.specs.declared.faults.Field.{Field}
@@ -127,14 +127,14 @@ tenants_from lines t (item value others) = do
   Ok (tenant ∷ tenants)
 
 -- a rig of these tenants: their names are different, and no line may be driven by two
-abbrev pub rig_with : ℕ → List TenantConfig → Result Rig ConfigFault
+abbrev pub rig_with : ℕ → List TenantConfig → Result Config ConfigFault
 rig_with lines tenants =
     if not (all_different (map (λ (t : TenantConfig). t.name) tenants)) then Err (Twice field.Name)
     else if not (all_drive_apart tenants) then Err (Twice field.Writes)
     else Ok (record { lines = lines; tenants = tenants })
 
 -- the rig that a document's fields describe
-unfoldable pub rig_of : Members → Result Rig ConfigFault
+unfoldable pub rig_of : Members → Result Config ConfigFault
 rig_of fields = do
   version ← number (rig_field field.Version) fields
   lines ← number (rig_field field.Lines) fields
@@ -143,5 +143,5 @@ rig_of fields = do
   rig_with lines tenants
 
 -- The configuration that a text describes, or the first fault in the order of the checks.
-abbrev pub config_of : List ℕ → Result Rig ConfigFault
+abbrev pub config_of : List ℕ → Result Config ConfigFault
 config_of text = option_map_or rig_of (parse_document text) (Err NotToml)
