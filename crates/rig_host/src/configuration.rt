@@ -21,9 +21,9 @@ impl fmt::Display for ConfigurationFault {
     fn fmt<W: fmt::Write>(&self, f: &mut fmt::Formatter<W>) -> fmt::Result {
         match self {
             ConfigurationFault::Unreadable => write!(f, "config: unreadable"),
-            ConfigurationFault::Refused(fault) => match fault.field() {
-                Some(field) => write!(f, "config: {} {}", fault.reason(), field.word()),
-                None => write!(f, "config: {}", fault.reason()),
+            ConfigurationFault::Refused(why) => match why.field() {
+                Some(field) => write!(f, "config: {} {}", why.reason(), field.word()),
+                None => write!(f, "config: {}", why.reason()),
             },
         }
     }
