@@ -63,7 +63,7 @@ pub fn read_configuration(
     rt: &HostRuntime,
     path: Option<&str>,
 ) -> Result<Config, ConfigurationFault>
-    ensures built_in { path ≡ None → IfOk result (λ config. config ≡ built_in_config) }
+    ensures built_in { path.entry ≡ None → IfOk result (λ config. config ≡ built_in_config) }
 {
     let Some(path) = path else {
         return match built_in(rt.alloc()) {
