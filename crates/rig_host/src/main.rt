@@ -4,19 +4,44 @@
 ghost use Rattle.std.specs.Prelude.{◌≡◌};
 ghost use Rattle.std.specs.Process.{exit_status};
 ghost use Rattle.clap.specs.declared.error.Error.{Error as ArgumentError};
-ghost use Rattle.rig_host.specs.declared.Failure.TheVariants.{Fault};
+ghost use Rattle.rig_host.specs.declared.Failure.TheVariants.{Configuration, Fault};
+ghost use Rattle.rig_host.specs.declared.configuration.ConfigurationFault.{ConfigurationFault as AnyConfigurationFault};
 ghost use Rattle.rig_script.specs.declared.faults.ScriptFault.{ScriptFault as AnyFault};
 ghost use Rattle.rig_script.specs.declared.faults.ScriptFault.TheVariants.{Memory};
 
-use clap::Command;
+mod configuration;
+
 use clap::error::ErrorKind;
-use rig_config::built_in;
+use clap::{Arg, ArgAction, ArgMatches, Command};
+use configuration::{ConfigurationFault, read_configuration};
+use rig_config::Config;
 use rig_script::faults::ScriptFault;
 use rig_script::script;
 use std::alloc::{AllocError, Global};
 use std::io::BufWriter;
 use std::process::ExitCode;
 use std::{env, fmt, io};
+
+// What stands below the help of `script`.
+const SCRIPT_EXAMPLES: &str = "\
+Example: echo 'op tick 5' | rig_host script
+
+A configuration, one [[tenant]] for each tenant (docs/HOST.md tells the fields):
+  version = 1
+  lines = 8                # lines 0 to 7
+  [[tenant]]
+  name = \"pump\"
+  key = \"kp\"
+  reads = [0, 2]           # lines that its sensors may read
+  writes = [4, 7]          # lines that its actuators may drive
+  bytes = 4096             # the budgets of its programs
+  ports = 64
+  tasks = 16
+  modes = 16
+  steps = 10000
+  trace = 8
+  offers = 4
+  binds = 4";
 
 fn main(rt: HostRuntime) -> ExitCode {
     match run(&rt) {
@@ -31,11 +56,14 @@ fn main(rt: HostRuntime) -> ExitCode {
 
 /// What the arguments ask for.
 #[derive(Drop)]
-enum Request {
+enum Request<'a> {
     /// A text for standard output, as of `--help`.
     Text(clap::Error),
     /// The script on standard input.
-    Script,
+    Script {
+        /// The path of the configuration; `None` for the built-in one.
+        config: Option<&'a str>,
+    },
 }
 
 /// Why the program ends with another status than 0. Its `Display` is for standard error.
@@ -43,6 +71,8 @@ enum Request {
 enum Failure {
     /// The arguments are wrong, in the way that the text says.
     Arguments(clap::Error),
+    /// There is no configuration.
+    Configuration(ConfigurationFault),
     /// Reading, writing or want of memory, of the script or before it.
     Fault(ScriptFault),
 }
@@ -51,10 +81,12 @@ impl Failure {
     // The status of the program that ends so.
     fn status(&self) -> ExitCode
         ensures arguments { (error : ArgumentError) → self.now ≡ Failure.Arguments error → exit_status result ≡ 2 }
+        ensures configuration { (fault : AnyConfigurationFault) → self.now ≡ Failure.Configuration fault → exit_status result ≡ 1 }
         ensures fault { (fault : AnyFault) → self.now ≡ Failure.Fault fault → exit_status result ≡ 3 }
     {
         match self {
             Failure::Arguments(_) => ExitCode::from(2),
+            Failure::Configuration(_) => ExitCode::from(1),
             Failure::Fault(_) => ExitCode::from(3),
         }
     }
@@ -64,8 +96,17 @@ impl fmt::Display for Failure {
     fn fmt<W: fmt::Write>(&self, f: &mut fmt::Formatter<W>) -> fmt::Result {
         match self {
             Failure::Arguments(error) => write!(f, "{error}"),
+            Failure::Configuration(fault) => writeln!(f, "{fault}"),
             Failure::Fault(fault) => writeln!(f, "{}", fault.as_str()),
         }
+    }
+}
+
+impl From<ConfigurationFault> for Failure {
+    ghost from_gives = { λ fault failure. failure ≡ Configuration fault };
+
+    fn from(fault: ConfigurationFault) -> Failure {
+        Failure::Configuration(fault)
     }
 }
 
@@ -85,36 +126,59 @@ impl From<AllocError> for Failure {
     }
 }
 
-// Does what the arguments ask for.
+// Does what the arguments ask for: they are looked at first, then the configuration.
 fn run(rt: &HostRuntime) -> Result<(), Failure> {
-    match read_arguments(rt)? {
+    let words = read_words(rt)?;
+    match read_arguments(rt.alloc(), words.as_slice())? {
         Request::Text(text) => match rt.print(&text) {
             Ok(()) => Ok(()),
             Err(_) => Err(Failure::Fault(ScriptFault::Write)),
         },
-        Request::Script => Ok(run_script(rt)?),
+        Request::Script { config } => {
+            let config = read_configuration(rt, config)?;
+            Ok(run_script(rt, &config)?)
+        }
     }
 }
 
-// What the arguments ask for.
-fn read_arguments(rt: &HostRuntime) -> Result<Request, Failure> {
-    let words: Vec<String> = match env::args(rt) {
-        Ok(words) => words.collect(rt.alloc())?,
-        Err(error) => return Err(unreadable(rt.alloc(), &error)?),
-    };
-    match arguments(rt.alloc())?.try_get_matches_from(words.as_slice()) {
-        Ok(_) => Ok(Request::Script),
+// The words of the arguments, the program's own first.
+fn read_words(rt: &HostRuntime) -> Result<Vec<String>, Failure> {
+    match env::args(rt) {
+        Ok(words) => Ok(words.collect(rt.alloc())?),
+        Err(error) => Err(unreadable(rt.alloc(), &error)?),
+    }
+}
+
+// What the words ask for.
+fn read_arguments<'a>(alloc: Global, words: &'a [String]) -> Result<Request<'a>, Failure> {
+    match arguments(alloc)?.try_get_matches_from(words) {
+        Ok(matches) => Ok(Request::Script {
+            config: config_of(&matches),
+        }),
         Err(error) => without_matches(error),
     }
 }
 
+// The path behind `--config`, where it is given.
+fn config_of<'a>(matches: &ArgMatches<'a>) -> Option<&'a str> {
+    matches.subcommand_matches("script")?.get_str("config")
+}
+
 // The words that the program takes, with their help.
 fn arguments<'a>(alloc: Global) -> Result<Command<'a>, AllocError> {
+    let config = Arg::new(alloc, "config")
+        .long("config")
+        .value_name("FILE")
+        .action(ArgAction::Set)
+        .help(
+            "The configuration of the rig, in TOML; without it the built-in one: one line, and the tenants alpha and beta",
+        );
     let script = Command::new(alloc, "script")
         .about(
-            "Reads lines from standard input and answers each on standard output before it reads the next: `TENANT COMMAND`, `op tick V ..` or `op work`",
+            "Reads lines from standard input and answers each on standard output before it reads the next: `TENANT COMMAND`, `op tick V ..`, `op work` or `op lines`",
         )
-        .after_help("Example: echo 'op tick 5' | rig_host script");
+        .after_help(SCRIPT_EXAMPLES)
+        .arg(config)?;
     Command::new(alloc, "rig_host")
         .about(
             "A host for shared test rigs: tenants load, run and inspect Giotto programs, and an operator gives the instants",
@@ -136,7 +200,7 @@ fn unreadable(alloc: Global, error: &io::Error) -> Result<Failure, AllocError> {
 }
 
 // What arguments without matches ask for, or how they are wrong.
-fn without_matches(error: clap::Error) -> Result<Request, Failure> {
+fn without_matches<'a>(error: clap::Error) -> Result<Request<'a>, Failure> {
     match error.kind() {
         ErrorKind::DisplayHelp | ErrorKind::DisplayVersion => Ok(Request::Text(error)),
         ErrorKind::OutOfMemory => Err(Failure::Fault(ScriptFault::Memory)),
@@ -144,13 +208,10 @@ fn without_matches(error: clap::Error) -> Result<Request, Failure> {
     }
 }
 
-// Answers the script on standard input with the configuration that is built in.
-fn run_script(rt: &HostRuntime) -> Result<(), ScriptFault> {
-    let (Ok(config), Ok(mut writer)) = (
-        built_in(rt.alloc()),
-        BufWriter::new(rt.alloc(), io::writer(rt)),
-    ) else {
+// Answers the script on standard input.
+fn run_script(rt: &HostRuntime, config: &Config) -> Result<(), ScriptFault> {
+    let Ok(mut writer) = BufWriter::new(rt.alloc(), io::writer(rt)) else {
         return Err(ScriptFault::Memory);
     };
-    script(rt.alloc(), &mut rt.reader(), &mut writer, &config)
+    script(rt.alloc(), &mut rt.reader(), &mut writer, config)
 }
