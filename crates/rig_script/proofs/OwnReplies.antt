@@ -21,7 +21,7 @@ use Rattle.rig_script.specs.declared.speakers.Speaker.{Speaker}
 use Rattle.rig_script.specs.declared.speakers.Speaker.TheVariants.{Nobody, Operator, Tenant, Unknown}
 use Rattle.rig_script.specs.Answered.{reply_line}
 use Rattle.rig_script.specs.Lines.{text_of_line}
-use Rattle.rig_script.specs.Script.{Step, OperatorLine, tick, work, work_of, speaker_of, operator, operator_line_of, operator_refusal, operator_step, tick_step, work_step, work_step_of, line_step, only_answered, err_who, outstanding_at, outstanding_after, reply_to_line, past_behind, past_after}
+use Rattle.rig_script.specs.Script.{Step, OperatorLine, tick, work, work_of, line_values, lines_step, speaker_of, operator, operator_line_of, operator_refusal, operator_step, tick_step, work_step, work_step_of, line_step, only_answered, err_who, outstanding_at, outstanding_after, reply_to_line, past_behind, past_after}
 use Rattle.rig_script.specs.TenantReplies.{is_own_command, own_reply, own_replies}
 
 module _ (setting : Setting) (t : ℕ) where
@@ -75,6 +75,9 @@ module _ (setting : Setting) (t : ℕ) where
       by (Some (work_of x)) e =
           let steps : operator_step setting past words ≡ work_step_of setting past x = rw e refl in
           ap (λ s. behind s past) steps ∙ work_quiet past x
+      by (Some line_values) e =
+          let steps : operator_step setting past words ≡ lines_step setting past = rw e refl in
+          ap (λ s. behind s past) steps
 
   -- a line that is no command of the tenant has no reply of its own, and its step leaves the answers
   unanswered : (past : List Event) (line : List ℕ) (step : Step) → line_step setting past line ≡ step → own_reply setting t past line ≡ [] → behind step past ≡ answers_of setting past t
