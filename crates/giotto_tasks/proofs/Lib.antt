@@ -16,3 +16,4 @@ pub mod StepsLemmas
 pub mod TestLemmas
 pub mod TreeLemmas
 pub mod ValuationLemmas
+pub mod WordLemmas

@@ -6,3 +6,4 @@ pub mod HasCode
 pub mod Layouts
 pub mod Places
 pub mod Sources
+pub mod Words

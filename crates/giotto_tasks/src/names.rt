@@ -1,9 +1,11 @@
 //! Names of ports, tasks, modes and tenants.
 
 ghost use Rattle.std.specs.Prelude.{◌≡◌, ◌≤◌, ◌↔◌, [], List, length, Some, IsSome, IfSome, IsTrue, nat_eq, refl};
+ghost use Rattle.std.specs.Int.{w64, to_le_bytes};
 ghost use Rattle.std.specs.Ordering.{nat_cmp};
 ghost use Rattle.std.specs.Cmp.Lexicographic.{pointwise, slice_cmp, nat_list_eq_equiv, nat_list_cmp_total, texts_po, texts_ties};
 ghost use Rattle.std.specs.Cmp.{partial_equiv_from_equiv};
+ghost use Rattle.giotto_tasks.specs.inner.Words.{padded};
 
 use arrayvec::ArrayString;
 use std::cmp::Ordering;
@@ -14,14 +16,20 @@ use std::marker::Model;
 #[derive(Drop)]
 pub struct Name {
     text: ArrayString<32>,
+    // The text's first 8 bytes, the first one lowest, with zeros behind a shorter text.
+    word: u64,
 }
 
 impl Model for Name {
-    ghost use Rattle.std.specs.Prelude.{List, ℕ};
+    ghost use Rattle.std.specs.Prelude.{◌≡◌, List, ℕ};
+    ghost use Rattle.std.specs.Int.{w64, to_le_bytes};
+    ghost use Rattle.giotto_tasks.specs.inner.Words.{padded};
 
     ghost Value = { List ℕ };
 
     ghost view = { λ n. n.text.bytes };
+
+    ghost invariant = { λ n. to_le_bytes w64 n.word ≡ padded 8 n.text.bytes };
 }
 
 impl Name {
@@ -31,17 +39,22 @@ impl Name {
         ensures fits { IsSome result ↔ (length text.now ≤ 32) }
         ensures bytes { IfSome result (λ n. n ≡ text.now) }
     {
+        let word = first_word(text.as_bytes());
         match ArrayString::from(text) {
-            Ok(text) => Some(Name { text }),
+            Ok(text) => Some(Name { text, word }),
             Err(_) => None,
         }
     }
 
     /// An equal name.
+    #[inline(always)]
     pub fn copy(&self) -> Name
         ensures { result ≡ self.now }
     {
-        Name { text: self.text }
+        Name {
+            text: self.text,
+            word: self.word,
+        }
     }
 
     /// How many bytes the name has: at most 32.
@@ -72,9 +85,23 @@ impl PartialEq for Name {
 
     ghost laws = { partial_equiv_from_equiv nat_list_eq_equiv };
 
+    // Names of one length of at most 8 bytes are the same where their words are.
+    #[inline(always)]
     fn eq(&self, other: &Name) -> bool {
-        self.text == other.text
+        if self.word != other.word || self.text.len() != other.text.len() {
+            return false;
+        }
+        let is_short = self.text.len() <= 8;
+        is_short || are_same(self.copy(), other.copy())
     }
+}
+
+// It takes copies, so that a short name that is compared needn't lie in memory.
+#[inline(never)]
+fn are_same(own: Name, others: Name) -> bool
+    ensures { result ≡ pointwise nat_eq own others }
+{
+    own.text == others.text
 }
 
 impl Eq for Name {
@@ -111,6 +138,17 @@ impl Default for Name {
     fn default() -> Name {
         Name {
             text: ArrayString::new(),
+            word: 0,
         }
     }
+}
+
+// The word of a name of these bytes.
+fn first_word(bytes: &[u8]) -> u64
+    ensures { to_le_bytes w64 result ≡ padded 8 bytes.now }
+{
+    let count = bytes.len().min(8);
+    let mut first = [0; 8];
+    first[..count].copy_from_slice(&bytes[..count]);
+    u64::from_le_bytes(first)
 }

@@ -2,7 +2,6 @@
 
 ghost use Rattle.std.specs.Prelude.{◌≡◌, ◌<◌, ◌≤◌, ◌↔◌, [], ◌∷◌, ◌++◌, length, IsTrue};
 
-use arrayvec::ArrayVec;
 use std::marker::Model;
 
 /// The values of one task's inputs, outputs or states, in the order in which these are declared:
@@ -10,17 +9,19 @@ use std::marker::Model;
 /// list of numbers.
 #[derive(Drop)]
 pub struct Values {
-    items: ArrayVec<i64, 16>,
+    // The values, and zeros or old ones behind them.
+    items: [i64; 16],
+    len: usize,
 }
 
 impl Model for Values {
-    ghost use Rattle.std.specs.Prelude.{List, ℤ, ◌≤◌, length};
+    ghost use Rattle.std.specs.Prelude.{List, ℤ, ◌≤◌, take};
 
     ghost Value = { List ℤ };
 
-    ghost view = { λ v. v.items.items };
+    ghost view = { λ v. take v.len v.items };
 
-    ghost invariant = { λ v. length v.items.items ≤ 16 };
+    ghost invariant = { λ v. v.len ≤ 16 };
 }
 
 impl Default for Values {
@@ -37,7 +38,8 @@ impl Values {
         ensures { result ≡ [] }
     {
         Values {
-            items: ArrayVec::new(),
+            items: [0; 16],
+            len: 0,
         }
     }
 
@@ -46,7 +48,8 @@ impl Values {
         requires { length self.old < 16 }
         ensures { self.new ≡ self.old ++ value ∷ [] }
     {
-        self.items.push(value);
+        self.items[self.len] = value;
+        self.len += 1;
     }
 
     /// Takes these values in place of its own: at most 16.
@@ -54,8 +57,11 @@ impl Values {
         requires { length values.now ≤ 16 }
         ensures { self.new ≡ values.now }
     {
-        self.items.clear();
-        let _ = self.items.try_extend_from_slice(values);
+        let len = values.len();
+        if len != 0 {
+            self.items[..len].copy_from_slice(values);
+        }
+        self.len = len;
     }
 
     /// How many values there are: at most 16.
@@ -63,14 +69,14 @@ impl Values {
         ensures value { result ≡ length self.now }
         ensures fits { length self.now ≤ 16 }
     {
-        self.items.len()
+        self.as_slice().len()
     }
 
     /// Whether there is no value.
     pub fn is_empty(&self) -> bool
         ensures { IsTrue result ↔ (length self.now ≡ 0) }
     {
-        self.items.is_empty()
+        self.len == 0
     }
 
     /// The values, in their order: at most 16.
@@ -78,7 +84,7 @@ impl Values {
         ensures value { result.now ≡ self.now }
         ensures fits { length self.now ≤ 16 }
     {
-        self.items.as_slice()
+        &self.items[..self.len]
     }
 
     /// Equal values.
