@@ -29,7 +29,7 @@ use Rattle.host_core.specs.Setting.{Setting}
 use Rattle.host_core.specs.Views.{readings_of, row_of}
 use Rattle.tenant_state.specs.Instants.{after_instant}
 use Rattle.tenant_state.proofs.ActiveTasks.{kept_by_instant}
-use Rattle.host_core.proofs.NewHost.{no_tenant}
+use Rattle.host_core.proofs.NewHost.{nobody}
 use Rattle.host_core.proofs.Alone.{Agrees, all_due, marks_after, known_after, own_event}
 use Rattle.host_core.proofs.Histories.{unfinished_of, own_instant, releases, completed_is_early}
 use Rattle.tenant_jobs.proofs.JobNames.{same_job_is}
@@ -119,7 +119,7 @@ module _ (setting : Setting) where
           → option_map (to_sensor b) (option_and_then (granted_by setting.config rows halves t b) o) ≡ option_map (to_sensor b) (option_and_then (granted_by setting.config others other_halves t b) o)
       along b None e = refl
       along b (Some u) e =
-          let within : u < length setting.config.tenants = (position-Some (λ (tenant : TenantConfig). same_name tenant.name b.tenant) setting.config.tenants u no_tenant e).0 in
+          let within : u < length setting.config.tenants = (position-Some (λ (tenant : TenantConfig). same_name tenant.name b.tenant) setting.config.tenants u nobody e).0 in
           ap (λ (r : Row). option_map (to_sensor b) (cond (offers r b.actuator (name_at setting.config t)) (actuator_value (halves u) b.actuator) None)) (same u within)
           ∙ ap (λ (h : Row). option_map (to_sensor b) (cond (offers (others u) b.actuator (name_at setting.config t)) (actuator_value h b.actuator) None)) (same_half u within)
 

@@ -21,8 +21,9 @@ use Rattle.host_core.specs.declared.hosts.Host.TheInside.{Inside}
 use Rattle.host_core.specs.Setting.{Setting}
 use Rattle.tenant_jobs.specs.Finished.{TableEntry}
 use Rattle.tenant_state.specs.Jobs.{has_job, job_of}
-use Rattle.tenant_state.specs.Standing.{Standing, IsKnown, at_rest, empty_standing, most_released, outstanding_tasks, awaited_job}
+use Rattle.tenant_state.specs.Standing.{Standing, IsKnown, at_rest, no_tenant, most_released, outstanding_tasks, awaited_job}
 use Rattle.tenant_state.specs.inner.Standing.{HasItsResults}
+use Rattle.rig_config.specs.Roster.{Rig}
 
 -- a host as its code has it
 abbrev pub standing : Inside → HostStanding
@@ -49,20 +50,21 @@ all_at_rest n xs ys same all k d lt = is_at_rest n (get_or xs k d) (get_or ys k 
 
 table_at_rest : (entries : List TableEntry) (xs ys : List Standing) → map at_rest ys ≡ map at_rest xs → IsTaskTable xs entries → IsTaskTable ys entries
 table_at_rest entries xs ys same table = record {
-  entered = λ j. table.entered j ∙ sym (ap (λ (s : Standing). has_job s.place s.row.active j) (same_at_rest xs ys j.tenant (empty_standing 0 0) same));
+  entered = λ j. table.entered j ∙ sym (ap (λ (s : Standing). has_job s.tenancy.place s.row.active j) (same_at_rest xs ys j.tenant no_tenant same));
   results = λ k d lt. subst (λ (s : Standing). HasItsResults s entries) (sym (same_at_rest xs ys k d same)) (table.results k d (omega (arith, lt, same_length xs ys same)));
 }
 
 placed_at_rest : (xs ys : List Standing) → map at_rest ys ≡ map at_rest xs → ArePlaced xs → ArePlaced ys
 placed_at_rest xs ys same placed t lt =
-    ap (λ (s : Standing). s.place) (same_at_rest xs ys t (empty_standing 0 0) same) ∙ placed t (omega (arith, lt, same_length xs ys same))
+    ap (λ (s : Standing). s.tenancy.place) (same_at_rest xs ys t no_tenant same) ∙ placed t (omega (arith, lt, same_length xs ys same))
 
 -- what is known of a host is kept where its tenants are but for what they have ready
-pub kept_at_rest : {long n : ℕ} {entries : List TableEntry} (xs ys : List Standing) → map at_rest ys ≡ map at_rest xs → IsWhole long n xs entries → IsWhole long n ys entries
+pub kept_at_rest : {config : Rig} {n : ℕ} {entries : List TableEntry} (xs ys : List Standing) → map at_rest ys ≡ map at_rest xs → IsWhole config n xs entries → IsWhole config n ys entries
 kept_at_rest {n = n} {entries = entries} xs ys same whole = record {
   as_many = same_length xs ys same ∙ whole.as_many;
   known = all_at_rest n xs ys same whole.known;
   placed = placed_at_rest xs ys same whole.placed;
+  budgets = λ t lt. ap (λ (s : Standing). s.tenancy.budgets) (same_at_rest xs ys t no_tenant same) ∙ whole.budgets t (omega (arith, lt, same_length xs ys same));
   table = table_at_rest entries xs ys same whole.table;
 }
 
@@ -74,7 +76,7 @@ stands_at_rest setting host state ys same stands = record {
   as_many = same_length host.tenants ys same ∙ stands.as_many;
   all_rows = stands.all_rows;
   placed = placed_at_rest host.tenants ys same stands.placed;
-  each = λ t lt. ap (λ (s : Standing). s.row) (same_at_rest host.tenants ys t (empty_standing 0 0) same) ∙ stands.each t lt;
+  each = λ t lt. ap (λ (s : Standing). s.row) (same_at_rest host.tenants ys t no_tenant same) ∙ stands.each t lt;
   counts = stands.counts;
   results = stands.results;
 }
@@ -96,7 +98,7 @@ pub outstanding_at_rest : (entries : List TableEntry) (xs : List Standing) → o
 outstanding_at_rest entries xs = gathered_at_rest _ (λ k s. refl) 0 xs
 
 pub outstanding_at_rest_of : (host : HostStanding) (t : ℕ) → outstanding_of (record host { tenants = map at_rest host.tenants }) t ≡ outstanding_of host t
-outstanding_at_rest_of host t = ap (λ (s : Standing). map (job_of t) (outstanding_tasks s host.entries)) (same_at_rest host.tenants (map at_rest host.tenants) t (empty_standing 0 0) (rest_twice host.tenants))
+outstanding_at_rest_of host t = ap (λ (s : Standing). map (job_of t) (outstanding_tasks s host.entries)) (same_at_rest host.tenants (map at_rest host.tenants) t no_tenant (rest_twice host.tenants))
 
 -- a tenant's answer to a job's name is the host's
 pub awaited_here : (entries : List TableEntry) (xs : List Standing) (j : JobId) (x : Standing) → j.tenant < length xs → x ≡ get_or xs j.tenant x
@@ -116,8 +118,8 @@ pub row_here : (host view : HostStanding) (t : ℕ) (x : Standing) → record ho
     → (tenant_at view.tenants t).row ≡ x.row
 row_here host view t x is lt here =
     ap (λ (h : HostStanding). (tenant_at h.tenants t).row) (sym is)
-    ∙ (ap (λ (s : Standing). s.row) (same_at_rest host.tenants (map at_rest host.tenants) t (empty_standing 0 0) (rest_twice host.tenants))
-    ∙ ap (λ (s : Standing). s.row) (sym (here ∙ get_or_default host.tenants t x (empty_standing 0 0) lt)))
+    ∙ (ap (λ (s : Standing). s.row) (same_at_rest host.tenants (map at_rest host.tenants) t no_tenant (rest_twice host.tenants))
+    ∙ ap (λ (s : Standing). s.row) (sym (here ∙ get_or_default host.tenants t x no_tenant lt)))
 
 -- the most jobs of all
 pub most_at_rest : (xs : List Standing) → most_of (map at_rest xs) ≡ most_of xs

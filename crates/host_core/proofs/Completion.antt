@@ -11,7 +11,7 @@ use Rattle.tenant_jobs.specs.Finished.{TableEntry, has_result}
 use Rattle.tenant_jobs.specs.Jobs.{JobValue}
 use Rattle.tenant_state.specs.Jobs.{is_active}
 use Rattle.tenant_state.specs.Row.{Row, empty_row}
-use Rattle.tenant_state.specs.Standing.{Standing, at_rest, awaited_job, empty_standing, released_job}
+use Rattle.tenant_state.specs.Standing.{Standing, at_rest, awaited_job, no_tenant, released_job}
 use Rattle.instant_engine.specs.Tenants.{ArePlaced}
 use Rattle.host_core.specs.declared.events.Event.TheVariants.{Done}
 use Rattle.host_core.specs.declared.hosts.Counted.{Counted}
@@ -60,7 +60,7 @@ module _ (setting : Setting) (host view : HostStanding) (state : HostState) (kno
   awaits_own j = ⊎_elim here past (cases_lt j.tenant (length setting.config.tenants)) ∙ ap is_some (sym (awaited_at_rest host j) ∙ ap (λ (h : HostStanding). awaited_in h j) is)
     where
       here : j.tenant < length setting.config.tenants → awaits state j ≡ is_some (awaited_in host j)
-      here lt = awaits_here setting host state j lt inside placed (known j.tenant (empty_standing 0 0) (omega (arith, inside.as_many, lt))).1.known
+      here lt = awaits_here setting host state j lt inside placed (known j.tenant no_tenant (omega (arith, inside.as_many, lt))).1.known
 
       past : length setting.config.tenants ≤ j.tenant → awaits state j ≡ is_some (awaited_in host j)
       past le =

@@ -4,7 +4,8 @@ use Rattle.std.specs.List.{All}
 use Rattle.std.proofs.lemmas.List.{get_or_default}
 use Rattle.tenant_jobs.specs.declared.jobs.JobId.{JobId}
 use Rattle.tenant_jobs.specs.Finished.{TableEntry, entry_in, result_in}
-use Rattle.tenant_state.specs.Standing.{Standing, at_rest, empty_standing}
+use Rattle.tenant_state.specs.declared.tenants.Tenancy.{Tenancy}
+use Rattle.tenant_state.specs.Standing.{Standing, at_rest, no_tenant}
 use Rattle.instant_engine.specs.inner.Instants.{AreInstants}
 use Rattle.instant_engine.specs.inner.Tables.{IsTaskTable}
 use Rattle.instant_engine.specs.Tenants.{tenant_at}
@@ -30,7 +31,7 @@ written_over n old new e = ap (λ k. take k (new ++ drop (length new) old)) (sym
 -- the tenants are written through a slice: first made ready, then through an instant
 module _ (config : Rig) (clock places : ℕ) (old slice ready : List Standing) (before readied : List TableEntry)
     (value : slice ≡ old) (long : length slice ≡ places) (rest : map at_rest ready ≡ map at_rest slice) (same : readied ≡ before)
-    (whole : IsWhole (length config.tenants) clock old before) where
+    (whole : IsWhole config clock old before) where
   abbrev pub ready_items : List Standing
   ready_items = take places (ready ++ drop (length ready) old)
 
@@ -40,39 +41,40 @@ module _ (config : Rig) (clock places : ℕ) (old slice ready : List Standing) (
   rest_ready : map at_rest ready ≡ map at_rest old
   rest_ready = rest ∙ ap (map at_rest) value
 
-  ready_whole : IsWhole (length config.tenants) clock ready readied
-  ready_whole = subst (IsWhole (length config.tenants) clock ready) (sym same) (kept_at_rest old ready rest_ready whole)
+  ready_whole : IsWhole config clock ready readied
+  ready_whole = subst (IsWhole config clock ready) (sym same) (kept_at_rest old ready rest_ready whole)
 
-  pub whole_ready : IsWhole (length config.tenants) clock ready_items readied
-  whole_ready = subst (λ xs. IsWhole (length config.tenants) clock xs readied) (sym items_ready) ready_whole
+  pub whole_ready : IsWhole config clock ready_items readied
+  whole_ready = subst (λ xs. IsWhole config clock xs readied) (sym items_ready) ready_whole
 
   module _ (again : List Standing) (now : again ≡ ready_items) where
-    pub whole_again : IsWhole (length config.tenants) clock again readied
-    whole_again = subst (λ xs. IsWhole (length config.tenants) clock xs readied) (sym now) whole_ready
+    pub whole_again : IsWhole config clock again readied
+    whole_again = subst (λ xs. IsWhole config clock xs readied) (sym now) whole_ready
 
     pub counts_again : clock < 2 ^ 64 - 1 → All (λ (s : Standing). s.row.next_tick < 2 ^ 64 - 1) again
     counts_again below k d lt = subst (λ n. n < 2 ^ 64 - 1) (sym (whole_again.known k d lt).0) below
 
-    module _ (frame : List ℤ) (after : List Standing) (behind : List TableEntry) (instants : AreInstants config frame readied again after) (table : IsTaskTable after behind) where
+    module _ (frame : List ℤ) (after : List Standing) (behind : List TableEntry) (instants : AreInstants frame readied again after) (table : IsTaskTable after behind) where
       abbrev pub items_behind : List Standing
       items_behind = take places (after ++ drop (length after) ready_items)
 
       pub written_behind : items_behind ≡ after
       written_behind = written_over places ready_items after (instants.as_many ∙ ap length (now ∙ items_ready) ∙ same_length slice ready rest ∙ long)
 
-      after_whole : IsWhole (length config.tenants) (clock + 1) after behind
+      after_whole : IsWhole config (clock + 1) after behind
       after_whole = record {
         as_many = instants.as_many ∙ whole_again.as_many;
-        known = λ k d lt. subst (IsAt (clock + 1)) (sym (get_or_default after k d (empty_standing 0 0) lt)) (at k (omega (arith, lt, instants.as_many)));
-        placed = λ t lt. let within : t < length again = omega (arith, lt, instants.as_many) in (instants.each t within).place ∙ whole_again.placed t within;
+        known = λ k d lt. subst (IsAt (clock + 1)) (sym (get_or_default after k d no_tenant lt)) (at k (omega (arith, lt, instants.as_many)));
+        placed = λ t lt. let within : t < length again = omega (arith, lt, instants.as_many) in ap (λ (y : Tenancy). y.place) (instants.each t within).tenancy ∙ whole_again.placed t within;
+        budgets = λ t lt. let within : t < length again = omega (arith, lt, instants.as_many) in ap (λ (y : Tenancy). y.budgets) (instants.each t within).tenancy ∙ whole_again.budgets t within;
         table = table;
       }
         where
           at : (k : ℕ) → k < length again → IsAt (clock + 1) (tenant_at after k)
-          at k lt = ((instants.each k lt).next_tick ∙ ap (λ n. n + 1) (whole_again.known k (empty_standing 0 0) lt).0, (instants.each k lt).between)
+          at k lt = ((instants.each k lt).next_tick ∙ ap (λ n. n + 1) (whole_again.known k no_tenant lt).0, (instants.each k lt).between)
 
-      pub whole_behind : IsWhole (length config.tenants) (clock + 1) items_behind behind
-      whole_behind = subst (λ xs. IsWhole (length config.tenants) (clock + 1) xs behind) (sym written_behind) after_whole
+      pub whole_behind : IsWhole config (clock + 1) items_behind behind
+      whole_behind = subst (λ xs. IsWhole config (clock + 1) xs behind) (sym written_behind) after_whole
 
       pub stands_behind : ((j : JobId) → entry_in behind j ≡ cond (is_active_among after j) (Some (record { id = j; result = result_in readied j })) None)
           → (setting : Setting) (state : HostState) → Stands setting (record { config = config; tenants = map at_rest old; entries = before; clock = clock }) state
@@ -86,4 +88,4 @@ module _ (config : Rig) (clock places : ℕ) (old slice ready : List Standing) (
           subst (λ (es : List TableEntry). Stands setting (record host { tenants = again; entries = es }) state) (sym same) at_ready in
           subst (λ xs. Stands setting (record { config = config; tenants = map at_rest xs; entries = behind; clock = clock + 1 }) (after_event setting state (Tick frame))) (sym written_behind)
           (stands_outside setting (record { config = config; tenants = after; entries = behind; clock = clock + 1 }) (after_event setting state (Tick frame))
-          (stands_after_tick setting (record host { tenants = again; entries = readied }) state frame after behind with_entries whole_again.known whole_again.placed instants exact))
+          (stands_after_tick setting (record host { tenants = again; entries = readied }) state frame after behind with_entries whole_again.known whole_again.placed whole_again.budgets instants exact))

@@ -10,8 +10,7 @@ use Rattle.std.proofs.lemmas.List.FromFn.{length-enumerate_from, get_or-enumerat
 use Rattle.std.proofs.lemmas.Map.Views.{any-filter_same}
 use Rattle.std.proofs.lemmas.Option.{slice_get-get_or}
 use Rattle.giotto_text.specs.Program.{GiottoProgram}
-use Rattle.rig_config.specs.declared.TenantConfig.{TenantConfig}
-use Rattle.rig_config.specs.Roster.{Rig, budgets_at, no_budgets}
+use Rattle.rig_config.specs.Roster.{Rig, budgets_at}
 use Rattle.tenant_lines.specs.declared.commands.Command.{Command}
 use Rattle.tenant_lines.specs.declared.replies.Refusal.TheVariants.{Memory}
 use Rattle.tenant_lines.specs.declared.replies.Reply.{Reply}
@@ -26,7 +25,7 @@ use Rattle.tenant_state.specs.FirstHalf.{unfinished_tasks, first_half_of}
 use Rattle.tenant_state.specs.Instants.{after_instant}
 use Rattle.tenant_state.specs.Jobs.{has_job, job_of, job_in, is_active}
 use Rattle.tenant_state.specs.Row.{ActiveTask, Row, empty_row}
-use Rattle.tenant_state.specs.Standing.{Standing, at_rest, empty_standing, IsKnown, StandsFor, awaited_job, outstanding_tasks, released_job}
+use Rattle.tenant_state.specs.Standing.{Standing, at_rest, no_tenant, IsKnown, StandsFor, awaited_job, outstanding_tasks, released_job}
 use Rattle.tenant_state.specs.inner.Standing.{IsOutcome}
 use Rattle.instant_engine.specs.inner.Instants.{AreInstants, IsInstant, instant_by}
 use Rattle.instant_engine.specs.Tenants.{ArePlaced, tenant_at}
@@ -36,7 +35,8 @@ use Rattle.host_core.specs.Grants.{granted_along, granted_to}
 use Rattle.host_core.specs.Host.{instant_of, with_rows, after_event}
 use Rattle.host_core.specs.HostState.{HostState, is_counted, row_at, awaits}
 use Rattle.host_core.specs.HostStanding.{HostStanding, Stands, awaited_in}
-use Rattle.host_core.specs.inner.HostStanding.{IsAt}
+use Rattle.tenant_state.specs.declared.tenants.Tenancy.{Tenancy}
+use Rattle.host_core.specs.inner.HostStanding.{HaveBudgets, IsAt}
 use Rattle.host_core.specs.Setting.{Setting}
 use Rattle.host_core.specs.Views.{after_command}
 use Rattle.host_core.proofs.AtRest.{stands_inside}
@@ -47,17 +47,21 @@ use Rattle.giotto_tasks.proofs.ListLemmas.{find_is_any, find_passes, is_some-opt
 pub same_count : (s : Standing) (row : Row) → StandsFor s row → row.next_tick ≡ s.row.next_tick
 same_count s row stands = sym (ap (λ (r : Row). r.next_tick) stands)
 
--- the budgets of a tenant of the roster
-pub budgets_here : (config : Rig) (t : ℕ) (d : TenantConfig) → t < length config.tenants → budgets_at config t ≡ (get_or config.tenants t d).budgets
-budgets_here config t d lt = ap (λ o. option_map_or (λ (tenant : TenantConfig). tenant.budgets) o no_budgets) (slice_get-get_or config.tenants t d lt)
-
 -- one tenant in another's place
-pub placed_set : (tenants : List Standing) (u : ℕ) (s : Standing) → s.place ≡ u → ArePlaced tenants → ArePlaced (set tenants u s)
+pub placed_set : (tenants : List Standing) (u : ℕ) (s : Standing) → s.tenancy.place ≡ u → ArePlaced tenants → ArePlaced (set tenants u s)
 placed_set tenants u s own placed t lt = ⊎_elim
     (λ (same : u ≡ t).
-    ap (λ (x : Standing). x.place) (ap (λ k. get_or (set tenants u s) k (empty_standing 0 0)) (sym same) ∙ get_or-set_same tenants u s (empty_standing 0 0) (omega (arith, lt, same, length-set tenants u s)))
+    ap (λ (x : Standing). x.tenancy.place) (ap (λ k. get_or (set tenants u s) k no_tenant) (sym same) ∙ get_or-set_same tenants u s no_tenant (omega (arith, lt, same, length-set tenants u s)))
     ∙ own ∙ same)
-    (λ (differ : u ≢ t). ap (λ (x : Standing). x.place) (get_or-set_other tenants u t s (empty_standing 0 0) (λ e. differ (sym e))) ∙ placed t (omega (arith, lt, length-set tenants u s)))
+    (λ (differ : u ≢ t). ap (λ (x : Standing). x.tenancy.place) (get_or-set_other tenants u t s no_tenant (λ e. differ (sym e))) ∙ placed t (omega (arith, lt, length-set tenants u s)))
+    (cases_eq u t)
+
+pub budgets_set : (config : Rig) (tenants : List Standing) (u : ℕ) (s : Standing) → s.tenancy.budgets ≡ budgets_at config u → HaveBudgets config tenants → HaveBudgets config (set tenants u s)
+budgets_set config tenants u s own budgets t lt = ⊎_elim
+    (λ (same : u ≡ t).
+    ap (λ (x : Standing). x.tenancy.budgets) (ap (λ k. get_or (set tenants u s) k no_tenant) (sym same) ∙ get_or-set_same tenants u s no_tenant (omega (arith, lt, same, length-set tenants u s)))
+    ∙ own ∙ ap (budgets_at config) same)
+    (λ (differ : u ≢ t). ap (λ (x : Standing). x.tenancy.budgets) (get_or-set_other tenants u t s no_tenant (λ e. differ (sym e))) ∙ budgets t (omega (arith, lt, length-set tenants u s)))
     (cases_eq u t)
 
 -- a job is active in the code's tenants where it is in the rows that they stand for
@@ -74,7 +78,7 @@ active_alike n tenants rows clock as_many all_rows placed each j = ⊎_elim here
     past : n ≤ j.tenant → is_active (get_or rows j.tenant (empty_row clock)) j ≡ is_active_among tenants j
     past le =
         ap (λ (r : Row). is_active r j) (get_or-eq_default rows (empty_row clock) (omega (arith, le, all_rows)))
-        ∙ sym (ap (λ (s : Standing). has_job s.place s.row.active j) (get_or-eq_default tenants (empty_standing 0 0) (omega (arith, le, as_many))))
+        ∙ sym (ap (λ (s : Standing). has_job s.tenancy.place s.row.active j) (get_or-eq_default tenants no_tenant (omega (arith, le, as_many))))
 
 -- what is counted still, behind a change of rows
 pub counted_still : (state : HostState) (rows : List Row) (j : JobId) → is_counted (with_rows state rows) j ≡ (is_active (get_or rows j.tenant (empty_row state.clock)) j && is_counted state j)
@@ -121,16 +125,16 @@ module _ (setting : Setting) where
     abbrev rows : List Row
     rows = set state.rows u new
 
-    module _ (within : u < length setting.config.tenants) (own : StandsFor s new) (count : s.row.next_tick ≡ host.clock) (place : s.place ≡ u) (placed : ArePlaced host.tenants)
+    module _ (within : u < length setting.config.tenants) (own : StandsFor s new) (count : s.row.next_tick ≡ host.clock) (place : s.tenancy.place ≡ u) (placed : ArePlaced host.tenants)
         (still : AreResultsStill tenants host.entries entries) where
       here_tenant : (t : ℕ) → u ≡ t → tenant_at tenants t ≡ s
-      here_tenant t e = ap (λ k. get_or tenants k (empty_standing 0 0)) (sym e) ∙ get_or-set_same host.tenants u s (empty_standing 0 0) (omega (arith, within, stands.as_many))
+      here_tenant t e = ap (λ k. get_or tenants k no_tenant) (sym e) ∙ get_or-set_same host.tenants u s no_tenant (omega (arith, within, stands.as_many))
 
       here_row : (t : ℕ) → u ≡ t → get_or rows t (empty_row state.clock) ≡ new
       here_row t e = ap (λ k. get_or rows k (empty_row state.clock)) (sym e) ∙ get_or-set_same state.rows u new (empty_row state.clock) (omega (arith, within, stands.all_rows))
 
       there_tenant : (t : ℕ) → u ≢ t → tenant_at tenants t ≡ tenant_at host.tenants t
-      there_tenant t differ = get_or-set_other host.tenants u t s (empty_standing 0 0) (λ e. differ (sym e))
+      there_tenant t differ = get_or-set_other host.tenants u t s no_tenant (λ e. differ (sym e))
 
       there_row : (t : ℕ) → u ≢ t → get_or rows t (empty_row state.clock) ≡ row_at state t
       there_row t differ = get_or-set_other state.rows u t new (empty_row state.clock) (λ e. differ (sym e))
@@ -172,7 +176,8 @@ module _ (setting : Setting) where
       (stands : Stands setting host state)
       (known : All (IsAt host.clock) host.tenants)
       (placed : ArePlaced host.tenants)
-      (instants : AreInstants host.config frame host.entries host.tenants after)
+      (budgets : HaveBudgets host.config host.tenants)
+      (instants : AreInstants frame host.entries host.tenants after)
       (exact : (j : JobId) → entry_in entries j ≡ cond (is_active_among after j) (Some (record { id = j; result = result_in host.entries j })) None) where
     abbrev rows_behind : List Row
     rows_behind = map (λ (place : ℕ × Row). after_instant (instant_of setting state frame place.0) place.1) (enumerate_from 0 state.rows)
@@ -187,7 +192,7 @@ module _ (setting : Setting) where
     placed_after : ArePlaced after
     placed_after t lt =
         let within : t < length host.tenants = omega (arith, lt, instants.as_many) in
-        (instants.each t within).place ∙ placed t within
+        ap (λ (y : Tenancy). y.place) (instants.each t within).tenancy ∙ placed t within
 
     module _ (t : ℕ) (lt : t < length setting.config.tenants) where
       within : t < length host.tenants
@@ -196,17 +201,20 @@ module _ (setting : Setting) where
       abbrev row : Row
       row = row_at state t
 
-      one : IsInstant (budgets_at host.config t).reads frame host.entries (tenant_at host.tenants t) (tenant_at after t)
+      one : IsInstant frame host.entries (tenant_at host.tenants t) (tenant_at after t)
       one = instants.each t within
 
       no_binds : row.binds ≡ []
-      no_binds = sym (ap (λ (r : Row). r.binds) (stands.each t lt)) ∙ (known t (empty_standing 0 0) within).1.known.no_binds
+      no_binds = sym (ap (λ (r : Row). r.binds) (stands.each t lt)) ∙ (known t no_tenant within).1.known.no_binds
 
-      same_instant : instant_by (budgets_at host.config t).reads frame host.entries (tenant_at host.tenants t).place row ≡ instant_of setting state frame t
+      its_budgets : (tenant_at host.tenants t).tenancy.budgets ≡ budgets_at setting.config t
+      its_budgets = budgets t within ∙ ap (λ (k : Rig). budgets_at k t) stands.same_config
+
+      same_instant : instant_by (tenant_at host.tenants t).tenancy frame host.entries row ≡ instant_of setting state frame t
       same_instant =
           let granted = sym (nothing_granted (row_at state) (λ u. first_half_of (unfinished_at state u) (row_at state u)) t no_binds) in
           λ k. record {
-            readings = readings_within (budgets_at (stands.same_config k) t).reads frame;
+            readings = readings_within (its_budgets k).reads frame;
             unfinished = unfinished_tasks (λ a. stands.results (job_of (placed t within k) a) k) row;
             granted = granted k;
           }
@@ -229,42 +237,41 @@ module _ (setting : Setting) where
         (length-map (enumerate_from 0 state.rows) _ ∙ (length-enumerate_from 0 state.rows ∙ stands.all_rows)) placed_after tick_each tick_counts results_still)
 
   -- a tenant's own step, for the row that its place stands for
-  pub own_outcome : (host : HostStanding) (state : HostState) (t : ℕ) (c : Command) (config d : TenantConfig) (before after : Standing) (reply : Reply)
-      → Stands setting host state → t < length host.config.tenants
-      → before ≡ get_or host.tenants t before → config ≡ get_or host.config.tenants t d
-      → ((row : Row) → StandsFor before row → reply ≢ Refused Memory → IsOutcome (commanded config.budgets c row) reply after)
+  pub own_outcome : (host : HostStanding) (state : HostState) (t : ℕ) (c : Command) (before after : Standing) (reply : Reply)
+      → Stands setting host state → t < length host.config.tenants → HaveBudgets host.config host.tenants → before ≡ get_or host.tenants t before
+      → ((row : Row) → StandsFor before row → reply ≢ Refused Memory → IsOutcome (commanded before.tenancy.budgets c row) reply after)
       → reply ≢ Refused Memory → IsOutcome (after_command setting t c (row_at state t)) reply after
-  own_outcome host state t c config d before after reply stands within here here_config step given =
+  own_outcome host state t c before after reply stands within budgets here step given =
       let lt : t < length setting.config.tenants = subst (λ (k : Rig). t < length k.tenants) stands.same_config within in
-      let same : before ≡ tenant_at host.tenants t = here ∙ get_or_default host.tenants t before (empty_standing 0 0) (omega (arith, lt, stands.as_many)) in
-      let budgets : config.budgets ≡ budgets_at setting.config t =
-      sym (budgets_here host.config t d within ∙ ap (λ (k : TenantConfig). k.budgets) (sym here_config)) ∙ ap (λ (k : Rig). budgets_at k t) stands.same_config in
-      subst (λ b. IsOutcome (commanded b c (row_at state t)) reply after) budgets
+      let same : before ≡ tenant_at host.tenants t = here ∙ get_or_default host.tenants t before no_tenant (omega (arith, lt, stands.as_many)) in
+      let its : before.tenancy.budgets ≡ budgets_at setting.config t =
+      ap (λ (s : Standing). s.tenancy.budgets) same ∙ budgets t (omega (arith, lt, stands.as_many)) ∙ ap (λ (k : Rig). budgets_at k t) stands.same_config in
+      subst (λ b. IsOutcome (commanded b c (row_at state t)) reply after) its
       (step (row_at state t) (subst (λ s. StandsFor s (row_at state t)) (sym same) (stands.each t lt)) given)
 
 -- the outstanding tasks of a tenant
-pub outstanding_are : (s : Standing) (entries : List TableEntry) (t : ℕ) (row : Row) (counted : JobId → Bool) → StandsFor s row → s.place ≡ t → ((j : JobId) → has_result entries j ≡ counted j)
+pub outstanding_are : (s : Standing) (entries : List TableEntry) (t : ℕ) (row : Row) (counted : JobId → Bool) → StandsFor s row → s.tenancy.place ≡ t → ((j : JobId) → has_result entries j ≡ counted j)
     → outstanding_tasks s entries ≡ filter (λ a. not (counted (job_of t a))) row.active
 outstanding_are s entries t row counted stands place results = λ k. filter (λ a. not (results (job_of (place k) a) k)) (stands k).active
 
 -- the job of a name that is released has this name
-pub released_is : (s : Standing) (j : JobId) → IsKnown s.row → is_some (released_job s j) ≡ has_job s.place s.row.active j
+pub released_is : (s : Standing) (j : JobId) → IsKnown s.row → is_some (released_job s j) ≡ has_job s.tenancy.place s.row.active j
 released_is s j known = program s.row.program refl
   where
-    program : (o : Option GiottoProgram) → s.row.program ≡ o → is_some (released_job s j) ≡ has_job s.place s.row.active j
+    program : (o : Option GiottoProgram) → s.row.program ≡ o → is_some (released_job s j) ≡ has_job s.tenancy.place s.row.active j
     program None e =
-        ap (λ o. is_some (option_and_then (λ p. option_map (job_in p s.place) (find (λ a. same_job (job_of s.place a) j) s.row.active)) o)) e
-        ∙ sym (ap (λ xs. has_job s.place xs j) (known.tasks e))
+        ap (λ o. is_some (option_and_then (λ p. option_map (job_in p s.tenancy.place) (find (λ a. same_job (job_of s.tenancy.place a) j) s.row.active)) o)) e
+        ∙ sym (ap (λ xs. has_job s.tenancy.place xs j) (known.tasks e))
     program (Some p) e =
-        ap (λ o. is_some (option_and_then (λ p. option_map (job_in p s.place) (find (λ a. same_job (job_of s.place a) j) s.row.active)) o)) e
-        ∙ (is_some-option_map (job_in p s.place) (find (λ a. same_job (job_of s.place a) j) s.row.active) ∙ find_is_any (λ a. same_job (job_of s.place a) j) s.row.active)
+        ap (λ o. is_some (option_and_then (λ p. option_map (job_in p s.tenancy.place) (find (λ a. same_job (job_of s.tenancy.place a) j) s.row.active)) o)) e
+        ∙ (is_some-option_map (job_in p s.tenancy.place) (find (λ a. same_job (job_of s.tenancy.place a) j) s.row.active) ∙ find_is_any (λ a. same_job (job_of s.tenancy.place a) j) s.row.active)
 
-pub awaited_is : (s : Standing) (entries : List TableEntry) (j : JobId) → IsKnown s.row → is_some (awaited_job s entries j) ≡ (has_job s.place s.row.active j && not (has_result entries j))
+pub awaited_is : (s : Standing) (entries : List TableEntry) (j : JobId) → IsKnown s.row → is_some (awaited_job s entries j) ≡ (has_job s.tenancy.place s.row.active j && not (has_result entries j))
 awaited_is s entries j known = by (has_result entries j)
   where
-    by : (b : Bool) → is_some (cond b None (released_job s j)) ≡ (has_job s.place s.row.active j && not b)
-    by true = sym (and_false (has_job s.place s.row.active j))
-    by false = released_is s j known ∙ sym (and_true (has_job s.place s.row.active j))
+    by : (b : Bool) → is_some (cond b None (released_job s j)) ≡ (has_job s.tenancy.place s.row.active j && not b)
+    by true = sym (and_false (has_job s.tenancy.place s.row.active j))
+    by false = released_is s j known ∙ sym (and_true (has_job s.tenancy.place s.row.active j))
 
 module _ (setting : Setting) where
   -- the host awaits a job exactly where the definitions do
@@ -274,7 +281,7 @@ module _ (setting : Setting) where
       ap (λ b. b && not (is_counted state j)) (active_alike (length setting.config.tenants) host.tenants state.rows state.clock stands.as_many stands.all_rows placed stands.each j)
       ∙ ap (λ b. is_active_among host.tenants j && not b) (sym (stands.results j))
       ∙ sym (awaited_is (tenant_at host.tenants j.tenant) host.entries j known)
-      ∙ sym (ap (λ o. is_some (option_and_then (λ s. awaited_job s host.entries j) o)) (slice_get-get_or host.tenants j.tenant (empty_standing 0 0) (omega (arith, lt, stands.as_many))))
+      ∙ sym (ap (λ o. is_some (option_and_then (λ s. awaited_job s host.entries j) o)) (slice_get-get_or host.tenants j.tenant no_tenant (omega (arith, lt, stands.as_many))))
 
   -- a completion
   pub stands_after_done : (host : HostStanding) (state : HostState) (j : JobId) (entries : List TableEntry) → Stands setting host state
@@ -300,15 +307,15 @@ module _ (setting : Setting) where
 pub released_name : (s : Standing) (j : JobId) (d : JobValue) → released_job s j ≡ Some d → d.id ≡ j
 released_name s j d e = program s.row.program e
   where
-    found : (p : GiottoProgram) (o : Option ActiveTask) → find (λ a. same_job (job_of s.place a) j) s.row.active ≡ o → option_map (job_in p s.place) o ≡ Some d → d.id ≡ j
+    found : (p : GiottoProgram) (o : Option ActiveTask) → find (λ a. same_job (job_of s.tenancy.place a) j) s.row.active ≡ o → option_map (job_in p s.tenancy.place) o ≡ Some d → d.id ≡ j
     found p None e f = absurd (cc)
     found p (Some a) e f =
-        let same : job_in p s.place a ≡ d = cc in
-        ap (λ (k : JobValue). k.id) (sym same) ∙ same_job_is (job_of s.place a) j (find_passes (λ a. same_job (job_of s.place a) j) s.row.active a e)
+        let same : job_in p s.tenancy.place a ≡ d = cc in
+        ap (λ (k : JobValue). k.id) (sym same) ∙ same_job_is (job_of s.tenancy.place a) j (find_passes (λ a. same_job (job_of s.tenancy.place a) j) s.row.active a e)
 
-    program : (o : Option GiottoProgram) → option_and_then (λ p. option_map (job_in p s.place) (find (λ a. same_job (job_of s.place a) j) s.row.active)) o ≡ Some d → d.id ≡ j
+    program : (o : Option GiottoProgram) → option_and_then (λ p. option_map (job_in p s.tenancy.place) (find (λ a. same_job (job_of s.tenancy.place a) j) s.row.active)) o ≡ Some d → d.id ≡ j
     program None f = absurd (cc)
-    program (Some p) f = found p (find (λ a. same_job (job_of s.place a) j) s.row.active) refl f
+    program (Some p) f = found p (find (λ a. same_job (job_of s.tenancy.place a) j) s.row.active) refl f
 
 awaited_name : (s : Standing) (entries : List TableEntry) (j : JobId) (d : JobValue) → awaited_job s entries j ≡ Some d → d.id ≡ j
 awaited_name s entries j d e = by (has_result entries j) e
@@ -337,8 +344,8 @@ pub job_awaits : {E : Type 0} (host : HostStanding) (j : JobId) (before : Standi
 job_awaits host j before (Err e) within here known placed is = tt
 job_awaits host j before (Ok job) within here known placed is = λ setting state view.
     let stands : Stands setting host state = stands_inside setting host state view in
-    let same : before ≡ tenant_at host.tenants j.tenant = here ∙ get_or_default host.tenants j.tenant before (empty_standing 0 0) within in
+    let same : before ≡ tenant_at host.tenants j.tenant = here ∙ get_or_default host.tenants j.tenant before no_tenant within in
     ap is_some is
     ∙ (ap (λ s. is_some (awaited_job s host.entries j)) same
-    ∙ (sym (ap (λ o. is_some (option_and_then (λ s. awaited_job s host.entries j) o)) (slice_get-get_or host.tenants j.tenant (empty_standing 0 0) within))
-    ∙ sym (awaits_here setting host state j (omega (arith, within, stands.as_many)) stands placed (known j.tenant (empty_standing 0 0) within).1.known)))
+    ∙ (sym (ap (λ o. is_some (option_and_then (λ s. awaited_job s host.entries j) o)) (slice_get-get_or host.tenants j.tenant no_tenant within))
+    ∙ sym (awaits_here setting host state j (omega (arith, within, stands.as_many)) stands placed (known j.tenant no_tenant within).1.known)))

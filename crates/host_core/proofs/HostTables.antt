@@ -14,14 +14,16 @@ use Rattle.tenant_jobs.specs.Jobs.{JobValue, same_job}
 use Rattle.tenant_jobs.proofs.JobNames.{same_job_is, same_job_self}
 use Rattle.tenant_state.specs.Jobs.{has_job, job_in, job_of}
 use Rattle.tenant_state.specs.Row.{ActiveTask}
-use Rattle.tenant_state.specs.Standing.{Standing, IsKnown, all_different_releases, empty_standing, is_another, released_job}
+use Rattle.tenant_state.specs.Standing.{Standing, IsKnown, all_different_releases, no_tenant, is_another, released_job}
 use Rattle.tenant_state.specs.inner.Standing.{HasItsEntries, HasItsResults, AreEnded, has_active}
 use Rattle.instant_engine.specs.inner.Tables.{IsTaskTable}
 use Rattle.instant_engine.specs.Tenants.{ArePlaced, tenant_at}
 use Rattle.instant_engine.specs.inner.Tenants.{is_active_among}
+use Rattle.tenant_state.specs.declared.tenants.Tenancy.{Tenancy}
+use Rattle.rig_config.specs.Roster.{Rig}
 use Rattle.host_core.specs.inner.HostStanding.{IsAt, IsWhole}
 use Rattle.giotto_tasks.proofs.ListLemmas.{all_at, all_map, all_of, all_pass, any_if_all}
-use Rattle.host_core.proofs.HostSteps.{AreResultsStill, placed_set, released_is}
+use Rattle.host_core.proofs.HostSteps.{AreResultsStill, budgets_set, placed_set, released_is}
 use Rattle.host_core.proofs.Outstanding.{another_job}
 
 -- a job of a tenant's tasks is of that tenant
@@ -41,52 +43,55 @@ entered_of_result entries j e = by (entry_in entries j) e
     by (Some entry) h = refl
 
 -- where the results of a tenant's active tasks stay as they are, they stay right
-pub results_moved : (s : Standing) (before after : List TableEntry) → ((a : ActiveTask) → result_in after (job_of s.place a) ≡ result_in before (job_of s.place a))
+pub results_moved : (s : Standing) (before after : List TableEntry) → ((a : ActiveTask) → result_in after (job_of s.tenancy.place a) ≡ result_in before (job_of s.tenancy.place a))
     → HasItsResults s before → HasItsResults s after
 results_moved s before after same right p has =
-    all_map _ _ s.row.active (λ a h. subst (λ o. IfSome o (λ r. r ≡ result_of (job_in p s.place a))) (sym (same a)) h) (right p has)
+    all_map _ _ s.row.active (λ a h. subst (λ o. IfSome o (λ r. r ≡ result_of (job_in p s.tenancy.place a))) (sym (same a)) h) (right p has)
 
 either_way : (a b : Bool) → (b ≡ false) ⊎ (b ≡ a) → b ≡ (a && not (a && not b))
 either_way true b which = ⊎_elim (λ e. e ∙ sym (ap (λ c. not (not c)) e)) (λ e. e ∙ sym (ap (λ c. not (not c)) e)) which
 either_way false b which = ⊎_elim (λ e. e) (λ e. e) which
 
 -- a command: the tenant at place u was x, and is y behind it, whose ended tasks leave the table
-module _ (tenants : List Standing) (before after : List TableEntry) (u : ℕ) (x y : Standing) {long clock : ℕ} (whole : IsWhole long clock tenants before)
-    (within : u < length tenants) (here : x ≡ tenant_at tenants u) (place : y.place ≡ x.place) (count : y.row.next_tick ≡ x.row.next_tick) (known : IsKnown y.row)
+module _ (tenants : List Standing) (before after : List TableEntry) (u : ℕ) (x y : Standing) {config : Rig} {clock : ℕ} (whole : IsWhole config clock tenants before)
+    (within : u < length tenants) (here : x ≡ tenant_at tenants u) (tenancy : y.tenancy ≡ x.tenancy) (count : y.row.next_tick ≡ x.row.next_tick) (known : IsKnown y.row)
     (ended : AreEnded x y) (active : (y.row.active ≡ []) ⊎ (y ≡ x))
-    (left : (j : JobId) → entry_in after j ≡ cond (has_job y.place y.ended j) None (entry_in before j)) where
+    (left : (j : JobId) → entry_in after j ≡ cond (has_job y.tenancy.place y.ended j) None (entry_in before j)) where
   abbrev s : Standing
   s = record y { ended = [] }
 
   abbrev pub tenants_behind : List Standing
   tenants_behind = set tenants u s
 
-  own_place : x.place ≡ u
-  own_place = ap (λ (z : Standing). z.place) here ∙ whole.placed u within
+  place : y.tenancy.place ≡ x.tenancy.place
+  place = ap (λ (z : Tenancy). z.place) tenancy
+
+  own_place : x.tenancy.place ≡ u
+  own_place = ap (λ (z : Standing). z.tenancy.place) here ∙ whole.placed u within
 
   -- whether the job's entry leaves
   abbrev leaves : JobId → Bool
-  leaves j = has_job y.place y.ended j
+  leaves j = has_job y.tenancy.place y.ended j
 
   there : (t : ℕ) → t ≢ u → tenant_at tenants_behind t ≡ tenant_at tenants t
-  there t differ = get_or-set_other tenants u t s (empty_standing 0 0) differ
+  there t differ = get_or-set_other tenants u t s no_tenant differ
 
   here_behind : tenant_at tenants_behind u ≡ s
-  here_behind = get_or-set_same tenants u s (empty_standing 0 0) within
+  here_behind = get_or-set_same tenants u s no_tenant within
 
   none_leaves : (j : JobId) → j.tenant ≢ u → leaves j ≡ false
-  none_leaves j differ = ended j ∙ ap (λ b. b && not (has_active y j)) (other_job x.place x.row.active j (λ e. differ (sym e ∙ own_place)))
+  none_leaves j differ = ended j ∙ ap (λ b. b && not (has_active y j)) (other_job x.tenancy.place x.row.active j (λ e. differ (sym e ∙ own_place)))
 
   active_behind : (j : JobId) → is_active_among tenants_behind j ≡ (is_active_among tenants j && not (leaves j))
   active_behind j = ⊎_elim
       (λ (same : j.tenant ≡ u).
-      let now : is_active_among tenants_behind j ≡ has_active y j = ap (λ (z : Standing). has_job z.place z.row.active j) (ap (tenant_at tenants_behind) same ∙ here_behind) in
-      let was : is_active_among tenants j ≡ has_active x j = ap (λ (z : Standing). has_job z.place z.row.active j) (ap (tenant_at tenants) same ∙ sym here) in
+      let now : is_active_among tenants_behind j ≡ has_active y j = ap (λ (z : Standing). has_job z.tenancy.place z.row.active j) (ap (tenant_at tenants_behind) same ∙ here_behind) in
+      let was : is_active_among tenants j ≡ has_active x j = ap (λ (z : Standing). has_job z.tenancy.place z.row.active j) (ap (tenant_at tenants) same ∙ sym here) in
       let which : (has_active y j ≡ false) ⊎ (has_active y j ≡ has_active x j) =
-      ⊎_elim (λ none. inl (ap (λ xs. has_job y.place xs j) none)) (λ e. inr (ap (λ z. has_active z j) e)) active in
+      ⊎_elim (λ none. inl (ap (λ xs. has_job y.tenancy.place xs j) none)) (λ e. inr (ap (λ z. has_active z j) e)) active in
       now ∙ either_way (has_active x j) (has_active y j) which ∙ ap (λ b. has_active x j && not b) (sym (ended j)) ∙ ap (λ b. b && not (leaves j)) (sym was))
       (λ (differ : j.tenant ≢ u).
-      ap (λ (z : Standing). has_job z.place z.row.active j) (there j.tenant differ)
+      ap (λ (z : Standing). has_job z.tenancy.place z.row.active j) (there j.tenant differ)
       ∙ same_and (is_active_among tenants j) (leaves j) (none_leaves j differ))
       (cases_eq j.tenant u)
     where
@@ -129,15 +134,15 @@ module _ (tenants : List Standing) (before after : List TableEntry) (u : ℕ) (x
       (λ (same : k ≡ u).
       subst (λ (z : Standing). HasItsResults z after) (sym (ap (tenant_at tenants_behind) same ∙ here_behind))
       (⊎_elim
-      (λ none p has. subst (λ (xs : List ActiveTask). AllByRecursion (λ a. IfSome (result_in after (job_of y.place a)) (λ r. r ≡ result_of (job_in p y.place a))) xs) (sym none) tt)
+      (λ none p has. subst (λ (xs : List ActiveTask). AllByRecursion (λ a. IfSome (result_in after (job_of y.tenancy.place a)) (λ r. r ≡ result_of (job_in p y.tenancy.place a))) xs) (sym none) tt)
       (λ e.
-      let right : HasItsResults y before = subst (λ (z : Standing). HasItsResults z before) (sym (e ∙ here)) (whole.table.results u (empty_standing 0 0) within) in
-      results_moved y before after (λ a. stays (job_of y.place a) (ended (job_of y.place a) ∙ ap (λ z. has_active x (job_of y.place a) && not (has_active z (job_of y.place a))) e ∙ never (has_active x (job_of y.place a)))) right)
+      let right : HasItsResults y before = subst (λ (z : Standing). HasItsResults z before) (sym (e ∙ here)) (whole.table.results u no_tenant within) in
+      results_moved y before after (λ a. stays (job_of y.tenancy.place a) (ended (job_of y.tenancy.place a) ∙ ap (λ z. has_active x (job_of y.tenancy.place a) && not (has_active z (job_of y.tenancy.place a))) e ∙ never (has_active x (job_of y.tenancy.place a)))) right)
       active))
       (λ (differ : k ≢ u).
       subst (λ (z : Standing). HasItsResults z after) (sym (there k differ))
-      (results_moved (tenant_at tenants k) before after (λ a. stays (job_of (tenant_at tenants k).place a) (none_leaves (job_of (tenant_at tenants k).place a) (λ e. differ (sym (whole.placed k lt) ∙ e))))
-      (whole.table.results k (empty_standing 0 0) lt)))
+      (results_moved (tenant_at tenants k) before after (λ a. stays (job_of (tenant_at tenants k).tenancy.place a) (none_leaves (job_of (tenant_at tenants k).tenancy.place a) (λ e. differ (sym (whole.placed k lt) ∙ e))))
+      (whole.table.results k no_tenant lt)))
       (cases_eq k u)
     where
       never : (a : Bool) → (a && not a) ≡ false
@@ -148,36 +153,37 @@ module _ (tenants : List Standing) (before after : List TableEntry) (u : ℕ) (x
   at_behind k lt = ⊎_elim
       (λ (same : k ≡ u).
       subst (IsAt clock) (sym (ap (tenant_at tenants_behind) same ∙ here_behind))
-      (count ∙ ap (λ (z : Standing). z.row.next_tick) here ∙ (whole.known u (empty_standing 0 0) within).0, record { known = known; rest = refl }))
-      (λ (differ : k ≢ u). subst (IsAt clock) (sym (there k differ)) (whole.known k (empty_standing 0 0) lt))
+      (count ∙ ap (λ (z : Standing). z.row.next_tick) here ∙ (whole.known u no_tenant within).0, record { known = known; rest = refl }))
+      (λ (differ : k ≢ u). subst (IsAt clock) (sym (there k differ)) (whole.known k no_tenant lt))
       (cases_eq k u)
 
   long_behind : length tenants_behind ≡ length tenants
   long_behind = length-set tenants u s
 
-  pub whole_behind : IsWhole long clock tenants_behind after
+  pub whole_behind : IsWhole config clock tenants_behind after
   whole_behind = record {
     as_many = long_behind ∙ whole.as_many;
-    known = λ k d lt. subst (IsAt clock) (sym (get_or_default tenants_behind k d (empty_standing 0 0) lt)) (at_behind k (omega (arith, lt, long_behind)));
+    known = λ k d lt. subst (IsAt clock) (sym (get_or_default tenants_behind k d no_tenant lt)) (at_behind k (omega (arith, lt, long_behind)));
     placed = placed_set tenants u s (place ∙ own_place) whole.placed;
+    budgets = budgets_set config tenants u s (ap (λ (z : Tenancy). z.budgets) tenancy ∙ ap (λ (z : Standing). z.tenancy.budgets) here ∙ whole.budgets u within) whole.budgets;
     table = record {
       entered = λ j. entered_behind j ∙ ap (λ b. b && not (leaves j)) (whole.table.entered j) ∙ sym (active_behind j);
-      results = λ k d lt. subst (λ (z : Standing). HasItsResults z after) (sym (get_or_default tenants_behind k d (empty_standing 0 0) lt)) (results_behind k (omega (arith, lt, long_behind)));
+      results = λ k d lt. subst (λ (z : Standing). HasItsResults z after) (sym (get_or_default tenants_behind k d no_tenant lt)) (results_behind k (omega (arith, lt, long_behind)));
     };
   }
 
 -- a job that is released is active, and has its entry
-pub active_if_released : (tenants : List Standing) (entries : List TableEntry) (d : JobValue) {long clock : ℕ} → IsWhole long clock tenants entries → d.id.tenant < length tenants
+pub active_if_released : (tenants : List Standing) (entries : List TableEntry) (d : JobValue) {config : Rig} {clock : ℕ} → IsWhole config clock tenants entries → d.id.tenant < length tenants
     → released_job (tenant_at tenants d.id.tenant) d.id ≡ Some d → is_active_among tenants d.id ≡ true
 active_if_released tenants entries d whole within released =
-    sym (released_is (tenant_at tenants d.id.tenant) d.id (whole.known d.id.tenant (empty_standing 0 0) within).1.known) ∙ ap is_some released
+    sym (released_is (tenant_at tenants d.id.tenant) d.id (whole.known d.id.tenant no_tenant within).1.known) ∙ ap is_some released
 
-pub entered_if_released : (tenants : List Standing) (entries : List TableEntry) (d : JobValue) {long clock : ℕ} → IsWhole long clock tenants entries → (x : Standing) → d.id.tenant < length tenants
+pub entered_if_released : (tenants : List Standing) (entries : List TableEntry) (d : JobValue) {config : Rig} {clock : ℕ} → IsWhole config clock tenants entries → (x : Standing) → d.id.tenant < length tenants
     → x ≡ get_or tenants d.id.tenant x → released_job x d.id ≡ Some d → is_entered entries d.id ≡ true
 entered_if_released tenants entries d whole x within here released =
     whole.table.entered d.id
     ∙ active_if_released tenants entries d whole within
-    (subst (λ (s : Standing). released_job s d.id ≡ Some d) (here ∙ get_or_default tenants d.id.tenant x (empty_standing 0 0) within) released)
+    (subst (λ (s : Standing). released_job s d.id ≡ Some d) (here ∙ get_or_default tenants d.id.tenant x no_tenant within) released)
 
 -- of tasks whose releases differ, one alone has a job
 found_alone : (t : ℕ) (j : JobId) (xs : List ActiveTask) (a : ActiveTask) → all_different_releases xs ≡ true → find (λ b. same_job (job_of t b) j) xs ≡ Some a
@@ -195,7 +201,7 @@ found_alone t j (b ∷ rest) a different found =
     by apart later false e is = (λ same. absurd (false≢true (sym e ∙ same)), later is)
 
 -- a completion of an awaited job
-module _ (tenants : List Standing) (before after : List TableEntry) (d : JobValue) {long clock : ℕ} (whole : IsWhole long clock tenants before)
+module _ (tenants : List Standing) (before after : List TableEntry) (d : JobValue) {config : Rig} {clock : ℕ} (whole : IsWhole config clock tenants before)
     (within : d.id.tenant < length tenants) (released : released_job (tenant_at tenants d.id.tenant) d.id ≡ Some d) (entered : is_entered before d.id ≡ true)
     (added : (k : JobId) → entry_in after k ≡ cond (same_job d.id k) (Some (record { id = k; result = Some (result_of d) })) (entry_in before k)) where
   abbrev x : Standing
@@ -216,16 +222,16 @@ module _ (tenants : List Standing) (before after : List TableEntry) (d : JobValu
       by false = refl
 
   -- the job of the task that has its name, in its program
-  its_task : (p : GiottoProgram) → x.row.program ≡ Some p → AllByRecursion (λ a. same_job (job_of x.place a) d.id ≡ true → job_in p x.place a ≡ d) x.row.active
-  its_task p has = by (find (λ a. same_job (job_of x.place a) d.id) x.row.active) refl (sym (ap (λ o. option_and_then (λ p. option_map (job_in p x.place) (find (λ a. same_job (job_of x.place a) d.id) x.row.active)) o) has) ∙ released)
+  its_task : (p : GiottoProgram) → x.row.program ≡ Some p → AllByRecursion (λ a. same_job (job_of x.tenancy.place a) d.id ≡ true → job_in p x.tenancy.place a ≡ d) x.row.active
+  its_task p has = by (find (λ a. same_job (job_of x.tenancy.place a) d.id) x.row.active) refl (sym (ap (λ o. option_and_then (λ p. option_map (job_in p x.tenancy.place) (find (λ a. same_job (job_of x.tenancy.place a) d.id) x.row.active)) o) has) ∙ released)
     where
-      by : (o : Option ActiveTask) → find (λ a. same_job (job_of x.place a) d.id) x.row.active ≡ o → option_map (job_in p x.place) o ≡ Some d
-          → AllByRecursion (λ a. same_job (job_of x.place a) d.id ≡ true → job_in p x.place a ≡ d) x.row.active
+      by : (o : Option ActiveTask) → find (λ a. same_job (job_of x.tenancy.place a) d.id) x.row.active ≡ o → option_map (job_in p x.tenancy.place) o ≡ Some d
+          → AllByRecursion (λ a. same_job (job_of x.tenancy.place a) d.id ≡ true → job_in p x.tenancy.place a ≡ d) x.row.active
       by None e is = absurd (cc)
       by (Some a) e is =
-          let here : job_in p x.place a ≡ d = cc in
-          all_map _ _ x.row.active (λ b alone same. ap (job_in p x.place) (alone same) ∙ here)
-          (found_alone x.place d.id x.row.active a (whole.known d.id.tenant (empty_standing 0 0) within).1.known.different e)
+          let here : job_in p x.tenancy.place a ≡ d = cc in
+          all_map _ _ x.row.active (λ b alone same. ap (job_in p x.tenancy.place) (alone same) ∙ here)
+          (found_alone x.tenancy.place d.id x.row.active a (whole.known d.id.tenant no_tenant within).1.known.different e)
 
   result_now : (k : JobId) → result_in after k ≡ cond (same_job d.id k) (Some (result_of d)) (result_in before k)
   result_now k = ap (option_and_then (λ (e : TableEntry). e.result)) (added k) ∙ by (same_job d.id k)
@@ -253,27 +259,28 @@ module _ (tenants : List Standing) (before after : List TableEntry) (d : JobValu
       all_zip_map p has))
       (λ (differ : d.id.tenant ≢ k).
       results_moved (tenant_at tenants k) before after
-      (λ a. result_now (job_of (tenant_at tenants k).place a)
-      ∙ ap (λ b. cond b (Some (result_of d)) (result_in before (job_of (tenant_at tenants k).place a)))
-      (false_from_ne_true _ (λ e. differ (ap (λ (i : JobId). i.tenant) (same_job_is d.id (job_of (tenant_at tenants k).place a) e) ∙ whole.placed k lt))))
-      (whole.table.results k (empty_standing 0 0) lt))
+      (λ a. result_now (job_of (tenant_at tenants k).tenancy.place a)
+      ∙ ap (λ b. cond b (Some (result_of d)) (result_in before (job_of (tenant_at tenants k).tenancy.place a)))
+      (false_from_ne_true _ (λ e. differ (ap (λ (i : JobId). i.tenant) (same_job_is d.id (job_of (tenant_at tenants k).tenancy.place a) e) ∙ whole.placed k lt))))
+      (whole.table.results k no_tenant lt))
       (cases_eq d.id.tenant k)
     where
       both : {P Q R : ActiveTask → Type 0} (xs : List ActiveTask) → ((a : ActiveTask) → P a → Q a → R a) → AllByRecursion P xs → AllByRecursion Q xs → AllByRecursion R xs
       both [] f ps qs = tt
       both (a ∷ xs) f ps qs = (f a ps.0 qs.0, both xs f ps.1 qs.1)
 
-      all_zip_map : (p : GiottoProgram) → x.row.program ≡ Some p → AllByRecursion (λ a. IfSome (result_in after (job_of x.place a)) (λ r. r ≡ result_of (job_in p x.place a))) x.row.active
-      all_zip_map p has = both x.row.active (λ a is was. right_now p x.place a (λ e. is (turned d.id (job_of x.place a) e)) was) (its_task p has) (whole.table.results d.id.tenant (empty_standing 0 0) within p has)
+      all_zip_map : (p : GiottoProgram) → x.row.program ≡ Some p → AllByRecursion (λ a. IfSome (result_in after (job_of x.tenancy.place a)) (λ r. r ≡ result_of (job_in p x.tenancy.place a))) x.row.active
+      all_zip_map p has = both x.row.active (λ a is was. right_now p x.tenancy.place a (λ e. is (turned d.id (job_of x.tenancy.place a) e)) was) (its_task p has) (whole.table.results d.id.tenant no_tenant within p has)
 
-  pub whole_done : IsWhole long clock tenants after
+  pub whole_done : IsWhole config clock tenants after
   whole_done = record {
     as_many = whole.as_many;
     known = whole.known;
     placed = whole.placed;
+    budgets = whole.budgets;
     table = record {
       entered = λ k. same_entered k ∙ whole.table.entered k;
-      results = λ k e lt. subst (λ (z : Standing). HasItsResults z after) (sym (get_or_default tenants k e (empty_standing 0 0) lt)) (results_now k lt);
+      results = λ k e lt. subst (λ (z : Standing). HasItsResults z after) (sym (get_or_default tenants k e no_tenant lt)) (results_now k lt);
     };
   }
 
@@ -285,18 +292,18 @@ pub table_completed : (tenants : List Standing) (before after : List TableEntry)
     → IsTaskTable tenants before → IsTaskTable tenants after
 table_completed tenants before after i placed within entered right others table = record {
   entered = λ j. entered j ∙ table.entered j;
-  results = λ k e lt. subst (λ (z : Standing). HasItsResults z after) (sym (get_or_default tenants k e (empty_standing 0 0) lt)) (at k lt);
+  results = λ k e lt. subst (λ (z : Standing). HasItsResults z after) (sym (get_or_default tenants k e no_tenant lt)) (at k lt);
 }
   where
     at : (k : ℕ) → k < length tenants → HasItsResults (tenant_at tenants k) after
     at k lt = ⊎_elim
-        (λ (same : i ≡ k). subst (λ n. HasItsResults (tenant_at tenants n) after) same (right (table.results i (empty_standing 0 0) within)))
+        (λ (same : i ≡ k). subst (λ n. HasItsResults (tenant_at tenants n) after) same (right (table.results i no_tenant within)))
         (λ (differ : i ≢ k).
         results_moved (tenant_at tenants k) before after
         (λ a. ap (option_and_then (λ (e : TableEntry). e.result))
-        (others (job_of (tenant_at tenants k).place a)
-        (other_job (tenant_at tenants i).place (tenant_at tenants i).row.active (job_of (tenant_at tenants k).place a) (λ e. differ (sym (placed i within) ∙ e ∙ placed k lt)))))
-        (table.results k (empty_standing 0 0) lt))
+        (others (job_of (tenant_at tenants k).tenancy.place a)
+        (other_job (tenant_at tenants i).tenancy.place (tenant_at tenants i).row.active (job_of (tenant_at tenants k).tenancy.place a) (λ e. differ (sym (placed i within) ∙ e ∙ placed k lt)))))
+        (table.results k no_tenant lt))
         (cases_eq i k)
 
 -- each of these tasks has its own job
@@ -311,13 +318,13 @@ own_jobs t (a ∷ rest) = (
 pub has_its_entries : (tenants : List Standing) (entries : List TableEntry) (i : ℕ) (x : Standing) → i < length tenants → x ≡ get_or tenants i x → ArePlaced tenants → IsTaskTable tenants entries
     → HasItsEntries x entries
 has_its_entries tenants entries i x within here placed table =
-    subst (λ (s : Standing). HasItsEntries s entries) (sym (here ∙ get_or_default tenants i x (empty_standing 0 0) within))
+    subst (λ (s : Standing). HasItsEntries s entries) (sym (here ∙ get_or_default tenants i x no_tenant within))
     (all_map _ _ (tenant_at tenants i).row.active
     (λ a own.
-    table.entered (job_of (tenant_at tenants i).place a)
-    ∙ ap (λ k. has_job (tenant_at tenants k).place (tenant_at tenants k).row.active (job_of (tenant_at tenants i).place a)) (placed i within)
+    table.entered (job_of (tenant_at tenants i).tenancy.place a)
+    ∙ ap (λ k. has_job (tenant_at tenants k).tenancy.place (tenant_at tenants k).row.active (job_of (tenant_at tenants i).tenancy.place a)) (placed i within)
     ∙ own)
-    (own_jobs (tenant_at tenants i).place (tenant_at tenants i).row.active))
+    (own_jobs (tenant_at tenants i).tenancy.place (tenant_at tenants i).row.active))
 
 -- whether a job is active in one tenant more
 pub active_more : (tenants : List Standing) (i : ℕ) (j : JobId) → ArePlaced tenants → i < length tenants
@@ -326,16 +333,16 @@ active_more tenants i j placed within = ⊎_elim
     (λ lt. first lt)
     (λ le. ⊎_elim
     (λ (same : j.tenant ≡ i).
-    ap (λ (s : Standing). has_job s.place s.row.active j) (get_or-take (i + 1) tenants j.tenant (empty_standing 0 0) (omega (arith, same)) ∙ ap (tenant_at tenants) same)
+    ap (λ (s : Standing). has_job s.tenancy.place s.row.active j) (get_or-take (i + 1) tenants j.tenant no_tenant (omega (arith, same)) ∙ ap (tenant_at tenants) same)
     ∙ ap (λ b. b || has_active (tenant_at tenants i) j) (sym (past i le)))
     (λ (differ : j.tenant ≢ i).
     past (i + 1) (omega (arith, le, differ))
-    ∙ sym (ap (λ b. b || has_active (tenant_at tenants i) j) (past i le) ∙ other_job (tenant_at tenants i).place (tenant_at tenants i).row.active j (λ e. differ (sym e ∙ placed i within))))
+    ∙ sym (ap (λ b. b || has_active (tenant_at tenants i) j) (past i le) ∙ other_job (tenant_at tenants i).tenancy.place (tenant_at tenants i).row.active j (λ e. differ (sym e ∙ placed i within))))
     (cases_eq j.tenant i))
     (cases_lt j.tenant i)
   where
     past : (n : ℕ) → n ≤ j.tenant → is_active_among (take n tenants) j ≡ false
-    past n le = ap (λ (s : Standing). has_job s.place s.row.active j) (get_or-eq_default (take n tenants) (empty_standing 0 0) (omega (arith, le, length-take n tenants)))
+    past n le = ap (λ (s : Standing). has_job s.tenancy.place s.row.active j) (get_or-eq_default (take n tenants) no_tenant (omega (arith, le, length-take n tenants)))
 
     or_false : (b : Bool) → b ≡ (b || false)
     or_false true = refl
@@ -343,12 +350,12 @@ active_more tenants i j placed within = ⊎_elim
 
     first : j.tenant < i → is_active_among (take (i + 1) tenants) j ≡ (is_active_among (take i tenants) j || has_active (tenant_at tenants i) j)
     first lt =
-        ap (λ (s : Standing). has_job s.place s.row.active j) (get_or-take (i + 1) tenants j.tenant (empty_standing 0 0) (omega (arith, lt)) ∙ sym (get_or-take i tenants j.tenant (empty_standing 0 0) lt))
+        ap (λ (s : Standing). has_job s.tenancy.place s.row.active j) (get_or-take (i + 1) tenants j.tenant no_tenant (omega (arith, lt)) ∙ sym (get_or-take i tenants j.tenant no_tenant lt))
         ∙ or_false (is_active_among (take i tenants) j)
-        ∙ ap (λ b. is_active_among (take i tenants) j || b) (sym (other_job (tenant_at tenants i).place (tenant_at tenants i).row.active j (λ e. absurd (omega (arith, lt, sym (placed i within) ∙ e)))))
+        ∙ ap (λ b. is_active_among (take i tenants) j || b) (sym (other_job (tenant_at tenants i).tenancy.place (tenant_at tenants i).row.active j (λ e. absurd (omega (arith, lt, sym (placed i within) ∙ e)))))
 
 -- what the tenants before this one have completed is no job of its own
-pub none_before : (tenants : List Standing) (i : ℕ) (a : ActiveTask) → ArePlaced tenants → i < length tenants → is_active_among (take i tenants) (job_of (tenant_at tenants i).place a) ≡ false
+pub none_before : (tenants : List Standing) (i : ℕ) (a : ActiveTask) → ArePlaced tenants → i < length tenants → is_active_among (take i tenants) (job_of (tenant_at tenants i).tenancy.place a) ≡ false
 none_before tenants i a placed within =
-    ap (λ (s : Standing). has_job s.place s.row.active (job_of (tenant_at tenants i).place a))
-    (get_or-eq_default (take i tenants) (empty_standing 0 0) (omega (arith, placed i within, length-take i tenants)))
+    ap (λ (s : Standing). has_job s.tenancy.place s.row.active (job_of (tenant_at tenants i).tenancy.place a))
+    (get_or-eq_default (take i tenants) no_tenant (omega (arith, placed i within, length-take i tenants)))

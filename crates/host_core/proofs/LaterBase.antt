@@ -19,7 +19,7 @@ use Rattle.tenant_state.specs.Row.{ActiveTask, Row, empty_row}
 use Rattle.host_core.proofs.Alone.{Agrees}
 use Rattle.host_core.proofs.AloneAlong.{agrees_along, same_clock}
 use Rattle.host_core.proofs.Histories.{releases}
-use Rattle.host_core.proofs.NewHost.{no_tenant}
+use Rattle.host_core.proofs.NewHost.{nobody}
 use Rattle.tenant_jobs.proofs.JobNames.{same_job_is}
 use Rattle.giotto_tasks.proofs.TestLemmas.{either}
 use Rattle.rig_config.specs.Roster.{Rig}
@@ -69,7 +69,7 @@ module _ (config : Rig) (first_tick : ℕ) where
   -- each row of a new host is empty, whatever its place
   pub new_row : (t : ℕ) → row_at (new_base config first_tick) t ≡ empty_row first_tick
   new_row t = ⊎_elim
-      (λ lt. get_or-map (λ (x : TenantConfig). empty_row first_tick) config.tenants t no_tenant (empty_row first_tick) lt)
+      (λ lt. get_or-map (λ (x : TenantConfig). empty_row first_tick) config.tenants t nobody (empty_row first_tick) lt)
       (λ le. get_or-eq_default (map (λ (x : TenantConfig). empty_row first_tick) config.tenants) (empty_row first_tick) (omega (arith, length-map config.tenants (λ (x : TenantConfig). empty_row first_tick))))
       (cases_lt t (length config.tenants))
 

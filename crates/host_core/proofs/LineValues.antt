@@ -10,11 +10,11 @@ use Rattle.host_core.specs.HostStanding.{HostStanding, Stands, line_of}
 use Rattle.host_core.specs.HostState.{HostState, row_at}
 use Rattle.host_core.specs.Lines.{value_of_line, writer_of}
 use Rattle.host_core.specs.Setting.{Setting}
-use Rattle.host_core.proofs.NewHost.{no_tenant}
+use Rattle.host_core.proofs.NewHost.{nobody}
 
 -- a tenant that may drive a line is one of the roster
 pub writer_within : (config : Rig) (k t : ℕ) → writer_of config k ≡ Some t → t < length config.tenants
-writer_within config k t is = (position-Some (λ (tenant : TenantConfig). may_use tenant.budgets.writes k) config.tenants t no_tenant is).0
+writer_within config k t is = (position-Some (λ (tenant : TenantConfig). may_use tenant.budgets.writes k) config.tenants t nobody is).0
 
 -- rows that agree in the roster give lines the same value
 pub same_values : (config : Rig) (f g : ℕ → Row) → ((t : ℕ) → t < length config.tenants → f t ≡ g t) → (k : ℕ) → value_of_line config f k ≡ value_of_line config g k

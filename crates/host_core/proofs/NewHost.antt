@@ -11,43 +11,50 @@ use Rattle.host_core.specs.HostStanding.{Stands, new_host}
 use Rattle.host_core.specs.Setting.{Setting}
 use Rattle.rig_config.specs.Roster.{no_budgets}
 use Rattle.tenant_state.specs.Row.{Row, empty_row}
-use Rattle.tenant_state.specs.Standing.{Standing, StandsFor, at_rest, empty_standing}
+use Rattle.tenant_state.specs.Standing.{Standing, StandsFor, at_rest, empty_standing, no_tenant}
 
 -- a tenant of no name
-abbrev pub no_tenant : TenantConfig
-no_tenant = record { name = []; key = []; budgets = no_budgets }
+abbrev pub nobody : TenantConfig
+nobody = record { name = []; key = []; budgets = no_budgets }
 
 -- what is made for each place of a roster
 pub at_place : {B : Type 0} (f : ℕ × TenantConfig → B) (tenants : List TenantConfig) (t : ℕ) (d : B) → t < length tenants
-    → get_or (map f (enumerate_from 0 tenants)) t d ≡ f (t, get_or tenants t no_tenant)
+    → get_or (map f (enumerate_from 0 tenants)) t d ≡ f (t, get_or tenants t nobody)
 at_place f tenants t d lt =
-    get_or-map f (enumerate_from 0 tenants) t (0, no_tenant) d (omega (arith, length-enumerate_from 0 tenants))
-    ∙ ap f (get_or-enumerate_from 0 tenants t (0, no_tenant) lt)
-    ∙ ap (λ k. f (k, get_or tenants t no_tenant)) (zero-add t)
+    get_or-map f (enumerate_from 0 tenants) t (0, nobody) d (omega (arith, length-enumerate_from 0 tenants))
+    ∙ ap f (get_or-enumerate_from 0 tenants t (0, nobody) lt)
+    ∙ ap (λ k. f (k, get_or tenants t nobody)) (zero-add t)
 
 pub as_many_places : {B : Type 0} (f : ℕ × TenantConfig → B) (tenants : List TenantConfig) → length (map f (enumerate_from 0 tenants)) ≡ length tenants
 as_many_places f tenants = length-map (enumerate_from 0 tenants) f ∙ length-enumerate_from 0 tenants
 
+-- the empty tenant of a place of the roster
+abbrev pub begun : ℕ → ℕ × TenantConfig → Standing
+begun n place = empty_standing (record { place = place.0; budgets = place.1.budgets }) n
+
 module _ (setting : Setting) (n : ℕ) where
-  standing_empty : (t : ℕ) → t < length setting.config.tenants → tenant_at (new_host setting.config n).tenants t ≡ at_rest (empty_standing t n)
-  standing_empty t lt = at_place (λ place. at_rest (empty_standing place.0 n)) setting.config.tenants t (empty_standing 0 0) lt
+  abbrev its : ℕ → ℕ × TenantConfig
+  its t = (t, get_or setting.config.tenants t nobody)
+
+  standing_empty : (t : ℕ) → t < length setting.config.tenants → tenant_at (new_host setting.config n).tenants t ≡ at_rest (begun n (its t))
+  standing_empty t lt = at_place (λ place. at_rest (begun n place)) setting.config.tenants t no_tenant lt
 
   row_empty : (t : ℕ) → t < length setting.config.tenants → row_at (new_base setting.config n) t ≡ empty_row n
-  row_empty t lt = get_or-map (λ (x : TenantConfig). empty_row n) setting.config.tenants t no_tenant (empty_row n) lt
+  row_empty t lt = get_or-map (λ (x : TenantConfig). empty_row n) setting.config.tenants t nobody (empty_row n) lt
 
-  stands_empty : (t : ℕ) → StandsFor (at_rest (empty_standing t n)) (empty_row n)
+  stands_empty : (t : ℕ) → StandsFor (at_rest (begun n (its t))) (empty_row n)
   stands_empty t = refl
 
   pub new_stands : Stands setting (new_host setting.config n) (new_base setting.config n)
   new_stands = record {
     same_config = refl;
     same_clock = refl;
-    as_many = as_many_places (λ place. at_rest (empty_standing place.0 n)) setting.config.tenants;
+    as_many = as_many_places (λ place. at_rest (begun n place)) setting.config.tenants;
     all_rows = length-map setting.config.tenants _;
-    placed = λ t lt. ap (λ (s : Standing). s.place) (standing_empty t (omega (arith, lt, as_many_places (λ place. at_rest (empty_standing place.0 n)) setting.config.tenants)));
+    placed = λ t lt. ap (λ (s : Standing). s.tenancy.place) (standing_empty t (omega (arith, lt, as_many_places (λ place. at_rest (begun n place)) setting.config.tenants)));
     each = λ t lt.
         subst (λ (s : Standing). StandsFor s (row_at (new_base setting.config n) t)) (sym (standing_empty t lt))
-        (subst (λ (r : Row). StandsFor (at_rest (empty_standing t n)) r) (sym (row_empty t lt)) (stands_empty t));
+        (subst (λ (r : Row). StandsFor (at_rest (begun n (its t))) r) (sym (row_empty t lt)) (stands_empty t));
     counts = λ t lt. ap (λ (r : Row). r.next_tick) (row_empty t lt);
     results = λ j. refl;
   }

@@ -32,7 +32,7 @@ use Rattle.tenant_state.specs.Jobs.{job_of, job_in, is_active, released_at}
 use Rattle.tenant_lines.specs.Replies.{text_of_reply}
 use Rattle.tenant_state.specs.Row.{ActiveTask, Row, empty_row}
 use Rattle.tenant_state.specs.SecondHalf.{second_half_of}
-use Rattle.tenant_state.specs.Standing.{Standing, empty_standing, IsKnown}
+use Rattle.tenant_state.specs.Standing.{Standing, no_tenant, IsKnown}
 use Rattle.tenant_state.proofs.ActiveTasks.{kept_by_command, kept_by_instant}
 use Rattle.host_core.proofs.AloneAlong.{same_rows, same_clock}
 use Rattle.host_core.proofs.Histories.{unfinished_of, own_instant, own_row, releases}
@@ -115,7 +115,7 @@ module _ (j : JobId) where
       by (Some p) is = complete_along n p row.active tick e
 
   -- all tenants', from a place on
-  found_from : (C : Type 0) (n from : ℕ) (xs : List Standing) → ((k : ℕ) → k < length xs → list_any is_it (released_at (from + k) n (get_or xs k (empty_standing 0 0)).row) ≡ true → C)
+  found_from : (C : Type 0) (n from : ℕ) (xs : List Standing) → ((k : ℕ) → k < length xs → list_any is_it (released_at (from + k) n (get_or xs k no_tenant).row) ≡ true → C)
       → list_any is_it (released_from n from xs) ≡ true → C
   found_from C n from [] each e = absurd (cc)
   found_from C n from (x ∷ xs) each e =
@@ -123,9 +123,9 @@ module _ (j : JobId) where
       (sym (list_any-append is_it (released_at from n x.row) (released_from n (from + 1) xs)) ∙ e)
       (λ h. each 0 (omega arith) (ap (λ k. list_any is_it (released_at k n x.row)) (let zero_more : from + 0 ≡ from = omega arith in zero_more) ∙ h))
       (found_from C n (from + 1) xs (λ k lt h. each (suc k) (omega arith)
-      (ap (λ i. list_any is_it (released_at i n (get_or xs k (empty_standing 0 0)).row)) (let one_more : from + suc k ≡ from + 1 + k = omega arith in one_more) ∙ h)))
+      (ap (λ i. list_any is_it (released_at i n (get_or xs k no_tenant).row)) (let one_more : from + suc k ≡ from + 1 + k = omega arith in one_more) ∙ h)))
 
-  found_at : (n from : ℕ) (xs : List Standing) (k : ℕ) → k < length xs → list_any is_it (released_at (from + k) n (get_or xs k (empty_standing 0 0)).row) ≡ true
+  found_at : (n from : ℕ) (xs : List Standing) (k : ℕ) → k < length xs → list_any is_it (released_at (from + k) n (get_or xs k no_tenant).row) ≡ true
       → list_any is_it (released_from n from xs) ≡ true
   found_at n from [] k lt e = absurd (omega arith)
   found_at n from (x ∷ xs) zero lt e =
@@ -134,7 +134,7 @@ module _ (j : JobId) where
   found_at n from (x ∷ xs) (suc k) lt e =
       list_any-append is_it (released_at from n x.row) (released_from n (from + 1) xs)
       ∙ (ap (λ b. list_any is_it (released_at from n x.row) || b)
-      (found_at n (from + 1) xs k (omega arith) (ap (λ i. list_any is_it (released_at i n (get_or xs k (empty_standing 0 0)).row)) (let one_more : from + 1 + k ≡ from + suc k = omega arith in one_more) ∙ e))
+      (found_at n (from + 1) xs k (omega arith) (ap (λ i. list_any is_it (released_at i n (get_or xs k no_tenant).row)) (let one_more : from + 1 + k ≡ from + suc k = omega arith in one_more) ∙ e))
       ∙ or_true (list_any is_it (released_at from n x.row)))
 
 module _ (setting : Setting) (base : IsBase setting.config setting.base) where
@@ -223,7 +223,7 @@ module _ (setting : Setting) (base : IsBase setting.config setting.base) where
 
       active_if_among : among ≡ true → active ≡ true
       active_if_among = found_from j (active ≡ true) (next_tick setting past) 0 host.tenants (λ k lt h.
-          let found = sound_at j (0 + k) (next_tick setting past) (get_or host.tenants k (empty_standing 0 0)).row h in
+          let found = sound_at j (0 + k) (next_tick setting past) (get_or host.tenants k no_tenant).row h in
           let place : k ≡ j.tenant = omega (arith, found.0) in
           sym (same_active (Tick frame ∷ past) host j.tenant j legal stands (omega (arith, stands.as_many)))
           ∙ (ap (λ i. is_active (tenant_at host.tenants i).row j) (sym place) ∙ found.1))
@@ -233,7 +233,7 @@ module _ (setting : Setting) (base : IsBase setting.config setting.base) where
           let inside : j.tenant < length host.tenants = omega (arith, stands.as_many) in
           found_at j (next_tick setting past) 0 host.tenants j.tenant inside
           (ap (λ k. list_any (is_it j) (released_at k (next_tick setting past) (tenant_at host.tenants j.tenant).row)) (zero-add j.tenant)
-          ∙ complete_at j (next_tick setting past) (tenant_at host.tenants j.tenant).row (has j.tenant (empty_standing 0 0) inside).tasks tick
+          ∙ complete_at j (next_tick setting past) (tenant_at host.tenants j.tenant).row (has j.tenant no_tenant inside).tasks tick
           (same_active (Tick frame ∷ past) host j.tenant j legal stands lt ∙ e))
       new tick e (inr le) =
           let bad : true ≡ false = sym e ∙ ap (λ row. is_active row j) (row_outside (Tick frame ∷ past) j.tenant legal le) in

@@ -29,7 +29,7 @@ pub record HostStanding : Type 0 where
 
 -- a new host, whose first instant has this number
 abbrev pub new_host : Rig → ℕ → HostStanding
-new_host config first_tick = record { config = config; tenants = map (λ (place : ℕ × TenantConfig). at_rest (empty_standing place.0 first_tick)) (enumerate_from 0 config.tenants); entries = []; clock = first_tick }
+new_host config first_tick = record { config = config; tenants = map (λ (place : ℕ × TenantConfig). at_rest (empty_standing (record { place = place.0; budgets = place.1.budgets }) first_tick)) (enumerate_from 0 config.tenants); entries = []; clock = first_tick }
 
 -- The host stands for a row for each tenant, and has the results of the jobs that were completed and are still active.
 pub record Stands (setting : Setting) (host : HostStanding) (state : HostState) : Type 0 where

@@ -28,7 +28,7 @@ use std::alloc::{AllocError, Global};
 use std::marker::Model;
 use tenant_lines::commands::Command;
 use tenant_lines::replies::Reply;
-use tenant_state::tenants::Tenant;
+use tenant_state::tenants::{Tenancy, Tenant};
 use thiserror::Error;
 
 /// Why an instant is refused.
@@ -65,7 +65,7 @@ pub struct Host {
 }
 
 impl Model for Host {
-    ghost use Rattle.std.specs.Prelude.{length, map};
+    ghost use Rattle.std.specs.Prelude.{map};
     ghost use Rattle.std.specs.Coded.{codes};
     ghost use Rattle.giotto_text.specs.inner.ProgramCodes.{program_code};
     ghost use Rattle.host_core.specs.HostStanding.{HostStanding};
@@ -78,7 +78,7 @@ impl Model for Host {
 
     ghost view = { λ h. record { config = h.config; tenants = map at_rest h.tenants.items; entries = h.finished.entries; clock = h.clock } };
 
-    ghost invariant = { λ h. IsWhole (length h.config.tenants) h.clock h.tenants.items h.finished.entries };
+    ghost invariant = { λ h. IsWhole h.config h.clock h.tenants.items h.finished.entries };
 }
 
 impl Host {
@@ -92,7 +92,8 @@ impl Host {
         let copy = config.copy(alloc)?;
         let mut tenants = Vec::new(alloc);
         for place in 0..config.tenants().len() {
-            tenants.push(Tenant::new(alloc, place, first_tick))?;
+            let budgets = config.tenants()[place].budgets.copy(alloc)?;
+            tenants.push(Tenant::new(alloc, Tenancy { place, budgets }, first_tick))?;
         }
         Ok(Host {
             alloc,
@@ -114,9 +115,8 @@ impl Host {
             → ForEachState self.old (λ setting state. result ≡ (after_command setting tenant command (row_at state tenant)).reply) }
         ensures step { result ≢ Reply.Refused Refusal.Memory → TakesEvent (Event.Own tenant command) self.old self.new }
     {
-        let budgets = &self.config.tenants()[tenant].budgets;
         let tenant = &mut self.tenants[tenant];
-        let reply = tenant.command(budgets, command);
+        let reply = tenant.command(command);
         let _ = tenant.next_tick();
         tenant.leave(&mut self.finished);
         reply
@@ -145,7 +145,7 @@ impl Host {
             return Err(TickFault::Memory);
         };
         let tenants = self.tenants.as_mut_slice();
-        instant(tenants, &self.config, frame, &mut self.finished, &mut jobs);
+        instant(tenants, frame, &mut self.finished, &mut jobs);
         self.clock += 1;
         Ok(jobs)
     }
@@ -166,7 +166,7 @@ impl Host {
             return Err(TickFault::Memory);
         }
         let tenants = self.tenants.as_mut_slice();
-        instant_without_jobs(tenants, &self.config, frame, &mut self.finished);
+        instant_without_jobs(tenants, frame, &mut self.finished);
         self.clock += 1;
         Ok(())
     }

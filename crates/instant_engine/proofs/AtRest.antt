@@ -11,10 +11,10 @@ use Rattle.tenant_state.specs.Standing.{Standing, at_rest, most_released}
 pub same_length : (xs ys : List Standing) → map at_rest ys ≡ map at_rest xs → length ys ≡ length xs
 same_length xs ys same = sym (length-map ys at_rest) ∙ ap length same ∙ length-map xs at_rest
 
-pub readied : (xs ys : List Standing) (i : ℕ) (d s : Standing) → map at_rest xs ≡ map at_rest ys → s.place ≡ (get_or xs i d).place → s.row ≡ (get_or xs i d).row → s.ended ≡ (get_or xs i d).ended
+pub readied : (xs ys : List Standing) (i : ℕ) (d s : Standing) → map at_rest xs ≡ map at_rest ys → s.tenancy ≡ (get_or xs i d).tenancy → s.row ≡ (get_or xs i d).row → s.ended ≡ (get_or xs i d).ended
     → map at_rest (set xs i s) ≡ map at_rest ys
 readied xs ys i d s same own row ended =
-    map-set_same at_rest xs i s d (λ k. record { place = own k; row = row k; ended = ended k; room = 0; shared = false }) ∙ same
+    map-set_same at_rest xs i s d (λ k. record { tenancy = own k; row = row k; ended = ended k; room = 0; shared = false }) ∙ same
 
 -- the most jobs of all
 most_at_rest : (xs : List Standing) → most_of (map at_rest xs) ≡ most_of xs

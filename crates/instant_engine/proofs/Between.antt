@@ -9,7 +9,6 @@ use Rattle.std.proofs.lemmas.List.{get_or_default, length-map}
 use Rattle.std.proofs.lemmas.List.Folds.{list_any-append, list_any_at}
 use Rattle.std.proofs.lemmas.List.Sums.{sum-map}
 use Rattle.std.proofs.lemmas.Simd.{map-map}
-use Rattle.rig_config.specs.Roster.{Rig, budgets_at}
 use Rattle.tenant_jobs.specs.declared.jobs.JobId.{JobId}
 use Rattle.tenant_jobs.specs.declared.jobs.JobResult.{JobResult}
 use Rattle.tenant_jobs.specs.Finished.{TableEntry, entry_in, result_in, has_result}
@@ -19,9 +18,12 @@ use Rattle.tenant_state.specs.FirstHalf.{unfinished_tasks}
 use Rattle.tenant_state.specs.Instants.{LocalInstant}
 use Rattle.tenant_state.specs.Jobs.{job_of, job_in, has_job}
 use Rattle.tenant_state.specs.Row.{ActiveTask, Row}
-use Rattle.tenant_state.specs.Standing.{Standing, StandsFor, empty_standing, most_released}
+use Rattle.tenant_state.specs.Standing.{Standing, StandsFor, no_tenant, most_released}
+use Rattle.tenant_state.specs.declared.tenants.Tenancy.{Tenancy}
 use Rattle.tenant_state.specs.inner.Standing.{HasItsEntries, HasItsResults, AreReleased}
 use Rattle.tenant_state.specs.inner.Halves.{IsFirstHalf, first_half_by}
+use Rattle.tenant_state.specs.SecondHalf.{second_half_of}
+use Rattle.tenant_slots.specs.Readings.{readings_within}
 use Rattle.instant_engine.specs.inner.Instants.{AreInstants, AreStepped, IsBetween, instant_by}
 use Rattle.instant_engine.specs.inner.Tables.{IsTaskTable}
 use Rattle.instant_engine.specs.Tenants.{ArePlaced, most_of, tenant_at}
@@ -36,24 +38,24 @@ use Rattle.instant_engine.proofs.Loops.{placed_behind}
 use Rattle.instant_engine.proofs.Named.{holds_of_job}
 use Rattle.instant_engine.proofs.Released.{older_and_newer}
 
-outside : (tenants : List Standing) (t : ℕ) → length tenants ≤ t → tenant_at tenants t ≡ empty_standing 0 0
-outside tenants t past = lists.get_or-eq_default tenants (empty_standing 0 0) past
+outside : (tenants : List Standing) (t : ℕ) → length tenants ≤ t → tenant_at tenants t ≡ no_tenant
+outside tenants t past = lists.get_or-eq_default tenants no_tenant past
 
 none_active : (tenants : List Standing) (j : JobId) → length tenants ≤ j.tenant → is_active_among tenants j ≡ false
-none_active tenants j past = ap (λ (s : Standing). has_job s.place s.row.active j) (outside tenants j.tenant past)
+none_active tenants j past = ap (λ (s : Standing). has_job s.tenancy.place s.row.active j) (outside tenants j.tenant past)
 
 -- what holds of each tenant by its place
 all_at : (P : Standing → Type 0) (tenants : List Standing) → ((t : ℕ) → t < length tenants → P (tenant_at tenants t)) → All P tenants
-all_at P tenants each t d lt = subst P (get_or_default tenants t (empty_standing 0 0) d lt) (each t lt)
+all_at P tenants each t d lt = subst P (get_or_default tenants t no_tenant d lt) (each t lt)
 
 -- tenants without what ended
 at_kept : (tenants : List Standing) (t : ℕ) → tenant_at (map without_ended tenants) t ≡ without_ended (tenant_at tenants t)
-at_kept tenants t = lists.get_or-map without_ended tenants t (empty_standing 0 0)
+at_kept tenants t = lists.get_or-map without_ended tenants t no_tenant
 
 all_kept : (P Q : Standing → Type 0) (tenants : List Standing) → ((s : Standing) → Q s → P (without_ended s)) → All Q tenants → All P (map without_ended tenants)
 all_kept P Q tenants each all =
     all_at P (map without_ended tenants)
-    (λ t lt. subst P (sym (at_kept tenants t)) (each (tenant_at tenants t) (all t (empty_standing 0 0) (omega (arith, length-map tenants without_ended)))))
+    (λ t lt. subst P (sym (at_kept tenants t)) (each (tenant_at tenants t) (all t no_tenant (omega (arith, length-map tenants without_ended)))))
 
 most_kept : (tenants : List Standing) → most_of (map without_ended tenants) ≡ most_of tenants
 most_kept tenants =
@@ -61,7 +63,7 @@ most_kept tenants =
     sym (sum-map most (map without_ended tenants)) ∙ (ap sum (map-map most without_ended tenants) ∙ sum-map most tenants)
 
 placed_kept : (tenants : List Standing) → ArePlaced tenants → ArePlaced (map without_ended tenants)
-placed_kept tenants placed t lt = ap (λ (s : Standing). s.place) (at_kept tenants t) ∙ placed t (omega (arith, length-map tenants without_ended))
+placed_kept tenants placed t lt = ap (λ (s : Standing). s.tenancy.place) (at_kept tenants t) ∙ placed t (omega (arith, length-map tenants without_ended))
 
 -- tenants between the halves of an instant, and before it
 pub record AreHalfway (before kept : List Standing) : Type 0 where
@@ -74,12 +76,12 @@ pub record AreHalfway (before kept : List Standing) : Type 0 where
 
 -- each tenant's tasks are active among all
 its_jobs : (tenants : List Standing) → ArePlaced tenants → (t : ℕ) → t < length tenants
-    → AllByRecursion (λ a. is_active_among tenants (job_of (tenant_at tenants t).place a) ≡ true) (tenant_at tenants t).row.active
+    → AllByRecursion (λ a. is_active_among tenants (job_of (tenant_at tenants t).tenancy.place a) ≡ true) (tenant_at tenants t).row.active
 its_jobs tenants placed t lt =
     let s : Standing = tenant_at tenants t in
-    all_map (λ a. has_job s.place s.row.active (job_of s.place a) ≡ true) (λ a. is_active_among tenants (job_of s.place a) ≡ true) s.row.active
-    (λ a e. ap (λ t. has_job (tenant_at tenants t).place (tenant_at tenants t).row.active (job_of s.place a)) (placed t lt) ∙ e)
-    (own_jobs_active s.place s.row)
+    all_map (λ a. has_job s.tenancy.place s.row.active (job_of s.tenancy.place a) ≡ true) (λ a. is_active_among tenants (job_of s.tenancy.place a) ≡ true) s.row.active
+    (λ a e. ap (λ t. has_job (tenant_at tenants t).tenancy.place (tenant_at tenants t).row.active (job_of s.tenancy.place a)) (placed t lt) ∙ e)
+    (own_jobs_active s.tenancy.place s.row)
 
 -- an entry has its name, and without an entry there is no result
 entry_whole : (entries : List TableEntry) (j : JobId) → is_entered entries j ≡ true → entry_in entries j ≡ Some (record { id = j; result = result_in entries j })
@@ -103,13 +105,13 @@ module _ {before : List Standing} {entries : List TableEntry} (placed : ArePlace
       all_at (λ s. HasItsEntries s entries) before
       (λ t lt.
       let s : Standing = tenant_at before t in
-      all_map (λ a. is_active_among before (job_of s.place a) ≡ true) (λ a. is_entered entries (job_of s.place a) ≡ true) s.row.active (λ a e. table.entered (job_of s.place a) ∙ e) (its_jobs before placed t lt))
+      all_map (λ a. is_active_among before (job_of s.tenancy.place a) ≡ true) (λ a. is_entered entries (job_of s.tenancy.place a) ≡ true) s.row.active (λ a e. table.entered (job_of s.tenancy.place a) ∙ e) (its_jobs before placed t lt))
 
   -- no active task has the number of the next instant
   early_job : (j : JobId) → j.tenant < length before → is_active_among before j ≡ true → j.tick < (tenant_at before j.tenant).row.next_tick
   early_job j lt =
       let s : Standing = tenant_at before j.tenant in
-      holds_of_job (λ i. i.tick < s.row.next_tick) s.place s.row.active j (between j.tenant (empty_standing 0 0) lt).known.early
+      holds_of_job (λ i. i.tick < s.row.next_tick) s.tenancy.place s.row.active j (between j.tenant no_tenant lt).known.early
 
   not_active : (j : JobId) → j.tenant < length before → j.tick ≡ (tenant_at before j.tenant).row.next_tick → is_active_among before j ≡ false
   not_active j lt at = false_from_ne_true _ (λ e. absurd (omega (arith, at, early_job j lt e)))
@@ -117,16 +119,16 @@ module _ {before : List Standing} {entries : List TableEntry} (placed : ArePlace
   -- between the halves
   module _ {middle : List Standing} (first : AreStepped (λ t. IsFirstHalf entries) before middle) where
     pub placed_middle : ArePlaced middle
-    placed_middle = placed_behind (λ t. IsFirstHalf entries) (λ t s x half. half.place) before middle first placed
+    placed_middle = placed_behind (λ t. IsFirstHalf entries) (λ t s x half. ap (λ (y : Tenancy). y.place) half.tenancy) before middle first placed
 
     -- what holds of each active task holds of those that are left
     kept_by_half : (P : ActiveTask → Type 0) (t : ℕ) → t < length before → AllByRecursion P (tenant_at before t).row.active → AllByRecursion P (tenant_at middle t).row.active
     kept_by_half P t lt all =
         let s : Standing = tenant_at before t in
         let half = first.each t lt in
-        let own : StandsFor s s.row = λ k. record s.row { records = (between t (empty_standing 0 0) lt).known.no_records k } in
+        let own : StandsFor s s.row = λ k. record s.row { records = (between t no_tenant lt).known.no_records k } in
         subst (AllByRecursion P) (sym (ap (λ (r : Row). r.active) (half.step s.row own)))
-        (keeps_first_half P s.row.next_tick (unfinished_tasks (λ a. has_result entries (job_of s.place a)) s.row) s.row (record { each = all; at = refl })).each
+        (keeps_first_half P s.row.next_tick (unfinished_tasks (λ a. has_result entries (job_of s.tenancy.place a)) s.row) s.row (record { each = all; at = refl })).each
 
     early_middle : AreEarly middle
     early_middle =
@@ -134,14 +136,14 @@ module _ {before : List Standing} {entries : List TableEntry} (placed : ArePlace
         (λ t lt.
         let within : t < length before = omega (arith, first.as_many) in
         subst (λ n. AllByRecursion (λ (a : ActiveTask). a.release < n) (tenant_at middle t).row.active) (sym (first.each t within).next_tick)
-        (kept_by_half (λ a. a.release < (tenant_at before t).row.next_tick) t within (between t (empty_standing 0 0) within).known.early))
+        (kept_by_half (λ a. a.release < (tenant_at before t).row.next_tick) t within (between t no_tenant within).known.early))
 
     active_before : (j : JobId) → j.tenant < length before → is_active_among middle j ≡ true → is_active_among before j ≡ true
     active_before j lt =
         let s : Standing = tenant_at middle j.tenant in
-        holds_of_job (λ i. is_active_among before i ≡ true) s.place s.row.active j
-        (kept_by_half (λ a. is_active_among before (job_of s.place a) ≡ true) j.tenant lt
-        (subst (λ t. AllByRecursion (λ a. is_active_among before (job_of t a) ≡ true) (tenant_at before j.tenant).row.active) (sym (first.each j.tenant lt).place) (its_jobs before placed j.tenant lt)))
+        holds_of_job (λ i. is_active_among before i ≡ true) s.tenancy.place s.row.active j
+        (kept_by_half (λ a. is_active_among before (job_of s.tenancy.place a) ≡ true) j.tenant lt
+        (subst (λ t. AllByRecursion (λ a. is_active_among before (job_of t a) ≡ true) (tenant_at before j.tenant).row.active) (sym (ap (λ (y : Tenancy). y.place) (first.each j.tenant lt).tenancy)) (its_jobs before placed j.tenant lt)))
 
     not_left : (j : JobId) → j.tenant < length before → j.tick ≡ (tenant_at before j.tenant).row.next_tick → is_active_among middle j ≡ false
     not_left j lt at = false_from_ne_true _ (λ e. true≢false (sym (active_before j lt e) ∙ not_active j lt at))
@@ -157,7 +159,7 @@ module _ {before : List Standing} {entries : List TableEntry} (placed : ArePlace
 
         past : length before ≤ j.tenant → is_ended_among middle j ≡ (is_entered entries j && not (is_active_among middle j))
         past le =
-            ap (λ (s : Standing). has_job s.place s.ended j) (outside middle j.tenant (omega (arith, le, first.as_many)))
+            ap (λ (s : Standing). has_job s.tenancy.place s.ended j) (outside middle j.tenant (omega (arith, le, first.as_many)))
             ∙ (ap (λ b. b && not (is_active_among middle j)) (sym (none_active before j le)) ∙ entered)
 
     pub counts_halfway : (P : ℕ → Type 0) (kept : List Standing) → kept ≡ map without_ended middle → All (λ (s : Standing). P s.row.next_tick) before → All (λ (s : Standing). P s.row.next_tick) kept
@@ -166,7 +168,7 @@ module _ {before : List Standing} {entries : List TableEntry} (placed : ArePlace
         (all_at (λ s. P s.row.next_tick) (map without_ended middle)
         (λ t lt.
         let within : t < length before = omega (arith, lt, length-map middle without_ended, first.as_many) in
-        subst P (sym (ap (λ (s : Standing). s.row.next_tick) (at_kept middle t) ∙ (first.each t within).next_tick)) (all t (empty_standing 0 0) within)))
+        subst P (sym (ap (λ (s : Standing). s.row.next_tick) (at_kept middle t) ∙ (first.each t within).next_tick)) (all t no_tenant within)))
 
     pub halfway : (kept : List Standing) → kept ≡ map without_ended middle → All IsReady middle → most_of middle ≤ most_of before → AreHalfway before kept
     halfway kept same ready fewer = rw (same) (record {
@@ -187,30 +189,32 @@ module _ {before : List Standing} {entries : List TableEntry} (placed : ArePlace
         ap is_some (stays j) ∙ ap (λ b. is_some (cond b (entry_in entries j) None)) (not_left j within here)
 
     -- behind the second halves
-    module _ (config : Rig) (frame : List ℤ) {after : List Standing} (second : AreSecondHalves config frame (map without_ended middle) after) where
+    module _ (frame : List ℤ) {after : List Standing} (second : AreSecondHalves frame (map without_ended middle) after) where
       as_many : length after ≡ length before
       as_many = second.as_many ∙ length-map middle without_ended ∙ first.as_many
 
-      its_half : (t : ℕ) → t < length before → IsSecondHalfAndKnown (budgets_at config t).reads frame (without_ended (tenant_at middle t)) (tenant_at after t)
+      its_half : (t : ℕ) → t < length before → IsSecondHalfAndKnown frame (without_ended (tenant_at middle t)) (tenant_at after t)
       its_half t lt =
-          subst (λ s. IsSecondHalfAndKnown (budgets_at config t).reads frame s (tenant_at after t)) (at_kept middle t) (second.each t (omega (arith, lt, length-map middle without_ended, first.as_many)))
+          subst (λ s. IsSecondHalfAndKnown frame s (tenant_at after t)) (at_kept middle t) (second.each t (omega (arith, lt, length-map middle without_ended, first.as_many)))
 
-      pub instants : AreInstants config frame entries before after
+      pub instants : AreInstants frame entries before after
       instants = record {
         as_many = as_many;
         each = λ t lt.
             let half = first.each t lt in
             let both = its_half t lt in
             record {
-              step = λ row stands. both.half.step (first_half_by entries (tenant_at before t).place row) (half.step row stands);
+              step = λ row stands.
+                  let middle_row : Row = first_half_by entries (tenant_at before t).tenancy.place row in
+                  subst (λ (y : Tenancy). StandsFor (tenant_at after t) (second_half_of (readings_within y.budgets.reads frame) [] middle_row)) half.tenancy (both.half.step middle_row (half.step row stands));
               next_tick = both.half.next_tick ∙ ap (λ n. n + 1) half.next_tick;
-              place = both.half.place ∙ half.place;
+              tenancy = both.half.tenancy ∙ half.tenancy;
               between = record { known = both.known; rest = both.half.ended };
             };
       }
 
       placed_after : ArePlaced after
-      placed_after t lt = let within : t < length before = omega (arith, lt, as_many) in (instants.each t within).place ∙ placed t within
+      placed_after t lt = let within : t < length before = omega (arith, lt, as_many) in ap (λ (y : Tenancy). y.place) (instants.each t within).tenancy ∙ placed t within
 
       active_after : (j : JobId) → is_active_among after j ≡ (is_active_among middle j || is_released_among (map without_ended middle) after j)
       active_after j = ⊎_elim inside past (cases_lt j.tenant (length before))
@@ -228,10 +232,10 @@ module _ {before : List Standing} {entries : List TableEntry} (placed : ArePlace
           inside lt =
               let both = its_half t lt in
               let new : List ActiveTask = drop (length m.row.active) a.row.active in
-              ap (λ xs. has_job a.place xs j) (older_and_newer m.row a.row both.released)
-              ∙ list_any-append (λ (task : ActiveTask). same_job (job_of a.place task) j) m.row.active new
-              ∙ ap (λ p. has_job p m.row.active j || has_job a.place new j) both.half.place
-              ∙ ap (λ (s : Standing). has_job m.place m.row.active j || has_job a.place (drop (length s.row.active) a.row.active) j) (sym (at_kept middle t))
+              ap (λ xs. has_job a.tenancy.place xs j) (older_and_newer m.row a.row both.released)
+              ∙ list_any-append (λ (task : ActiveTask). same_job (job_of a.tenancy.place task) j) m.row.active new
+              ∙ ap (λ (y : Tenancy). has_job y.place m.row.active j || has_job a.tenancy.place new j) both.half.tenancy
+              ∙ ap (λ (s : Standing). has_job m.tenancy.place m.row.active j || has_job a.tenancy.place (drop (length s.row.active) a.row.active) j) (sym (at_kept middle t))
 
           past : length before ≤ t → is_active_among after j ≡ (is_active_among middle j || is_released_among (map without_ended middle) after j)
           past le =
@@ -251,7 +255,7 @@ module _ {before : List Standing} {entries : List TableEntry} (placed : ArePlace
               let kept : Standing = tenant_at (map without_ended middle) t in
               let count : kept.row.next_tick ≡ (tenant_at before t).row.next_tick = ap (λ (s : Standing). s.row.next_tick) (at_kept middle t) ∙ (first.each t lt).next_tick in
               let released : AreReleased kept.row a.row = (second.each t (omega (arith, lt, length-map middle without_ended, first.as_many))).released in
-              not_active j lt (holds_of_job (λ i. i.tick ≡ kept.row.next_tick) a.place (drop (length kept.row.active) a.row.active) j released.newer holds ∙ count)
+              not_active j lt (holds_of_job (λ i. i.tick ≡ kept.row.next_tick) a.tenancy.place (drop (length kept.row.active) a.row.active) j released.newer holds ∙ count)
 
       pub jobs_new : (left : List TableEntry) → ((j : JobId) → entry_in left j ≡ cond (is_active_among middle j) (entry_in entries j) None) → (jobs : List JobValue)
           → AreReleasedJobs (map without_ended middle) after jobs → All (λ (k : JobValue). is_entered left k.id ≡ false) jobs
@@ -292,23 +296,23 @@ module _ {before : List Standing} {entries : List TableEntry} (placed : ArePlace
             let s : Standing = tenant_at before t in
             let a : Standing = tenant_at after t in
             let one = instants.each t lt in
-            let known = (between t (empty_standing 0 0) lt).known in
-            let i : LocalInstant = instant_by (budgets_at config t).reads frame entries s.place s.row in
-            let Right : ActiveTask → Type 0 = λ x. IfSome (result_in entries (job_of s.place x)) (λ r. r ≡ result_of (job_in p s.place x)) in
+            let known = (between t no_tenant lt).known in
+            let i : LocalInstant = instant_by s.tenancy frame entries s.row in
+            let Right : ActiveTask → Type 0 = λ x. IfSome (result_in entries (job_of s.tenancy.place x)) (λ r. r ≡ result_of (job_in p s.tenancy.place x)) in
             let fresh : (x : ActiveTask) → x.release ≡ s.row.next_tick → Right x = λ x at.
-            subst (λ o. IfSome o (λ r. r ≡ result_of (job_in p s.place x)))
-            (sym (none_came entries (job_of s.place x)
-            (table.entered (job_of s.place x) ∙ not_active (job_of s.place x) (omega (arith, lt, placed t lt)) (at ∙ ap (λ k. (tenant_at before k).row.next_tick) (sym (placed t lt)))))) tt in
+            subst (λ o. IfSome o (λ r. r ≡ result_of (job_in p s.tenancy.place x)))
+            (sym (none_came entries (job_of s.tenancy.place x)
+            (table.entered (job_of s.tenancy.place x) ∙ not_active (job_of s.tenancy.place x) (omega (arith, lt, placed t lt)) (at ∙ ap (λ k. (tenant_at before k).row.next_tick) (sym (placed t lt)))))) tt in
             let all : AllByRecursion Right a.row.active =
             subst (AllByRecursion Right) (sym (ap (λ (r : Row). r.active) (one.step s.row (λ k. record s.row { records = known.no_records k }))))
             (kept_by_instant Right s.row.next_tick fresh i s.row
-            (record { each = table.results t (empty_standing 0 0) lt p (sym ((its_half t lt).half.program ∙ (first.each t lt).program) ∙ is); at = refl })).0 in
-            all_with Right (λ x. is_active_among after (job_of a.place x) ≡ true) (λ x. IfSome (result_in new (job_of a.place x)) (λ r. r ≡ result_of (job_in p a.place x)))
+            (record { each = table.results t no_tenant lt p (sym ((its_half t lt).half.program ∙ (first.each t lt).program) ∙ is); at = refl })).0 in
+            all_with Right (λ x. is_active_among after (job_of a.tenancy.place x) ≡ true) (λ x. IfSome (result_in new (job_of a.tenancy.place x)) (λ r. r ≡ result_of (job_in p a.tenancy.place x)))
             (λ x right active.
-            subst (λ o. IfSome o (λ r. r ≡ result_of (job_in p a.place x)))
-            (sym (ap (option_and_then (λ (e : TableEntry). e.result)) (entries_behind (job_of a.place x))
-            ∙ ap (λ b. option_and_then (λ (e : TableEntry). e.result) (cond b (Some (record { id = job_of a.place x; result = result_in entries (job_of a.place x) })) None)) active))
-            (subst (λ k. IfSome (result_in entries (job_of k x)) (λ r. r ≡ result_of (job_in p k x))) (sym one.place) right))
+            subst (λ o. IfSome o (λ r. r ≡ result_of (job_in p a.tenancy.place x)))
+            (sym (ap (option_and_then (λ (e : TableEntry). e.result)) (entries_behind (job_of a.tenancy.place x))
+            ∙ ap (λ b. option_and_then (λ (e : TableEntry). e.result) (cond b (Some (record { id = job_of a.tenancy.place x; result = result_in entries (job_of a.tenancy.place x) })) None)) active))
+            (subst (λ (y : Tenancy). IfSome (result_in entries (job_of y.place x)) (λ r. r ≡ result_of (job_in p y.place x))) (sym one.tenancy) right))
             a.row.active all (its_jobs after placed_after t (omega (arith, lt, as_many)))
 
         pub table_behind : IsTaskTable after new

@@ -1,16 +1,11 @@
 -- One tenant more has gone through its step, in the loops over all tenants.
 use Rattle.std.proofs.Common.{◌≡◌, ℕ, ◌+◌, ◌<◌, ◌≤◌, ◌≢◌, ⊎_elim, List, [], ◌∷◌, ◌++◌, ℤ, length, get_or, map, set, take, drop, refl, sym, ap, ◌∙◌, subst, length-set, arith}
-use Rattle.std.specs.Option.{option_map_or}
 use Rattle.std.proofs.lemmas.Bool.{cases_eq}
 use Rattle.std.proofs.lemmas.List.{get_or-set_same, get_or-set_other, get_or_default, append-nil, append_assoc, take_more_set, length-take}
 use Rattle.std.proofs.lemmas.List.Sums.{sum_by-append, sum_by-cons, sum_by-drop_more, get_or-le-sum_by}
-use Rattle.std.proofs.lemmas.Option.{slice_get-get_or}
-use Rattle.rig_config.specs.declared.Budgets.{Budgets}
-use Rattle.rig_config.specs.declared.TenantConfig.{TenantConfig}
-use Rattle.rig_config.specs.Roster.{Rig, budgets_at, no_budgets}
 use Rattle.tenant_jobs.specs.Jobs.{JobValue}
 use Rattle.tenant_state.specs.Jobs.{released_at}
-use Rattle.tenant_state.specs.Standing.{Standing, at_rest, empty_standing, most_released}
+use Rattle.tenant_state.specs.Standing.{Standing, at_rest, no_tenant, most_released}
 use Rattle.instant_engine.specs.inner.Instants.{AreStepped}
 use Rattle.instant_engine.specs.Tenants.{ArePlaced, most_of, released_from, tenant_at}
 use Rattle.instant_engine.specs.inner.Halves.{IsSecondHalfAndKnown}
@@ -22,8 +17,8 @@ pub record AreSteppedTo (step : ℕ → Standing → Standing → Type 0) (n : �
   pub stepped : (t : ℕ) → t < n → step t (tenant_at before t) (tenant_at now t)
   pub others : (t : ℕ) → n ≤ t → tenant_at now t ≡ tenant_at before t
 
-abbrev pub AreSecondHalvesTo : Rig → List ℤ → ℕ → List Standing → List Standing → Type 0
-AreSecondHalvesTo config frame = AreSteppedTo (λ t. IsSecondHalfAndKnown (budgets_at config t).reads frame)
+abbrev pub AreSecondHalvesTo : List ℤ → ℕ → List Standing → List Standing → Type 0
+AreSecondHalvesTo frame = AreSteppedTo (λ t. IsSecondHalfAndKnown frame)
 
 -- at the loop's end
 pub stepped_all : (R : ℕ → Standing → Standing → Type 0) (n : ℕ) (before now : List Standing) → length before ≤ n → AreSteppedTo R n before now → AreStepped R before now
@@ -34,7 +29,7 @@ stepped_none R xs = record { as_many = refl; stepped = λ t lt. absurd (omega ar
 
 -- the next tenant is as it was
 pub unstepped : (R : ℕ → Standing → Standing → Type 0) (i : ℕ) (before now : List Standing) (d : Standing) → i < length before → AreSteppedTo R i before now → get_or now i d ≡ tenant_at before i
-unstepped R i before now d lt steps = get_or_default now i d (empty_standing 0 0) (omega (arith, steps.as_many)) ∙ steps.others i (omega arith)
+unstepped R i before now d lt steps = get_or_default now i d no_tenant (omega (arith, steps.as_many)) ∙ steps.others i (omega arith)
 
 pub stepped_more : (R : ℕ → Standing → Standing → Type 0) (i : ℕ) (before now : List Standing) (d s : Standing) → i < length before
     → AreSteppedTo R i before now → R i (get_or now i d) s → AreSteppedTo R (i + 1) before (set now i s)
@@ -43,31 +38,18 @@ stepped_more R i before now d s lt steps one = record {
   stepped = λ t below. ⊎_elim
       (λ (e : t ≡ i).
       subst (λ k. R k (tenant_at before k) (tenant_at (set now i s) k)) (sym e)
-      (subst (R i (tenant_at before i)) (sym (get_or-set_same now i s (empty_standing 0 0) (omega (arith, steps.as_many))))
+      (subst (R i (tenant_at before i)) (sym (get_or-set_same now i s no_tenant (omega (arith, steps.as_many))))
       (subst (λ y. R i y s) (unstepped R i before now d lt steps) one)))
-      (λ (differ : t ≢ i). subst (R t (tenant_at before t)) (sym (get_or-set_other now i t s (empty_standing 0 0) differ)) (steps.stepped t (omega arith)))
+      (λ (differ : t ≢ i). subst (R t (tenant_at before t)) (sym (get_or-set_other now i t s no_tenant differ)) (steps.stepped t (omega arith)))
       (cases_eq t i);
-  others = λ t le. get_or-set_other now i t s (empty_standing 0 0) (λ e. absurd (omega arith)) ∙ steps.others t (omega arith);
+  others = λ t le. get_or-set_other now i t s no_tenant (λ e. absurd (omega arith)) ∙ steps.others t (omega arith);
 }
-
--- the budgets of a tenant of the roster
-budgets_here : (config : Rig) (t : ℕ) (d : TenantConfig) → t < length config.tenants → budgets_at config t ≡ (get_or config.tenants t d).budgets
-budgets_here config t d lt = ap (λ o. option_map_or (λ (tenant : TenantConfig). tenant.budgets) o no_budgets) (slice_get-get_or config.tenants t d lt)
-
--- a second half, for the tenant's own budgets
-pub second_more : (config : Rig) (frame : List ℤ) (i : ℕ) (before now : List Standing) (d s : Standing) (tenants : List TenantConfig) (t : TenantConfig) → i < length before
-    → length before ≡ length config.tenants → tenants ≡ config.tenants → AreSecondHalvesTo config frame i before now → IsSecondHalfAndKnown (get_or tenants i t).budgets.reads frame (get_or now i d) s
-    → AreSecondHalvesTo config frame (i + 1) before (set now i s)
-second_more config frame i before now d s tenants t lt long same steps one =
-    stepped_more (λ t. IsSecondHalfAndKnown (budgets_at config t).reads frame) i before now d s lt steps
-    (subst (λ (b : Budgets). IsSecondHalfAndKnown b.reads frame (get_or now i d) s)
-    (ap (λ (xs : List TenantConfig). (get_or xs i t).budgets) same ∙ sym (budgets_here config i t (omega (arith, long)))) one)
 
 -- how many jobs the tenants left can release
 pub most_left : (R : ℕ → Standing → Standing → Type 0) (i : ℕ) (before now : List Standing) (d : Standing) → i < length before → AreSteppedTo R i before now
     → most_of (drop i before) ≡ most_released (get_or now i d).row + most_of (drop (i + 1) before)
 most_left R i before now d lt steps =
-    sum_by-drop_more (λ (s : Standing). most_released s.row) before i (empty_standing 0 0) lt
+    sum_by-drop_more (λ (s : Standing). most_released s.row) before i no_tenant lt
     ∙ ap (λ (s : Standing). most_released s.row + most_of (drop (i + 1) before)) (sym (unstepped R i before now d lt steps))
 
 released_more : (n from : ℕ) (xs : List Standing) (s : Standing)
@@ -79,8 +61,8 @@ released_more n from (x ∷ xs) s =
     ∙ ap (λ k. (released_at from n x.row ++ released_from n (from + 1) xs) ++ released_at k n s.row) (omega arith))
 
 -- the jobs of the next tenant stand behind those of the tenants before
-pub jobs_more : (n i : ℕ) (now : List Standing) (s x : Standing) (old new : List JobValue) → i < length now → x.place ≡ i → x.row.next_tick ≡ n
-    → new ≡ old ++ released_at x.place x.row.next_tick s.row → old ≡ released_from n 0 (take i now) → new ≡ released_from n 0 (take (i + 1) (set now i s))
+pub jobs_more : (n i : ℕ) (now : List Standing) (s x : Standing) (old new : List JobValue) → i < length now → x.tenancy.place ≡ i → x.row.next_tick ≡ n
+    → new ≡ old ++ released_at x.tenancy.place x.row.next_tick s.row → old ≡ released_from n 0 (take i now) → new ≡ released_from n 0 (take (i + 1) (set now i s))
 jobs_more n i now s x old new lt own count more before =
     let place : 0 + length (take i now) ≡ i = omega (arith, length-take i now) in
     more
@@ -102,7 +84,7 @@ none_of_one before now i d same lt none =
     omega (arith, same_most before now same, none, get_or-le-sum_by most now i d lt)
 
 -- behind a step of all tenants
-pub placed_behind : (R : ℕ → Standing → Standing → Type 0) → ((t : ℕ) (s x : Standing) → R t s x → x.place ≡ s.place) → (before after : List Standing)
+pub placed_behind : (R : ℕ → Standing → Standing → Type 0) → ((t : ℕ) (s x : Standing) → R t s x → x.tenancy.place ≡ s.tenancy.place) → (before after : List Standing)
     → AreStepped R before after → ArePlaced before → ArePlaced after
 placed_behind R keeps before after steps placed t lt =
     let within : t < length before = omega (arith, steps.as_many) in

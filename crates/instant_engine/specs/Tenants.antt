@@ -3,15 +3,15 @@ use Rattle.std.specs.Prelude.{◌≡◌, ◌<◌, ℕ, List, length, slice_index
 use Rattle.std.specs.List.{sum_by, flat_map, enumerate_from}
 use Rattle.tenant_jobs.specs.Jobs.{JobValue}
 use Rattle.tenant_state.specs.Jobs.{released_at}
-use Rattle.tenant_state.specs.Standing.{Standing, empty_standing, most_released}
+use Rattle.tenant_state.specs.Standing.{Standing, no_tenant, most_released}
 
 -- the tenant at place t
 abbrev pub tenant_at : List Standing → ℕ → Standing
-tenant_at tenants t = slice_index_or tenants t (empty_standing 0 0)
+tenant_at tenants t = slice_index_or tenants t no_tenant
 
 -- each tenant knows its place
 abbrev pub ArePlaced : List Standing → Type 0
-ArePlaced tenants = (t : ℕ) → t < length tenants → (tenant_at tenants t).place ≡ t
+ArePlaced tenants = (t : ℕ) → t < length tenants → (tenant_at tenants t).tenancy.place ≡ t
 
 -- the most jobs that the next instant of all these can release
 abbrev pub most_of : List Standing → ℕ

@@ -13,7 +13,6 @@ ghost use Rattle.tenant_state.specs.inner.Halves.{IsFirstHalf};
 ghost use Rattle.tenant_state.specs.Standing.{Standing, at_rest};
 ghost use Rattle.tenant_state.specs.inner.Standing.{HasItsEntries, HasItsResults};
 
-use rig_config::Config;
 use tenant_jobs::finished::Finished;
 use tenant_jobs::jobs::Jobs;
 use tenant_state::tenants::Tenant;
@@ -36,18 +35,11 @@ pub fn ready(tenants: &mut [Tenant]) -> Option<usize>
     Some(most)
 }
 
-/// An instant of all tenants, whose numbers are below the greatest: the first half of each, and then the second half of each, with its
-/// budgets. `frame` has the input value of each line. The tenants are ready, and the table, which is that of their active tasks, has room
+/// An instant of all tenants, whose numbers are below the greatest: the first half of each, and then the second half of each.
+/// `frame` has the input value of each line. The tenants are ready, and the table, which is that of their active tasks, has room
 /// for all that they can release, as have the jobs, of which there are none. Behind it the jobs are those of the tasks that were released,
 /// tenant by tenant. Takes no memory.
-pub fn instant(
-    tenants: &mut [Tenant],
-    config: &Config,
-    frame: &[i64],
-    finished: &mut Finished,
-    jobs: &mut Jobs,
-)
-    requires tenants { length tenants.old ≡ length config.now.tenants }
+pub fn instant(tenants: &mut [Tenant], frame: &[i64], finished: &mut Finished, jobs: &mut Jobs)
     requires placed { ArePlaced tenants.old }
     requires between { All IsBetween tenants.old }
     requires counts { All (λ (s : Standing). s.row.next_tick < 2 ^ 64 - 1) tenants.old }
@@ -56,7 +48,7 @@ pub fn instant(
     requires entries { most_of tenants.old ≤ finished.old.room }
     requires none { jobs.old.jobs ≡ [] }
     requires jobs { most_of tenants.old ≤ jobs.old.room }
-    ensures instants { AreInstants config.now frame.now finished.old.entries tenants.old tenants.new }
+    ensures instants { AreInstants frame.now finished.old.entries tenants.old tenants.new }
     ensures entries { (j : JobId) → entry_in finished.new.entries j
         ≡ (if is_active_among tenants.new j then Some (record { id = j; result = result_in finished.old.entries j }) else None) }
     ensures table { IsTaskTable tenants.new finished.new.entries }
@@ -64,33 +56,27 @@ pub fn instant(
 {
     first_halves(tenants, finished);
     keep(tenants, finished);
-    second_halves(tenants, config, frame, jobs);
+    second_halves(tenants, frame, jobs);
     finished.enter(jobs);
     note_keys(tenants, jobs);
 }
 
 /// An instant of all tenants, as `instant`, where nobody takes its jobs.
-pub fn instant_without_jobs(
-    tenants: &mut [Tenant],
-    config: &Config,
-    frame: &[i64],
-    finished: &mut Finished,
-)
-    requires tenants { length tenants.old ≡ length config.now.tenants }
+pub fn instant_without_jobs(tenants: &mut [Tenant], frame: &[i64], finished: &mut Finished)
     requires placed { ArePlaced tenants.old }
     requires between { All IsBetween tenants.old }
     requires counts { All (λ (s : Standing). s.row.next_tick < 2 ^ 64 - 1) tenants.old }
     requires ready { All IsReady tenants.old }
     requires table { IsTaskTable tenants.old finished.old.entries }
     requires entries { most_of tenants.old ≤ finished.old.room }
-    ensures instants { AreInstants config.now frame.now finished.old.entries tenants.old tenants.new }
+    ensures instants { AreInstants frame.now finished.old.entries tenants.old tenants.new }
     ensures entries { (j : JobId) → entry_in finished.new.entries j
         ≡ (if is_active_among tenants.new j then Some (record { id = j; result = result_in finished.old.entries j }) else None) }
     ensures table { IsTaskTable tenants.new finished.new.entries }
 {
     first_halves(tenants, finished);
     keep(tenants, finished);
-    second_halves_without_jobs(tenants, config, frame, finished);
+    second_halves_without_jobs(tenants, frame, finished);
 }
 
 /// Takes the entries of the tasks that are active no longer out of the table; the tenants tell which they are. Takes no memory.
@@ -120,9 +106,8 @@ fn first_halves(tenants: &mut [Tenant], finished: &Finished)
     }
 }
 
-// The second half of each tenant, with its budgets.
-fn second_halves(tenants: &mut [Tenant], config: &Config, frame: &[i64], jobs: &mut Jobs)
-    requires tenants { length tenants.old ≡ length config.now.tenants }
+// The second half of each tenant.
+fn second_halves(tenants: &mut [Tenant], frame: &[i64], jobs: &mut Jobs)
     requires rest { All (λ (s : Standing). s.ended ≡ []) tenants.old }
     requires counts { All (λ (s : Standing). s.row.next_tick < 2 ^ 64 - 1) tenants.old }
     requires placed { ArePlaced tenants.old }
@@ -130,41 +115,33 @@ fn second_halves(tenants: &mut [Tenant], config: &Config, frame: &[i64], jobs: &
     requires ready { All IsReady tenants.old }
     requires none { jobs.old.jobs ≡ [] }
     requires jobs { most_of tenants.old ≤ jobs.old.room }
-    ensures halves { AreSecondHalves config.now frame.now tenants.old tenants.new }
+    ensures halves { AreSecondHalves frame.now tenants.old tenants.new }
     ensures released { AreReleasedJobs tenants.old tenants.new jobs.new.jobs }
     ensures jobs { (n : ℕ) → All (λ (s : Standing). s.row.next_tick ≡ n) tenants.old → jobs.new.jobs ≡ released_from n 0 tenants.new }
 {
     for i in 0..tenants.len() {
-        let budgets = &config.tenants()[i].budgets;
         let tenant = &mut tenants[i];
-        tenant.phase_two(budgets, frame, jobs);
+        tenant.phase_two(frame, jobs);
         let _ = tenant.next_tick();
     }
 }
 
-// The second half of each tenant, with its budgets, where nobody takes the jobs. What is released is entered.
-fn second_halves_without_jobs(
-    tenants: &mut [Tenant],
-    config: &Config,
-    frame: &[i64],
-    finished: &mut Finished,
-)
-    requires tenants { length tenants.old ≡ length config.now.tenants }
+// The second half of each tenant, where nobody takes the jobs. What is released is entered.
+fn second_halves_without_jobs(tenants: &mut [Tenant], frame: &[i64], finished: &mut Finished)
     requires rest { All (λ (s : Standing). s.ended ≡ []) tenants.old }
     requires counts { All (λ (s : Standing). s.row.next_tick < 2 ^ 64 - 1) tenants.old }
     requires placed { ArePlaced tenants.old }
     requires ready { All IsReady tenants.old }
     requires room { most_of tenants.old ≤ finished.old.room }
     requires new { (t : ℕ) (j : JobId) → t < length tenants.old → j.tenant ≡ t → (tenant_at tenants.old t).row.next_tick ≡ j.tick → is_entered finished.old.entries j ≡ false }
-    ensures halves { AreSecondHalves config.now frame.now tenants.old tenants.new }
+    ensures halves { AreSecondHalves frame.now tenants.old tenants.new }
     ensures entries { (j : JobId) → entry_in finished.new.entries j
         ≡ entry_put (is_released_among tenants.old tenants.new j) j None finished.old.entries }
 {
     for i in 0..tenants.len() {
-        let budgets = &config.tenants()[i].budgets;
         let tenant = &mut tenants[i];
         let before = tenant.active();
-        tenant.phase_two_without_jobs(budgets, frame);
+        tenant.phase_two_without_jobs(frame);
         tenant.enter(before, finished);
         let _ = tenant.next_tick();
     }

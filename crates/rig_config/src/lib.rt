@@ -50,8 +50,11 @@ pub struct Budgets {
 }
 
 impl Budgets {
-    // Equal budgets.
-    fn copy(&self, alloc: Global) -> Result<Budgets, AllocError>
+    /// Equal budgets.
+    ///
+    /// # Errors
+    /// Want of memory.
+    pub fn copy(&self, alloc: Global) -> Result<Budgets, AllocError>
         ensures { IfOk result (λ budgets. budgets ≡ self.now) }
     {
         Ok(Budgets {

@@ -14,7 +14,7 @@ use Rattle.host_core.specs.Views.{row_of}
 use Rattle.tenant_state.specs.Jobs.{job_of, is_active}
 use Rattle.tenant_state.specs.Row.{Row}
 use Rattle.giotto_tasks.proofs.ListLemmas.{all_map, all_mapped, same_filter}
-use Rattle.host_core.proofs.NewHost.{no_tenant}
+use Rattle.host_core.proofs.NewHost.{nobody}
 use Rattle.host_core.proofs.AloneAlong.{same_rows, same_awaits}
 use Rattle.host_core.proofs.Outstanding.{jobs_at, all_jobs, places_from_start}
 use Rattle.tenant_state.proofs.JobNames.{own_jobs_active}
@@ -47,5 +47,5 @@ module _ (setting : Setting) where
 
   pub same_outstanding : IsBase setting.config setting.base → (past : List Event) → is_legal setting past ≡ true → all_jobs setting (host_after setting past) ≡ outstanding_after setting past
   same_outstanding base past legal =
-      places_from_start (λ (place : ℕ × TenantConfig). jobs_at setting (host_after setting past) place.0) (λ (place : ℕ × TenantConfig). outstanding_at setting past place.0) no_tenant no_tenant setting.config.tenants
+      places_from_start (λ (place : ℕ × TenantConfig). jobs_at setting (host_after setting past) place.0) (λ (place : ℕ × TenantConfig). outstanding_at setting past place.0) nobody nobody setting.config.tenants
       setting.config.tenants refl (same_outstanding_at base past legal)

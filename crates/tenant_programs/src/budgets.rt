@@ -4,24 +4,45 @@ ghost use Rattle.std.specs.Prelude.{◌≡◌};
 ghost use Rattle.std.specs.List.{list_all};
 ghost use Rattle.giotto_rules.specs.Declarations.{lines_read, lines_written};
 ghost use Rattle.rig_config.specs.Roster.{may_use};
-ghost use Rattle.tenant_programs.specs.Admission.{broken_budget};
+ghost use Rattle.tenant_programs.specs.Admission.{broken_budget, uses_own_lines};
 
+use giotto_check::Checked;
 use giotto_text::programs::{Program, Source};
 use rig_config::Budgets;
 use tenant_lines::replies::Budget;
 
-/// The first budget that the program is over; `None` where it keeps all. Today only `lines` is looked at: the program's
-/// sensors read, and its actuators drive, only lines that the tenant may use.
-pub fn broken_budget(budgets: &Budgets, program: &Program) -> Option<Budget>
-    ensures { result ≡ broken_budget budgets.now program.now }
+/// The first budget that a program is over, of those that a program has, in this order: `Bytes`, the length of its text, which is
+/// `bytes` bytes with all blanks; `Ports`, all that it has, inputs and states of tasks included; `Tasks`; `Modes`; `Steps`, its
+/// greatest cost; `Lines`, where a sensor reads, or an actuator drives, a line that the tenant may not use so. `None` where it
+/// keeps all. The cost and the number of ports are known from the program's check, so nothing is costed here.
+pub fn broken_budget(budgets: &Budgets, bytes: usize, checked: &Checked) -> Option<Budget>
+    ensures { result ≡ broken_budget budgets.now bytes checked.now }
+{
+    let program = checked.program();
+    if bytes > budgets.bytes {
+        Some(Budget::Bytes)
+    } else if checked.slots() > budgets.ports {
+        Some(Budget::Ports)
+    } else if program.tasks().len() > budgets.tasks {
+        Some(Budget::Tasks)
+    } else if program.modes().len() > budgets.modes {
+        Some(Budget::Modes)
+    } else if checked.greatest_cost() > budgets.steps {
+        Some(Budget::Steps)
+    } else if !uses_own_lines(budgets, program) {
+        Some(Budget::Lines)
+    } else {
+        None
+    }
+}
+
+// Whether the program's sensors read, and its actuators drive, only lines that the tenant may use so.
+fn uses_own_lines(budgets: &Budgets, program: &Program) -> bool
+    ensures { result ≡ uses_own_lines budgets.now program.now }
 {
     let reads = budgets.reads.as_slice();
     let writes = budgets.writes.as_slice();
-    if may_read(reads, program) && may_drive(writes, program) {
-        None
-    } else {
-        Some(Budget::Lines)
-    }
+    may_read(reads, program) && may_drive(writes, program)
 }
 
 // Whether the program's sensors read only these lines.

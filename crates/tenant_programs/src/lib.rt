@@ -5,7 +5,7 @@
 //!
 //! ```text
 //! let checked = read_program(alloc, text)?;
-//! if let Some(budget) = broken_budget(budgets, checked.program()) {
+//! if let Some(budget) = broken_budget(budgets, text.len(), &checked) {
 //!     return Err(Refusal::OverBudget(budget));
 //! }
 //! ```

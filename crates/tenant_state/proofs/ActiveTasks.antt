@@ -1,5 +1,5 @@
 -- What holds of each active task is kept by each step, if it holds of what is released at the instant's number.
-use Rattle.std.proofs.Common.{◌≡◌, ℕ, ◌+◌, Bool, true, false, cond, List, [], ◌∷◌, Option, Some, None}
+use Rattle.std.proofs.Common.{◌≡◌, ℕ, ◌+◌, Bool, true, false, cond, List, [], ◌∷◌, Option, Some, None, length}
 use Rattle.std.specs.Prelude.{Result, Ok, Err, option_to_list}
 use Rattle.std.specs.Option.{option_map}
 use Rattle.std.specs.List.{AllByRecursion}
@@ -110,9 +110,9 @@ module _ (P : ActiveTask → Type 0) (n : ℕ) where
   keeps_outcome_if true x y kx ky = kx
   keeps_outcome_if false x y kx ky = ky
 
-  keeps_read : (budgets : Budgets) (row : Row) (r : Result GiottoProgram Refusal) → Keeps row → Keeps (load_read budgets row r).row
-  keeps_read budgets row (Err refusal) k = k
-  keeps_read budgets row (Ok p) k = keeps_outcome_if _ _ (load_within p row (broken_budget budgets p)) k (keeps_within p row _ k)
+  keeps_read : (budgets : Budgets) (bytes : ℕ) (row : Row) (r : Result GiottoProgram Refusal) → Keeps row → Keeps (load_read budgets bytes row r).row
+  keeps_read budgets bytes row (Err refusal) k = k
+  keeps_read budgets bytes row (Ok p) k = keeps_outcome_if _ _ (load_within p row (broken_budget budgets bytes p)) k (keeps_within p row _ k)
 
   keeps_started : (row : Row) (o : Option GiottoProgram) → Keeps row → Keeps (start_program row o).row
   keeps_started row None k = k
@@ -134,7 +134,7 @@ module _ (P : ActiveTask → Type 0) (n : ℕ) where
   keeps_all_shown row (Some p) k = k
 
   pub kept_by_command : (budgets : Budgets) (c : Command) (row : Row) → Keeps row → Keeps (commanded budgets c row).row
-  kept_by_command budgets (Load text) row k = keeps_read budgets row (program_of text) k
+  kept_by_command budgets (Load text) row k = keeps_read budgets (length text) row (program_of text) k
   kept_by_command budgets Start row k = keeps_outcome_if _ _ (start_program row row.program) k (keeps_started row row.program k)
   kept_by_command budgets Stop row k = keeps_asked row k
   kept_by_command budgets ShowMode row k = k

@@ -41,6 +41,7 @@ use Rattle.tenant_state.specs.FirstHalf.{all_ended, due_tasks, names_due, still_
 use Rattle.tenant_state.specs.Row.{overrun, ActiveTask, Row}
 use Rattle.tenant_state.specs.Standing.{is_another, all_different_releases, without_records, Standing}
 use Rattle.tenant_state.specs.inner.Standing.{AreEnded, has_active}
+use Rattle.tenant_state.specs.declared.tenants.Tenancy.{Tenancy}
 use Rattle.tenant_state.specs.Tenants.{active_of, standing_of, state_of}
 use Rattle.tenant_state.specs.inner.Tenants.{FitsProgram, FitsIts, IsActiveAs, IsActiveIn, IsActiveOf, IsTenant}
 use Rattle.tenant_state.proofs.DueTasks.{any_parted, group, ends, is_open, is_unfinished, names_of_tasks, none_passes, stay}
@@ -49,7 +50,7 @@ use Rattle.tenant_state.proofs.Stops.{row_of}
 
 -- a tenant that stays as it is, where none had ended, has none that end
 pub none_ended : (s : Standing) → s.ended ≡ [] → AreEnded s s
-none_ended s e j = ap (λ l. has_job s.place l j) e ∙ neither (has_active s j)
+none_ended s e j = ap (λ l. has_job s.tenancy.place l j) e ∙ neither (has_active s j)
   where
     neither : (b : Bool) → false ≡ (b && not b)
     neither true = refl
@@ -236,8 +237,8 @@ pub record IsRunning (tenant : Standing) (p : GiottoProgram) (mode time next : �
   pub its : ModeDeclaration
   pub there : slice_get p.modes mode ≡ Some its
 
-pub as_running : {tenant : Standing} {state : code.State} {program : Option GiottoProgram} {p : GiottoProgram} {place mode time next : ℕ} {active ended : List Active} {room : ℕ} {values : List ℤ} {shares : List (Option TaskBody)} {next_tick : ℕ}
-    → standing_of place state program mode time active ended room values shares next_tick ≡ tenant → IsTenant (state_of state) program mode time next active ended values shares next_tick → state ≡ states.Running → program ≡ Some p
+pub as_running : {tenant : Standing} {state : code.State} {program : Option GiottoProgram} {p : GiottoProgram} {tenancy : Tenancy} {mode time next : ℕ} {active ended : List Active} {room : ℕ} {values : List ℤ} {shares : List (Option TaskBody)} {next_tick : ℕ}
+    → standing_of tenancy state program mode time active ended room values shares next_tick ≡ tenant → IsTenant (state_of state) program mode time next active ended values shares next_tick → state ≡ states.Running → program ≡ Some p
     → IsRunning tenant p mode time next active ended values shares next_tick
 as_running {p = p} {mode = mode} {time = time} {next = next} {active = active} {ended = ended} {values = values} {shares = shares} {next_tick = next_tick} view known running some =
     let fits : FitsProgram p mode time next active ended values shares next_tick = subst (λ o. FitsIts o mode time next active ended values shares next_tick) some known.fits in

@@ -25,6 +25,7 @@ use Rattle.tenant_state.specs.Row.{ActiveTask, Row, in_mode}
 use Rattle.tenant_state.specs.SecondHalf.{is_invoked, released, invoked, all_invoked, all_released, invoked_in_mode, moved_on, counted, second_half_of}
 use Rattle.tenant_state.specs.Standing.{Standing, StandsFor, most_at, most_released, without_records}
 use Rattle.tenant_state.specs.inner.Standing.{AreReleased}
+use Rattle.tenant_state.specs.declared.tenants.Tenancy.{Tenancy}
 use Rattle.tenant_state.specs.Tenants.{active_of, standing_of}
 use Rattle.tenant_state.specs.inner.Tenants.{AreInvoked}
 use Rattle.tenant_state.proofs.SecondHalfSteps.{in_its_mode, running_half, placed, IsBehindSwitch}
@@ -73,12 +74,12 @@ stands_behind readings old new behind row stands = sym (behind row.records) ∙ 
 abbrev pub sensed_ports : GiottoProgram → List ℤ → Readings → Valuation
 sensed_ports p values readings = with_values (valuation_of p values) (sensor_names p) (map (reading_taken readings []) p.sensors)
 
-module _ (place : ℕ) (p : GiottoProgram) (kept : ProgramFits p) (m : ModeDeclaration) (mode time n places : ℕ) (old gone : List Active) (values : List ℤ) (shares : List (Option TaskBody)) where
+module _ (tenancy : Tenancy) (p : GiottoProgram) (kept : ProgramFits p) (m : ModeDeclaration) (mode time n places : ℕ) (old gone : List Active) (values : List ℤ) (shares : List (Option TaskBody)) where
   abbrev before : Standing
-  before = standing_of place Running (Some p) mode time old gone places values shares n
+  before = standing_of tenancy Running (Some p) mode time old gone places values shares n
 
   abbrev after : ℕ → ℕ → ℕ → List Active → List ℤ → Standing
-  after to later room new written = standing_of place Running (Some p) to later new gone room written shares (n + 1)
+  after to later room new written = standing_of tenancy Running (Some p) to later new gone room written shares (n + 1)
 
   module _ (at_mode : slice_get p.modes mode ≡ Some m) where
     -- the most that the instant can release

@@ -33,6 +33,7 @@ use Rattle.tenant_state.specs.FirstHalf.{names_due}
 use Rattle.tenant_jobs.specs.Jobs.{same_job}
 use Rattle.tenant_state.specs.Jobs.{has_job, job_of}
 use Rattle.tenant_state.specs.Row.{ActiveTask, Row}
+use Rattle.tenant_state.specs.Standing.{no_tenant}
 use Rattle.tenant_state.specs.Tenants.{active_of, standing_of}
 use Rattle.tenant_slots.specs.Ports.{drives}
 use Rattle.tenant_state.specs.Readers.{actuator_value, driver_of, line_value}
@@ -126,7 +127,7 @@ due_named row p m runs x =
 module _ (p : GiottoProgram) (fits : ProgramFits p) (m : ModeDeclaration) (mode time : ℕ) (items : List Active) (at : slice_get p.modes mode ≡ Some m) (x : Name) where
   -- its row, as far as it tells what is due
   abbrev row : Row
-  row = (standing_of 0 states.Running (Some p) mode time items [] 0 [] [] 0).row
+  row = (standing_of no_tenant.tenancy states.Running (Some p) mode time items [] 0 [] [] 0).row
 
   runs : Runs row p m
   runs = record { state = refl; program = refl; mode = mode_here p fits mode m at }

@@ -10,7 +10,7 @@ use Rattle.tenant_state.specs.declared.tenants.State as code
 use Rattle.tenant_state.specs.declared.tenants.State.TheVariants as states
 use Rattle.tenant_state.specs.FirstHalf.{happening_of, stopped_with}
 use Rattle.tenant_state.specs.Row.{StopReason, stopped, Row, recorded}
-use Rattle.tenant_state.specs.Standing.{without_records}
+use Rattle.tenant_state.specs.Standing.{no_tenant, without_records}
 use Rattle.tenant_state.specs.Tenants.{ports_in, reason_of, standing_of, tasks_in}
 
 -- the ports behind a stop; as they are where there is no program
@@ -35,7 +35,7 @@ none_active (Some p) = refl
 
 -- the row that a tenant's fields stand for
 abbrev pub row_of : code.State → Option GiottoProgram → ℕ → ℕ → List Active → List ℤ → ℕ → Row
-row_of state program mode time active values count = (standing_of 0 state program mode time active [] 0 values [] count).row
+row_of state program mode time active values count = (standing_of no_tenant.tenancy state program mode time active [] 0 values [] count).row
 
 pub stands_stopped : (state : code.State) (program : Option GiottoProgram) (mode time : ℕ) (active : List Active) (values : List ℤ) (count : ℕ) (row : Row) (reason : Reason) (new : List ℤ)
     → row_of state program mode time active values count ≡ without_records row → ports_in program new ≡ reset_in program (ports_in program values)

@@ -27,6 +27,7 @@ use Rattle.tenant_state.specs.Row.{running, ActiveTask, Row}
 use Rattle.tenant_state.specs.SecondHalf.{released, all_released}
 use Rattle.tenant_state.specs.Standing.{is_another, all_different_releases, Standing, most_released}
 use Rattle.tenant_state.specs.inner.Standing.{AreReleased}
+use Rattle.tenant_state.specs.declared.tenants.Tenancy.{Tenancy}
 use Rattle.tenant_state.specs.Tenants.{active_of, tasks_in, standing_of, state_of}
 use Rattle.tenant_state.specs.inner.Tenants.{AreInvoked, IsActiveOf, IsActiveIn, FitsIts, IsTenant}
 use Rattle.tenant_state.proofs.AwaitedTasks.{all_drop, different_drop}
@@ -163,10 +164,10 @@ active_long None mode time next active gone values shares n none = ap length (sy
 active_long (Some p) mode time next active gone values shares n fits = length-map active (active_of p)
 
 -- as the code has them
-pub are_new : {o q : Option GiottoProgram} {mode time next places n to at later room m : ℕ} {old items gone ended : List Active} {values written : List ℤ} {shares others : List (Option TaskBody)} {place place_behind : ℕ}
+pub are_new : {o q : Option GiottoProgram} {mode time next places n to at later room m : ℕ} {old items gone ended : List Active} {values written : List ℤ} {shares others : List (Option TaskBody)} {tenancy tenancy_behind : Tenancy}
     (p : GiottoProgram) (tenant : ℕ) (before after : Standing) (s t : code.State)
-    → IsTenant (state_of s) o mode time next old gone values shares n → standing_of place s o mode time old gone places values shares n ≡ before
-    → IsTenant (state_of t) q to at later items ended written others m → standing_of place_behind t q to at items ended room written others m ≡ after
+    → IsTenant (state_of s) o mode time next old gone values shares n → standing_of tenancy s o mode time old gone places values shares n ≡ before
+    → IsTenant (state_of t) q to at later items ended written others m → standing_of tenancy_behind t q to at items ended room written others m ≡ after
     → q ≡ Some p → AreReleased before.row after.row → (k : ℕ) (xs : List Active) → k ≡ length old → xs ≡ items → AreNew p tenant before.row after.row (take (length xs - k) (drop k xs))
 are_new {o} {q} {mode} {time} {next} {places} {n} {to} {at} {later} {room} {m} {old} {items} {gone} {ended} {values} {written} {shares} {others} p tenant before after s t known view known_after view_after program released k xs long same =
     let is : IsTenant (state_of t) (Some p) to at later items ended written others m = subst (λ o. IsTenant (state_of t) o to at later items ended written others m) program known_after in

@@ -10,7 +10,7 @@ use Rattle.giotto_text.specs.declared.programs.Task.{Task}
 use Rattle.tenant_state.specs.declared.tenants.Active.{Active}
 use Rattle.tenant_state.specs.declared.tenants.State as code
 use Rattle.tenant_state.specs.Row.{ActiveTask}
-use Rattle.tenant_state.specs.Standing.{IsKnown}
+use Rattle.tenant_state.specs.Standing.{IsKnown, no_tenant}
 use Rattle.tenant_state.specs.Tenants.{state_of, active_of, tasks_in, standing_of}
 use Rattle.tenant_state.specs.inner.Tenants.{IsActiveIn, FitsIts, IsTenant}
 use Rattle.giotto_tasks.proofs.ListLemmas.{all_map, all_mapped}
@@ -34,7 +34,7 @@ module _ (mode time next : ℕ) (active ended : List Active) (values : List ℤ)
   early_of (Some p) fits = all_mapped _ (active_of p) active (all_map (IsActiveIn p count) _ active (λ a is. is.early) fits.each)
 
   pub known_of : (state : code.State) (o : Option GiottoProgram) → IsTenant (state_of state) o mode time next active ended values shares count
-      → IsKnown (standing_of 0 state o mode time active ended 0 values shares count).row
+      → IsKnown (standing_of no_tenant.tenancy state o mode time active ended 0 values shares count).row
   known_of state o known = record {
     no_binds = refl;
     no_records = refl;

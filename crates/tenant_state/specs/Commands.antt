@@ -1,5 +1,5 @@
 -- What a command does, and its reply. A refusal changes nothing; the first that applies is given.
-use Rattle.std.specs.Prelude.{Bool, true, false, if◌then◌else◌, ℤ, [], map, Option, Some, None, is_some, Result, Ok, Err}
+use Rattle.std.specs.Prelude.{ℕ, length, Bool, true, false, if◌then◌else◌, ℤ, [], map, Option, Some, None, is_some, Result, Ok, Err}
 use Rattle.giotto_text.specs.Program.{GiottoProgram}
 use Rattle.rig_config.specs.declared.Budgets.{Budgets}
 use Rattle.tenant_lines.specs.declared.commands.Command.{Command}
@@ -38,14 +38,14 @@ abbrev pub load_within : GiottoProgram → Row → Option Budget → Outcome
 load_within p row (Some b) = refused row (OverBudget b)
 load_within p row None = record { row = at_beginning loaded p row; reply = Loaded }
 
--- `load` of a well-formed program: the tenant must not be running
-abbrev pub load_kept : Budgets → GiottoProgram → Row → Outcome
-load_kept budgets p row = if is_running row then refused row Running else load_within p row (broken_budget budgets p)
+-- `load` of a well-formed program whose text has so many bytes: the tenant must not be running
+abbrev pub load_kept : Budgets → ℕ → GiottoProgram → Row → Outcome
+load_kept budgets bytes p row = if is_running row then refused row Running else load_within p row (broken_budget budgets bytes p)
 
--- `load`, by the well-formed program that its text spells, or why there is none
-abbrev pub load_read : Budgets → Row → Result GiottoProgram Refusal → Outcome
-load_read budgets row (Err r) = refused row r
-load_read budgets row (Ok p) = load_kept budgets p row
+-- `load` of a text of so many bytes, by the well-formed program that it spells, or why there is none
+abbrev pub load_read : Budgets → ℕ → Row → Result GiottoProgram Refusal → Outcome
+load_read budgets bytes row (Err r) = refused row r
+load_read budgets bytes row (Ok p) = load_kept budgets bytes p row
 
 -- `start`: the tenant must have a program, which begins anew
 abbrev pub start_program : Row → Option GiottoProgram → Outcome
@@ -96,7 +96,7 @@ takes_memory ShowAll row = is_some row.program
 
 -- the step of a command: the row after it, and its reply
 abbrev pub commanded : Budgets → Command → Row → Outcome
-commanded budgets (Load text) row = load_read budgets row (program_of text)
+commanded budgets (Load text) row = load_read budgets (length text) row (program_of text)
 commanded budgets Start row = if is_running row then refused row Running else start_program row row.program
 commanded budgets Stop row = stop_program row
 commanded budgets ShowMode row = record { row = row; reply = Mode (status_of row) }

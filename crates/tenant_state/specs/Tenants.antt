@@ -10,6 +10,7 @@ use Rattle.giotto_check.specs.Slots.{valuation_of}
 use Rattle.tenant_slots.specs.Places.{name_of_task, name_of_mode}
 use Rattle.tenant_state.specs.declared.tenants.Active.{Active}
 use Rattle.tenant_state.specs.declared.tenants.Reason.{Reason}
+use Rattle.tenant_state.specs.declared.tenants.Tenancy.{Tenancy}
 use Rattle.tenant_state.specs.declared.tenants.Reason.TheVariants.{Asked, Overrun}
 use Rattle.tenant_state.specs.declared.tenants.State as code
 use Rattle.tenant_state.specs.declared.tenants.State.TheVariants as states
@@ -42,10 +43,10 @@ mode_in o mode = option_map_or (λ p. name_of_mode p mode) o []
 abbrev pub ports_in : Option GiottoProgram → List ℤ → Valuation
 ports_in o values = option_map_or (λ p. valuation_of p values) o []
 
--- what a tenant's fields stand for: `place` is its place in the roster, `room` is that left for active tasks, and `shares` has the shares of bodies that are at hand
-abbrev pub standing_of : ℕ → code.State → Option GiottoProgram → ℕ → ℕ → List Active → List Active → ℕ → List ℤ → List (Option TaskBody) → ℕ → Standing
-standing_of place state program mode time active ended room values shares next_tick = record {
-  place = place;
+-- what a tenant's fields stand for: `room` is that left for active tasks, and `shares` has the shares of bodies that are at hand
+abbrev pub standing_of : Tenancy → code.State → Option GiottoProgram → ℕ → ℕ → List Active → List Active → ℕ → List ℤ → List (Option TaskBody) → ℕ → Standing
+standing_of tenancy state program mode time active ended room values shares next_tick = record {
+  tenancy = tenancy;
   row = record {
     state = state_of state;
     program = program;

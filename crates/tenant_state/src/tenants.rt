@@ -21,7 +21,7 @@ use giotto_check::Checked;
 use giotto_tasks::bodies::Body;
 use giotto_tasks::names::Name;
 use giotto_tasks::values::Values;
-use rig_config::TenantId;
+use rig_config::{Budgets, TenantId};
 use std::alloc::Global;
 use std::marker::Model;
 use std::sync::Arc;
@@ -59,12 +59,20 @@ pub(crate) struct Active {
     pub(crate) states: Values,
 }
 
+/// What a tenant is given when it is made, and keeps.
+#[derive(Drop)]
+pub struct Tenancy {
+    /// Its place in the roster, from 0.
+    pub place: TenantId,
+    /// What it may use.
+    pub budgets: Budgets,
+}
+
 /// One tenant of a host.
 #[derive(Drop)]
 pub struct Tenant {
     pub(crate) alloc: Global,
-    /// Its place in the roster.
-    pub(crate) place: TenantId,
+    pub(crate) tenancy: Tenancy,
     pub(crate) state: State,
     pub(crate) program: Option<Checked>,
     /// The place of the mode in the program's text, from 0.
@@ -95,19 +103,19 @@ impl Model for Tenant {
 
     ghost coded = { Prim.hlevel (codes, program_code) };
 
-    ghost view = { λ t. standing_of t.place t.state t.program t.mode t.mode_time t.active.items t.active.ended t.active.room t.values.items (map (option_map arc_value) t.shares.items) t.next_tick };
+    ghost view = { λ t. standing_of t.tenancy t.state t.program t.mode t.mode_time t.active.items t.active.ended t.active.room t.values.items (map (option_map arc_value) t.shares.items) t.next_tick };
 
     ghost invariant = { λ t. IsTenant (state_of t.state) t.program t.mode t.mode_time t.next_due t.active.items t.active.ended t.values.items (map (option_map arc_value) t.shares.items) t.next_tick };
 }
 
 impl Tenant {
-    /// The tenant at this place of the roster, without a program. Its first instant has this number. Takes no memory.
-    pub fn new(alloc: Global, place: TenantId, first_tick: u64) -> Tenant
-        ensures { result ≡ empty_standing place first_tick }
+    /// A tenant with this place and these budgets, without a program. Its first instant has this number. Takes no memory.
+    pub fn new(alloc: Global, tenancy: Tenancy, first_tick: u64) -> Tenant
+        ensures { result ≡ empty_standing tenancy first_tick }
     {
         Tenant {
             alloc,
-            place,
+            tenancy,
             state: State::Empty,
             program: None,
             mode: 0,

@@ -1,7 +1,6 @@
 -- All tenants of a host, before and behind a step of each.
 use Rattle.std.specs.Prelude.{◌≡◌, ◌<◌, ◌≤◌, ◌&&◌, not, ℕ, ℤ, Bool, List, [], length, drop, All}
 use Rattle.std.specs.List.{AllByRecursion}
-use Rattle.rig_config.specs.Roster.{Rig, budgets_at}
 use Rattle.tenant_jobs.specs.declared.jobs.JobId.{JobId}
 use Rattle.tenant_jobs.specs.Finished.{TableEntry}
 use Rattle.tenant_jobs.specs.inner.Finished.{is_entered, is_job_of, JobsDiffer}
@@ -26,21 +25,21 @@ without_ended s = record s { ended = [] }
 
 -- whether the task of the job of this name ended, and its entry is still to leave the table
 abbrev pub is_ended_among : List Standing → JobId → Bool
-is_ended_among tenants j = has_job (tenant_at tenants j.tenant).place (tenant_at tenants j.tenant).ended j
+is_ended_among tenants j = has_job (tenant_at tenants j.tenant).tenancy.place (tenant_at tenants j.tenant).ended j
 
 -- the tasks that are told as ended are those with an entry that are active no longer
 abbrev pub AreToldEnded : List Standing → List TableEntry → Type 0
 AreToldEnded tenants entries = (j : JobId) → is_ended_among tenants j ≡ (is_entered entries j && not (is_active_among tenants j))
 
--- the second half of a tenant that may read these lines, what it released, and what is known of it behind that
-pub record IsSecondHalfAndKnown (reads : List ℕ) (frame : List ℤ) (before after : Standing) : Type 0 where
-  pub half : IsSecondHalf reads frame before after
+-- the second half of a tenant, what it released, and what is known of it behind that
+pub record IsSecondHalfAndKnown (frame : List ℤ) (before after : Standing) : Type 0 where
+  pub half : IsSecondHalf frame before after
   pub released : AreReleased before.row after.row
   pub known : IsKnown after.row
 
--- the second half of all tenants, each with the lines that it may read
-abbrev pub AreSecondHalves : Rig → List ℤ → List Standing → List Standing → Type 0
-AreSecondHalves config frame before after = AreStepped (λ t. IsSecondHalfAndKnown (budgets_at config t).reads frame) before after
+-- the second half of all tenants
+abbrev pub AreSecondHalves : List ℤ → List Standing → List Standing → Type 0
+AreSecondHalves frame before after = AreStepped (λ t. IsSecondHalfAndKnown frame) before after
 
 -- each active task was released before its tenant's next instant
 abbrev pub AreEarly : List Standing → Type 0
@@ -49,7 +48,7 @@ AreEarly tenants = All (λ (s : Standing). AllByRecursion (λ (a : ActiveTask). 
 -- whether the task of the job of this name became active between these
 abbrev pub is_released_among : List Standing → List Standing → JobId → Bool
 is_released_among before after j =
-    has_job (tenant_at after j.tenant).place (drop (length (tenant_at before j.tenant).row.active) (tenant_at after j.tenant).row.active) j
+    has_job (tenant_at after j.tenant).tenancy.place (drop (length (tenant_at before j.tenant).row.active) (tenant_at after j.tenant).row.active) j
 
 -- the jobs of the tasks that became active between these: no two of one name, and no more than can be released
 pub record AreReleasedJobs (before after : List Standing) (jobs : List JobValue) : Type 0 where

@@ -7,4 +7,4 @@ use Rattle.instant_engine.specs.Tenants.{tenant_at}
 
 -- whether the task of the job of this name is active, with the job's release
 abbrev pub is_active_among : List Standing → JobId → Bool
-is_active_among tenants j = has_job (tenant_at tenants j.tenant).place (tenant_at tenants j.tenant).row.active j
+is_active_among tenants j = has_job (tenant_at tenants j.tenant).tenancy.place (tenant_at tenants j.tenant).row.active j

@@ -19,7 +19,6 @@ use crate::tenants::{Reason, State, Tenant};
 use giotto_check::Checked;
 use giotto_tasks::bodies::Body;
 use giotto_text::programs::Task;
-use rig_config::Budgets;
 use std::alloc::{AllocError, Global};
 use std::sync::Arc;
 use tenant_lines::commands::Command;
@@ -40,18 +39,18 @@ pub(crate) struct Beginning {
 impl Tenant {
     /// Carries out a command. A refusal changes nothing, want of memory included. Only `load`, and `show all` of a tenant with a
     /// program, take memory; no other command is refused for it.
-    pub fn command(&mut self, budgets: &Budgets, command: Command) -> Reply
+    pub fn command(&mut self, command: Command) -> Reply
         requires rest { self.old.ended ≡ [] }
         ensures memory { result ≡ Reply.Refused Refusal.Memory → self.new ≡ self.old }
         ensures room { takes_memory command self.old.row ≡ false → result ≢ Reply.Refused Refusal.Memory }
-        ensures place { self.new.place ≡ self.old.place }
+        ensures tenancy { self.new.tenancy ≡ self.old.tenancy }
         ensures next_tick { self.new.row.next_tick ≡ self.old.row.next_tick }
         ensures ended { AreEnded self.old self.new }
         ensures active { (self.new.row.active ≡ []) ⊎ (self.new ≡ self.old) }
-        ensures step { HoldsOfRow self.old (λ row. result ≢ Reply.Refused Refusal.Memory → IsOutcome (commanded budgets.now command row) result self.new) }
+        ensures step { HoldsOfRow self.old (λ row. result ≢ Reply.Refused Refusal.Memory → IsOutcome (commanded self.old.tenancy.budgets command row) result self.new) }
     {
         match command {
-            Command::Load(text) => match self.load(budgets, text.as_str()) {
+            Command::Load(text) => match self.load(text.as_str()) {
                 Ok(()) => Reply::Loaded,
                 Err(refusal) => Reply::Refused(refusal),
             },
@@ -82,16 +81,16 @@ impl Tenant {
     }
 
     // Takes the program that the text spells. All that takes memory is made before the first change.
-    fn load(&mut self, budgets: &Budgets, text: &str) -> Result<(), Refusal>
+    fn load(&mut self, text: &str) -> Result<(), Refusal>
         ensures unchanged { OnErr result (self.new ≡ self.old) }
-        ensures place { self.new.place ≡ self.old.place }
+        ensures tenancy { self.new.tenancy ≡ self.old.tenancy }
         ensures next_tick { self.new.row.next_tick ≡ self.old.row.next_tick }
-        ensures refused { IfErr result (λ r. r ≢ Refusal.Memory → IsRefused self.old (commanded budgets.now (Command.Load text.now)) r) }
-        ensures loaded { OnOk result (IsAnswered self.old (commanded budgets.now (Command.Load text.now)) Reply.Loaded self.new) }
+        ensures refused { IfErr result (λ r. r ≢ Refusal.Memory → IsRefused self.old (commanded self.old.tenancy.budgets (Command.Load text.now)) r) }
+        ensures loaded { OnOk result (IsAnswered self.old (commanded self.old.tenancy.budgets (Command.Load text.now)) Reply.Loaded self.new) }
         ensures none_ended { OnOk result ((self.old.row.active ≡ []) × (self.new.row.active ≡ []) × (self.new.ended ≡ [])) }
     {
         let program = read_program(self.alloc, text)?;
-        match self.beginning(budgets, &program) {
+        match self.beginning(text.len(), &program) {
             Ok(beginning) => {
                 self.install(program, beginning);
                 Ok(())
@@ -103,11 +102,11 @@ impl Tenant {
         }
     }
 
-    // What a program that may be loaded begins with.
-    fn beginning(&self, budgets: &Budgets, program: &Checked) -> Result<Beginning, Refusal>
-        ensures refused { IfErr result (λ r. r ≢ Refusal.Memory → IsRefused self.now (load_kept budgets.now program.now) r) }
+    // What a program that may be loaded begins with, whose text has so many bytes.
+    fn beginning(&self, bytes: usize, program: &Checked) -> Result<Beginning, Refusal>
+        ensures refused { IfErr result (λ r. r ≢ Refusal.Memory → IsRefused self.now (load_kept self.now.tenancy.budgets bytes program.now) r) }
         ensures loaded { OnOk result ((row : Row) → self.now.row ≡ without_records row
-            → load_kept budgets.now program.now row ≡ record { row = at_beginning loaded program.now row; reply = Reply.Loaded }) }
+            → load_kept self.now.tenancy.budgets bytes program.now row ≡ record { row = at_beginning loaded program.now row; reply = Reply.Loaded }) }
         ensures rests { OnOk result (self.now.row.active ≡ []) }
         ensures long { IfOk result (λ b. length b.values.items ≡ slots_of program.now) }
         ensures ports { IfOk result (λ b. valuation_of program.now b.values.items ≡ initial_ports program.now) }
@@ -116,7 +115,7 @@ impl Tenant {
         if self.is_running() {
             return Err(Refusal::Running);
         }
-        if let Some(budget) = broken_budget(budgets, program.program()) {
+        if let Some(budget) = broken_budget(&self.tenancy.budgets, bytes, program) {
             return Err(Refusal::OverBudget(budget));
         }
         let Ok(values) = initial_values(self.alloc, program) else {
@@ -133,7 +132,7 @@ impl Tenant {
         requires long { length beginning.values.items ≡ slots_of program }
         requires ports { valuation_of program beginning.values.items ≡ initial_ports program }
         requires shares { map (option_map arc_value) beginning.shares.items ≡ map (λ t. None) program.tasks }
-        ensures place { self.new.place ≡ self.old.place }
+        ensures tenancy { self.new.tenancy ≡ self.old.tenancy }
         ensures next_tick { self.new.row.next_tick ≡ self.old.row.next_tick }
         ensures step { IsBehind self.old (at_beginning loaded program) self.new }
         ensures active { self.new.row.active ≡ [] }
@@ -153,7 +152,7 @@ impl Tenant {
     // Runs the program from its beginning. Takes no memory.
     fn start(&mut self) -> Result<(), Refusal>
         ensures unchanged { OnErr result (self.new ≡ self.old) }
-        ensures place { self.new.place ≡ self.old.place }
+        ensures tenancy { self.new.tenancy ≡ self.old.tenancy }
         ensures next_tick { self.new.row.next_tick ≡ self.old.row.next_tick }
         ensures room { result ≢ Err Refusal.Memory }
         ensures refused { IfErr result (λ r. (budgets : Budgets) → IsRefused self.old (commanded budgets Command.Start) r) }
@@ -178,7 +177,7 @@ impl Tenant {
     // Stops the running program, as its tenant asks.
     fn stop(&mut self) -> Result<(), Refusal>
         ensures unchanged { OnErr result (self.new ≡ self.old) }
-        ensures place { self.new.place ≡ self.old.place }
+        ensures tenancy { self.new.tenancy ≡ self.old.tenancy }
         ensures next_tick { self.new.row.next_tick ≡ self.old.row.next_tick }
         ensures room { result ≢ Err Refusal.Memory }
         ensures refused { IfErr result (λ r. (budgets : Budgets) → IsRefused self.old (commanded budgets Command.Stop) r) }

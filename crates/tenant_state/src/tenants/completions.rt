@@ -34,7 +34,12 @@ impl Tenant {
         let Some(checked) = &self.program else {
             return false;
         };
-        let Some(place) = place_of(checked, self.place, self.active.as_slice(), done.id()) else {
+        let Some(place) = place_of(
+            checked,
+            self.tenancy.place,
+            self.active.as_slice(),
+            done.id(),
+        ) else {
             return false;
         };
         let active = &self.active.as_slice()[place];
@@ -52,11 +57,11 @@ impl Tenant {
         let Some(checked) = &self.program else {
             return Ok(None);
         };
-        let Some(place) = place_of(checked, self.place, self.active.as_slice(), id) else {
+        let Some(place) = place_of(checked, self.tenancy.place, self.active.as_slice(), id) else {
             return Ok(None);
         };
         let active = &self.active.as_slice()[place];
-        if result_of(checked, self.place, finished, active).is_some() {
+        if result_of(checked, self.tenancy.place, finished, active).is_some() {
             return Ok(None);
         }
         let body = Arc::try_clone(&declared(checked, active).body)?;
@@ -80,7 +85,7 @@ impl Tenant {
         };
         let mut number = 0;
         for active in self.active.as_slice() {
-            if compute(checked, self.place, active, finished) {
+            if compute(checked, self.tenancy.place, active, finished) {
                 number += 1;
             }
         }
@@ -96,7 +101,7 @@ impl Tenant {
         };
         let mut number = 0;
         for active in self.active.as_slice() {
-            if result_of(checked, self.place, finished, active).is_none() {
+            if result_of(checked, self.tenancy.place, finished, active).is_none() {
                 number += 1;
             }
         }

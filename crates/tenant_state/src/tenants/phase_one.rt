@@ -56,7 +56,7 @@ impl Tenant {
         if time < self.next_due {
             return;
         }
-        let tenant = self.place;
+        let tenant = self.tenancy.place;
         let invocations = checked.invocations(self.mode);
         let active = self.active.as_slice();
         let table = entry_table(active);

@@ -44,7 +44,7 @@ impl Tenant {
     pub fn is_active(&self, id: &JobId) -> bool
         ensures { result ≡ has_active self.now id.now }
     {
-        if id.tenant != self.place {
+        if id.tenant != self.tenancy.place {
             return false;
         }
         let Some(checked) = &self.program else {

@@ -31,7 +31,7 @@ impl Tenant {
         ensures never_refused { most_released self.old.row ≡ 0 → IsOk result }
         ensures room { OnOk result (HasRoom self.new) }
         ensures shares { OnOk result (HasShares self.new) }
-        ensures place { self.new.place ≡ self.old.place }
+        ensures tenancy { self.new.tenancy ≡ self.old.tenancy }
         ensures row { self.new.row ≡ self.old.row }
         ensures ended { self.new.ended ≡ self.old.ended }
     {

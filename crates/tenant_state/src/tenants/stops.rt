@@ -18,7 +18,7 @@ impl Tenant {
         ensures room { self.old.room ≤ self.new.room }
         ensures shared { self.new.shared ≡ self.old.shared }
         ensures fewer { most_released self.new.row ≡ 0 }
-        ensures place { self.new.place ≡ self.old.place }
+        ensures tenancy { self.new.tenancy ≡ self.old.tenancy }
         ensures program { self.new.row.program ≡ self.old.row.program }
         ensures next_tick { self.new.row.next_tick ≡ self.old.row.next_tick }
     {

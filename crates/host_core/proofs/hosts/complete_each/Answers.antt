@@ -7,7 +7,7 @@ use Rattle.instant_engine.specs.inner.Tenants.{is_active_among}
 use Rattle.tenant_jobs.specs.declared.jobs.JobId.{JobId}
 use Rattle.tenant_jobs.specs.Finished.{entry_in, has_result}
 use Rattle.tenant_state.specs.Jobs.{job_of}
-use Rattle.tenant_state.specs.Standing.{Standing, empty_standing}
+use Rattle.tenant_state.specs.Standing.{Standing, no_tenant}
 use Rattle.tenant_state.specs.inner.Standing.{HasItsResults, has_active}
 use Rattle.giotto_tasks.proofs.ListLemmas.{all_of, same_filter}
 use Rattle.giotto_tasks.proofs.TestLemmas.{or_assoc}
@@ -29,14 +29,14 @@ loop-tenant-preserved c =
     let i = c.loop-tenant.tenant-index in
     let within : i < length tenants = c.loop-tenant-test.true in
     let before = c.loop-tenant.invariant in
-    let here : c.tenant-item.result ≡ tenant_at tenants i = c.tenant-item.is ∙ get_or_default tenants i c.tenant-item.result (empty_standing 0 0) within in
+    let here : c.tenant-item.result ≡ tenant_at tenants i = c.tenant-item.is ∙ get_or_default tenants i c.tenant-item.result no_tenant within in
     let number : c.complete_all.result ≡ number_outstanding c.args.finished.now.entries (tenant_at tenants i) =
     c.complete_all.ensures.number
     ∙ ap (number_outstanding c.loop-tenant.finished.entries) here
     ∙ ap length (same_filter _ _ (tenant_at tenants i).row.active
-    (all_of (λ a. ap not (before.results (job_of (tenant_at tenants i).place a)
-    ∙ ap (λ b. has_result c.args.finished.now.entries (job_of (tenant_at tenants i).place a) || b) (none_before tenants i a c.requires.placed within)
-    ∙ or_false (has_result c.args.finished.now.entries (job_of (tenant_at tenants i).place a)))) (tenant_at tenants i).row.active)) in
+    (all_of (λ a. ap not (before.results (job_of (tenant_at tenants i).tenancy.place a)
+    ∙ ap (λ b. has_result c.args.finished.now.entries (job_of (tenant_at tenants i).tenancy.place a) || b) (none_before tenants i a c.requires.placed within)
+    ∙ or_false (has_result c.args.finished.now.entries (job_of (tenant_at tenants i).tenancy.place a)))) (tenant_at tenants i).row.active)) in
     record {
       table = table_completed tenants c.loop-tenant.finished.entries c.complete_all.new.finished.entries i c.requires.placed within c.complete_all.ensures.entered
           (subst (λ (s : Standing). HasItsResults s c.loop-tenant.finished.entries → HasItsResults s c.complete_all.new.finished.entries) here c.complete_all.ensures.right)
@@ -48,7 +48,7 @@ loop-tenant-preserved c =
           ∙ ap (λ b. b || has_active (tenant_at tenants i) j) (before.results j)
           ∙ sym (or_assoc (has_result c.args.finished.now.entries j) (is_active_among (take i tenants) j) (has_active (tenant_at tenants i) j))
           ∙ ap (λ b. has_result c.args.finished.now.entries j || b) (sym (active_more tenants i j c.requires.placed within));
-      number = omega (arith, before.number, number, sum_by_more (number_outstanding c.args.finished.now.entries) tenants i (empty_standing 0 0) within);
+      number = omega (arith, before.number, number, sum_by_more (number_outstanding c.args.finished.now.entries) tenants i no_tenant within);
       few = omega (arith, before.few, c.complete_all.type_inv);
     }
 

@@ -20,7 +20,6 @@ second_halves-requires c =
     let half : AreHalfway c.args.tenants.now c.keep.new.tenants =
     halfway c.requires.placed c.requires.between c.requires.table c.first_halves.ensures.halves c.keep.new.tenants c.keep.ensures.tenants (c.first_halves.ensures.ready c.requires.ready) c.first_halves.ensures.fewer in
     record {
-      tenants = half.as_many ∙ c.requires.tenants;
       rest = half.rest;
       counts = counts_halfway c.requires.placed c.requires.between c.requires.table c.first_halves.ensures.halves (λ n. n < 2 ^ 64 - 1) c.keep.new.tenants c.keep.ensures.tenants c.requires.counts;
       placed = half.placed;
@@ -34,24 +33,24 @@ pub enter-requires : goal.enter-requires
 enter-requires c =
     let half : AreHalfway c.args.tenants.now c.keep.new.tenants =
     halfway c.requires.placed c.requires.between c.requires.table c.first_halves.ensures.halves c.keep.new.tenants c.keep.ensures.tenants (c.first_halves.ensures.ready c.requires.ready) c.first_halves.ensures.fewer in
-    let second = subst (λ ts. AreSecondHalves c.args.config.now c.args.frame.now ts c.second_halves.new.tenants) c.keep.ensures.tenants c.second_halves.ensures.halves in
+    let second = subst (λ ts. AreSecondHalves c.args.frame.now ts c.second_halves.new.tenants) c.keep.ensures.tenants c.second_halves.ensures.halves in
     let released = subst (λ ts. AreReleasedJobs ts c.second_halves.new.tenants c.second_halves.new.jobs.jobs) c.keep.ensures.tenants c.second_halves.ensures.released in
     record {
       room = omega (arith, c.second_halves.ensures.released.few, half.few, c.requires.entries, c.keep.ensures.room);
-      new = jobs_new c.requires.placed c.requires.between c.requires.table c.first_halves.ensures.halves c.args.config.now c.args.frame.now second c.keep.new.finished.entries c.keep.ensures.entries c.second_halves.new.jobs.jobs released;
+      new = jobs_new c.requires.placed c.requires.between c.requires.table c.first_halves.ensures.halves c.args.frame.now second c.keep.new.finished.entries c.keep.ensures.entries c.second_halves.new.jobs.jobs released;
       differ = released.differ;
     }
 
 pub returns : goal.returns
 returns c =
-    let second = subst (λ ts. AreSecondHalves c.args.config.now c.args.frame.now ts c.second_halves.new.tenants) c.keep.ensures.tenants c.second_halves.ensures.halves in
+    let second = subst (λ ts. AreSecondHalves c.args.frame.now ts c.second_halves.new.tenants) c.keep.ensures.tenants c.second_halves.ensures.halves in
     let released = subst (λ ts. AreReleasedJobs ts c.second_halves.new.tenants c.second_halves.new.jobs.jobs) c.keep.ensures.tenants c.second_halves.ensures.released in
     let enters : (j : JobId) → entry_in c.enter.new.self.entries j ≡ cond (is_released_among (map without_ended c.first_halves.new.tenants) c.second_halves.new.tenants j) (Some (record { id = j; result = None })) (entry_in c.keep.new.finished.entries j) =
     λ j. c.enter.ensures.entries j ∙ ap (λ b. cond b (Some (record { id = j; result = None })) (entry_in c.keep.new.finished.entries j)) (released.names j) in
     rw (c.note_keys.ensures) (record {
-      instants = instants c.requires.placed c.requires.between c.requires.table c.first_halves.ensures.halves c.args.config.now c.args.frame.now second;
-      entries = entries_behind c.requires.placed c.requires.between c.requires.table c.first_halves.ensures.halves c.args.config.now c.args.frame.now second c.keep.new.finished.entries c.enter.new.self.entries c.keep.ensures.entries enters;
-      table = table_behind c.requires.placed c.requires.between c.requires.table c.first_halves.ensures.halves c.args.config.now c.args.frame.now second c.keep.new.finished.entries c.enter.new.self.entries c.keep.ensures.entries enters;
+      instants = instants c.requires.placed c.requires.between c.requires.table c.first_halves.ensures.halves c.args.frame.now second;
+      entries = entries_behind c.requires.placed c.requires.between c.requires.table c.first_halves.ensures.halves c.args.frame.now second c.keep.new.finished.entries c.enter.new.self.entries c.keep.ensures.entries enters;
+      table = table_behind c.requires.placed c.requires.between c.requires.table c.first_halves.ensures.halves c.args.frame.now second c.keep.new.finished.entries c.enter.new.self.entries c.keep.ensures.entries enters;
       jobs = λ n counts.
           ap (λ (l : JobList). l.jobs) c.enter.ensures.jobs
           ∙ c.second_halves.ensures.jobs n (counts_halfway c.requires.placed c.requires.between c.requires.table c.first_halves.ensures.halves (λ k. k ≡ n) c.keep.new.tenants c.keep.ensures.tenants counts);

@@ -19,7 +19,6 @@ second_halves_without_jobs-requires c =
     let half : AreHalfway c.args.tenants.now c.keep.new.tenants =
     halfway c.requires.placed c.requires.between c.requires.table c.first_halves.ensures.halves c.keep.new.tenants c.keep.ensures.tenants (c.first_halves.ensures.ready c.requires.ready) c.first_halves.ensures.fewer in
     record {
-      tenants = half.as_many ∙ c.requires.tenants;
       rest = half.rest;
       counts = counts_halfway c.requires.placed c.requires.between c.requires.table c.first_halves.ensures.halves (λ n. n < 2 ^ 64 - 1) c.keep.new.tenants c.keep.ensures.tenants c.requires.counts;
       placed = half.placed;
@@ -30,12 +29,12 @@ second_halves_without_jobs-requires c =
 
 pub returns : goal.returns
 returns c =
-    let second = subst (λ ts. AreSecondHalves c.args.config.now c.args.frame.now ts c.second_halves_without_jobs.new.tenants) c.keep.ensures.tenants c.second_halves_without_jobs.ensures.halves in
+    let second = subst (λ ts. AreSecondHalves c.args.frame.now ts c.second_halves_without_jobs.new.tenants) c.keep.ensures.tenants c.second_halves_without_jobs.ensures.halves in
     let enters : (j : JobId) → entry_in c.second_halves_without_jobs.new.finished.entries j ≡ cond (is_released_among (map without_ended c.first_halves.new.tenants) c.second_halves_without_jobs.new.tenants j) (Some (record { id = j; result = None })) (entry_in c.keep.new.finished.entries j) =
     λ j. c.second_halves_without_jobs.ensures.entries j
     ∙ ap (λ ts. cond (is_released_among ts c.second_halves_without_jobs.new.tenants j) (Some (record { id = j; result = None })) (entry_in c.keep.new.finished.entries j)) c.keep.ensures.tenants in
     record {
-      instants = instants c.requires.placed c.requires.between c.requires.table c.first_halves.ensures.halves c.args.config.now c.args.frame.now second;
-      entries = entries_behind c.requires.placed c.requires.between c.requires.table c.first_halves.ensures.halves c.args.config.now c.args.frame.now second c.keep.new.finished.entries c.second_halves_without_jobs.new.finished.entries c.keep.ensures.entries enters;
-      table = table_behind c.requires.placed c.requires.between c.requires.table c.first_halves.ensures.halves c.args.config.now c.args.frame.now second c.keep.new.finished.entries c.second_halves_without_jobs.new.finished.entries c.keep.ensures.entries enters;
+      instants = instants c.requires.placed c.requires.between c.requires.table c.first_halves.ensures.halves c.args.frame.now second;
+      entries = entries_behind c.requires.placed c.requires.between c.requires.table c.first_halves.ensures.halves c.args.frame.now second c.keep.new.finished.entries c.second_halves_without_jobs.new.finished.entries c.keep.ensures.entries enters;
+      table = table_behind c.requires.placed c.requires.between c.requires.table c.first_halves.ensures.halves c.args.frame.now second c.keep.new.finished.entries c.second_halves_without_jobs.new.finished.entries c.keep.ensures.entries enters;
     }

@@ -10,11 +10,11 @@ use Rattle.instant_engine.proofs.instants.ready.Goals as goal
 
 pub returns-in_default-clause-rest : goal.returns-in_default-clause-rest
 returns-in_default-clause-rest c =
-    readied c.loop-i.tenants c.args.tenants.now c.loop-i.i c.index-tenants-i.result c.ready.new.self c.loop-i.invariant.rest c.ready.ensures.place c.ready.ensures.row c.ready.ensures.ended
+    readied c.loop-i.tenants c.args.tenants.now c.loop-i.i c.index-tenants-i.result c.ready.new.self c.loop-i.invariant.rest c.ready.ensures.tenancy c.ready.ensures.row c.ready.ensures.ended
 
 pub returns-in_err-most-clause-rest : goal.returns-in_err-most-clause-rest
 returns-in_err-most-clause-rest c =
-    readied c.loop-i.tenants c.args.tenants.now c.loop-i.i c.index-tenants-i.result c.ready.new.self c.loop-i.invariant.rest c.ready.ensures.place c.ready.ensures.row c.ready.ensures.ended
+    readied c.loop-i.tenants c.args.tenants.now c.loop-i.i c.index-tenants-i.result c.ready.new.self c.loop-i.invariant.rest c.ready.ensures.tenancy c.ready.ensures.row c.ready.ensures.ended
 
 pub returns-in_default-clause-never_refused : goal.returns-in_default-clause-never_refused
 returns-in_default-clause-never_refused c = λ none.
@@ -41,7 +41,7 @@ pub loop-i-preserved : goal.loop-i-preserved
 loop-i-preserved c =
     let within : c.loop-i.i < length c.loop-i.tenants = omega (arith, c.loop-i-test.true, same_length c.args.tenants.now c.loop-i.tenants c.loop-i.invariant.rest) in
     record {
-      rest = readied c.loop-i.tenants c.args.tenants.now c.loop-i.i c.index-tenants-i.result c.ready.new.self c.loop-i.invariant.rest c.ready.ensures.place c.ready.ensures.row c.ready.ensures.ended;
+      rest = readied c.loop-i.tenants c.args.tenants.now c.loop-i.i c.index-tenants-i.result c.ready.new.self c.loop-i.invariant.rest c.ready.ensures.tenancy c.ready.ensures.row c.ready.ensures.ended;
       ready = AllWithin-more_set c.loop-i.tenants c.loop-i.i c.ready.new.self within IsReady c.loop-i.invariant.ready (record { room = c.in-Ok.ensures.room; shares = c.in-Ok.ensures.shares });
       most = omega (arith, c.in_ok-most.ensures.1, c.loop-i.invariant.most, c.in-Ok.ensures.most, ap (λ (r : Row). most_released r) c.ready.ensures.row, most_more c.loop-i.tenants c.loop-i.i c.ready.new.self within);
     }

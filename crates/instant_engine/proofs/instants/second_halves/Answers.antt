@@ -1,11 +1,12 @@
 use Rattle.std.proofs.Common.{◌≡◌, ◌<◌, length, get_or, ap, sym, subst, ◌∙◌, arith}
 use Rattle.std.specs.List.{AllByRecursion}
 use Rattle.tenant_state.specs.Row.{ActiveTask}
-use Rattle.tenant_state.specs.Standing.{Standing, empty_standing}
+use Rattle.tenant_state.specs.Standing.{Standing, no_tenant}
+use Rattle.tenant_state.specs.declared.tenants.Tenancy.{Tenancy}
 use Rattle.tenant_state.specs.inner.Standing.{HasRoom, HasShares}
 use Rattle.instant_engine.specs.Tenants.{tenant_at}
 use Rattle.instant_engine.specs.inner.Halves.{IsReady}
-use Rattle.instant_engine.proofs.Loops.{second_more, stepped_none, stepped_all, unstepped, most_left, jobs_more}
+use Rattle.instant_engine.proofs.Loops.{stepped_more, stepped_none, stepped_all, unstepped, most_left, jobs_more}
 use Rattle.instant_engine.proofs.Released.{released_none, released_more, released_all}
 use Rattle.instant_engine.proofs.instants.second_halves.Goals as goal
 
@@ -19,13 +20,13 @@ loop-i-init c = record {
 
 pub phase_two-requires : goal.phase_two-requires
 phase_two-requires c =
-    let d : Standing = c.index-tenants-i-in-loop-i.result in
+    let d : Standing = c.index-tenants-i.result in
     let inside : c.loop-i.i < length c.args.tenants.now = omega (arith, c.loop-i-test.true) in
     let here = unstepped _ c.loop-i.i c.args.tenants.now c.loop-i.tenants d inside c.loop-i.invariant.halves in
-    let ready : IsReady (tenant_at c.args.tenants.now c.loop-i.i) = c.requires.ready c.loop-i.i (empty_standing 0 0) inside in
+    let ready : IsReady (tenant_at c.args.tenants.now c.loop-i.i) = c.requires.ready c.loop-i.i no_tenant inside in
     record {
-      rest = ap (λ (s : Standing). s.ended) here ∙ c.requires.rest c.loop-i.i (empty_standing 0 0) inside;
-      next_tick = omega (arith, ap (λ (s : Standing). s.row.next_tick) here, c.requires.counts c.loop-i.i (empty_standing 0 0) inside);
+      rest = ap (λ (s : Standing). s.ended) here ∙ c.requires.rest c.loop-i.i no_tenant inside;
+      next_tick = omega (arith, ap (λ (s : Standing). s.row.next_tick) here, c.requires.counts c.loop-i.i no_tenant inside);
       room = subst HasRoom (sym here) ready.room;
       shares = subst HasShares (sym here) ready.shares;
       jobs = omega (arith, c.loop-i.invariant.space, most_left _ c.loop-i.i c.args.tenants.now c.loop-i.tenants d inside c.loop-i.invariant.halves);
@@ -33,23 +34,23 @@ phase_two-requires c =
 
 pub loop-i-preserved : goal.loop-i-preserved
 loop-i-preserved c =
-    let d : Standing = c.index-tenants-i-in-loop-i.result in
+    let d : Standing = c.index-tenants-i.result in
     let x : Standing = get_or c.loop-i.tenants c.loop-i.i d in
     let inside : c.loop-i.i < length c.args.tenants.now = omega (arith, c.loop-i-test.true) in
     let within : c.loop-i.i < length c.loop-i.tenants = omega (arith, inside, c.loop-i.invariant.halves.as_many) in
     let here : x ≡ tenant_at c.args.tenants.now c.loop-i.i = unstepped _ c.loop-i.i c.args.tenants.now c.loop-i.tenants d inside c.loop-i.invariant.halves in
-    let own : x.place ≡ c.loop-i.i = ap (λ (s : Standing). s.place) here ∙ c.requires.placed c.loop-i.i inside in
+    let own : x.tenancy.place ≡ c.loop-i.i = ap (λ (s : Standing). s.tenancy.place) here ∙ c.requires.placed c.loop-i.i inside in
     let left = most_left _ c.loop-i.i c.args.tenants.now c.loop-i.tenants d inside c.loop-i.invariant.halves in
     record {
-      halves = second_more c.args.config.now c.args.frame.now c.loop-i.i c.args.tenants.now c.loop-i.tenants d c.phase_two.new.self c.tenants.result.now c.index-tenants-i.result inside
-          c.requires.tenants c.tenants.ensures.value c.loop-i.invariant.halves (record { half = c.phase_two.ensures.half; released = c.phase_two.ensures.released; known = c.next_tick.ensures.known });
+      halves = stepped_more _ c.loop-i.i c.args.tenants.now c.loop-i.tenants d c.phase_two.new.self inside c.loop-i.invariant.halves
+          (record { half = c.phase_two.ensures.half; released = c.phase_two.ensures.released; known = c.next_tick.ensures.known });
       space = omega (arith, c.loop-i.invariant.space, c.phase_two.ensures.room, left);
-      released = released_more c.loop-i.i c.args.tenants.now c.loop-i.tenants x c.phase_two.new.self c.loop-i.jobs.jobs c.phase_two.new.jobs.jobs within here own c.phase_two.ensures.half.place left
-          (subst (λ (s : Standing). AllByRecursion (λ (a : ActiveTask). a.release < s.row.next_tick) s.row.active) (sym here) (c.requires.early c.loop-i.i (empty_standing 0 0) inside))
+      released = released_more c.loop-i.i c.args.tenants.now c.loop-i.tenants x c.phase_two.new.self c.loop-i.jobs.jobs c.phase_two.new.jobs.jobs within here own (ap (λ (y : Tenancy). y.place) c.phase_two.ensures.half.tenancy) left
+          (subst (λ (s : Standing). AllByRecursion (λ (a : ActiveTask). a.release < s.row.next_tick) s.row.active) (sym here) (c.requires.early c.loop-i.i no_tenant inside))
           c.phase_two.ensures.released c.next_tick.ensures.known c.phase_two.ensures.jobs c.loop-i.invariant.released;
       jobs = λ n counts.
           jobs_more n c.loop-i.i c.loop-i.tenants c.phase_two.new.self x c.loop-i.jobs.jobs c.phase_two.new.jobs.jobs within own
-          (ap (λ (s : Standing). s.row.next_tick) here ∙ counts c.loop-i.i (empty_standing 0 0) inside) c.phase_two.ensures.jobs (c.loop-i.invariant.jobs n counts);
+          (ap (λ (s : Standing). s.row.next_tick) here ∙ counts c.loop-i.i no_tenant inside) c.phase_two.ensures.jobs (c.loop-i.invariant.jobs n counts);
     }
 
 pub returns-clause-released : goal.returns-clause-released

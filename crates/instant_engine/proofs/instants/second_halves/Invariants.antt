@@ -8,7 +8,7 @@ use Rattle.instant_engine.proofs.instants.second_halves.Given as goal
 
 abbrev pub invariant-loop-i : goal.invariant-loop-i
 invariant-loop-i l = record {
-  halves : AreSecondHalvesTo l.config l.frame l.i l.initial.tenants l.tenants;
+  halves : AreSecondHalvesTo l.frame l.i l.initial.tenants l.tenants;
   space : most_of (drop l.i l.initial.tenants) ≤ l.jobs.room;
   released : AreReleasedTo l.i l.initial.tenants l.tenants l.jobs.jobs;
   jobs : (n : ℕ) → All (λ (s : Standing). s.row.next_tick ≡ n) l.initial.tenants → l.jobs.jobs ≡ released_from n 0 (take l.i l.tenants);

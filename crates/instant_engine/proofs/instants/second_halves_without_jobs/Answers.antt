@@ -4,11 +4,12 @@ use Rattle.tenant_jobs.specs.Finished.{entry_in}
 use Rattle.tenant_jobs.specs.inner.Finished.{is_entered}
 use Rattle.tenant_state.specs.Jobs.{has_job, job_of}
 use Rattle.tenant_state.specs.Row.{ActiveTask}
-use Rattle.tenant_state.specs.Standing.{IsKnown, Standing, empty_standing}
+use Rattle.tenant_state.specs.Standing.{IsKnown, Standing, no_tenant}
+use Rattle.tenant_state.specs.declared.tenants.Tenancy.{Tenancy}
 use Rattle.tenant_state.specs.inner.Standing.{HasRoom}
 use Rattle.instant_engine.specs.Tenants.{tenant_at}
 use Rattle.instant_engine.proofs.Entered.{entered_none, entered_more, entered_all, not_yet}
-use Rattle.instant_engine.proofs.Loops.{second_more, stepped_none, stepped_all, unstepped, most_left}
+use Rattle.instant_engine.proofs.Loops.{stepped_more, stepped_none, stepped_all, unstepped, most_left}
 use Rattle.instant_engine.proofs.instants.second_halves_without_jobs.Goals as goal
 
 pub loop-i-init : goal.loop-i-init
@@ -17,16 +18,16 @@ loop-i-init c = record { halves = stepped_none _ c.args.tenants.now; space = c.r
 pub phase_two_without_jobs-requires : goal.phase_two_without_jobs-requires
 phase_two_without_jobs-requires c =
     let inside : c.loop-i.i < length c.args.tenants.now = omega (arith, c.loop-i-test.true) in
-    let here = unstepped _ c.loop-i.i c.args.tenants.now c.loop-i.tenants c.index-tenants-i-in-loop-i.result inside c.loop-i.invariant.halves in
+    let here = unstepped _ c.loop-i.i c.args.tenants.now c.loop-i.tenants c.index-tenants-i.result inside c.loop-i.invariant.halves in
     record {
-      rest = ap (λ (s : Standing). s.ended) here ∙ c.requires.rest c.loop-i.i (empty_standing 0 0) inside;
-      next_tick = omega (arith, ap (λ (s : Standing). s.row.next_tick) here, c.requires.counts c.loop-i.i (empty_standing 0 0) inside);
-      room = subst HasRoom (sym here) (c.requires.ready c.loop-i.i (empty_standing 0 0) inside).room;
+      rest = ap (λ (s : Standing). s.ended) here ∙ c.requires.rest c.loop-i.i no_tenant inside;
+      next_tick = omega (arith, ap (λ (s : Standing). s.row.next_tick) here, c.requires.counts c.loop-i.i no_tenant inside);
+      room = subst HasRoom (sym here) (c.requires.ready c.loop-i.i no_tenant inside).room;
     }
 
 pub enter-requires : goal.enter-requires
 enter-requires c =
-    let d : Standing = c.index-tenants-i-in-loop-i.result in
+    let d : Standing = c.index-tenants-i.result in
     let x : Standing = get_or c.loop-i.tenants c.loop-i.i d in
     let s : Standing = c.phase_two_without_jobs.new.self in
     let inside : c.loop-i.i < length c.args.tenants.now = omega (arith, c.loop-i-test.true) in
@@ -40,14 +41,14 @@ enter-requires c =
         length-drop c.active-before.result s.row.active,
         c.phase_two_without_jobs.ensures.released.few,
       );
-      new = subst (λ k. AllByRecursion (λ (a : ActiveTask). is_entered c.loop-i.finished.entries (job_of s.place a) ≡ false) (drop k s.row.active)) (sym c.active-before.ensures)
-          (not_yet c.loop-i.i c.args.tenants.now c.loop-i.tenants x s c.args.finished.now.entries c.loop-i.finished.entries inside here (ap (λ (s : Standing). s.place) here ∙ c.requires.placed c.loop-i.i inside)
-          c.phase_two_without_jobs.ensures.half.place c.phase_two_without_jobs.ensures.released c.requires.new c.loop-i.invariant.entered);
+      new = subst (λ k. AllByRecursion (λ (a : ActiveTask). is_entered c.loop-i.finished.entries (job_of s.tenancy.place a) ≡ false) (drop k s.row.active)) (sym c.active-before.ensures)
+          (not_yet c.loop-i.i c.args.tenants.now c.loop-i.tenants x s c.args.finished.now.entries c.loop-i.finished.entries inside here (ap (λ (s : Standing). s.tenancy.place) here ∙ c.requires.placed c.loop-i.i inside)
+          (ap (λ (y : Tenancy). y.place) c.phase_two_without_jobs.ensures.half.tenancy) c.phase_two_without_jobs.ensures.released c.requires.new c.loop-i.invariant.entered);
     }
 
 pub loop-i-preserved : goal.loop-i-preserved
 loop-i-preserved c =
-    let d : Standing = c.index-tenants-i-in-loop-i.result in
+    let d : Standing = c.index-tenants-i.result in
     let x : Standing = get_or c.loop-i.tenants c.loop-i.i d in
     let s : Standing = c.phase_two_without_jobs.new.self in
     let inside : c.loop-i.i < length c.args.tenants.now = omega (arith, c.loop-i-test.true) in
@@ -56,8 +57,8 @@ loop-i-preserved c =
     let known : IsKnown s.row = subst (λ (y : Standing). IsKnown y.row) c.enter.ensures.same c.next_tick.ensures.known in
     record {
       halves = rw (c.enter.ensures.same)
-          (second_more c.args.config.now c.args.frame.now c.loop-i.i c.args.tenants.now c.loop-i.tenants d s c.tenants.result.now c.index-tenants-i.result inside c.requires.tenants c.tenants.ensures.value
-          c.loop-i.invariant.halves (record { half = c.phase_two_without_jobs.ensures.half; released = c.phase_two_without_jobs.ensures.released; known = known }));
+          (stepped_more _ c.loop-i.i c.args.tenants.now c.loop-i.tenants d s inside c.loop-i.invariant.halves
+          (record { half = c.phase_two_without_jobs.ensures.half; released = c.phase_two_without_jobs.ensures.released; known = known }));
       space = omega (
         arith,
         c.active-before.ensures,
@@ -69,9 +70,9 @@ loop-i-preserved c =
       );
       entered = rw (c.enter.ensures.same)
           (entered_more c.loop-i.i c.args.tenants.now c.loop-i.tenants x s c.args.finished.now.entries c.loop-i.finished.entries c.enter.new.finished.entries within here
-          (ap (λ (s : Standing). s.place) here ∙ c.requires.placed c.loop-i.i inside) c.phase_two_without_jobs.ensures.half.place
+          (ap (λ (s : Standing). s.tenancy.place) here ∙ c.requires.placed c.loop-i.i inside) (ap (λ (y : Tenancy). y.place) c.phase_two_without_jobs.ensures.half.tenancy)
           (λ j. c.enter.ensures.entries j
-          ∙ ap (λ k. cond (has_job s.place (drop k s.row.active) j) (Some (record { id = j; result = None })) (entry_in c.loop-i.finished.entries j)) c.active-before.ensures) c.loop-i.invariant.entered);
+          ∙ ap (λ k. cond (has_job s.tenancy.place (drop k s.row.active) j) (Some (record { id = j; result = None })) (entry_in c.loop-i.finished.entries j)) c.active-before.ensures) c.loop-i.invariant.entered);
     }
 
 pub returns-clause-halves : goal.returns-clause-halves

@@ -6,7 +6,7 @@ use Rattle.instant_engine.proofs.instants.second_halves_without_jobs.Given as go
 
 abbrev pub invariant-loop-i : goal.invariant-loop-i
 invariant-loop-i l = record {
-  halves : AreSecondHalvesTo l.config l.frame l.i l.initial.tenants l.tenants;
+  halves : AreSecondHalvesTo l.frame l.i l.initial.tenants l.tenants;
   space : most_of (drop l.i l.initial.tenants) ≤ l.finished.room;
   entered : AreEnteredTo l.i l.initial.tenants l.tenants l.initial.finished.entries l.finished.entries;
 }

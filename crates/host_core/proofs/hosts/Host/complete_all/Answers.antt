@@ -16,6 +16,7 @@ invariant_of-self c = record {
   as_many = c.self.invariant.as_many;
   known = c.self.invariant.known;
   placed = c.self.invariant.placed;
+  budgets = c.self.invariant.budgets;
   table = subst (λ (xs : List Standing). IsTaskTable xs c.complete_each.new.finished.entries) c.as_slice.ensures.value c.complete_each.ensures.table;
 }
 

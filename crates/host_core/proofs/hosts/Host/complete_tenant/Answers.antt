@@ -3,7 +3,7 @@ use Rattle.std.proofs.lemmas.List.{get_or_default}
 use Rattle.instant_engine.specs.Tenants.{tenant_at}
 use Rattle.tenant_jobs.specs.declared.jobs.JobId.{JobId}
 use Rattle.tenant_jobs.specs.Finished.{entry_in, has_result}
-use Rattle.tenant_state.specs.Standing.{Standing, at_rest, empty_standing}
+use Rattle.tenant_state.specs.Standing.{Standing, at_rest, no_tenant}
 use Rattle.tenant_state.specs.inner.Standing.{HasItsResults, has_active}
 use Rattle.host_core.specs.Host.{host_after}
 use Rattle.host_core.specs.HostState.{HostState}
@@ -24,11 +24,12 @@ invariant_of-self c =
     let tenants = c.self.inside.tenants.items in
     let known : c.args.tenant < length c.self.inside.config.tenants = subst (λ (h : HostStanding). c.args.tenant < length h.config.tenants) (sym c.self.view_is) c.requires in
     let within : c.args.tenant < length tenants = subst (λ n. c.args.tenant < n) (sym c.self.invariant.as_many) known in
-    let here : c.index.result.now ≡ tenant_at tenants c.args.tenant = c.index.ensures ∙ get_or_default tenants c.args.tenant c.index.result.now (empty_standing 0 0) within in
+    let here : c.index.result.now ≡ tenant_at tenants c.args.tenant = c.index.ensures ∙ get_or_default tenants c.args.tenant c.index.result.now no_tenant within in
     record {
       as_many = c.self.invariant.as_many;
       known = c.self.invariant.known;
       placed = c.self.invariant.placed;
+      budgets = c.self.invariant.budgets;
       table = table_completed tenants c.self.inside.finished.entries c.complete_all.new.finished.entries c.args.tenant c.self.invariant.placed within c.complete_all.ensures.entered
           (subst (λ (s : Standing). HasItsResults s c.self.inside.finished.entries → HasItsResults s c.complete_all.new.finished.entries) here c.complete_all.ensures.right)
           (subst (λ (s : Standing). (j : JobId) → has_active s j ≡ false → entry_in c.complete_all.new.finished.entries j ≡ entry_in c.self.inside.finished.entries j) here c.complete_all.ensures.others)
@@ -43,7 +44,7 @@ returns-clause-step c = λ setting past stands.
     let inside : Stands setting host state = stands_inside setting host state (subst (λ h. Stands setting h state) (sym c.self.view_is) stands) in
     let known : c.args.tenant < length host.config.tenants = subst (λ (h : HostStanding). c.args.tenant < length h.config.tenants) (sym c.self.view_is) c.requires in
     let within : c.args.tenant < length host.tenants = subst (λ n. c.args.tenant < n) (sym c.self.invariant.as_many) known in
-    let here : c.index.result.now ≡ tenant_at host.tenants c.args.tenant = c.index.ensures ∙ get_or_default host.tenants c.args.tenant c.index.result.now (empty_standing 0 0) within in
+    let here : c.index.result.now ≡ tenant_at host.tenants c.args.tenant = c.index.ensures ∙ get_or_default host.tenants c.args.tenant c.index.result.now no_tenant within in
     let results : (j : JobId) → has_result later.entries j ≡ (has_result host.entries j || has_active (tenant_at host.tenants c.args.tenant) j) =
     subst (λ (s : Standing). (j : JobId) → has_result later.entries j ≡ (has_result host.entries j || has_active s j)) here c.complete_all.ensures.results in
     let jobs : outstanding_of c.args.self.now c.args.tenant ≡ outstanding_of host c.args.tenant =

@@ -4,7 +4,7 @@ use Rattle.instant_engine.specs.Tenants.{tenant_at}
 use Rattle.tenant_jobs.specs.declared.jobs.JobId.{JobId}
 use Rattle.tenant_jobs.specs.Finished.{TableEntry, has_result}
 use Rattle.tenant_jobs.specs.inner.Finished.{is_entered}
-use Rattle.tenant_state.specs.Standing.{Standing, at_rest, awaited_job, empty_standing, released_job}
+use Rattle.tenant_state.specs.Standing.{Standing, at_rest, awaited_job, no_tenant, released_job}
 use Rattle.host_core.specs.HostStanding.{HostStanding, Stands, IsOwn, awaited_in, outstanding_jobs}
 use Rattle.host_core.specs.HostState.{HostState}
 use Rattle.host_core.specs.Setting.{Setting}
@@ -81,7 +81,7 @@ module _ (c : goal.After-add) where
   released : released_job (tenant_at c.self.inside.tenants.items c.args.done.id.tenant) c.args.done.id ≡ Some c.args.done
   released =
       subst (λ (s : Standing). released_job s c.args.done.id ≡ Some c.args.done)
-      (here ∙ get_or_default c.self.inside.tenants.items c.args.done.id.tenant c.index.result.now (empty_standing 0 0) within) (c.if-not-awaits.ensures.0 refl)
+      (here ∙ get_or_default c.self.inside.tenants.items c.args.done.id.tenant c.index.result.now no_tenant within) (c.if-not-awaits.ensures.0 refl)
 
   none : has_result c.self.inside.finished.entries c.args.done.id ≡ false
   none = sym c.if-has.ensures
@@ -130,5 +130,5 @@ returns-clause-left c = λ counted.
     ∙ (one_fewer_in tenants c.args.done.id entries c.add.new.self.entries (within c) c.self.invariant.placed
     (has_added tenants entries c.add.new.self.entries c.args.done c.self.invariant (within c) (released c) (entered c) c.add.ensures.entries) (none c)
     (active_if_released tenants entries c.args.done c.self.invariant (within c) (released c))
-    (c.self.invariant.known c.args.done.id.tenant (empty_standing 0 0) (within c)).1.known.different
+    (c.self.invariant.known c.args.done.id.tenant no_tenant (within c)).1.known.different
     ∙ ap (λ (js : List JobId). length js + 1) (sym (outstanding_at_rest c.add.new.self.entries tenants))))

@@ -6,7 +6,7 @@ use Rattle.tenant_state.proofs.tenants.Tenant.awaits.Goals as goal
 pub returns-in_default-place_of : goal.returns-in_default-place_of
 returns-in_default-place_of c =
     let found = rw (c.as_slice.ensures, c.id.ensures) at c.in_default-place_of.ensures.found in
-    let none = none_there c.in-Some.checked c.self.inside.place c.args.done.now.id c.self.inside.active.items found in
+    let none = none_there c.in-Some.checked c.self.inside.tenancy.place c.args.done.now.id c.self.inside.active.items found in
     rw (← c.self.view_is, c.in-Some.is) (λ h. absurd (false≢true h), λ e. absurd (let f : None ≡ Some c.args.done.now = sym none ∙ e in cc))
 
 pub declared-requires : goal.declared-requires

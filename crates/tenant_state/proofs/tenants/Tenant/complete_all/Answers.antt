@@ -17,7 +17,7 @@ loop-active-init c = record {
 pub compute-requires-clause-entered : goal.compute-requires-clause-entered
 compute-requires-clause-entered c =
     let entries = rw (← c.self.view_is, c.in-Some.is) at c.requires.entries in
-    entered_there c.in-Some.checked c.self.inside.place c.self.inside.active.items c.as_slice-active-items.result.now c.loop-active.active-index c.active-item.result c.args.finished.now.entries c.loop-active.finished.entries
+    entered_there c.in-Some.checked c.self.inside.tenancy.place c.self.inside.active.items c.as_slice-active-items.result.now c.loop-active.active-index c.active-item.result c.args.finished.now.entries c.loop-active.finished.entries
     c.as_slice-active-items.ensures c.loop-active-test.true c.active-item.is entries c.loop-active.invariant.to.entered
 
 pub overflow_add-number : goal.overflow_add-number
@@ -26,7 +26,7 @@ overflow_add-number c = omega (arith, c.loop-active.invariant.few, c.loop-active
 pub loop-active-preserved : goal.loop-active-preserved
 loop-active-preserved c =
     let p = c.in-Some.checked in
-    let t = c.self.inside.place in
+    let t = c.self.inside.tenancy.place in
     let items = c.as_slice-active-items.result.now in
     let i = c.loop-active.active-index in
     let a = c.active-item.result in

@@ -31,9 +31,9 @@ returns-then-time-self-clause-half c = record {
       let s = c.self.inside in
       let run = as_running c.self.view_is c.self.invariant c.in-Running.is c.in-Some.is in
       run.row ∙ quiet_stands c.in-Some.checked c.program-program.ensures.fits run.its s.mode s.mode_time s.active.items s.values.items s.next_tick run.there
-      (λ a. has_result c.args.finished.now.entries (job_of c.args.self.now.place a)) row (sym run.row ∙ st) (run.fits.quiet run.its run.there s.mode_time (omega arith) c.if-time-self.true);
+      (λ a. has_result c.args.finished.now.entries (job_of c.args.self.now.tenancy.place a)) row (sym run.row ∙ st) (run.fits.quiet run.its run.there s.mode_time (omega arith) c.if-time-self.true);
   next_tick = search rules;
-  place = search rules;
+  tenancy = search rules;
   program = search rules;
   ended = none_ended c.args.self.now c.requires.rest;
 }
@@ -90,7 +90,7 @@ returns-in-Some-unfinished-clause-half c = record {
   step = λ row st.
       let s = c.self.inside in
       let p = c.in-Some.checked in
-      let completed = λ (a : ActiveTask). has_result c.args.finished.now.entries (job_of s.place a) in
+      let completed = λ (a : ActiveTask). has_result c.args.finished.now.entries (job_of s.tenancy.place a) in
       let run = as_running c.self.view_is c.self.invariant c.in-Running.is c.in-Some.is in
       let some = map_some (λ (i : SlotInvocation). i.task) _ c.in-Some-unfinished.task c.in-Some-unfinished.ensures in
       let first = subst (λ acts. find (is_left_open s.mode_time (λ a. completed (active_of p a)) acts) c.invocations-invocations.result.now ≡ Some some.0) c.as_slice-active.ensures some.1 in
@@ -99,11 +99,11 @@ returns-in-Some-unfinished-clause-half c = record {
       c.stop_with.ensures.step row st ∙ ap without_records (sym
       (halted p c.program-program.ensures.fits run.its s.mode s.mode_time s.active.items s.values.items s.next_tick run.there completed row (sym run.row ∙ st)
       c.invocations-invocations.result.now (c.invocations-invocations.ensures.there run.its run.there) run.declared some.0 first c.name_of-name.result name))
-      ∙ ap (λ (t : Standing). without_records (first_half_by c.args.finished.now.entries t.place row)) c.self.view_is;
+      ∙ ap (λ (t : Standing). without_records (first_half_by c.args.finished.now.entries t.tenancy.place row)) c.self.view_is;
   next_tick = search rules;
-  place = search rules;
+  tenancy = search rules;
   program = search rules;
-  ended = λ j. rw (c.stop_with.ensures.place, c.stop_with.ensures.ended, c.stop_with.ensures.active) (sym (and_true _));
+  ended = λ j. rw (c.stop_with.ensures.tenancy, c.stop_with.ensures.ended, c.stop_with.ensures.active) (sym (and_true _));
 }
 
 pub invariant_of-self : goal.invariant_of-self
@@ -142,7 +142,7 @@ returns-clause-half c = record {
   step = λ row st.
       let s = c.self.inside in
       let p = c.in-Some.checked in
-      let completed = λ (a : ActiveTask). has_result c.args.finished.now.entries (job_of s.place a) in
+      let completed = λ (a : ActiveTask). has_result c.args.finished.now.entries (job_of s.tenancy.place a) in
       let run = as_running c.self.view_is c.self.invariant c.in-Running.is c.in-Some.is in
       let es = c.invocations-invocations.result.now in
       let none = subst (λ acts. find (is_left_open s.mode_time (λ a. completed (active_of p a)) acts) es ≡ None) c.as_slice-active.ensures (map_none (λ (i : SlotInvocation). i.task) _ c.in_default-unfinished.ensures) in
@@ -153,16 +153,16 @@ returns-clause-half c = record {
       (λ k. row_of (c.in-Running.is k) (c.in-Some.is k) s.mode s.mode_time (c.drop_due.ensures.items k) (written k) s.next_tick)
       ∙ finished p c.program-program.ensures.fits run.its s.mode s.mode_time s.active.items s.values.items s.next_tick run.there completed row (sym run.row ∙ st)
       es each run.declared none c.end_due.new.values c.update_due.new.values ended (c.update_due.ensures.there run.its run.there)
-      ∙ ap (λ (t : Standing). without_records (first_half_by c.args.finished.now.entries t.place row)) c.self.view_is;
+      ∙ ap (λ (t : Standing). without_records (first_half_by c.args.finished.now.entries t.tenancy.place row)) c.self.view_is;
   next_tick = search rules;
-  place = search rules;
+  tenancy = search rules;
   program = search rules;
   ended = λ j.
       let s = c.self.inside in
       let p = c.in-Some.checked in
       let run = as_running c.self.view_is c.self.invariant c.in-Running.is c.in-Some.is in
       rw (← c.self.view_is, c.in-Some.is)
-      (told_ended p c.program-program.ensures.fits run.its s.mode_time run.its.invocations _ (c.invocations-invocations.ensures.there run.its run.there) s.active.items run.declared s.place j _ _ c.drop_due.ensures.items c.drop_due.ensures.ended);
+      (told_ended p c.program-program.ensures.fits run.its s.mode_time run.its.invocations _ (c.invocations-invocations.ensures.there run.its run.there) s.active.items run.declared s.tenancy.place j _ _ c.drop_due.ensures.items c.drop_due.ensures.ended);
 }
 
 pub returns-clause-room : goal.returns-clause-room

@@ -34,7 +34,7 @@ switch-requires c =
 
 module _ (c : After-modes) where
   abbrev readings : Readings
-  readings = readings_within c.args.budgets.now.reads c.args.frame.now
+  readings = readings_within c.self.inside.tenancy.budgets.reads c.args.frame.now
 
   -- the mode before the switch
   its : (m : ModeDeclaration) × (slice_get c.in-Some.checked.modes c.self.inside.mode ≡ Some m)
@@ -69,7 +69,7 @@ invoke_due-requires c =
     record {
       quiet = new.quiet;
       values = omega (arith, c.switch.auto.values, c.sense.auto.values, ap length c.as_mut_slice-values.ensures.value, is.fits.long);
-      room = room_due 0 p c.program.ensures.fits (its read).0 s.mode s.mode_time 0 s.active.room s.active.items s.active.ended s.values.items [] (its read).1 c.match-switch.mode c.match-switch.time c.match-switch.next (readings read) c.switch.new.values new room;
+      room = room_due s.tenancy p c.program.ensures.fits (its read).0 s.mode s.mode_time 0 s.active.room s.active.items s.active.ended s.values.items [] (its read).1 c.match-switch.mode c.match-switch.time c.match-switch.next (readings read) c.switch.new.values new room;
       each = active_later p s.next_tick s.active.items is.fits.each;
       rest = none_stand p s.active.ended (rw (← c.self.view_is, c.in-Some.is) at c.requires.rest);
     }
@@ -134,10 +134,10 @@ returns-clause-half c = record {
       let p = c.in-Some.checked in
       let new = behind (read c) in
       rw (← c.self.view_is, c.in-Running.is, c.in-Some.is)
-      (half_stands s.place p c.program.ensures.fits (its (read c)).0 s.mode s.mode_time s.next_tick s.active.room s.active.items s.active.ended s.values.items (map (option_map arc_value) s.shares.items) (its (read c)).1
+      (half_stands s.tenancy p c.program.ensures.fits (its (read c)).0 s.mode s.mode_time s.next_tick s.active.room s.active.items s.active.ended s.values.items (map (option_map arc_value) s.shares.items) (its (read c)).1
       c.match-switch.mode c.match-switch.time c.match-switch.next (readings (read c)) c.switch.new.values new _ c.invoke_due.new.active.room (lasts (read c) c.index-modes-mode.result) _ _ (happened c));
   next_tick = search rules;
-  place = search rules;
+  tenancy = search rules;
   program = search rules;
   ended = search rules;
 }
@@ -148,5 +148,5 @@ returns-clause-released c =
     let p = c.in-Some.checked in
     let new = behind (read c) in
     rw (← c.self.view_is, c.in-Running.is, c.in-Some.is)
-    (half_released 0 p c.program.ensures.fits (its (read c)).0 s.mode s.mode_time s.next_tick 0 s.active.items s.active.ended s.values.items [] (its (read c)).1
+    (half_released s.tenancy p c.program.ensures.fits (its (read c)).0 s.mode s.mode_time s.next_tick 0 s.active.items s.active.ended s.values.items [] (its (read c)).1
     c.match-switch.mode c.match-switch.time c.match-switch.next (readings (read c)) c.switch.new.values new _ 0 (lasts (read c) c.index-modes-mode.result) _ _ (happened c))
