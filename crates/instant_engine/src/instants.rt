@@ -153,6 +153,9 @@ fn note_keys(tenants: &mut [Tenant], jobs: &Jobs)
 {
     let mut next = 0;
     for i in 0..tenants.len() {
+        if next >= jobs.len() {
+            return;
+        }
         next = tenants[i].note_keys(jobs, next);
     }
 }

@@ -98,11 +98,13 @@ impl Entry {
         self.contents.has_result = false;
     }
 
-    /// This is its result from now on.
-    pub(crate) fn set_result(&mut self, came: JobResult)
-        ensures { self.new ≡ record self.old { result = Some came } }
+    /// These are its result from now on.
+    pub(crate) fn set_result(&mut self, outputs: &Values, states: &Values)
+        ensures { self.new ≡ record self.old { result = Some (record { outputs = outputs.now; states = states.now }) } }
     {
-        self.contents.result = came;
+        let result = &mut self.contents.result;
+        result.outputs.set(outputs.as_slice());
+        result.states.set(states.as_slice());
         self.contents.has_result = true;
     }
 

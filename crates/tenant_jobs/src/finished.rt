@@ -132,7 +132,7 @@ impl Finished {
         let Some(key) = entry_key(&self.entries, done.id(), done.job().key()) else {
             unreachable!()
         };
-        self.entries[key].set_result(done.into_result());
+        self.entries[key].set_result(done.outputs(), done.states());
         self.results += 1;
     }
 

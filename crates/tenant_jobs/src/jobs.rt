@@ -4,7 +4,6 @@ ghost use Rattle.std.specs.Prelude.{◌≡◌, ◌<◌, ◌≤◌, ◌+◌, ◌-
 ghost use Rattle.std.specs.Arc.{arc_value};
 ghost use Rattle.giotto_tasks.specs.Meaning.{outputs_of, states_of};
 ghost use Rattle.giotto_tasks.specs.Sound.{IsSound};
-ghost use Rattle.tenant_jobs.specs.inner.Finished.{result_of};
 ghost use Rattle.tenant_jobs.specs.inner.Jobs.{IsComputable};
 
 use giotto_tasks::bodies::Body;
@@ -215,13 +214,6 @@ impl Done {
         ensures { result.now ≡ states_of self.now.body self.now.inputs self.now.states }
     {
         &self.result.states
-    }
-
-    /// The result alone.
-    pub fn into_result(self) -> JobResult
-        ensures { result ≡ result_of self }
-    {
-        self.result
     }
 }
 

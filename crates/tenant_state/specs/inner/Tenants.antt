@@ -11,6 +11,7 @@ use Rattle.giotto_text.specs.Program.{GiottoProgram, TaskDeclaration, body_of, M
 use Rattle.tenant_slots.specs.Places.{name_of_task}
 use Rattle.tenant_slots.specs.inner.Places.{IsModeAt}
 use Rattle.tenant_jobs.specs.declared.jobs.JobId.{JobId}
+use Rattle.tenant_jobs.specs.declared.jobs.JobResult.{JobResult}
 use Rattle.tenant_state.specs.Tenants.{active_of, tasks_in}
 use Rattle.tenant_state.specs.Row.{ActiveTask, State, is_running_state}
 use Rattle.std.specs.List.{AllByRecursion}
@@ -40,9 +41,13 @@ its_job place p a = job_in p place (active_of p a)
 abbrev pub is_done : List TableEntry → ℕ → GiottoProgram → Active → Bool
 is_done entries place p a = has_result entries (its_name place p a)
 
+-- the result of its job
+abbrev pub its_result : ℕ → GiottoProgram → Active → JobResult
+its_result place p a = result_of (its_job place p a)
+
 -- the result that came for its job, if one did, is that of the job
 abbrev pub IsResultRight : List TableEntry → ℕ → GiottoProgram → Active → Type 0
-IsResultRight entries place p a = IfSome (result_in entries (its_name place p a)) (λ r. r ≡ result_of (its_job place p a))
+IsResultRight entries place p a = IfSome (result_in entries (its_name place p a)) (λ r. r ≡ its_result place p a)
 
 -- an active task of this declaration
 pub record IsActiveAs (a : Active) (t : TaskDeclaration) : Type 0 where

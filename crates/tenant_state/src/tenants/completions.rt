@@ -8,12 +8,12 @@ ghost use Rattle.giotto_check.specs.inner.Facts.{ProgramFits};
 ghost use Rattle.giotto_text.specs.ProgramTrees.{task_of};
 ghost use Rattle.tenant_slots.specs.inner.Places.{IsTaskAt};
 ghost use Rattle.tenant_jobs.specs.Finished.{entry_in, has_result, result_in};
-ghost use Rattle.tenant_jobs.specs.inner.Finished.{entry_put, is_entered, result_of};
+ghost use Rattle.tenant_jobs.specs.inner.Finished.{entry_put, is_entered};
 ghost use Rattle.tenant_jobs.specs.Jobs.{same_job};
 ghost use Rattle.tenant_jobs.specs.declared.jobs.JobId.{JobId};
 ghost use Rattle.tenant_state.specs.inner.Standing.{has_active, HasItsEntries, HasItsResults};
 ghost use Rattle.tenant_state.specs.Standing.{awaited_job, outstanding_tasks, released_job};
-ghost use Rattle.tenant_state.specs.inner.Tenants.{IsActiveOf, is_done, its_job, its_name};
+ghost use Rattle.tenant_state.specs.inner.Tenants.{IsActiveOf, is_done, its_name, its_result};
 
 use crate::tenants::{Active, Tenant};
 use giotto_check::Checked;
@@ -115,7 +115,7 @@ fn compute(checked: &Checked, tenant: TenantId, active: &Active, finished: &mut 
     requires entered { is_entered finished.old.entries (its_name tenant checked.now active.now) ≡ true }
     ensures computed { result ≡ not (is_done finished.old.entries tenant checked.now active.now) }
     ensures entries { (j : JobId) → entry_in finished.new.entries j
-        ≡ entry_put (result && same_job (its_name tenant checked.now active.now) j) j (Some (result_of (its_job tenant checked.now active.now))) finished.old.entries }
+        ≡ entry_put (result && same_job (its_name tenant checked.now active.now) j) j (Some (its_result tenant checked.now active.now)) finished.old.entries }
     ensures room { finished.new.room ≡ finished.old.room }
 {
     let task = declared(checked, active);
