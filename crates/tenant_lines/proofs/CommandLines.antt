@@ -12,7 +12,7 @@ use Rattle.tenant_lines.specs.Words.{words_of, first_word_of, behind_first_word}
 use Rattle.tenant_lines.proofs.WordLemmas.{words_first, words_none}
 
 -- by cases on whether a line has a word
-by_word : (line : List ℕ) (P : List (List ℕ) → Type 0)
+pub by_word : (line : List ℕ) (P : List (List ℕ) → Type 0)
     → (length (first_word_of line) ≡ 0 → P [])
     → (0 < length (first_word_of line) → P (first_word_of line ∷ words_of (behind_first_word line)))
     → P (words_of line)
@@ -46,7 +46,7 @@ pub words_begin : (line w : List ℕ) → first_word_of line ≡ w → 0 < lengt
 words_begin line w e some = words_first line (rw e some) ∙ ap (λ v. v ∷ words_of (behind_first_word line)) e
 
 -- two words that are not equal
-not_same : (x y : List ℕ) → (x ≡ y → ⊥) → same_name x y ≡ false
+pub not_same : (x y : List ℕ) → (x ≡ y → ⊥) → same_name x y ≡ false
 not_same x y differ = by (same_name x y) refl
   where
     by : (b : Bool) → same_name x y ≡ b → same_name x y ≡ false

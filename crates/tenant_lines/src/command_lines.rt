@@ -118,7 +118,7 @@ fn own_port_of(task: &str, name: &str) -> Option<PortName>
 }
 
 // The name that a word is, if it has the shape of one.
-fn name_of_word(word: &str) -> Option<Name>
+pub(crate) fn name_of_word(word: &str) -> Option<Name>
     ensures { result ≡ (if is_name word.now then Some word.now else None) }
 {
     if !is_name(word.as_bytes()) {

@@ -7,11 +7,13 @@
 //!
 //! [`words`] cuts a line at its blanks, [`command_lines`] tells which command it spells, [`commands`] and [`replies`] have
 //! the commands and their replies, each with its text, and [`ports`] the ports in both. `specs/Words.antt`,
-//! `CommandLine.antt` and `Replies.antt` define them.
+//! `CommandLine.antt` and `Replies.antt` define them. [`grant_lines`] has the commands about grants and their lines, by
+//! `specs/inner/GrantLines.antt`; no program calls it yet.
 #![tactic(auto)]
 
 pub mod command_lines;
 pub mod commands;
+pub mod grant_lines;
 pub mod ports;
 pub mod replies;
 pub mod texts;

@@ -1,0 +1,180 @@
+-- The command about grants of a line, by its first words and what stands behind them.
+use Rattle.std.proofs.Common.{◌≡◌, ℕ, ◌<◌, ◌==◌, Bool, true, false, List, [], ◌∷◌, length, if◌then◌else◌, Option, None, codes, refl, sym, ap, ◌∙◌, arith}
+use Rattle.std.proofs.lemmas.Bool.Decides.{nat_tests}
+use Rattle.std.proofs.lemmas.List.{nil_from_length}
+use Rattle.std.specs.Bool.{then_some}
+use Rattle.giotto_tasks.specs.Names.{same_name}
+use Rattle.giotto_tasks.proofs.NameLemmas.{same_name_self}
+use Rattle.giotto_text.specs.Bytes.{is_name}
+use Rattle.tenant_lines.specs.declared.grant_lines.GrantCommand.{GrantCommand}
+use Rattle.tenant_lines.specs.declared.grant_lines.GrantCommand.TheVariants.{Rows}
+use Rattle.tenant_lines.specs.inner.GrantLines.{offer_of, unoffer_of, bind_of, unbind_of, grant_command_of_words}
+use Rattle.tenant_lines.specs.Words.{words_of, first_word_of, behind_first_word}
+use Rattle.tenant_lines.specs.inner.GrantWords.{word_behind}
+use Rattle.tenant_lines.proofs.CommandLines.{by_word, not_same, words_begin}
+use Rattle.tenant_lines.proofs.WordLemmas.{words_first, words_none}
+
+-- another word first
+other_first : (k w : List ℕ) (ws : List (List ℕ)) → same_name w k ≡ false → word_behind k (w ∷ ws) ≡ []
+other_first k w [] e = refl
+other_first k w (y ∷ []) e = rw e refl
+other_first k w (y ∷ z ∷ zs) e = refl
+
+pub word_behind_other : (k line : List ℕ) → same_name (first_word_of line) k ≡ false → word_behind k (words_of line) ≡ []
+word_behind_other k line other = by_word line (λ ws. word_behind k ws ≡ [])
+    (λ none. refl)
+    (λ some. other_first k (first_word_of line) (words_of (behind_first_word line)) other)
+
+-- more than two words
+pub word_behind_more : (k line : List ℕ) → 0 < length (first_word_of (behind_first_word (behind_first_word line))) → word_behind k (words_of line) ≡ []
+word_behind_more k line more =
+    let behind = behind_first_word line in
+    by_word line (λ ws. word_behind k ws ≡ []) (λ none. refl)
+    (λ some. by_word behind (λ ws. word_behind k (first_word_of line ∷ ws) ≡ []) (λ none. refl)
+    (λ second. rw (words_first (behind_first_word behind) more) refl))
+
+-- these two words
+pub word_behind_is : (k line : List ℕ) → 0 < length k → first_word_of line ≡ k → length (first_word_of (behind_first_word (behind_first_word line))) ≡ 0
+    → word_behind k (words_of line) ≡ first_word_of (behind_first_word line)
+word_behind_is k line some is none =
+    let behind = behind_first_word line in
+    let two : (w : List ℕ) → word_behind k (k ∷ w ∷ []) ≡ w = λ w. rw (same_name_self k) refl in
+    ap (word_behind k) (words_begin line k is some) ∙ by_word behind (λ ws. word_behind k (k ∷ ws) ≡ first_word_of behind)
+    (λ no_word. sym (nil_from_length (first_word_of behind) no_word))
+    (λ second. rw (words_none (behind_first_word behind) none) (two (first_word_of behind)))
+
+-- "V NAME K WORD" is the command f of its name and its last word, and no other line that begins with v is one
+abbrev IsOfFour : List ℕ → List ℕ → (List ℕ → List ℕ → Option GrantCommand) → Type 0
+IsOfFour v k f = record {
+  no_name : (y : List ℕ) → f [] y ≡ None;
+  no_word : (x : List ℕ) → f x [] ≡ None;
+  one : grant_command_of_words (v ∷ []) ≡ None;
+  two : (x : List ℕ) → grant_command_of_words (v ∷ x ∷ []) ≡ None;
+  four : (x w y : List ℕ) → grant_command_of_words (v ∷ x ∷ w ∷ y ∷ []) ≡ (if same_name w k then f x y else None);
+}
+
+of_words : (v k : List ℕ) (f : List ℕ → List ℕ → Option GrantCommand) → IsOfFour v k f → (x : List ℕ) (ws : List (List ℕ))
+    → grant_command_of_words (v ∷ x ∷ ws) ≡ f x (word_behind k ws)
+of_words v k f is x [] = is.two x ∙ sym (is.no_word x)
+of_words v k f is x (w ∷ []) = sym (is.no_word x)
+of_words v k f is x (w ∷ y ∷ []) = is.four x w y ∙ by (same_name w k)
+  where
+    by : (b : Bool) → (if b then f x y else None) ≡ f x (if b then y else [])
+    by true = refl
+    by false = sym (is.no_word x)
+of_words v k f is x (w ∷ y ∷ z ∷ zs) = sym (is.no_word x)
+
+of_line : (v k : List ℕ) (f : List ℕ → List ℕ → Option GrantCommand) → IsOfFour v k f → (rest : List ℕ)
+    → grant_command_of_words (v ∷ words_of rest) ≡ f (first_word_of rest) (word_behind k (words_of (behind_first_word rest)))
+of_line v k f is rest =
+    let last = word_behind k (words_of (behind_first_word rest)) in
+    by_word rest (λ ws. grant_command_of_words (v ∷ ws) ≡ f (first_word_of rest) last)
+    (λ none. is.one ∙ sym (no_name (first_word_of rest) last none))
+    (λ some. of_words v k f is (first_word_of rest) (words_of (behind_first_word rest)))
+  where
+    no_name : (x y : List ℕ) → length x ≡ 0 → f x y ≡ None
+    no_name [] y e = is.no_name y
+    no_name (c ∷ cs) y e = absurd (omega (arith, e))
+
+offer_nobody : (a : List ℕ) → offer_of a [] ≡ None
+offer_nobody a = by (is_name a) refl
+  where
+    by : (b : Bool) → is_name a ≡ b → offer_of a [] ≡ None
+    by true e = rw e refl
+    by false e = rw e refl
+
+unoffer_nobody : (a : List ℕ) → unoffer_of a [] ≡ None
+unoffer_nobody a = by (is_name a) refl
+  where
+    by : (b : Bool) → is_name a ≡ b → unoffer_of a [] ≡ None
+    by true e = rw e refl
+    by false e = rw e refl
+
+bind_nobody : (s : List ℕ) → bind_of s [] ≡ None
+bind_nobody s = by (is_name s) refl
+  where
+    by : (b : Bool) → is_name s ≡ b → bind_of s [] ≡ None
+    by true e = rw e refl
+    by false e = rw e refl
+
+-- a line by its first word
+pub by_verb : (line v : List ℕ) → first_word_of line ≡ v → 0 < length v → grant_command_of_words (words_of line) ≡ grant_command_of_words (v ∷ words_of (behind_first_word line))
+by_verb line v is some = ap grant_command_of_words (words_begin line v is some)
+
+pub offered : (rest : List ℕ) → grant_command_of_words (codes "offer" ∷ words_of rest) ≡ offer_of (first_word_of rest) (word_behind (codes "to") (words_of (behind_first_word rest)))
+offered rest = of_line (codes "offer") (codes "to") offer_of (record {
+  no_name = λ y. refl;
+  no_word = offer_nobody;
+  one = refl;
+  two = λ x. refl;
+  four = λ x w y. refl;
+}) rest
+
+pub unoffered : (rest : List ℕ) → grant_command_of_words (codes "unoffer" ∷ words_of rest) ≡ unoffer_of (first_word_of rest) (word_behind (codes "to") (words_of (behind_first_word rest)))
+unoffered rest = of_line (codes "unoffer") (codes "to") unoffer_of (record {
+  no_name = λ y. refl;
+  no_word = unoffer_nobody;
+  one = refl;
+  two = λ x. refl;
+  four = λ x w y. refl;
+}) rest
+
+pub bound : (rest : List ℕ) → grant_command_of_words (codes "bind" ∷ words_of rest) ≡ bind_of (first_word_of rest) (word_behind (codes "from") (words_of (behind_first_word rest)))
+bound rest = of_line (codes "bind") (codes "from") bind_of (record {
+  no_name = λ y. refl;
+  no_word = bind_nobody;
+  one = refl;
+  two = λ x. refl;
+  four = λ x w y. refl;
+}) rest
+
+-- "unbind" and one word
+pub unbound : (rest : List ℕ) → length (first_word_of (behind_first_word rest)) ≡ 0 → grant_command_of_words (codes "unbind" ∷ words_of rest) ≡ unbind_of (first_word_of rest)
+unbound rest none = by_word rest (λ ws. grant_command_of_words (codes "unbind" ∷ ws) ≡ unbind_of (first_word_of rest))
+    (λ no_word. sym (nobody (first_word_of rest) no_word))
+    (λ some. rw (words_none (behind_first_word rest) none) refl)
+  where
+    nobody : (s : List ℕ) → length s ≡ 0 → unbind_of s ≡ None
+    nobody [] e = refl
+    nobody (c ∷ cs) e = absurd (omega (arith, e))
+
+-- "unbind" and more words
+unbind_words : (x w : List ℕ) (ws : List (List ℕ)) → grant_command_of_words (codes "unbind" ∷ x ∷ w ∷ ws) ≡ None
+unbind_words x w [] = refl
+unbind_words x w (y ∷ []) = refl
+unbind_words x w (y ∷ z ∷ zs) = refl
+
+pub unbind_more : (rest : List ℕ) → 0 < length (first_word_of (behind_first_word rest)) → grant_command_of_words (codes "unbind" ∷ words_of rest) ≡ None
+unbind_more rest more = by_word rest (λ ws. grant_command_of_words (codes "unbind" ∷ ws) ≡ None)
+    (λ none. refl)
+    (λ some. rw (words_first (behind_first_word rest) more) (unbind_words (first_word_of rest) (first_word_of (behind_first_word rest)) (words_of (behind_first_word (behind_first_word rest)))))
+
+-- "rows" and more words
+rows_words : (x : List ℕ) (ws : List (List ℕ)) → grant_command_of_words (codes "rows" ∷ x ∷ ws) ≡ None
+rows_words x [] = refl
+rows_words x (w ∷ []) = refl
+rows_words x (w ∷ y ∷ []) = refl
+rows_words x (w ∷ y ∷ z ∷ zs) = refl
+
+-- no word behind "rows"
+pub rows_by : (rest : List ℕ) → grant_command_of_words (codes "rows" ∷ words_of rest) ≡ then_some (length (first_word_of rest) == 0) Rows
+rows_by rest = by_word rest (λ ws. grant_command_of_words (codes "rows" ∷ ws) ≡ then_some (length (first_word_of rest) == 0) Rows)
+    (λ none. rw none refl)
+    (λ some.
+    let not_none : (length (first_word_of rest) == 0) ≡ false = grind (arith, nat_tests, some) in
+    rw not_none (rows_words (first_word_of rest) (words_of (behind_first_word rest))))
+
+-- no command about grants begins with another word
+pub other_grants : (line : List ℕ)
+    → (first_word_of line ≡ codes "offer" → ⊥) → (first_word_of line ≡ codes "unoffer" → ⊥) → (first_word_of line ≡ codes "bind" → ⊥)
+    → (first_word_of line ≡ codes "unbind" → ⊥) → (first_word_of line ≡ codes "rows" → ⊥)
+    → grant_command_of_words (words_of line) ≡ None
+other_grants line no_offer no_unoffer no_bind no_unbind no_rows = by_word line (λ ws. grant_command_of_words ws ≡ None) (λ none. refl)
+    (λ some. by (words_of (behind_first_word line)))
+  where
+    by : (ws : List (List ℕ)) → grant_command_of_words (first_word_of line ∷ ws) ≡ None
+    by [] = rw (not_same (first_word_of line) (codes "rows") no_rows) refl
+    by (x ∷ []) = rw (not_same (first_word_of line) (codes "unbind") no_unbind) refl
+    by (x ∷ w ∷ []) = refl
+    by (x ∷ w ∷ y ∷ []) = rw (not_same (first_word_of line) (codes "offer") no_offer, not_same (first_word_of line) (codes "unoffer") no_unoffer, not_same (first_word_of line) (codes "bind") no_bind) refl
+    by (x ∷ w ∷ y ∷ z ∷ zs) = refl

@@ -1,0 +1,64 @@
+-- Which lines are commands about grants, computed from the definitions.
+use Rattle.std.proofs.Common.{◌≡◌, Some, None, codes, refl}
+use Rattle.tenant_lines.specs.declared.grant_lines.GrantCommand.TheVariants.{Offer, Unoffer, Bind, Unbind, Rows}
+use Rattle.tenant_lines.specs.inner.GrantLines.{grant_command_of_line}
+
+pub offer_to : grant_command_of_line (codes "offer a to beta") ≡ Some (Offer (codes "a") (codes "beta"))
+offer_to = refl
+
+pub unoffer_to : grant_command_of_line (codes "unoffer a to beta") ≡ Some (Unoffer (codes "a") (codes "beta"))
+unoffer_to = refl
+
+pub bind_from : grant_command_of_line (codes "bind g from alpha.a") ≡ Some (Bind (codes "g") (codes "alpha") (codes "a"))
+bind_from = refl
+
+pub unbind_name : grant_command_of_line (codes "unbind g") ≡ Some (Unbind (codes "g"))
+unbind_name = refl
+
+pub rows_alone : grant_command_of_line (codes "rows") ≡ Some Rows
+rows_alone = refl
+
+pub blanks_between : grant_command_of_line (codes " \toffer  a\tto   beta \r") ≡ Some (Offer (codes "a") (codes "beta"))
+blanks_between = refl
+
+pub blanks_at_ends : grant_command_of_line (codes "  rows\r") ≡ Some Rows
+blanks_at_ends = refl
+
+pub great_letter : grant_command_of_line (codes "offer a to Gamma") ≡ Some (Offer (codes "a") (codes "Gamma"))
+great_letter = refl
+
+pub keywords_are_names : grant_command_of_line (codes "bind from from to.line") ≡ Some (Bind (codes "from") (codes "to") (codes "line"))
+keywords_are_names = refl
+
+pub digit_first : grant_command_of_line (codes "offer a to 9x") ≡ None
+digit_first = refl
+
+pub other_word_between : grant_command_of_line (codes "offer a from beta") ≡ None
+other_word_between = refl
+
+pub offer_of_port : grant_command_of_line (codes "offer T.a to beta") ≡ None
+offer_of_port = refl
+
+pub offer_to_nobody : grant_command_of_line (codes "offer a to") ≡ None
+offer_to_nobody = refl
+
+pub word_behind_offer : grant_command_of_line (codes "offer a to beta now") ≡ None
+word_behind_offer = refl
+
+pub bind_to_tenant : grant_command_of_line (codes "bind g from alpha") ≡ None
+bind_to_tenant = refl
+
+pub two_dots : grant_command_of_line (codes "bind g from a.b.c") ≡ None
+two_dots = refl
+
+pub blank_behind_dot : grant_command_of_line (codes "bind g from alpha. a") ≡ None
+blank_behind_dot = refl
+
+pub unbind_two : grant_command_of_line (codes "unbind g h") ≡ None
+unbind_two = refl
+
+pub rows_now : grant_command_of_line (codes "rows now") ≡ None
+rows_now = refl
+
+pub blank_line : grant_command_of_line (codes " ") ≡ None
+blank_line = refl

@@ -1,0 +1,44 @@
+-- The command by which a tenant grants a value, as a line spells it.
+use Rattle.std.specs.Prelude.{ℕ, ◌&&◌, if◌then◌else◌, List, [], ◌∷◌, Option, Some, None, codes}
+use Rattle.std.specs.List.{before_first, after_first}
+use Rattle.giotto_tasks.specs.Names.{same_name}
+use Rattle.giotto_text.specs.Bytes.{is_name}
+use Rattle.tenant_lines.specs.declared.grant_lines.GrantCommand.{GrantCommand}
+use Rattle.tenant_lines.specs.declared.grant_lines.GrantCommand.TheVariants.{Offer, Unoffer, Bind, Unbind, Rows}
+use Rattle.tenant_lines.specs.CommandLine.{is_dot}
+use Rattle.tenant_lines.specs.Words.{words_of}
+
+-- an actuator and a tenant to offer it to, where both have the shape of names
+abbrev pub offer_of : List ℕ → List ℕ → Option GrantCommand
+offer_of a t = if is_name a && is_name t then Some (Offer a t) else None
+
+-- an actuator and a tenant to offer it to no longer
+abbrev pub unoffer_of : List ℕ → List ℕ → Option GrantCommand
+unoffer_of a t = if is_name a && is_name t then Some (Unoffer a t) else None
+
+-- a sensor to bind, and the tenant and its actuator whose value it is to have
+abbrev pub bind_to : List ℕ → List ℕ → List ℕ → Option GrantCommand
+bind_to s t a = if is_name s && is_name t && is_name a then Some (Bind s t a) else None
+
+-- a sensor to bind, and TENANT.NAME, cut at its first dot
+abbrev pub bind_of : List ℕ → List ℕ → Option GrantCommand
+bind_of s w = bind_to s (before_first is_dot w) (after_first is_dot w)
+
+-- a sensor to bind no longer
+abbrev pub unbind_of : List ℕ → Option GrantCommand
+unbind_of s = if is_name s then Some (Unbind s) else None
+
+-- "rows", "unbind NAME", "offer NAME to TENANT", "unoffer NAME to TENANT" or "bind NAME from TENANT.NAME"
+abbrev pub grant_command_of_words : List (List ℕ) → Option GrantCommand
+grant_command_of_words (v ∷ []) = if same_name v (codes "rows") then Some Rows else None
+grant_command_of_words (v ∷ x ∷ []) = if same_name v (codes "unbind") then unbind_of x else None
+grant_command_of_words (v ∷ x ∷ w ∷ y ∷ []) =
+    if same_name v (codes "offer") && same_name w (codes "to") then offer_of x y
+    else if same_name v (codes "unoffer") && same_name w (codes "to") then unoffer_of x y
+    else if same_name v (codes "bind") && same_name w (codes "from") then bind_of x y
+    else None
+grant_command_of_words _ = None
+
+-- the words are separated by one or more blanks, and nothing stands behind them
+abbrev pub grant_command_of_line : List ℕ → Option GrantCommand
+grant_command_of_line line = grant_command_of_words (words_of line)

@@ -1,0 +1,157 @@
+//! The commands by which tenants grant each other values, and the lines that spell them. No program calls this yet: to
+//! [`command_of`] such a line is a bad command.
+//!
+//! [`command_of`]: crate::command_lines::command_of
+
+ghost use Rattle.std.specs.Prelude.{◌≡◌, ◌<◌, length};
+ghost use Rattle.tenant_lines.specs.inner.GrantLines.{offer_of, unoffer_of, bind_of, bind_to, unbind_of, grant_command_of_line};
+ghost use Rattle.tenant_lines.specs.Words.{words_of};
+ghost use Rattle.tenant_lines.specs.inner.GrantWords.{word_behind};
+
+use crate::command_lines::name_of_word;
+use crate::words::{behind_first_word, first_word};
+use giotto_tasks::names::Name;
+
+/// A command about grants, one variant for each form. An *offer* lets another tenant read an actuator; a *bind* takes the
+/// value of an offered actuator for a sensor of one's own.
+#[derive(Drop)]
+pub enum GrantCommand {
+    /// `offer NAME to TENANT`: offers the value of an actuator to a tenant.
+    Offer {
+        actuator: Name,
+        tenant: Name,
+    },
+    /// `unoffer NAME to TENANT`: takes that offer back.
+    Unoffer {
+        actuator: Name,
+        tenant: Name,
+    },
+    /// `bind NAME from TENANT.NAME`: a sensor is to have the value of a tenant's actuator.
+    Bind {
+        sensor: Name,
+        tenant: Name,
+        actuator: Name,
+    },
+    /// `unbind NAME`: takes that bind back.
+    Unbind {
+        sensor: Name,
+    },
+    /// `rows`: what the tenant offers and binds.
+    Rows,
+}
+
+impl GrantCommand {
+    /// An equal command. Takes no memory.
+    pub fn copy(&self) -> GrantCommand
+        ensures { result ≡ self.now }
+    {
+        match self {
+            GrantCommand::Offer { actuator, tenant } => GrantCommand::Offer {
+                actuator: actuator.copy(),
+                tenant: tenant.copy(),
+            },
+            GrantCommand::Unoffer { actuator, tenant } => GrantCommand::Unoffer {
+                actuator: actuator.copy(),
+                tenant: tenant.copy(),
+            },
+            GrantCommand::Bind {
+                sensor,
+                tenant,
+                actuator,
+            } => GrantCommand::Bind {
+                sensor: sensor.copy(),
+                tenant: tenant.copy(),
+                actuator: actuator.copy(),
+            },
+            GrantCommand::Unbind { sensor } => GrantCommand::Unbind {
+                sensor: sensor.copy(),
+            },
+            GrantCommand::Rows => GrantCommand::Rows,
+        }
+    }
+}
+
+/// The command about grants that a line spells, without the tenant's name: `offer NAME to TENANT`, `unoffer NAME to TENANT`,
+/// `bind NAME from TENANT.NAME`, `unbind NAME` or `rows`. `None` for every other line.
+///
+/// Words are separated by one or more blanks. NAME and TENANT have the shape of a program's name, keywords included;
+/// TENANT.NAME is cut at its first dot. Takes no memory.
+pub fn grant_command_of(line: &str) -> Option<GrantCommand>
+    ensures { result ≡ grant_command_of_line line.now }
+{
+    let behind = behind_first_word(line);
+    let name = first_word(behind);
+    let rest = behind_first_word(behind);
+    match first_word(line) {
+        "offer" => offer(name, word_behind("to", rest)),
+        "unoffer" => unoffer(name, word_behind("to", rest)),
+        "bind" => bind(name, word_behind("from", rest)),
+        "unbind" => {
+            if !first_word(rest).is_empty() {
+                return None;
+            }
+            unbind(name)
+        }
+        "rows" => name.is_empty().then_some(GrantCommand::Rows),
+        _ => None,
+    }
+}
+
+// The word behind this one, where a line has these two words alone; else no byte.
+fn word_behind<'a>(word: &str, line: &'a str) -> &'a str
+    requires { 0 < length word.now }
+    ensures { result.now ≡ word_behind word.now (words_of line.now) }
+{
+    if first_word(line) != word {
+        return "";
+    }
+    let behind = behind_first_word(line);
+    if !first_word(behind_first_word(behind)).is_empty() {
+        return "";
+    }
+    first_word(behind)
+}
+
+fn offer(actuator: &str, tenant: &str) -> Option<GrantCommand>
+    ensures { result ≡ offer_of actuator.now tenant.now }
+{
+    Some(GrantCommand::Offer {
+        actuator: name_of_word(actuator)?,
+        tenant: name_of_word(tenant)?,
+    })
+}
+
+fn unoffer(actuator: &str, tenant: &str) -> Option<GrantCommand>
+    ensures { result ≡ unoffer_of actuator.now tenant.now }
+{
+    Some(GrantCommand::Unoffer {
+        actuator: name_of_word(actuator)?,
+        tenant: name_of_word(tenant)?,
+    })
+}
+
+// `port` is TENANT.NAME.
+fn bind(sensor: &str, port: &str) -> Option<GrantCommand>
+    ensures { result ≡ bind_of sensor.now port.now }
+{
+    let (tenant, actuator) = port.split_once('.')?;
+    bind_to(sensor, tenant, actuator)
+}
+
+fn bind_to(sensor: &str, tenant: &str, actuator: &str) -> Option<GrantCommand>
+    ensures { result ≡ bind_to sensor.now tenant.now actuator.now }
+{
+    Some(GrantCommand::Bind {
+        sensor: name_of_word(sensor)?,
+        tenant: name_of_word(tenant)?,
+        actuator: name_of_word(actuator)?,
+    })
+}
+
+fn unbind(sensor: &str) -> Option<GrantCommand>
+    ensures { result ≡ unbind_of sensor.now }
+{
+    Some(GrantCommand::Unbind {
+        sensor: name_of_word(sensor)?,
+    })
+}
