@@ -1,0 +1,6 @@
+use Rattle.std.proofs.Common.{◌≡◌, ◌++◌, map, take}
+use Rattle.tenant_grants.specs.declared.rows.Row.TheVariants as row
+use Rattle.tenant_grants.proofs.grants.push_offers.Given as goal
+
+abbrev pub invariant-loop-i : goal.invariant-loop-i
+invariant-loop-i l = l.rows.items ≡ l.initial.rows.items ++ map row.Offer (take l.i l.offers.keys)

@@ -1,0 +1,3 @@
+-- What the proofs speak of, and no contract of a public call.
+pub mod Held
+pub mod Tables

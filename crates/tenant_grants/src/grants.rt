@@ -1,0 +1,268 @@
+//! The rows of one owner.
+
+ghost use Rattle.std.specs.Prelude.{◌≡◌, ◌↔◌, ◌<◌, ◌+◌, [], ◌++◌, map, Err, Ok, IsErr, IsOk, IsSome, IfErr, IfOk, OnErr, OnOk, length};
+ghost use Rattle.tenant_grants.specs.Grants.{bind_at, bound, name_in, no_rows, offered, offers, other_side, place_in, rows_of, unbound, unoffered};
+ghost use Rattle.tenant_grants.specs.Kept.{AreKept};
+ghost use Rattle.tenant_grants.specs.declared.rows.Row.TheVariants as row;
+ghost use Rattle.tenant_grants.specs.inner.Tables.{bind_of};
+
+use crate::faults::GrantFault;
+use crate::rows::{Bind, Offer, Row};
+use crate::tables::{BindTable, Sensor, Supplier, add, bind_of, entry_at, is_bound, take_out};
+use arrayvec::ArrayVec;
+use giotto_tasks::lists::List;
+use giotto_tasks::names::Name;
+use indexmap::{IndexMap, IndexSet};
+use rig_config::TenantId;
+use std::alloc::{AllocError, Global};
+use std::marker::Model;
+
+/// The offers and binds of one owner, within its budgets, each in the order in which they were made. Contracts see it as the two lists,
+/// with the owner's place, the roster and the budgets.
+#[derive(Drop)]
+pub struct Grants {
+    own: TenantId,
+    // On the heap, so that the rows stay small to move.
+    roster: Box<ArrayVec<Name, 16>>,
+    most_offers: usize,
+    most_binds: usize,
+    offers: IndexSet<Offer>,
+    binds: BindTable,
+}
+
+impl Model for Grants {
+    ghost use Rattle.std.specs.Prelude.{map};
+    ghost use Rattle.tenant_grants.specs.Grants.{GrantRows};
+    ghost use Rattle.tenant_grants.specs.inner.Tables.{bind_of};
+    ghost use Rattle.tenant_grants.specs.inner.Held.{AreHeld};
+
+    ghost Value = { GrantRows };
+
+    ghost view = { λ g. record {
+      owner = record { place = g.own; roster = g.roster.value.items; most_offers = g.most_offers; most_binds = g.most_binds };
+      offers = g.offers.keys;
+      binds = map bind_of g.binds.entries;
+    } };
+
+    ghost invariant = { λ g. AreHeld (record { place = g.own; roster = g.roster.value.items; most_offers = g.most_offers; most_binds = g.most_binds }) g.offers.keys g.binds.entries };
+}
+
+impl Grants {
+    /// No rows, of the tenant at this place of the roster, with the most offers and binds that it may have.
+    ///
+    /// # Errors
+    /// Want of memory.
+    pub fn new(
+        alloc: Global,
+        own: TenantId,
+        roster: ArrayVec<Name, 16>,
+        most_offers: usize,
+        most_binds: usize,
+    ) -> Result<Grants, AllocError>
+        requires { own < length roster.items }
+        ensures { IfOk result (λ grants. grants ≡ no_rows (record { place = own; roster = roster.items; most_offers = most_offers; most_binds = most_binds })) }
+    {
+        Ok(Grants {
+            own,
+            roster: Box::new(alloc, roster)?,
+            most_offers,
+            most_binds,
+            offers: IndexSet::new(alloc),
+            binds: IndexMap::new(alloc),
+        })
+    }
+
+    /// The owner's place. Takes no memory, as no call that only looks but [`Grants::list`].
+    pub fn own(&self) -> TenantId
+        ensures place { result ≡ self.now.owner.place }
+        ensures kept { AreKept self.now }
+    {
+        self.own
+    }
+
+    // The place of the tenant on the other side of a row.
+    fn other_side(&self, tenant: &Name) -> Result<TenantId, GrantFault>
+        ensures { result ≡ other_side self.now.owner tenant.now }
+    {
+        match place_in(self.roster.as_slice(), tenant) {
+            None => Err(GrantFault::NoTenant),
+            Some(place) if place == self.own => Err(GrantFault::Own),
+            Some(place) => Ok(place),
+        }
+    }
+
+    /// Offers an actuator to the tenant of this name, behind the other offers.
+    ///
+    /// # Errors
+    /// [`GrantFault::NoTenant`], [`GrantFault::Own`], [`GrantFault::Twice`] where the actuator is offered to the tenant already,
+    /// [`GrantFault::Budget`], and last [`GrantFault::Memory`].
+    pub fn offer(&mut self, actuator: Name, tenant: Name) -> Result<(), GrantFault>
+        ensures refused { IfErr (offered self.old.owner self.old.offers actuator tenant) (λ fault. result ≡ Err fault) }
+        ensures offered { IfOk (offered self.old.owner self.old.offers actuator tenant) (λ os. OnOk result (self.new ≡ record self.old { offers = os })) }
+        ensures memory { IfOk (offered self.old.owner self.old.offers actuator tenant) (λ os. IfErr result (λ fault. fault ≡ GrantFault.Memory)) }
+        ensures same { OnErr result (self.new ≡ self.old) }
+    {
+        self.other_side(&tenant)?;
+        let offer = Offer { actuator, tenant };
+        if self.offers.contains(&offer) {
+            return Err(GrantFault::Twice);
+        }
+        if self.offers.len() >= self.most_offers {
+            return Err(GrantFault::Budget);
+        }
+        match self.offers.insert(offer) {
+            Ok(_) => Ok(()),
+            Err(_) => Err(GrantFault::Memory),
+        }
+    }
+
+    /// Takes the offer of an actuator to the tenant of this name out; the others keep their order. Takes no memory.
+    ///
+    /// # Errors
+    /// [`GrantFault::NoTenant`], [`GrantFault::Own`], and last [`GrantFault::NotThere`].
+    #[tactic(auto, using(crate::proofs::BindTables::without_keys))]
+    pub fn unoffer(&mut self, actuator: &Name, tenant: &Name) -> Result<(), GrantFault>
+        ensures refused { IfErr (unoffered self.old.owner self.old.offers actuator.now tenant.now) (λ fault. result ≡ Err fault) }
+        ensures unoffered { IfOk (unoffered self.old.owner self.old.offers actuator.now tenant.now) (λ os. IsOk result × (self.new ≡ record self.old { offers = os })) }
+        ensures same { OnErr result (self.new ≡ self.old) }
+    {
+        self.other_side(tenant)?;
+        let offer = Offer {
+            actuator: actuator.copy(),
+            tenant: tenant.copy(),
+        };
+        if !self.offers.shift_remove(&offer) {
+            return Err(GrantFault::NotThere);
+        }
+        Ok(())
+    }
+
+    /// Whether the actuator is offered to the tenant at a place. Takes no memory.
+    pub fn offers(&self, actuator: &Name, tenant: TenantId) -> bool
+        ensures { result ≡ offers self.now.offers actuator.now (name_in self.now.owner.roster tenant) }
+    {
+        let tenant = name_in(self.roster.as_slice(), tenant);
+        self.offers.contains(&Offer {
+            actuator: actuator.copy(),
+            tenant,
+        })
+    }
+
+    /// Binds a sensor to an actuator of the tenant of this name, behind the other binds.
+    ///
+    /// # Errors
+    /// [`GrantFault::NoTenant`], [`GrantFault::Own`], [`GrantFault::Twice`] where the sensor is bound already, whatever it is bound to,
+    /// [`GrantFault::Budget`], and last [`GrantFault::Memory`].
+    #[tactic(auto, using(crate::proofs::BindTables::binds_push))]
+    pub fn bind(&mut self, sensor: Name, tenant: Name, actuator: Name) -> Result<(), GrantFault>
+        ensures refused { IfErr (bound self.old.owner self.old.binds sensor tenant actuator) (λ fault. result ≡ Err fault) }
+        ensures bound { IfOk (bound self.old.owner self.old.binds sensor tenant actuator) (λ bs. OnOk result (self.new ≡ record self.old { binds = bs })) }
+        ensures memory { IfOk (bound self.old.owner self.old.binds sensor tenant actuator) (λ bs. IfErr result (λ fault. fault ≡ GrantFault.Memory)) }
+        ensures same { OnErr result (self.new ≡ self.old) }
+    {
+        let place = self.other_side(&tenant)?;
+        if is_bound(&self.binds, &sensor) {
+            return Err(GrantFault::Twice);
+        }
+        if self.binds.len() >= self.most_binds {
+            return Err(GrantFault::Budget);
+        }
+        let supplier = Supplier {
+            tenant,
+            place,
+            actuator,
+        };
+        add(&mut self.binds, Sensor { name: sensor }, supplier)
+    }
+
+    /// Takes the bind of a sensor out; the others keep their order. Takes no memory.
+    ///
+    /// # Errors
+    /// [`GrantFault::NotThere`].
+    #[tactic(auto, using(crate::proofs::BindTables::without_entries))]
+    pub fn unbind(&mut self, sensor: &Name) -> Result<(), GrantFault>
+        ensures refused { IfErr (unbound self.old.binds sensor.now) (λ fault. result ≡ Err fault) }
+        ensures unbound { IfOk (unbound self.old.binds sensor.now) (λ bs. IsOk result × (self.new ≡ record self.old { binds = bs })) }
+        ensures same { OnErr result (self.new ≡ self.old) }
+    {
+        if !take_out(&mut self.binds, sensor) {
+            return Err(GrantFault::NotThere);
+        }
+        Ok(())
+    }
+
+    /// How many binds there are.
+    pub fn bind_count(&self) -> usize
+        ensures { result ≡ length self.now.binds }
+    {
+        self.binds.len()
+    }
+
+    /// The bind at a place of its list, counted from 0: its sensor, the place of the tenant that it is bound to, and that tenant's
+    /// actuator. Takes no memory.
+    pub fn bind_at(&self, i: usize) -> Option<(Name, TenantId, Name)>
+        ensures bind { result ≡ bind_at self.now.owner.roster self.now.binds i }
+        ensures found { IsSome result ↔ (i < length self.now.binds) }
+    {
+        entry_at(&self.binds, i)
+    }
+
+    /// All rows: the offers, then the binds, each in the order in which they were made.
+    ///
+    /// # Errors
+    /// Want of memory, where there is a row.
+    pub fn list(&self, alloc: Global) -> Result<List<Row>, AllocError>
+        ensures rows { IfOk result (λ rows. rows ≡ rows_of self.now.offers self.now.binds) }
+        ensures memory { IsErr result → 0 < length self.now.offers + length self.now.binds }
+    {
+        let mut rows = Vec::new(alloc);
+        push_offers(&mut rows, &self.offers)?;
+        push_binds(&mut rows, &self.binds)?;
+        Ok(List::from_vec(rows))
+    }
+}
+
+// The place of the tenant with this name.
+fn place_in(roster: &[Name], tenant: &Name) -> Option<TenantId>
+    ensures { result ≡ place_in roster.now tenant.now }
+{
+    roster.iter().position(|name| *name == *tenant)
+}
+
+// The name of the tenant at a place; no name where the roster has no such place.
+fn name_in(roster: &[Name], place: TenantId) -> Name
+    ensures { result ≡ name_in roster.now place }
+{
+    match roster.get(place) {
+        Some(name) => name.copy(),
+        None => Name::default(),
+    }
+}
+
+// The offers as rows, behind these.
+fn push_offers(rows: &mut Vec<Row>, offers: &IndexSet<Offer>) -> Result<(), AllocError>
+    ensures pushed { OnOk result (rows.new.items ≡ rows.old.items ++ map row.Offer offers.now.keys) }
+    ensures memory { IsErr result → 0 < length offers.now.keys }
+{
+    for i in 0..offers.len() {
+        let Some(offer) = offers.get_index(i) else {
+            unreachable!()
+        };
+        rows.push(Row::Offer(offer.copy()))?;
+    }
+    Ok(())
+}
+
+// The binds as rows, behind these.
+fn push_binds(rows: &mut Vec<Row>, binds: &BindTable) -> Result<(), AllocError>
+    ensures pushed { OnOk result (rows.new.items ≡ rows.old.items ++ map (λ e. row.Bind (bind_of e)) binds.now.entries) }
+    ensures memory { IsErr result → 0 < length (map bind_of binds.now.entries) }
+{
+    for i in 0..binds.len() {
+        let Some((sensor, supplier)) = binds.get_index(i) else {
+            unreachable!()
+        };
+        rows.push(Row::Bind(bind_of(sensor, supplier)))?;
+    }
+    Ok(())
+}

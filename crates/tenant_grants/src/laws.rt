@@ -1,0 +1,20 @@
+//! Laws about rows. Each is a function with an empty body, whose contract is the law.
+
+ghost use Rattle.std.specs.Prelude.{◌≡◌, ℕ, ℤ, List, is_some, map};
+ghost use Rattle.giotto_tasks.specs.declared.names.Name.{Name};
+ghost use Rattle.rig_config.specs.Roster.{Rig, name_at, place_of};
+ghost use Rattle.rig_config.specs.declared.TenantConfig.{TenantConfig};
+ghost use Rattle.tenant_grants.specs.Grants.{granted_value, name_in, offer_of, offers, place_in};
+ghost use Rattle.tenant_grants.specs.declared.rows.Offer.{Offer};
+
+/// An actuator is offered where there is an offer of it, and an offer grants the actuator's value as it is.
+pub fn granted_by_an_offer()
+    ensures offered { (os : List Offer) (actuator tenant : Name) → offers os actuator tenant ≡ is_some (offer_of os actuator tenant) }
+    ensures value { (o : Offer) (z : ℤ) → granted_value o z ≡ z }
+{}
+
+/// The roster of a rig's names has the rig's places and names.
+pub fn roster_of_a_rig()
+    ensures places { (rig : Rig) (x : Name) → place_in (map (λ (t : TenantConfig). t.name) rig.tenants) x ≡ place_of rig x }
+    ensures names { (rig : Rig) (place : ℕ) → name_in (map (λ (t : TenantConfig). t.name) rig.tenants) place ≡ name_at rig place }
+{}

@@ -1,0 +1,72 @@
+//! Offers and binds.
+
+ghost use Rattle.std.specs.Prelude.{◌≡◌, ◌&&◌, ◌++◌};
+ghost use Rattle.std.specs.Cmp.Rules.{comparing, hashing};
+ghost use Rattle.std.specs.Hash as fed;
+ghost use Rattle.std.proofs.Common.{rules};
+ghost use Rattle.giotto_tasks.specs.Names.{same_name};
+
+use giotto_tasks::names::Name;
+use std::hash::{Hash, Hasher};
+
+/// One of the owner's actuators, offered to another tenant.
+#[derive(Drop)]
+pub struct Offer {
+    pub actuator: Name,
+    /// The name of the tenant that may bind it.
+    pub tenant: Name,
+}
+
+/// One of the owner's sensors, bound to another tenant's actuator.
+#[derive(Drop)]
+pub struct Bind {
+    pub sensor: Name,
+    /// The name of the tenant whose actuator it is.
+    pub tenant: Name,
+    pub actuator: Name,
+}
+
+/// A row of a tenant.
+#[derive(Drop)]
+pub enum Row {
+    Offer(Offer),
+    Bind(Bind),
+}
+
+impl Offer {
+    /// An equal offer.
+    pub fn copy(&self) -> Offer
+        ensures { result ≡ self.now }
+    {
+        Offer {
+            actuator: self.actuator.copy(),
+            tenant: self.tenant.copy(),
+        }
+    }
+}
+
+// Two offers are the same row where they offer the same actuator to the same tenant.
+impl PartialEq for Offer {
+    ghost eq = { λ o p. same_name p.actuator o.actuator && same_name p.tenant o.tenant };
+
+    ghost laws = { Prim.search (comparing, rules) };
+
+    fn eq(&self, other: &Offer) -> bool {
+        other.actuator == self.actuator && other.tenant == self.tenant
+    }
+}
+
+impl Eq for Offer {
+    ghost laws = { Prim.search (comparing, rules) };
+}
+
+impl Hash for Offer {
+    ghost hash_input = { λ o. fed.str o.actuator ++ fed.str o.tenant };
+
+    ghost respects_eq = { Prim.search (hashing, rules) };
+
+    fn hash<H: Hasher>(&self, state: &mut H) {
+        self.actuator.as_str().hash(state);
+        self.tenant.as_str().hash(state);
+    }
+}

@@ -1,0 +1,122 @@
+//! The table of binds: an entry for each, by its sensor.
+
+ghost use Rattle.std.specs.Prelude.{◌≡◌, ◌++◌, [], ◌∷◌, IfErr, OnErr, OnOk, false, map, option_map, slice_get};
+ghost use Rattle.std.specs.Bool.{OnFalse};
+ghost use Rattle.std.specs.List.{IsDistinct, list_any};
+ghost use Rattle.std.specs.Map.{keys_of, remove_entry};
+ghost use Rattle.tenant_grants.specs.Grants.{is_bind_of};
+ghost use Rattle.tenant_grants.specs.inner.Tables.{bind_of, placed};
+ghost use Rattle.std.specs.Cmp.Rules.{comparing, hashing};
+ghost use Rattle.std.specs.Hash as fed;
+ghost use Rattle.std.proofs.Common.{rules};
+ghost use Rattle.giotto_tasks.specs.Names.{same_name};
+
+use crate::faults::GrantFault;
+use crate::rows::Bind;
+use giotto_tasks::names::Name;
+use indexmap::IndexMap;
+use rig_config::TenantId;
+use std::hash::{Hash, Hasher};
+
+/// The key of a bind.
+#[derive(Drop)]
+pub(crate) struct Sensor {
+    pub name: Name,
+}
+
+/// What a sensor is bound to.
+#[derive(Drop)]
+pub(crate) struct Supplier {
+    pub tenant: Name,
+    /// The place of the tenant, so that it isn't looked for at each instant.
+    pub place: TenantId,
+    pub actuator: Name,
+}
+
+/// The binds, in the order in which they were made.
+pub(crate) type BindTable = IndexMap<Sensor, Supplier>;
+
+/// Whether the sensor is bound.
+#[tactic(auto, using(crate::proofs::BindTables::is_bound_entries))]
+pub(crate) fn is_bound(binds: &BindTable, sensor: &Name) -> bool
+    ensures { result ≡ list_any (is_bind_of sensor.now) (map bind_of binds.now.entries) }
+{
+    binds.contains_key(&Sensor {
+        name: sensor.copy(),
+    })
+}
+
+/// One bind more, behind the others.
+pub(crate) fn add(
+    binds: &mut BindTable,
+    sensor: Sensor,
+    supplier: Supplier,
+) -> Result<(), GrantFault>
+    requires { list_any (is_bind_of sensor.name) (map bind_of binds.old.entries) ≡ false }
+    ensures added { OnOk result (binds.new.entries ≡ binds.old.entries ++ (sensor, supplier) ∷ []) }
+    ensures memory { IfErr result (λ fault. fault ≡ GrantFault.Memory) }
+    ensures same { OnErr result (binds.new.entries ≡ binds.old.entries) }
+    ensures differ { IsDistinct (λ s t. same_name t.name s.name) (keys_of binds.new.entries) }
+{
+    match binds.insert(sensor, supplier) {
+        Ok(_) => Ok(()),
+        Err(_) => Err(GrantFault::Memory),
+    }
+}
+
+/// The binds without a sensor's; whether it was bound.
+#[tactic(auto, using(crate::proofs::BindTables::is_bound_entries))]
+pub(crate) fn take_out(binds: &mut BindTable, sensor: &Name) -> bool
+    ensures found { result ≡ list_any (is_bind_of sensor.now) (map bind_of binds.old.entries) }
+    ensures left { binds.new.entries ≡ remove_entry (λ s. same_name s.name sensor.now) binds.old.entries }
+    ensures same { OnFalse result (binds.new.entries ≡ binds.old.entries) }
+    ensures differ { IsDistinct (λ s t. same_name t.name s.name) (keys_of binds.new.entries) }
+{
+    let sensor = Sensor {
+        name: sensor.copy(),
+    };
+    binds.shift_remove(&sensor).is_some()
+}
+
+/// The sensor of the bind at a place, the supplier's place and the supplier's actuator.
+pub(crate) fn entry_at(binds: &BindTable, i: usize) -> Option<(Name, TenantId, Name)>
+    ensures { result ≡ option_map placed (slice_get binds.now.entries i) }
+{
+    let (sensor, supplier) = binds.get_index(i)?;
+    Some((sensor.name.copy(), supplier.place, supplier.actuator.copy()))
+}
+
+/// The bind that an entry stands for.
+pub(crate) fn bind_of(sensor: &Sensor, supplier: &Supplier) -> Bind
+    ensures { result ≡ bind_of (sensor.now, supplier.now) }
+{
+    Bind {
+        sensor: sensor.name.copy(),
+        tenant: supplier.tenant.copy(),
+        actuator: supplier.actuator.copy(),
+    }
+}
+
+impl PartialEq for Sensor {
+    ghost eq = { λ s t. same_name t.name s.name };
+
+    ghost laws = { Prim.search (comparing, rules) };
+
+    fn eq(&self, other: &Sensor) -> bool {
+        other.name == self.name
+    }
+}
+
+impl Eq for Sensor {
+    ghost laws = { Prim.search (comparing, rules) };
+}
+
+impl Hash for Sensor {
+    ghost hash_input = { λ s. fed.str s.name };
+
+    ghost respects_eq = { Prim.search (hashing, rules) };
+
+    fn hash<H: Hasher>(&self, state: &mut H) {
+        self.name.as_str().hash(state);
+    }
+}
