@@ -11,7 +11,7 @@ use Rattle.giotto_tasks.specs.Names.{same_name}
 use Rattle.host_core.specs.declared.events.Event.{Event}
 use Rattle.host_core.specs.declared.events.Event.TheVariants.{Own, Tick, Done}
 use Rattle.rig_config.specs.declared.TenantConfig.{TenantConfig}
-use Rattle.tenant_state.specs.declared.grants.Bind.{Bind}
+use Rattle.tenant_grants.specs.declared.rows.Bind.{Bind}
 use Rattle.tenant_jobs.specs.declared.jobs.JobId.{JobId}
 use Rattle.rig_config.specs.Roster.{is_tenant, place_of, name_at}
 use Rattle.tenant_jobs.specs.Jobs.{same_job}
@@ -19,7 +19,8 @@ use Rattle.tenant_state.specs.Jobs.{job_of, is_active}
 use Rattle.tenant_state.specs.Row.{ActiveTask, Row, empty_row}
 use Rattle.tenant_state.specs.FirstHalf.{unfinished_tasks, due_tasks, first_half_of}
 use Rattle.tenant_state.specs.Readers.{actuator_value}
-use Rattle.host_core.specs.Grants.{offers, to_sensor, granted_by, granted_along, granted_to}
+use Rattle.tenant_grants.specs.Grants.{offers}
+use Rattle.host_core.specs.Grants.{to_sensor, granted_by, granted_along, granted_to}
 use Rattle.host_core.specs.Base.{IsBase}
 use Rattle.host_core.specs.Completions.{has_completion}
 use Rattle.host_core.specs.Host.{instant_of, after_event, host_after}
@@ -120,8 +121,8 @@ module _ (setting : Setting) where
       along b None e = refl
       along b (Some u) e =
           let within : u < length setting.config.tenants = (position-Some (λ (tenant : TenantConfig). same_name tenant.name b.tenant) setting.config.tenants u nobody e).0 in
-          ap (λ (r : Row). option_map (to_sensor b) (cond (offers r b.actuator (name_at setting.config t)) (actuator_value (halves u) b.actuator) None)) (same u within)
-          ∙ ap (λ (h : Row). option_map (to_sensor b) (cond (offers (others u) b.actuator (name_at setting.config t)) (actuator_value h b.actuator) None)) (same_half u within)
+          ap (λ (r : Row). option_map (to_sensor b) (cond (offers r.offers b.actuator (name_at setting.config t)) (actuator_value (halves u) b.actuator) None)) (same u within)
+          ∙ ap (λ (h : Row). option_map (to_sensor b) (cond (offers (others u).offers b.actuator (name_at setting.config t)) (actuator_value h b.actuator) None)) (same_half u within)
 
   same_instant : (host : HostState) (past : List Event) (frame : List ℤ) → Agrees setting host past → (t : ℕ) → t < length setting.config.tenants
       → instant_of setting host frame t ≡ own_instant setting past frame t

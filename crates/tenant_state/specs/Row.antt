@@ -3,8 +3,8 @@ use Rattle.std.specs.Prelude.{ℕ, ℤ, Bool, true, false, List, [], ◌∷◌, 
 use Rattle.giotto_tasks.specs.declared.names.Name.{Name}
 use Rattle.giotto_tasks.specs.Names.{Valuation}
 use Rattle.giotto_text.specs.Program.{GiottoProgram, ModeDeclaration}
-use Rattle.tenant_state.specs.declared.grants.Offer.{Offer}
-use Rattle.tenant_state.specs.declared.grants.Bind.{Bind}
+use Rattle.tenant_grants.specs.declared.rows.Offer.{Offer}
+use Rattle.tenant_grants.specs.declared.rows.Bind.{Bind}
 use Rattle.tenant_state.specs.declared.trace.Record.{Record}
 use Rattle.tenant_state.specs.declared.trace.Happening.{Happening}
 use Rattle.giotto_rules.specs.Declarations.{mode_named}

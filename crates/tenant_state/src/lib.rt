@@ -11,7 +11,6 @@
 //! The commands and the replies are those of `tenant_lines`, and stand here under their own names too.
 #![tactic(auto)]
 
-pub mod grants;
 pub mod tenants;
 pub mod trace;
 
