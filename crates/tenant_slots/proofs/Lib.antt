@@ -1,5 +1,7 @@
 pub mod ActuatorSlots
 pub mod CommonMultiples
+pub mod GrantRows
+pub mod Granted
 pub mod InitialValues
 pub mod InvokedPeriods
 pub mod Numbered

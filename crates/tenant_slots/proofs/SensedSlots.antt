@@ -23,7 +23,7 @@ front_at (z ∷ xs) ys zero x at = at
 front_at (z ∷ xs) ys (suc k) x at = front_at xs ys k x at
 
 -- a sensor's slot is its place
-sensor_there : (p : GiottoProgram) (k : ℕ) (s : SensorDeclaration) → slice_get p.sensors k ≡ Some s → slice_get (port_names p) k ≡ Some s.name
+pub sensor_there : (p : GiottoProgram) (k : ℕ) (s : SensorDeclaration) → slice_get p.sensors k ≡ Some s → slice_get (port_names p) k ≡ Some s.name
 sensor_there p k s at =
     let own : slice_get (sensor_names p) k ≡ Some s.name = slice_get-map (λ (s : SensorDeclaration). s.name) p.sensors k ∙ ap (option_map (λ (s : SensorDeclaration). s.name)) at in
     ap (λ ns. slice_get ns k) (port_names_begin p) ∙ front_at (driver_ports p) _ k s.name (front_at (sensor_names p) (actuator_names p ++ output_names p) k s.name own)

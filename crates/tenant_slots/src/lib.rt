@@ -3,7 +3,8 @@
 //! One list has the value of every port of a checked program, in the order of its numbering. Contracts read it as the map
 //! `valuation_of` from names to values. [`beginning::initial_values`] begins it, [`beginning::reset_ports`] begins
 //! it anew in place, [`names::port_value`] reads a port by its name, and the others are steps of an instant: sensors are
-//! read, actuators updated or reset, a switch is taken, and tasks are given their inputs and write their results.
+//! read, granted values taken, actuators updated or reset, a switch is taken, and tasks are given their inputs and write their
+//! results.
 //! [`due::Due`] tells what is due at a mode time, and [`due::next_due`] until when nothing is; [`periods::period_of`] how far apart
 //! a mode invokes a task.
 #![tactic(auto)]
@@ -12,6 +13,7 @@ pub mod actuators;
 pub mod beginning;
 pub mod drivers;
 pub mod due;
+pub mod laws;
 pub mod names;
 pub mod periods;
 pub mod sensors;

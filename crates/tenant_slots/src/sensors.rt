@@ -1,13 +1,17 @@
-//! What the sensors of a program read.
+//! What the sensors of a program read, and what they are granted.
 
 ghost use Rattle.std.specs.Prelude.{◌≡◌, [], length};
+ghost use Rattle.std.specs.List.{position_from};
 ghost use Rattle.giotto_text.specs.ProgramTrees.{sensor_of};
+ghost use Rattle.giotto_text.specs.declared.programs.Sensor.{Sensor};
 ghost use Rattle.giotto_check.specs.inner.Slots.{slots_of};
 ghost use Rattle.giotto_check.specs.Slots.{valuation_of};
 ghost use Rattle.tenant_slots.specs.Readings.{readings_within, reading_of, reading_taken};
+ghost use Rattle.tenant_slots.specs.inner.Grants.{takes_granted, with_granted};
 ghost use Rattle.tenant_slots.specs.inner.Readings.{with_readings};
 
 use giotto_check::Checked;
+use giotto_tasks::names::Name;
 use giotto_text::programs::{Sensor, Source};
 use rig_config::Budgets;
 
@@ -21,6 +25,26 @@ pub fn sense(checked: &Checked, budgets: &Budgets, frame: &[i64], values: &mut [
     for i in 0..sensors.len() {
         values[i] = reading(&sensors[i], budgets, frame);
     }
+}
+
+/// Takes a value that is granted to a sensor of this name: the `grant` sensor of the name has it, and where there is none the
+/// values stay as they are. Takes no memory. Behind [`sense`], values granted to different names give what the law
+/// [`granted_behind_readings`](crate::laws::granted_behind_readings) says.
+pub fn take_granted(checked: &Checked, sensor: &Name, value: i64, values: &mut [i64])
+    requires { length values.old ≡ slots_of checked.now }
+    ensures { valuation_of checked.now values.new ≡ with_granted checked.now sensor.now value (valuation_of checked.now values.old) }
+{
+    let sensors = checked.program().sensors();
+    if let Some(place) = granted_place(sensors, sensor) {
+        values[place] = value;
+    }
+}
+
+// The place of the first of these sensors that takes what is granted to this name; `None` where none does.
+fn granted_place(sensors: &[Sensor], name: &Name) -> Option<usize>
+    ensures { result ≡ position_from (λ (s : Sensor). takes_granted name.now (sensor_of s)) 0 sensors.now }
+{
+    sensors.iter().position(|sensor| matches!(sensor.source, Source::Grant) && sensor.name == *name)
 }
 
 // A sensor's reading where nothing is granted: its line's value, if the tenant may read the line, or else its initial value.

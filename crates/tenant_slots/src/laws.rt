@@ -1,0 +1,26 @@
+//! Laws of granted values: taken one after the other behind the readings, they give what the readings with all of them give.
+//!
+//! The functions do nothing: each contract is a law.
+
+ghost use Rattle.std.specs.Prelude.{◌≡◌, ◌++◌, ◌∷◌, [], ℤ, false, IsTrue};
+ghost use Rattle.giotto_tasks.specs.declared.names.Name.{Name};
+ghost use Rattle.giotto_tasks.specs.inner.Sources.{names_in};
+ghost use Rattle.giotto_tasks.specs.Names.{Valuation, is_among};
+ghost use Rattle.giotto_tasks.specs.Sound.{all_different};
+ghost use Rattle.giotto_text.specs.Program.{GiottoProgram};
+ghost use Rattle.giotto_check.specs.inner.Slots.{PortNamesDiffer};
+ghost use Rattle.tenant_slots.specs.Readings.{Readings};
+ghost use Rattle.tenant_slots.specs.inner.Grants.{with_each_granted, with_granted};
+ghost use Rattle.tenant_slots.specs.inner.Readings.{with_readings};
+
+/// A value that is granted behind the readings is one more of those that were granted: the newest, whatever these are, and
+/// also the last, where none of these has its name. So values for different names, taken one after the other, give what the
+/// readings give with all of them.
+pub fn granted_behind_readings()
+    ensures newest { (p : GiottoProgram) (readings : Readings) (granted ports : Valuation) (x : Name) (z : ℤ) → PortNamesDiffer p
+        → with_granted p x z (with_readings p readings granted ports) ≡ with_readings p readings ((x, z) ∷ granted) ports }
+    ensures last { (p : GiottoProgram) (readings : Readings) (granted ports : Valuation) (x : Name) (z : ℤ) → PortNamesDiffer p → is_among (names_in granted) x ≡ false
+        → with_granted p x z (with_readings p readings granted ports) ≡ with_readings p readings (granted ++ (x, z) ∷ []) ports }
+    ensures all { (p : GiottoProgram) (readings : Readings) (granted ports : Valuation) → PortNamesDiffer p → IsTrue (all_different (names_in granted))
+        → with_each_granted p granted (with_readings p readings [] ports) ≡ with_readings p readings granted ports }
+{}
