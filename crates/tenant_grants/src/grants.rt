@@ -73,6 +73,7 @@ impl Grants {
     }
 
     /// The owner's place. Takes no memory, as no call that only looks but [`Grants::list`].
+    #[inline(always)]
     pub fn own(&self) -> TenantId
         ensures place { result ≡ self.now.owner.place }
         ensures kept { AreKept self.now }
@@ -192,6 +193,7 @@ impl Grants {
     }
 
     /// How many binds there are.
+    #[inline(always)]
     pub fn bind_count(&self) -> usize
         ensures { result ≡ length self.now.binds }
     {

@@ -34,13 +34,43 @@ pub enum Row {
 }
 
 impl Offer {
-    /// An equal offer.
+    /// An equal offer. Takes no memory.
     pub fn copy(&self) -> Offer
         ensures { result ≡ self.now }
     {
         Offer {
             actuator: self.actuator.copy(),
             tenant: self.tenant.copy(),
+        }
+    }
+}
+
+impl Bind {
+    /// An equal bind. Takes no memory.
+    pub fn copy(&self) -> Bind
+        ensures { result ≡ self.now }
+    {
+        let Bind {
+            sensor,
+            tenant,
+            actuator,
+        } = self;
+        Bind {
+            sensor: sensor.copy(),
+            tenant: tenant.copy(),
+            actuator: actuator.copy(),
+        }
+    }
+}
+
+impl Row {
+    /// An equal row. Takes no memory.
+    pub fn copy(&self) -> Row
+        ensures { result ≡ self.now }
+    {
+        match self {
+            Row::Offer(offer) => Row::Offer(offer.copy()),
+            Row::Bind(bind) => Row::Bind(bind.copy()),
         }
     }
 }

@@ -2,12 +2,14 @@
 use Rattle.std.proofs.Common.{◌≡◌, ℕ, zero, suc, ◌<◌, ◌==◌, Bool, true, false, List, [], ◌∷◌, length, Some, None, codes, refl, ap, ◌∙◌, arith}
 use Rattle.std.proofs.lemmas.Bool.Decides.{nat_tests}
 use Rattle.std.specs.Bool.{then_some}
+use Rattle.std.specs.Option.{option_map}
 use Rattle.giotto_tasks.specs.Names.{same_name}
 use Rattle.giotto_tasks.proofs.NameLemmas.{same_name_is}
 use Rattle.tenant_lines.specs.declared.commands.Command.{Command}
-use Rattle.tenant_lines.specs.declared.commands.Command.TheVariants.{ShowPort}
+use Rattle.tenant_lines.specs.declared.commands.Command.TheVariants.{ShowPort, Grants}
 use Rattle.tenant_lines.specs.declared.ports.PortName.{PortName}
 use Rattle.tenant_lines.specs.CommandLine.{alone, command_of_words, port_of_word, port_shown_by, shown_by}
+use Rattle.tenant_lines.specs.GrantLines.{grant_command_of_words}
 use Rattle.tenant_lines.specs.Words.{words_of, first_word_of, behind_first_word}
 use Rattle.tenant_lines.proofs.WordLemmas.{words_first, words_none}
 
@@ -59,8 +61,8 @@ pub others_shown : (rest : List ℕ) → (first_word_of rest ≡ codes "mode" �
 others_shown rest no_mode no_all no_port = by_word rest (λ ws. shown_by ws ≡ None) (λ none. refl)
     (λ some. rw (not_same (first_word_of rest) (codes "mode") no_mode, not_same (first_word_of rest) (codes "all") no_all, not_same (first_word_of rest) (codes "port") no_port) refl)
 
--- no command begins with another word
+-- what begins with another word is a command about grants, or none
 pub other_words : (line : List ℕ) → (first_word_of line ≡ codes "start" → ⊥) → (first_word_of line ≡ codes "stop" → ⊥) → (first_word_of line ≡ codes "show" → ⊥)
-    → command_of_words (words_of line) ≡ None
-other_words line no_start no_stop no_show = by_word line (λ ws. command_of_words ws ≡ None) (λ none. refl)
+    → command_of_words (words_of line) ≡ option_map Grants (grant_command_of_words (words_of line))
+other_words line no_start no_stop no_show = by_word line (λ ws. command_of_words ws ≡ option_map Grants (grant_command_of_words ws)) (λ none. refl)
     (λ some. rw (not_same (first_word_of line) (codes "start") no_start, not_same (first_word_of line) (codes "stop") no_stop, not_same (first_word_of line) (codes "show") no_show) refl)

@@ -8,7 +8,7 @@ use Rattle.giotto_tasks.proofs.NameLemmas.{same_name_self}
 use Rattle.giotto_text.specs.Bytes.{is_name}
 use Rattle.tenant_lines.specs.declared.grant_lines.GrantCommand.{GrantCommand}
 use Rattle.tenant_lines.specs.declared.grant_lines.GrantCommand.TheVariants.{Rows}
-use Rattle.tenant_lines.specs.inner.GrantLines.{offer_of, unoffer_of, bind_of, unbind_of, grant_command_of_words}
+use Rattle.tenant_lines.specs.GrantLines.{offer_of, unoffer_of, bind_of, unbind_of, grant_command_of_words}
 use Rattle.tenant_lines.specs.Words.{words_of, first_word_of, behind_first_word}
 use Rattle.tenant_lines.specs.inner.GrantWords.{word_behind}
 use Rattle.tenant_lines.proofs.CommandLines.{by_word, not_same, words_begin}

@@ -1,7 +1,9 @@
 -- Which lines are commands about grants, computed from the definitions.
 use Rattle.std.proofs.Common.{◌≡◌, Some, None, codes, refl}
 use Rattle.tenant_lines.specs.declared.grant_lines.GrantCommand.TheVariants.{Offer, Unoffer, Bind, Unbind, Rows}
-use Rattle.tenant_lines.specs.inner.GrantLines.{grant_command_of_line}
+use Rattle.tenant_lines.specs.declared.commands.Command.TheVariants.{Grants}
+use Rattle.tenant_lines.specs.CommandLine.{command_of_line}
+use Rattle.tenant_lines.specs.inner.GrantWords.{grant_command_of_line}
 
 pub offer_to : grant_command_of_line (codes "offer a to beta") ≡ Some (Offer (codes "a") (codes "beta"))
 offer_to = refl
@@ -62,3 +64,25 @@ rows_now = refl
 
 pub blank_line : grant_command_of_line (codes " ") ≡ None
 blank_line = refl
+
+-- to a tenant such a line is one of its commands
+pub offer_commanded : command_of_line (codes "offer a to beta") ≡ Some (Grants (Offer (codes "a") (codes "beta")))
+offer_commanded = refl
+
+pub unoffer_commanded : command_of_line (codes "unoffer a to beta") ≡ Some (Grants (Unoffer (codes "a") (codes "beta")))
+unoffer_commanded = refl
+
+pub bind_commanded : command_of_line (codes " bind g  from alpha.a\r") ≡ Some (Grants (Bind (codes "g") (codes "alpha") (codes "a")))
+bind_commanded = refl
+
+pub unbind_commanded : command_of_line (codes "unbind g") ≡ Some (Grants (Unbind (codes "g")))
+unbind_commanded = refl
+
+pub rows_commanded : command_of_line (codes "rows") ≡ Some (Grants Rows)
+rows_commanded = refl
+
+pub rows_now_commanded : command_of_line (codes "rows now") ≡ None
+rows_now_commanded = refl
+
+pub no_word_commanded : command_of_line (codes " ") ≡ None
+no_word_commanded = refl

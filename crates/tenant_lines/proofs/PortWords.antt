@@ -3,7 +3,8 @@ use Rattle.std.proofs.Common.{◌≡◌, ℕ, ◌<◌, true, false, List, [], �
 use Rattle.std.proofs.lemmas.Bool.Decides.{nat_tests}
 use Rattle.std.specs.List.{list_all, position_or_len, before_first, after_first}
 use Rattle.giotto_text.specs.Bytes.{is_name, is_name_byte}
-use Rattle.tenant_lines.specs.CommandLine.{is_dot, own_port_of, port_of_word}
+use Rattle.tenant_lines.specs.CommandLine.{own_port_of, port_of_word}
+use Rattle.tenant_lines.specs.Words.{is_dot}
 
 -- no byte of a name is a dot
 dot_in_no_name : (c : ℕ) → is_name_byte c ≡ true → is_dot c ≡ false

@@ -1,16 +1,14 @@
 -- The command that a line spells.
-use Rattle.std.specs.Prelude.{ℕ, Bool, ◌&&◌, ◌==◌, if◌then◌else◌, List, [], ◌∷◌, drop, Option, Some, None, codes}
+use Rattle.std.specs.Prelude.{ℕ, ◌&&◌, if◌then◌else◌, List, [], ◌∷◌, drop, Option, Some, None, codes}
 use Rattle.std.specs.List.{before_first, after_first}
-use Rattle.std.specs.Option.{option_and_then}
+use Rattle.std.specs.Option.{option_and_then, option_map}
 use Rattle.giotto_tasks.specs.Names.{same_name}
 use Rattle.giotto_text.specs.Bytes.{is_name}
 use Rattle.tenant_lines.specs.declared.commands.Command.{Command}
-use Rattle.tenant_lines.specs.declared.commands.Command.TheVariants.{Load, Start, Stop, ShowMode, ShowPort, ShowAll}
+use Rattle.tenant_lines.specs.declared.commands.Command.TheVariants.{Load, Start, Stop, ShowMode, ShowPort, ShowAll, Grants}
 use Rattle.tenant_lines.specs.declared.ports.PortName.{PortName}
-use Rattle.tenant_lines.specs.Words.{words_of, first_word_of, behind_first_word}
-
-abbrev pub is_dot : ℕ → Bool
-is_dot c = c == 46
+use Rattle.tenant_lines.specs.GrantLines.{grant_command_of_words}
+use Rattle.tenant_lines.specs.Words.{is_dot, words_of, first_word_of, behind_first_word}
 
 -- TASK and NAME, as the name of a port
 abbrev pub own_port_of : List ℕ → List ℕ → Option PortName
@@ -41,14 +39,14 @@ shown_by (w ∷ ws) =
     else if same_name w (codes "port") then port_shown_by ws
     else None
 
--- "start", "stop", "show mode", "show all", "show port NAME" or "show port TASK.NAME"
+-- "start", "stop", "show mode", "show all", "show port NAME" or "show port TASK.NAME", or else a command about grants
 abbrev pub command_of_words : List (List ℕ) → Option Command
 command_of_words [] = None
 command_of_words (w ∷ ws) =
     if same_name w (codes "start") then alone Start ws
     else if same_name w (codes "stop") then alone Stop ws
     else if same_name w (codes "show") then shown_by ws
-    else None
+    else option_map Grants (grant_command_of_words (w ∷ ws))
 
 -- "load TEXT", where the text is all that follows the one blank behind the word; or the other commands by their words
 abbrev pub command_of_line : List ℕ → Option Command

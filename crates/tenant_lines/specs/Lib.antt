@@ -1,4 +1,5 @@
 pub mod CommandLine
+pub mod GrantLines
 pub mod Replies
 pub mod Words
 pub mod inner

@@ -4,14 +4,16 @@ use Rattle.std.specs.Fmt.{decimal, signed_decimal}
 use Rattle.std.specs.List.{flat_map}
 use Rattle.std.specs.Option.{option_map_or}
 use Rattle.giotto_text.specs.PortNames.{own_port}
+use Rattle.tenant_grants.specs.declared.rows.Row.{Row}
+use Rattle.tenant_grants.specs.declared.rows.Row.TheVariants as row
 use Rattle.tenant_lines.specs.declared.ports.PortName.{PortName}
 use Rattle.tenant_lines.specs.declared.ports.PortValue.{PortValue}
 use Rattle.tenant_lines.specs.declared.replies.Budget.{Budget}
 use Rattle.tenant_lines.specs.declared.replies.Budget.TheVariants.{Bytes, Ports, Tasks, Modes, Steps, Lines, Offers, Binds}
 use Rattle.tenant_lines.specs.declared.replies.Refusal.{Refusal}
-use Rattle.tenant_lines.specs.declared.replies.Refusal.TheVariants.{BadCommand, Syntax, TooDeep, TooMany, Rule, Running, NotRunning, NotLoaded, NoPort, OverBudget, Memory}
+use Rattle.tenant_lines.specs.declared.replies.Refusal.TheVariants.{BadCommand, Syntax, TooDeep, TooMany, Rule, Running, NotRunning, NotLoaded, NoPort, NoTenant, Own, Twice, NotThere, OverBudget, Memory}
 use Rattle.tenant_lines.specs.declared.replies.Reply.{Reply}
-use Rattle.tenant_lines.specs.declared.replies.Reply.TheVariants.{Loaded, Started, Stopped, Mode, Port, All, Refused}
+use Rattle.tenant_lines.specs.declared.replies.Reply.TheVariants.{Loaded, Started, Stopped, Mode, Port, All, Offered, Unoffered, Bound, Unbound, Rows, Refused}
 use Rattle.tenant_lines.specs.declared.replies.Status.{Status}
 use Rattle.tenant_lines.specs.declared.replies.Status.TheVariants as status
 
@@ -37,6 +39,10 @@ text_of_refusal Running = codes "running"
 text_of_refusal NotRunning = codes "not-running"
 text_of_refusal NotLoaded = codes "not-loaded"
 text_of_refusal NoPort = codes "no-port"
+text_of_refusal NoTenant = codes "no-tenant"
+text_of_refusal Own = codes "own"
+text_of_refusal Twice = codes "twice"
+text_of_refusal NotThere = codes "not-there"
 text_of_refusal (OverBudget b) = codes "budget " ++ word_of_budget b
 text_of_refusal Memory = codes "memory"
 
@@ -47,6 +53,11 @@ text_of_port x = option_map_or (λ t. own_port t x.name) x.task x.name
 -- " P=V"
 abbrev pub text_of_value : PortValue → List ℕ
 text_of_value v = codes " " ++ (text_of_port v.port ++ (codes "=" ++ signed_decimal v.value))
+
+-- " offer:ACTUATOR:TENANT" or " bind:SENSOR:TENANT:ACTUATOR"
+abbrev pub text_of_row : Row → List ℕ
+text_of_row (row.Offer o) = codes " offer:" ++ (o.actuator ++ (codes ":" ++ o.tenant))
+text_of_row (row.Bind b) = codes " bind:" ++ (b.sensor ++ (codes ":" ++ (b.tenant ++ (codes ":" ++ b.actuator))))
 
 -- what stands behind "ok mode "
 abbrev pub text_of_status : Status → List ℕ
@@ -64,4 +75,9 @@ text_of_reply Stopped = codes "ok stop"
 text_of_reply (Mode s) = codes "ok mode " ++ text_of_status s
 text_of_reply (Port v) = codes "ok port " ++ (text_of_port v.port ++ (codes " " ++ signed_decimal v.value))
 text_of_reply (All vs) = codes "ok all" ++ flat_map text_of_value vs
+text_of_reply Offered = codes "ok offer"
+text_of_reply Unoffered = codes "ok unoffer"
+text_of_reply Bound = codes "ok bind"
+text_of_reply Unbound = codes "ok unbind"
+text_of_reply (Rows rs) = codes "ok rows" ++ flat_map text_of_row rs
 text_of_reply (Refused r) = codes "err " ++ text_of_refusal r

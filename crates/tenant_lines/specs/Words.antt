@@ -38,6 +38,10 @@ first_word_of line = take_while is_word_byte (from_first_word line)
 abbrev pub behind_first_word : List ℕ → List ℕ
 behind_first_word line = drop (prefix_len is_word_byte (from_first_word line)) (from_first_word line)
 
+-- where a name of two parts is cut
+abbrev pub is_dot : ℕ → Bool
+is_dot c = c == 46
+
 -- the value of decimal digits, if it is one
 abbrev pub digits_as : (ℕ → Option ℤ) → List ℕ → Option ℤ
 digits_as of_size [] = None

@@ -6,6 +6,7 @@ ghost use Rattle.tenant_lines.specs.CommandLine.{alone, command_of_words, comman
 ghost use Rattle.tenant_lines.specs.Words.{words_of, behind_first_word};
 
 use crate::commands::Command;
+use crate::grant_lines::grant_command_of;
 use crate::ports::PortName;
 use crate::texts::Text;
 use crate::words::{behind_first_word, first_word};
@@ -26,7 +27,8 @@ pub enum LineFault {
 }
 
 /// The command of a line, without the tenant's name: `load TEXT`, `start`, `stop`, `show mode`, `show all`, `show port NAME` or
-/// `show port TASK.NAME`.
+/// `show port TASK.NAME`, or a command about grants: `offer NAME to TENANT`, `unoffer NAME to TENANT`, `bind NAME from TENANT.NAME`,
+/// `unbind NAME` or `rows`. NAME, TASK and TENANT have the shape of a program's name.
 ///
 /// The text of `load` is all that follows the one blank behind the word; it alone takes memory. Words of the others are
 /// separated by one or more blanks.
@@ -62,7 +64,7 @@ fn command_of_words(line: &str) -> Option<Command>
         "start" => alone(Command::Start, rest),
         "stop" => alone(Command::Stop, rest),
         "show" => show(rest),
-        _ => None,
+        _ => Some(Command::Grants(grant_command_of(line)?)),
     }
 }
 

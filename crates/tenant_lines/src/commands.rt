@@ -3,6 +3,7 @@
 ghost use Rattle.std.specs.Prelude.{◌≡◌, IsTrue, IsErr, IfOk};
 ghost use Rattle.tenant_lines.specs.inner.Copies.{has_text};
 
+use crate::grant_lines::GrantCommand;
 use crate::ports::PortName;
 use crate::texts::Text;
 use std::alloc::{AllocError, Global};
@@ -22,6 +23,8 @@ pub enum Command {
     ShowPort(PortName),
     /// `show all`: the value of every port.
     ShowAll,
+    /// `offer`, `unoffer`, `bind`, `unbind` or `rows`: the commands about grants.
+    Grants(GrantCommand),
 }
 
 impl Command {
@@ -40,6 +43,7 @@ impl Command {
             Command::ShowMode => Command::ShowMode,
             Command::ShowPort(port) => Command::ShowPort(port.copy()),
             Command::ShowAll => Command::ShowAll,
+            Command::Grants(command) => Command::Grants(command.copy()),
         })
     }
 }

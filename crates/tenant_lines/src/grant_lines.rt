@@ -1,12 +1,9 @@
-//! The commands by which tenants grant each other values, and the lines that spell them. No program calls this yet: to
-//! [`command_of`] such a line is a bad command.
-//!
-//! [`command_of`]: crate::command_lines::command_of
+//! The commands by which tenants grant each other values, and the lines that spell them.
 
 ghost use Rattle.std.specs.Prelude.{◌≡◌, ◌<◌, length};
-ghost use Rattle.tenant_lines.specs.inner.GrantLines.{offer_of, unoffer_of, bind_of, bind_to, unbind_of, grant_command_of_line};
+ghost use Rattle.tenant_lines.specs.GrantLines.{offer_of, unoffer_of, bind_of, bind_to, unbind_of};
 ghost use Rattle.tenant_lines.specs.Words.{words_of};
-ghost use Rattle.tenant_lines.specs.inner.GrantWords.{word_behind};
+ghost use Rattle.tenant_lines.specs.inner.GrantWords.{grant_command_of_line, word_behind};
 
 use crate::command_lines::name_of_word;
 use crate::words::{behind_first_word, first_word};
@@ -76,7 +73,7 @@ impl GrantCommand {
 ///
 /// Words are separated by one or more blanks. NAME and TENANT have the shape of a program's name, keywords included;
 /// TENANT.NAME is cut at its first dot. Takes no memory.
-pub fn grant_command_of(line: &str) -> Option<GrantCommand>
+pub(crate) fn grant_command_of(line: &str) -> Option<GrantCommand>
     ensures { result ≡ grant_command_of_line line.now }
 {
     let behind = behind_first_word(line);

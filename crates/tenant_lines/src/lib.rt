@@ -6,9 +6,8 @@
 //! ```
 //!
 //! [`words`] cuts a line at its blanks, [`command_lines`] tells which command it spells, [`commands`] and [`replies`] have
-//! the commands and their replies, each with its text, and [`ports`] the ports in both. `specs/Words.antt`,
-//! `CommandLine.antt` and `Replies.antt` define them. [`grant_lines`] has the commands about grants and their lines, by
-//! `specs/inner/GrantLines.antt`; no program calls it yet.
+//! the commands and their replies, each with its text, and [`ports`] the ports in both. [`grant_lines`] has the
+//! commands about grants and their lines. `specs/Words.antt`, `CommandLine.antt`, `GrantLines.antt` and `Replies.antt` define them.
 #![tactic(auto)]
 
 pub mod command_lines;

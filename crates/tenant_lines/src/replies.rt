@@ -3,13 +3,14 @@
 ghost use Rattle.std.specs.Prelude.{◌≡◌, ◌↔◌, ◌++◌, codes, IfOk, IsErr, IsTrue, string_bytes};
 ghost use Rattle.std.specs.Fmt.{signed_decimal};
 ghost use Rattle.std.specs.List.{flat_map};
-ghost use Rattle.tenant_lines.specs.inner.Copies.{lists_ports};
-ghost use Rattle.tenant_lines.specs.Replies.{word_of_budget, text_of_port, text_of_refusal, text_of_reply, text_of_status, text_of_value};
+ghost use Rattle.tenant_lines.specs.inner.Copies.{has_list};
+ghost use Rattle.tenant_lines.specs.Replies.{word_of_budget, text_of_port, text_of_refusal, text_of_reply, text_of_row, text_of_status, text_of_value};
 
 use crate::ports::PortValue;
 use giotto_tasks::lists::List;
 use giotto_tasks::names::Name;
 use std::alloc::{AllocError, Global};
+use tenant_grants::rows::Row;
 
 /// What a budget bounds.
 #[derive(Clone, Copy, Debug, PartialEq, Eq)]
@@ -45,6 +46,14 @@ pub enum Refusal {
     NotLoaded,
     /// `err no-port`: the program has no such port.
     NoPort,
+    /// `err no-tenant`: the roster has no tenant of this name.
+    NoTenant,
+    /// `err own`: the tenant itself.
+    Own,
+    /// `err twice`: the row stands already.
+    Twice,
+    /// `err not-there`: there is no such row.
+    NotThere,
     /// `err budget WORD`: the program, or one row more, is over this budget.
     OverBudget(Budget),
     /// `err memory`: want of memory.
@@ -81,6 +90,16 @@ pub enum Reply {
     Port(PortValue),
     /// `ok all`, and for each port ` P=V`
     All(List<PortValue>),
+    /// `ok offer`
+    Offered,
+    /// `ok unoffer`
+    Unoffered,
+    /// `ok bind`
+    Bound,
+    /// `ok unbind`
+    Unbound,
+    /// `ok rows`, and for each row ` offer:ACTUATOR:TENANT` or ` bind:SENSOR:TENANT:ACTUATOR`
+    Rows(List<Row>),
     /// `err ..`: nothing has changed.
     Refused(Refusal),
 }
@@ -101,13 +120,13 @@ impl Status {
 }
 
 impl Reply {
-    /// An equal reply. Takes memory for the ports of `show all` alone.
+    /// An equal reply. Takes memory for the ports of `show all` and the rows of `rows` alone.
     ///
     /// # Errors
     /// Want of memory.
     pub fn copy(&self, alloc: Global) -> Result<Reply, AllocError>
         ensures same { IfOk result (λ r. r ≡ self.now) }
-        ensures memory { IsErr result → IsTrue (lists_ports self.now) }
+        ensures memory { IsErr result → IsTrue (has_list self.now) }
     {
         Ok(match self {
             Reply::Loaded => Reply::Loaded,
@@ -115,7 +134,12 @@ impl Reply {
             Reply::Stopped => Reply::Stopped,
             Reply::Mode(status) => Reply::Mode(status.copy()),
             Reply::Port(port) => Reply::Port(port.copy()),
-            Reply::All(ports) => Reply::All(copy_of(alloc, ports.as_slice())?),
+            Reply::All(ports) => Reply::All(copy_of_ports(alloc, ports.as_slice())?),
+            Reply::Offered => Reply::Offered,
+            Reply::Unoffered => Reply::Unoffered,
+            Reply::Bound => Reply::Bound,
+            Reply::Unbound => Reply::Unbound,
+            Reply::Rows(rows) => Reply::Rows(copy_of_rows(alloc, rows.as_slice())?),
             Reply::Refused(refusal) => Reply::Refused(*refusal),
         })
     }
@@ -128,12 +152,22 @@ impl Reply {
     }
 }
 
-fn copy_of(alloc: Global, ports: &[PortValue]) -> Result<List<PortValue>, AllocError>
+fn copy_of_ports(alloc: Global, ports: &[PortValue]) -> Result<List<PortValue>, AllocError>
     ensures { IfOk result (λ copy. copy ≡ ports.now) }
 {
     let mut copy = Vec::new(alloc);
     for port in ports {
         copy.push(port.copy())?;
+    }
+    Ok(List::from_vec(copy))
+}
+
+fn copy_of_rows(alloc: Global, rows: &[Row]) -> Result<List<Row>, AllocError>
+    ensures { IfOk result (λ copy. copy ≡ rows.now) }
+{
+    let mut copy = Vec::new(alloc);
+    for row in rows {
+        copy.push(row.copy())?;
     }
     Ok(List::from_vec(copy))
 }
@@ -170,6 +204,11 @@ pub fn print_reply(alloc: Global, reply: &Reply) -> Result<String, AllocError>
         Reply::Mode(status) => print_status(alloc, status),
         Reply::Port(port) => print_port(alloc, port),
         Reply::All(ports) => print_all(alloc, ports.as_slice()),
+        Reply::Offered => String::from_str(alloc, "ok offer"),
+        Reply::Unoffered => String::from_str(alloc, "ok unoffer"),
+        Reply::Bound => String::from_str(alloc, "ok bind"),
+        Reply::Unbound => String::from_str(alloc, "ok unbind"),
+        Reply::Rows(rows) => print_rows(alloc, rows.as_slice()),
         Reply::Refused(refusal) => {
             let why = print_refusal(alloc, *refusal)?;
             format!(in alloc; "err {}", why.as_str())
@@ -217,6 +256,37 @@ fn print_all(alloc: Global, ports: &[PortValue]) -> Result<String, AllocError>
     Ok(text)
 }
 
+// The text of the reply to `rows`.
+fn print_rows(alloc: Global, rows: &[Row]) -> Result<String, AllocError>
+    ensures { IfOk result (λ text. string_bytes text ≡ codes "ok rows" ++ flat_map text_of_row rows.now) }
+{
+    let mut text = String::from_str(alloc, "ok rows")?;
+    for row in rows {
+        let one = print_row(alloc, row)?;
+        text.push_str(one.as_str())?;
+    }
+    Ok(text)
+}
+
+// A row as it is told, with the blank before it.
+fn print_row(alloc: Global, row: &Row) -> Result<String, AllocError>
+    ensures { IfOk result (λ text. string_bytes text ≡ text_of_row row.now) }
+{
+    match row {
+        Row::Offer(offer) => format!(in alloc;
+            " offer:{}:{}",
+            offer.actuator.as_str(),
+            offer.tenant.as_str()
+        ),
+        Row::Bind(bind) => format!(in alloc;
+            " bind:{}:{}:{}",
+            bind.sensor.as_str(),
+            bind.tenant.as_str(),
+            bind.actuator.as_str()
+        ),
+    }
+}
+
 // The text of a refusal, without the word `err`.
 fn print_refusal(alloc: Global, refusal: Refusal) -> Result<String, AllocError>
     ensures { IfOk result (λ text. string_bytes text ≡ text_of_refusal refusal) }
@@ -231,6 +301,10 @@ fn print_refusal(alloc: Global, refusal: Refusal) -> Result<String, AllocError>
         Refusal::NotRunning => String::from_str(alloc, "not-running"),
         Refusal::NotLoaded => String::from_str(alloc, "not-loaded"),
         Refusal::NoPort => String::from_str(alloc, "no-port"),
+        Refusal::NoTenant => String::from_str(alloc, "no-tenant"),
+        Refusal::Own => String::from_str(alloc, "own"),
+        Refusal::Twice => String::from_str(alloc, "twice"),
+        Refusal::NotThere => String::from_str(alloc, "not-there"),
         Refusal::OverBudget(budget) => format!(in alloc; "budget {}", budget.as_str()),
         Refusal::Memory => String::from_str(alloc, "memory"),
     }

@@ -1,12 +1,13 @@
 //! The names that commands and replies have, by slots and places.
 
-ghost use Rattle.std.specs.Prelude.{◌≡◌, length, slice_get, IsSomeAnd};
+ghost use Rattle.std.specs.Prelude.{◌≡◌, ◌<◌, length, slice_get, IsSomeAnd};
 ghost use Rattle.std.specs.List.{position_from};
 ghost use Rattle.std.specs.Option.{option_map};
 ghost use Rattle.giotto_tasks.specs.Names.{same_name};
 ghost use Rattle.giotto_text.specs.declared.programs.Mode.{Mode};
 ghost use Rattle.giotto_check.specs.inner.Slots.{slots_of};
 ghost use Rattle.giotto_check.specs.Slots.{valuation_of};
+ghost use Rattle.tenant_slots.specs.Places.{name_of_task};
 ghost use Rattle.tenant_slots.specs.Ports.{value_of_port};
 
 use giotto_check::Checked;
@@ -23,6 +24,22 @@ pub fn port_value(program: &Checked, task: Option<&str>, name: &str, values: &[i
     let _program = program.program();
     let slot = program.slot(task, name)?;
     values.get(slot).copied()
+}
+
+/// The name of the task at a place of the program, in text order from 0. Takes no memory.
+pub fn task_name(checked: &Checked, place: usize) -> Name
+    requires { place < length checked.now.tasks }
+    ensures { result ≡ name_of_task checked.now place }
+{
+    checked.program().tasks()[place].name.copy()
+}
+
+/// Whether the task at a place of the program has this name. Takes no memory.
+pub fn is_task_named(checked: &Checked, place: usize, name: &str) -> bool
+    requires { place < length checked.now.tasks }
+    ensures { result ≡ same_name (name_of_task checked.now place) name.now }
+{
+    checked.program().tasks()[place].name.as_str() == name
 }
 
 /// The place of the mode in which a program starts, in text order from 0.

@@ -5,8 +5,7 @@ use Rattle.giotto_tasks.specs.Names.{same_name}
 use Rattle.giotto_text.specs.Bytes.{is_name}
 use Rattle.tenant_lines.specs.declared.grant_lines.GrantCommand.{GrantCommand}
 use Rattle.tenant_lines.specs.declared.grant_lines.GrantCommand.TheVariants.{Offer, Unoffer, Bind, Unbind, Rows}
-use Rattle.tenant_lines.specs.CommandLine.{is_dot}
-use Rattle.tenant_lines.specs.Words.{words_of}
+use Rattle.tenant_lines.specs.Words.{is_dot}
 
 -- an actuator and a tenant to offer it to, where both have the shape of names
 abbrev pub offer_of : List ℕ → List ℕ → Option GrantCommand
@@ -38,7 +37,3 @@ grant_command_of_words (v ∷ x ∷ w ∷ y ∷ []) =
     else if same_name v (codes "bind") && same_name w (codes "from") then bind_of x y
     else None
 grant_command_of_words _ = None
-
--- the words are separated by one or more blanks, and nothing stands behind them
-abbrev pub grant_command_of_line : List ℕ → Option GrantCommand
-grant_command_of_line line = grant_command_of_words (words_of line)

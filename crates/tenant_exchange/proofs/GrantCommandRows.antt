@@ -1,0 +1,89 @@
+-- What commands about grants do to the rows of tenant alpha, of the roster alpha, beta, and what its sensors are granted, computed from the definitions.
+use Rattle.std.proofs.Common.{◌≡◌, true, false, pos, [], ◌∷◌, Some, None, codes, refl}
+use Rattle.tenant_grants.specs.Grants.{GrantRows}
+use Rattle.tenant_grants.specs.declared.rows.Row.TheVariants as row
+use Rattle.tenant_lines.specs.declared.grant_lines.GrantCommand.TheVariants.{Offer, Unoffer, Bind, Unbind, Rows}
+use Rattle.tenant_lines.specs.declared.replies.Budget.TheVariants as budget
+use Rattle.tenant_lines.specs.declared.replies.Refusal.TheVariants.{NoTenant, Own, Twice, NotThere, OverBudget}
+use Rattle.tenant_lines.specs.declared.replies.Reply.TheVariants as reply
+use Rattle.tenant_lines.specs.Replies.{text_of_reply}
+use Rattle.tenant_exchange.specs.Commands.{grants_commanded, takes_memory}
+use Rattle.tenant_exchange.specs.Granted.{granted_along}
+
+-- one offer, one bind, and room for no more
+alpha : GrantRows
+alpha = record {
+  owner = record { place = 0; roster = codes "alpha" ∷ codes "beta" ∷ []; most_offers = 1; most_binds = 1 };
+  offers = (record { actuator = codes "a"; tenant = codes "beta" }) ∷ [];
+  binds = (record { sensor = codes "s"; tenant = codes "beta"; actuator = codes "x" }) ∷ [];
+}
+
+offer_twice : grants_commanded (Offer (codes "a") (codes "beta")) alpha ≡ record { rows = alpha; reply = reply.Refused Twice }
+unfolding alpha
+offer_twice = refl
+
+offer_over_budget : grants_commanded (Offer (codes "b") (codes "beta")) alpha ≡ record { rows = alpha; reply = reply.Refused (OverBudget budget.Offers) }
+unfolding alpha
+offer_over_budget = refl
+
+bind_over_budget : grants_commanded (Bind (codes "r") (codes "beta") (codes "x")) alpha ≡ record { rows = alpha; reply = reply.Refused (OverBudget budget.Binds) }
+unfolding alpha
+bind_over_budget = refl
+
+bind_to_nobody : grants_commanded (Bind (codes "r") (codes "gamma") (codes "x")) alpha ≡ record { rows = alpha; reply = reply.Refused NoTenant }
+unfolding alpha
+bind_to_nobody = refl
+
+bind_to_itself : grants_commanded (Bind (codes "r") (codes "alpha") (codes "x")) alpha ≡ record { rows = alpha; reply = reply.Refused Own }
+unfolding alpha
+bind_to_itself = refl
+
+unoffer_not_there : grants_commanded (Unoffer (codes "b") (codes "beta")) alpha ≡ record { rows = alpha; reply = reply.Refused NotThere }
+unfolding alpha
+unoffer_not_there = refl
+
+unoffer_done : grants_commanded (Unoffer (codes "a") (codes "beta")) alpha ≡ record { rows = record alpha { offers = [] }; reply = reply.Unoffered }
+unfolding alpha
+unoffer_done = refl
+
+unbind_done : grants_commanded (Unbind (codes "s")) alpha ≡ record { rows = record alpha { binds = [] }; reply = reply.Unbound }
+unfolding alpha
+unbind_done = refl
+
+rows_listed : (grants_commanded Rows alpha).reply ≡ reply.Rows (row.Offer (record { actuator = codes "a"; tenant = codes "beta" }) ∷ row.Bind (record { sensor = codes "s"; tenant = codes "beta"; actuator = codes "x" }) ∷ [])
+unfolding alpha
+rows_listed = refl
+
+-- and told in one line
+rows_told : text_of_reply (grants_commanded Rows alpha).reply ≡ codes "ok rows offer:a:beta bind:s:beta:x"
+unfolding alpha
+rows_told = refl
+
+no_rows_told : text_of_reply (grants_commanded Rows (record alpha { offers = []; binds = [] })).reply ≡ codes "ok rows"
+unfolding alpha
+no_rows_told = refl
+
+over_budget_told : text_of_reply (grants_commanded (Bind (codes "r") (codes "beta") (codes "x")) alpha).reply ≡ codes "err budget binds"
+unfolding alpha
+over_budget_told = refl
+
+-- listing rows takes memory, and listing none doesn't
+rows_take_memory : takes_memory Rows alpha ≡ true
+unfolding alpha
+rows_take_memory = refl
+
+no_rows_take_none : takes_memory Rows (record alpha { offers = []; binds = [] }) ≡ false
+unfolding alpha
+no_rows_take_none = refl
+
+-- a bind through which nothing is granted leaves its sensor out
+one_missing : granted_along ((record { sensor = codes "r"; tenant = codes "beta"; actuator = codes "y" }) ∷ (record { sensor = codes "s"; tenant = codes "beta"; actuator = codes "x" }) ∷ []) (None ∷ Some (pos 7) ∷ [])
+    ≡ (codes "s", pos 7) ∷ []
+one_missing = refl
+
+-- a value without a bind, and a bind without a value, grant nothing
+more_values : granted_along ((record { sensor = codes "s"; tenant = codes "beta"; actuator = codes "x" }) ∷ []) (Some (pos 7) ∷ Some (pos 8) ∷ []) ≡ (codes "s", pos 7) ∷ []
+more_values = refl
+
+more_binds : granted_along ((record { sensor = codes "s"; tenant = codes "beta"; actuator = codes "x" }) ∷ []) [] ≡ []
+more_binds = refl

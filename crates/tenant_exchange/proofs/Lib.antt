@@ -1,0 +1,3 @@
+pub mod GrantCommandRows
+pub mod GrantedAlong
+pub mod Told

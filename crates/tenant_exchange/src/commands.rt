@@ -1,0 +1,77 @@
+//! What the commands about grants do.
+
+ghost use Rattle.std.specs.Prelude.{◌≡◌, ◌≢◌, false, IfErr, IfOk};
+ghost use Rattle.tenant_exchange.specs.Commands.{grants_commanded, takes_memory, refusal_of};
+ghost use Rattle.tenant_lines.specs.declared.replies.Refusal.{Refusal};
+ghost use Rattle.tenant_lines.specs.declared.replies.Reply.{Reply};
+
+use std::alloc::Global;
+use tenant_grants::faults::GrantFault;
+use tenant_grants::grants::Grants;
+use tenant_lines::grant_lines::GrantCommand;
+use tenant_lines::replies::{Budget, Refusal, Reply};
+
+/// Carries out a command about grants on the rows of the tenant that gives it. A refusal changes nothing, want of memory included.
+/// Only `offer`, `bind`, and `rows` where there is a row, take memory; no other command is refused for it.
+pub fn carry_out(alloc: Global, grants: &mut Grants, command: GrantCommand) -> Reply
+    ensures memory { result ≡ Reply.Refused Refusal.Memory → grants.new ≡ grants.old }
+    ensures room { takes_memory command grants.old ≡ false → result ≢ Reply.Refused Refusal.Memory }
+    ensures owner { grants.new.owner ≡ grants.old.owner }
+    ensures reply { result ≢ Reply.Refused Refusal.Memory → result ≡ (grants_commanded command grants.old).reply }
+    ensures rows { result ≢ Reply.Refused Refusal.Memory → grants.new ≡ (grants_commanded command grants.old).rows }
+{
+    match command {
+        GrantCommand::Offer { actuator, tenant } => answer(
+            grants.offer(actuator, tenant),
+            Reply::Offered,
+            Budget::Offers,
+        ),
+        GrantCommand::Unoffer { actuator, tenant } => answer(
+            grants.unoffer(&actuator, &tenant),
+            Reply::Unoffered,
+            Budget::Offers,
+        ),
+        GrantCommand::Bind {
+            sensor,
+            tenant,
+            actuator,
+        } => answer(
+            grants.bind(sensor, tenant, actuator),
+            Reply::Bound,
+            Budget::Binds,
+        ),
+        GrantCommand::Unbind { sensor } => answer(
+            grants.unbind(&sensor),
+            Reply::Unbound,
+            Budget::Binds,
+        ),
+        GrantCommand::Rows => match grants.list(alloc) {
+            Ok(rows) => Reply::Rows(rows),
+            Err(_) => Reply::Refused(Refusal::Memory),
+        },
+    }
+}
+
+// The reply to a change of the rows: that it is done, or why it isn't. The budget is that of such rows.
+fn answer(done: Result<(), GrantFault>, reply: Reply, budget: Budget) -> Reply
+    ensures done { IfOk done (λ u. result ≡ reply) }
+    ensures refused { IfErr done (λ fault. result ≡ Reply.Refused (refusal_of budget fault)) }
+{
+    match done {
+        Ok(()) => reply,
+        Err(fault) => Reply::Refused(refusal_of(budget, fault)),
+    }
+}
+
+fn refusal_of(budget: Budget, fault: GrantFault) -> Refusal
+    ensures { result ≡ refusal_of budget fault }
+{
+    match fault {
+        GrantFault::NoTenant => Refusal::NoTenant,
+        GrantFault::Own => Refusal::Own,
+        GrantFault::Twice => Refusal::Twice,
+        GrantFault::NotThere => Refusal::NotThere,
+        GrantFault::Budget => Refusal::OverBudget(budget),
+        GrantFault::Memory => Refusal::Memory,
+    }
+}

@@ -1,0 +1,8 @@
+//! What tenants exchange: the rows of grants, changed by their commands, and the granted values, taken by sensors.
+//!
+//! [`commands::carry_out`] carries out a command about grants on one tenant's rows; [`sensors::read_sensors`] reads the sensors of
+//! its program, with the values that are granted along its binds. `specs/Commands.antt` and `specs/Granted.antt` define both.
+#![tactic(auto)]
+
+pub mod commands;
+pub mod sensors;

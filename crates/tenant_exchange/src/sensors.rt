@@ -1,0 +1,40 @@
+//! What the sensors of a tenant's program take.
+
+ghost use Rattle.std.specs.Prelude.{◌≡◌, length};
+ghost use Rattle.giotto_check.specs.inner.Slots.{slots_of};
+ghost use Rattle.giotto_check.specs.Slots.{valuation_of};
+ghost use Rattle.tenant_exchange.specs.Granted.{granted_along};
+ghost use Rattle.tenant_slots.specs.Readings.{readings_within};
+ghost use Rattle.tenant_slots.specs.inner.Readings.{with_readings};
+
+use giotto_check::Checked;
+use rig_config::Budgets;
+use tenant_grants::grants::Grants;
+use tenant_slots::sensors::{sense, take_granted};
+
+/// Writes what each sensor takes. `frame` has the input value of each line, and `granted` by its place what is granted through each
+/// bind, if something is; a place without a bind, and a bind without a place, grant nothing. Takes no memory.
+pub fn read_sensors(
+    checked: &Checked,
+    budgets: &Budgets,
+    frame: &[i64],
+    grants: &Grants,
+    granted: &[Option<i64>],
+    values: &mut [i64],
+)
+    requires { length values.old ≡ slots_of checked.now }
+    ensures { valuation_of checked.now values.new
+        ≡ with_readings checked.now (readings_within budgets.now.reads frame.now) (granted_along grants.now.binds granted.now) (valuation_of checked.now values.old) }
+{
+    sense(checked, budgets, frame, values);
+    // Its ports stand once, and the binds are of different sensors.
+    let _program = checked.program();
+    let _own = grants.own();
+    for i in 0..granted.len() {
+        let Some(value) = granted[i] else { continue };
+        let Some((sensor, _, _)) = grants.bind_at(i) else {
+            return
+        };
+        take_granted(checked, &sensor, value, values);
+    }
+}
