@@ -13,7 +13,6 @@ use Rattle.host_core.specs.declared.events.Event.TheVariants.{Own}
 use Rattle.tenant_jobs.specs.declared.jobs.JobId.{JobId}
 use Rattle.tenant_lines.specs.declared.commands.Command.{Command}
 use Rattle.giotto_rules.specs.Declarations.{mode_named}
-use Rattle.rig_config.specs.Roster.{budgets_at}
 use Rattle.tenant_jobs.specs.Jobs.{same_job}
 use Rattle.tenant_state.specs.Jobs.{job_of, is_active}
 use Rattle.tenant_state.specs.Row.{ActiveTask, Row, empty_row, is_running}
@@ -25,7 +24,8 @@ use Rattle.host_core.specs.Host.{with_rows, after_event}
 use Rattle.host_core.specs.HostState.{HostState, is_counted, row_at}
 use Rattle.host_core.specs.Legal.{next_tick}
 use Rattle.host_core.specs.Setting.{Setting}
-use Rattle.host_core.specs.Views.{after_command, readings_of, run_of, view_of, row_of}
+use Rattle.host_core.specs.Tenancies.{tenancy_at}
+use Rattle.host_core.specs.Views.{after_command, run_of, view_of, row_of}
 use Rattle.tenant_state.proofs.ActiveTasks.{Keeps, kept_by_command}
 use Rattle.host_core.proofs.Histories.{own_row, releases}
 use Rattle.tenant_jobs.proofs.JobNames.{same_job_is}
@@ -90,7 +90,7 @@ module _ (setting : Setting) where
       rows = set host.rows u new
 
       own_marks : (t : ℕ) → t < length setting.config.tenants → Keeps (IsMarked host past t) (next_tick setting past) (after_command setting t c (row_of setting past t)).row
-      own_marks t lt = kept_by_command (IsMarked host past t) (next_tick setting past) (budgets_at setting.config t) c (row_of setting past t)
+      own_marks t lt = kept_by_command (IsMarked host past t) (next_tick setting past) (tenancy_at setting.config t) c (row_of setting past t)
           (record { each = agrees.marks t lt; at = (releases setting base past t).at })
 
       same_row : (t : ℕ) → u ≡ t → t < length setting.config.tenants → (after_command setting u c (row_at host u)).row ≡ (after_command setting t c (row_of setting past t)).row

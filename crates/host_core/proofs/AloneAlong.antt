@@ -1,7 +1,7 @@
 -- The whole host, tenant by tenant, along every legal list of events.
 use Rattle.std.proofs.Common.{◌≡◌, ℕ, ◌+◌, ◌<◌, Bool, true, false, cond, not, ◌&&◌, ◌||◌, ℤ, List, [], ◌∷◌, length, map, filter, get_or, Option, Some, None, refl, sym, ap, ◌∙◌, subst, zero-add, arith}
-use Rattle.std.specs.List.{list_any, filter_map, enumerate_from, AllByRecursion}
-use Rattle.std.specs.Option.{option_map, option_and_then}
+use Rattle.std.specs.List.{list_any, enumerate_from, AllByRecursion}
+use Rattle.std.specs.Option.{option_and_then}
 use Rattle.std.proofs.lemmas.Bool.Decides.{nat_tests}
 use Rattle.std.proofs.lemmas.List.{length-map, get_or-map}
 use Rattle.std.proofs.lemmas.List.FromFn.{length-enumerate_from, get_or-enumerate_from}
@@ -13,31 +13,32 @@ use Rattle.host_core.specs.declared.events.Event.TheVariants.{Own, Tick, Done}
 use Rattle.rig_config.specs.declared.TenantConfig.{TenantConfig}
 use Rattle.tenant_grants.specs.declared.rows.Bind.{Bind}
 use Rattle.tenant_jobs.specs.declared.jobs.JobId.{JobId}
-use Rattle.rig_config.specs.Roster.{is_tenant, place_of, name_at}
+use Rattle.rig_config.specs.Roster.{budgets_at, is_tenant}
 use Rattle.tenant_jobs.specs.Jobs.{same_job}
 use Rattle.tenant_state.specs.Jobs.{job_of, is_active}
 use Rattle.tenant_state.specs.Row.{ActiveTask, Row, empty_row}
 use Rattle.tenant_state.specs.FirstHalf.{unfinished_tasks, due_tasks, first_half_of}
-use Rattle.tenant_state.specs.Readers.{actuator_value}
-use Rattle.tenant_grants.specs.Grants.{offers}
-use Rattle.host_core.specs.Grants.{to_sensor, granted_by, granted_along, granted_to}
+use Rattle.tenant_grants.specs.Grants.{place_in}
+use Rattle.tenant_slots.specs.Readings.{readings_within}
+use Rattle.instant_engine.specs.Grants.{granted_from, granted_to}
+use Rattle.tenant_exchange.specs.Granted.{granted_along}
 use Rattle.host_core.specs.Base.{IsBase}
 use Rattle.host_core.specs.Completions.{has_completion}
 use Rattle.host_core.specs.Host.{instant_of, after_event, host_after}
 use Rattle.host_core.specs.HostState.{HostState, is_counted, row_at, awaits}
 use Rattle.host_core.specs.Legal.{next_tick, may_follow, is_legal, counts}
 use Rattle.host_core.specs.Setting.{Setting}
-use Rattle.host_core.specs.Views.{readings_of, row_of}
+use Rattle.host_core.specs.Tenancies.{roster_of}
+use Rattle.host_core.specs.Views.{row_of}
 use Rattle.tenant_state.specs.Instants.{after_instant}
 use Rattle.tenant_state.proofs.ActiveTasks.{kept_by_instant}
-use Rattle.host_core.proofs.NewHost.{nobody}
 use Rattle.host_core.proofs.Alone.{Agrees, all_due, marks_after, known_after, own_event}
 use Rattle.host_core.proofs.Histories.{unfinished_of, own_instant, releases, completed_is_early}
 use Rattle.tenant_jobs.proofs.JobNames.{same_job_is}
 use Rattle.tenant_state.proofs.JobNames.{own_jobs_active}
 use Rattle.std.proofs.lemmas.Bool.{and_from, and_parts, false_from_ne_true}
 use Rattle.giotto_tasks.proofs.TestLemmas.{either, or_true}
-use Rattle.giotto_tasks.proofs.ListLemmas.{all_map, all_of, all_zip, same_filter, same_filter_map}
+use Rattle.giotto_tasks.proofs.ListLemmas.{all_map, all_of, all_zip, same_filter}
 
 -- the due tasks of the tenant at place t whose jobs aren't counted
 abbrev pub unfinished_at : HostState → ℕ → List Name
@@ -111,18 +112,16 @@ module _ (setting : Setting) where
       ∙ ap (first_half_of (unfinished_of setting past t (row_of setting past t))) (agrees.rows t lt)
 
   same_granted : (rows others halves other_halves : ℕ → Row) → ((u : ℕ) → u < length setting.config.tenants → rows u ≡ others u) → ((u : ℕ) → u < length setting.config.tenants → halves u ≡ other_halves u)
-      → (t : ℕ) → t < length setting.config.tenants → granted_to setting.config rows halves t ≡ granted_to setting.config others other_halves t
+      → (t : ℕ) → t < length setting.config.tenants → granted_to (roster_of setting.config) rows halves t ≡ granted_to (roster_of setting.config) others other_halves t
   same_granted rows others halves other_halves same same_half t lt =
-      ap (λ r. filter_map (granted_along setting.config rows halves t) r.binds) (same t lt)
-      ∙ same_filter_map (granted_along setting.config rows halves t) (granted_along setting.config others other_halves t) (others t).binds (λ b. along b (place_of setting.config b.tenant) refl)
+      (λ k. granted_along (same t lt k).binds (map (λ b. by b (place_in (roster_of setting.config) b.tenant) refl k) (same t lt k).binds))
     where
-      along : (b : Bind) (o : Option ℕ) → place_of setting.config b.tenant ≡ o
-          → option_map (to_sensor b) (option_and_then (granted_by setting.config rows halves t b) o) ≡ option_map (to_sensor b) (option_and_then (granted_by setting.config others other_halves t b) o)
-      along b None e = refl
-      along b (Some u) e =
-          let within : u < length setting.config.tenants = (position-Some (λ (tenant : TenantConfig). same_name tenant.name b.tenant) setting.config.tenants u nobody e).0 in
-          ap (λ (r : Row). option_map (to_sensor b) (cond (offers r.offers b.actuator (name_at setting.config t)) (actuator_value (halves u) b.actuator) None)) (same u within)
-          ∙ ap (λ (h : Row). option_map (to_sensor b) (cond (offers (others u).offers b.actuator (name_at setting.config t)) (actuator_value h b.actuator) None)) (same_half u within)
+      by : (b : Bind) (o : Option ℕ) → place_in (roster_of setting.config) b.tenant ≡ o
+          → option_and_then (granted_from (roster_of setting.config) rows halves t b.actuator) o ≡ option_and_then (granted_from (roster_of setting.config) others other_halves t b.actuator) o
+      by b None e = refl
+      by b (Some u) e =
+          let within : u < length setting.config.tenants = omega (arith, (position-Some (λ n. same_name n b.tenant) (roster_of setting.config) u [] e).0, length-map setting.config.tenants (λ (tenant : TenantConfig). tenant.name)) in
+          λ k. granted_from (roster_of setting.config) (λ v. same u within k) (λ v. same_half u within k) t b.actuator u
 
   same_instant : (host : HostState) (past : List Event) (frame : List ℤ) → Agrees setting host past → (t : ℕ) → t < length setting.config.tenants
       → instant_of setting host frame t ≡ own_instant setting past frame t
@@ -131,7 +130,7 @@ module _ (setting : Setting) where
       let granted = same_granted (row_at host) (row_of setting past)
       (λ u. first_half_of (unfinished_at host u) (row_at host u)) (λ u. first_half_of (unfinished_of setting past u (row_of setting past u)) (row_of setting past u))
       agrees.rows (same_halves host past agrees) t lt in
-      λ k. record { readings = readings_of setting t frame; unfinished = unfinished k; granted = granted k }
+      λ k. record { readings = readings_within (budgets_at setting.config t).reads frame; unfinished = unfinished k; granted = granted k }
 
   -- an instant
   tick_event : IsBase setting.config setting.base → (host : HostState) (past : List Event) (frame : List ℤ) → is_legal setting past ≡ true → Agrees setting host past → Agrees setting (after_event setting host (Tick frame)) (Tick frame ∷ past)

@@ -1,17 +1,15 @@
 -- Tenants that are the same at rest: they differ only in what they have ready for the next instant.
-use Rattle.std.proofs.Common.{◌≡◌, ℕ, false, ◌+◌, ◌<◌, List, [], ◌∷◌, ◌++◌, length, map, get_or, set, Option, Some, None, refl, sym, ap, ◌∙◌, subst, arith}
+use Rattle.std.proofs.Common.{◌≡◌, ℕ, ◌+◌, ◌<◌, ◌≤◌, List, [], ◌∷◌, ◌++◌, length, map, get_or, Option, Some, None, refl, sym, ap, ◌∙◌, subst, arith}
 use Rattle.std.specs.Prelude.{slice_get}
 use Rattle.std.specs.Option.{option_and_then, option_map}
 use Rattle.std.specs.List.{All, flat_map, enumerate_from}
 use Rattle.std.specs.Prelude.{sum}
 use Rattle.std.proofs.Math.ListN as lists
-use Rattle.std.proofs.Math.Seq.{map-set_same}
 use Rattle.std.proofs.lemmas.List.{length-map, get_or_default}
 use Rattle.std.proofs.lemmas.List.Sums.{sum-map}
 use Rattle.std.proofs.lemmas.Simd.{map-map}
 use Rattle.std.proofs.lemmas.Option.{slice_get-get_or, slice_get-map}
 use Rattle.tenant_jobs.specs.declared.jobs.JobId.{JobId}
-use Rattle.instant_engine.specs.inner.Instants.{IsBetween}
 use Rattle.instant_engine.specs.inner.Tables.{IsTaskTable}
 use Rattle.instant_engine.specs.Tenants.{ArePlaced, most_of, tenant_at}
 use Rattle.host_core.specs.HostStanding.{HostStanding, Stands, awaited_in, outstanding_from, outstanding_of}
@@ -42,7 +40,7 @@ rest_twice (x ∷ xs) = ap (λ ys. at_rest x ∷ ys) (rest_twice xs)
 is_at_rest : (n : ℕ) (x y : Standing) → at_rest y ≡ at_rest x → IsAt n x → IsAt n y
 is_at_rest n x y e is = (
   ap (λ (s : Standing). s.row.next_tick) e ∙ is.0,
-  record { known = subst (λ (s : Standing). IsKnown s.row) (sym e) is.1.known; rest = ap (λ (s : Standing). s.ended) e ∙ is.1.rest },
+  record { known = subst (λ (s : Standing). IsKnown s.row) (sym e) is.1.known; binds = subst (λ (s : Standing). length s.row.binds ≤ s.tenancy.owner.most_binds) (sym e) is.1.binds; rest = ap (λ (s : Standing). s.ended) e ∙ is.1.rest },
 )
 
 all_at_rest : (n : ℕ) (xs ys : List Standing) → map at_rest ys ≡ map at_rest xs → All (IsAt n) xs → All (IsAt n) ys
@@ -50,13 +48,13 @@ all_at_rest n xs ys same all k d lt = is_at_rest n (get_or xs k d) (get_or ys k 
 
 table_at_rest : (entries : List TableEntry) (xs ys : List Standing) → map at_rest ys ≡ map at_rest xs → IsTaskTable xs entries → IsTaskTable ys entries
 table_at_rest entries xs ys same table = record {
-  entered = λ j. table.entered j ∙ sym (ap (λ (s : Standing). has_job s.tenancy.place s.row.active j) (same_at_rest xs ys j.tenant no_tenant same));
+  entered = λ j. table.entered j ∙ sym (ap (λ (s : Standing). has_job s.tenancy.owner.place s.row.active j) (same_at_rest xs ys j.tenant no_tenant same));
   results = λ k d lt. subst (λ (s : Standing). HasItsResults s entries) (sym (same_at_rest xs ys k d same)) (table.results k d (omega (arith, lt, same_length xs ys same)));
 }
 
 placed_at_rest : (xs ys : List Standing) → map at_rest ys ≡ map at_rest xs → ArePlaced xs → ArePlaced ys
 placed_at_rest xs ys same placed t lt =
-    ap (λ (s : Standing). s.tenancy.place) (same_at_rest xs ys t no_tenant same) ∙ placed t (omega (arith, lt, same_length xs ys same))
+    ap (λ (s : Standing). s.tenancy.owner.place) (same_at_rest xs ys t no_tenant same) ∙ placed t (omega (arith, lt, same_length xs ys same))
 
 -- what is known of a host is kept where its tenants are but for what they have ready
 pub kept_at_rest : {config : Rig} {n : ℕ} {entries : List TableEntry} (xs ys : List Standing) → map at_rest ys ≡ map at_rest xs → IsWhole config n xs entries → IsWhole config n ys entries
@@ -64,7 +62,7 @@ kept_at_rest {n = n} {entries = entries} xs ys same whole = record {
   as_many = same_length xs ys same ∙ whole.as_many;
   known = all_at_rest n xs ys same whole.known;
   placed = placed_at_rest xs ys same whole.placed;
-  budgets = λ t lt. ap (λ (s : Standing). s.tenancy.budgets) (same_at_rest xs ys t no_tenant same) ∙ whole.budgets t (omega (arith, lt, same_length xs ys same));
+  tenancies = λ t lt. ap (λ (s : Standing). s.tenancy) (same_at_rest xs ys t no_tenant same) ∙ whole.tenancies t (omega (arith, lt, same_length xs ys same));
   table = table_at_rest entries xs ys same whole.table;
 }
 
@@ -114,12 +112,12 @@ awaited_at_rest host j = ap (λ o. option_and_then (λ s. awaited_job s host.ent
     by (Some s) = refl
 
 -- a tenant's row, as the host's view has it
-pub row_here : (host view : HostStanding) (t : ℕ) (x : Standing) → record host { tenants = map at_rest host.tenants } ≡ view → t < length host.tenants → x ≡ get_or host.tenants t x
-    → (tenant_at view.tenants t).row ≡ x.row
-row_here host view t x is lt here =
-    ap (λ (h : HostStanding). (tenant_at h.tenants t).row) (sym is)
-    ∙ (ap (λ (s : Standing). s.row) (same_at_rest host.tenants (map at_rest host.tenants) t no_tenant (rest_twice host.tenants))
-    ∙ ap (λ (s : Standing). s.row) (sym (here ∙ get_or_default host.tenants t x no_tenant lt)))
+pub here_at_rest : (host view : HostStanding) (t : ℕ) (x : Standing) → record host { tenants = map at_rest host.tenants } ≡ view → t < length host.tenants → x ≡ get_or host.tenants t x
+    → at_rest (tenant_at view.tenants t) ≡ at_rest x
+here_at_rest host view t x is lt here =
+    ap (λ (h : HostStanding). at_rest (tenant_at h.tenants t)) (sym is)
+    ∙ (same_at_rest host.tenants (map at_rest host.tenants) t no_tenant (rest_twice host.tenants)
+    ∙ ap at_rest (sym (here ∙ get_or_default host.tenants t x no_tenant lt)))
 
 -- the most jobs of all
 pub most_at_rest : (xs : List Standing) → most_of (map at_rest xs) ≡ most_of xs

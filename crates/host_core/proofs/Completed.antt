@@ -178,17 +178,17 @@ module _ (setting : Setting) where
 
     -- one tenant's jobs alone
     pub stands_completed_at : (t : ℕ) → t < length setting.config.tenants → (entries : List TableEntry)
-        → ((j : JobId) → has_result entries j ≡ (has_result host.entries j || has_job (tenant_at host.tenants t).tenancy.place (tenant_at host.tenants t).row.active j))
+        → ((j : JobId) → has_result entries j ≡ (has_result host.entries j || has_job (tenant_at host.tenants t).tenancy.owner.place (tenant_at host.tenants t).row.active j))
         → Stands setting (record host { entries = entries }) (after_done (outstanding_of host t) state)
     stands_completed_at t lt entries results =
-        let place : (tenant_at host.tenants t).tenancy.place ≡ t = placed t (omega (arith, lt, stands.as_many)) in
+        let place : (tenant_at host.tenants t).tenancy.owner.place ≡ t = placed t (omega (arith, lt, stands.as_many)) in
         subst (λ js. Stands setting (record host { entries = entries }) (after_done js state))
         (sym (awaited_at setting (tenant_at host.tenants t) host.entries t (row_at state t) (is_counted state) (stands.each t lt) place stands.results))
         (stands_done (jobs_at setting state t)
         (all_filtered _ (job_of t) (λ j. not (is_counted state j)) (row_at state t).active (own_jobs_active t (row_at state t))) entries
         (λ j.
         results j
-        ∙ ap (λ b. b || has_job (tenant_at host.tenants t).tenancy.place (tenant_at host.tenants t).row.active j) (stands.results j)
+        ∙ ap (λ b. b || has_job (tenant_at host.tenants t).tenancy.owner.place (tenant_at host.tenants t).row.active j) (stands.results j)
         ∙ ap (λ k. is_counted state j || has_job k (tenant_at host.tenants t).row.active j) place
         ∙ ap (λ (r : Row). is_counted state j || has_job t r.active j) (stands.each t lt)
         ∙ one_more (is_counted state j) (has_job t (row_at state t).active j)

@@ -8,18 +8,17 @@ use Rattle.host_core.specs.declared.events.Event.{Event}
 use Rattle.host_core.specs.declared.events.Event.TheVariants.{Own, Tick, Done}
 use Rattle.tenant_jobs.specs.declared.jobs.JobId.{JobId}
 use Rattle.tenant_lines.specs.declared.commands.Command.{Command}
-use Rattle.rig_config.specs.Roster.{budgets_at}
 use Rattle.tenant_jobs.specs.Jobs.{same_job}
 use Rattle.tenant_state.specs.Jobs.{job_of, is_active}
 use Rattle.tenant_state.specs.Row.{ActiveTask, Row, empty_row}
-use Rattle.host_core.specs.Grants.{granted_to}
-use Rattle.tenant_state.specs.FirstHalf.{unfinished_tasks, first_half_of}
+use Rattle.tenant_state.specs.FirstHalf.{unfinished_tasks}
 use Rattle.host_core.specs.Base.{IsBase}
 use Rattle.host_core.specs.Completions.{has_completion}
 use Rattle.host_core.specs.HostState.{row_at}
 use Rattle.host_core.specs.Legal.{next_tick, was_released, is_legal}
 use Rattle.host_core.specs.Setting.{Setting}
-use Rattle.host_core.specs.Views.{command, after_command, readings_of, run_of, view_of, row_of}
+use Rattle.host_core.specs.Tenancies.{tenancy_at}
+use Rattle.host_core.specs.Views.{command, after_command, instant_for, run_of, view_of, row_of}
 use Rattle.tenant_state.specs.Instants.{LocalInstant}
 use Rattle.tenant_state.proofs.ActiveTasks.{Keeps, kept_by_instant, kept_by_command}
 use Rattle.tenant_jobs.proofs.JobNames.{same_job_is}
@@ -33,11 +32,7 @@ module _ (setting : Setting) where
 
   -- what the tick after these events is for a tenant
   abbrev pub own_instant : List Event → List ℤ → ℕ → LocalInstant
-  own_instant past frame t = record {
-    readings = readings_of setting t frame;
-    unfinished = unfinished_of past t (row_of setting past t);
-    granted = granted_to setting.config (row_of setting past) (λ u. first_half_of (unfinished_of past u (row_of setting past u)) (row_of setting past u)) t;
-  }
+  own_instant past frame t = instant_for setting (row_of setting past) (has_completion setting past) frame t
 
   -- what holds of a tenant's row behind its own command, and of its row before another's, holds behind a command
   pub own_row : (C : Row → Type 0) (past : List Event) (c : Command) (t : ℕ) (b : Bool)
@@ -63,7 +58,7 @@ module _ (setting : Setting) where
     releases (Own u c ∷ past) t =
         let k = releases past t in
         own_row (Keeps (IsEarly past) (next_tick setting past)) past c t (eqb u t)
-        (kept_by_command (IsEarly past) (next_tick setting past) (budgets_at setting.config t) c (row_of setting past t) k) k
+        (kept_by_command (IsEarly past) (next_tick setting past) (tenancy_at setting.config t) c (row_of setting past t) k) k
     releases (Done j ∷ past) t = releases past t
     releases (Tick frame ∷ past) t =
         let k = releases past t in

@@ -1,8 +1,8 @@
 -- What the host's code stands for behind each event.
-use Rattle.std.proofs.Common.{◌≡◌, ℕ, ◌+◌, ◌<◌, ◌≤◌, ◌≢◌, ⊎_elim, Bool, true, false, cond, not, ◌&&◌, ◌||◌, ℤ, List, [], ◌∷◌, length, map, filter, get_or, set, Option, Some, None, refl, sym, ap, ◌∙◌, subst, length-set, zero-add, arith}
+use Rattle.std.proofs.Common.{◌≡◌, ℕ, ◌+◌, ◌<◌, ◌≤◌, ◌≢◌, ⊎_elim, Bool, true, false, cond, not, ◌&&◌, ◌||◌, ℤ, List, ◌∷◌, length, map, filter, get_or, set, Option, Some, None, refl, sym, ap, ◌∙◌, subst, length-set, zero-add, arith}
 use Rattle.std.specs.Prelude.{is_some, slice_get, Result, Ok, Err, IfOk}
-use Rattle.std.specs.List.{list_any, find, filter_map, enumerate_from, All}
-use Rattle.std.specs.Option.{option_map, option_map_or, option_and_then}
+use Rattle.std.specs.List.{find, enumerate_from, All}
+use Rattle.std.specs.Option.{option_map, option_and_then}
 use Rattle.std.proofs.Math.ListN.{get_or-eq_default}
 use Rattle.std.proofs.lemmas.Bool.{cases_eq, cases_lt}
 use Rattle.std.proofs.lemmas.List.{length-map, get_or-map, get_or_default, get_or-set_same, get_or-set_other}
@@ -10,7 +10,7 @@ use Rattle.std.proofs.lemmas.List.FromFn.{length-enumerate_from, get_or-enumerat
 use Rattle.std.proofs.lemmas.Map.Views.{any-filter_same}
 use Rattle.std.proofs.lemmas.Option.{slice_get-get_or}
 use Rattle.giotto_text.specs.Program.{GiottoProgram}
-use Rattle.rig_config.specs.Roster.{Rig, budgets_at}
+use Rattle.rig_config.specs.Roster.{Rig}
 use Rattle.tenant_lines.specs.declared.commands.Command.{Command}
 use Rattle.tenant_lines.specs.declared.replies.Refusal.TheVariants.{Memory}
 use Rattle.tenant_lines.specs.declared.replies.Reply.{Reply}
@@ -19,28 +19,26 @@ use Rattle.tenant_jobs.specs.declared.jobs.JobId.{JobId}
 use Rattle.tenant_jobs.specs.Finished.{TableEntry, entry_in, has_result, result_in}
 use Rattle.tenant_jobs.specs.Jobs.{JobValue, same_job}
 use Rattle.tenant_jobs.proofs.JobNames.{same_job_is}
-use Rattle.tenant_slots.specs.Readings.{readings_within}
 use Rattle.tenant_state.specs.Commands.{commanded}
-use Rattle.tenant_state.specs.FirstHalf.{unfinished_tasks, first_half_of}
 use Rattle.tenant_state.specs.Instants.{after_instant}
 use Rattle.tenant_state.specs.Jobs.{has_job, job_of, job_in, is_active}
 use Rattle.tenant_state.specs.Row.{ActiveTask, Row, empty_row}
 use Rattle.tenant_state.specs.Standing.{Standing, at_rest, no_tenant, IsKnown, StandsFor, awaited_job, outstanding_tasks, released_job}
 use Rattle.tenant_state.specs.inner.Standing.{IsOutcome}
-use Rattle.instant_engine.specs.inner.Instants.{AreInstants, IsInstant, instant_by}
+use Rattle.instant_engine.specs.Instants.{local_instant}
+use Rattle.instant_engine.specs.inner.Instants.{AreInstants, instant_by}
 use Rattle.instant_engine.specs.Tenants.{ArePlaced, tenant_at}
 use Rattle.instant_engine.specs.inner.Tenants.{is_active_among}
 use Rattle.host_core.specs.declared.events.Event.TheVariants.{Own, Tick, Done}
-use Rattle.host_core.specs.Grants.{granted_along, granted_to}
 use Rattle.host_core.specs.Host.{instant_of, with_rows, after_event}
 use Rattle.host_core.specs.HostState.{HostState, is_counted, row_at, awaits}
 use Rattle.host_core.specs.HostStanding.{HostStanding, Stands, awaited_in}
-use Rattle.tenant_state.specs.declared.tenants.Tenancy.{Tenancy}
-use Rattle.host_core.specs.inner.HostStanding.{HaveBudgets, IsAt}
+use Rattle.tenant_state.specs.Tenancy.{Tenancy}
+use Rattle.host_core.specs.inner.HostStanding.{HaveTenancies, IsAt}
 use Rattle.host_core.specs.Setting.{Setting}
+use Rattle.host_core.specs.Tenancies.{tenancy_at}
 use Rattle.host_core.specs.Views.{after_command}
 use Rattle.host_core.proofs.AtRest.{stands_inside}
-use Rattle.host_core.proofs.AloneAlong.{unfinished_at}
 use Rattle.giotto_tasks.proofs.TestLemmas.{and_false, and_true}
 use Rattle.giotto_tasks.proofs.ListLemmas.{find_is_any, find_passes, is_some-option_map}
 
@@ -48,20 +46,20 @@ pub same_count : (s : Standing) (row : Row) → StandsFor s row → row.next_tic
 same_count s row stands = sym (ap (λ (r : Row). r.next_tick) stands)
 
 -- one tenant in another's place
-pub placed_set : (tenants : List Standing) (u : ℕ) (s : Standing) → s.tenancy.place ≡ u → ArePlaced tenants → ArePlaced (set tenants u s)
+pub placed_set : (tenants : List Standing) (u : ℕ) (s : Standing) → s.tenancy.owner.place ≡ u → ArePlaced tenants → ArePlaced (set tenants u s)
 placed_set tenants u s own placed t lt = ⊎_elim
     (λ (same : u ≡ t).
-    ap (λ (x : Standing). x.tenancy.place) (ap (λ k. get_or (set tenants u s) k no_tenant) (sym same) ∙ get_or-set_same tenants u s no_tenant (omega (arith, lt, same, length-set tenants u s)))
+    ap (λ (x : Standing). x.tenancy.owner.place) (ap (λ k. get_or (set tenants u s) k no_tenant) (sym same) ∙ get_or-set_same tenants u s no_tenant (omega (arith, lt, same, length-set tenants u s)))
     ∙ own ∙ same)
-    (λ (differ : u ≢ t). ap (λ (x : Standing). x.tenancy.place) (get_or-set_other tenants u t s no_tenant (λ e. differ (sym e))) ∙ placed t (omega (arith, lt, length-set tenants u s)))
+    (λ (differ : u ≢ t). ap (λ (x : Standing). x.tenancy.owner.place) (get_or-set_other tenants u t s no_tenant (λ e. differ (sym e))) ∙ placed t (omega (arith, lt, length-set tenants u s)))
     (cases_eq u t)
 
-pub budgets_set : (config : Rig) (tenants : List Standing) (u : ℕ) (s : Standing) → s.tenancy.budgets ≡ budgets_at config u → HaveBudgets config tenants → HaveBudgets config (set tenants u s)
-budgets_set config tenants u s own budgets t lt = ⊎_elim
+pub tenancies_set : (config : Rig) (tenants : List Standing) (u : ℕ) (s : Standing) → s.tenancy ≡ tenancy_at config u → HaveTenancies config tenants → HaveTenancies config (set tenants u s)
+tenancies_set config tenants u s own tenancies t lt = ⊎_elim
     (λ (same : u ≡ t).
-    ap (λ (x : Standing). x.tenancy.budgets) (ap (λ k. get_or (set tenants u s) k no_tenant) (sym same) ∙ get_or-set_same tenants u s no_tenant (omega (arith, lt, same, length-set tenants u s)))
-    ∙ own ∙ ap (budgets_at config) same)
-    (λ (differ : u ≢ t). ap (λ (x : Standing). x.tenancy.budgets) (get_or-set_other tenants u t s no_tenant (λ e. differ (sym e))) ∙ budgets t (omega (arith, lt, length-set tenants u s)))
+    ap (λ (x : Standing). x.tenancy) (ap (λ k. get_or (set tenants u s) k no_tenant) (sym same) ∙ get_or-set_same tenants u s no_tenant (omega (arith, lt, same, length-set tenants u s)))
+    ∙ own ∙ ap (tenancy_at config) same)
+    (λ (differ : u ≢ t). ap (λ (x : Standing). x.tenancy) (get_or-set_other tenants u t s no_tenant (λ e. differ (sym e))) ∙ tenancies t (omega (arith, lt, length-set tenants u s)))
     (cases_eq u t)
 
 -- a job is active in the code's tenants where it is in the rows that they stand for
@@ -78,7 +76,7 @@ active_alike n tenants rows clock as_many all_rows placed each j = ⊎_elim here
     past : n ≤ j.tenant → is_active (get_or rows j.tenant (empty_row clock)) j ≡ is_active_among tenants j
     past le =
         ap (λ (r : Row). is_active r j) (get_or-eq_default rows (empty_row clock) (omega (arith, le, all_rows)))
-        ∙ sym (ap (λ (s : Standing). has_job s.tenancy.place s.row.active j) (get_or-eq_default tenants no_tenant (omega (arith, le, as_many))))
+        ∙ sym (ap (λ (s : Standing). has_job s.tenancy.owner.place s.row.active j) (get_or-eq_default tenants no_tenant (omega (arith, le, as_many))))
 
 -- what is counted still, behind a change of rows
 pub counted_still : (state : HostState) (rows : List Row) (j : JobId) → is_counted (with_rows state rows) j ≡ (is_active (get_or rows j.tenant (empty_row state.clock)) j && is_counted state j)
@@ -125,7 +123,7 @@ module _ (setting : Setting) where
     abbrev rows : List Row
     rows = set state.rows u new
 
-    module _ (within : u < length setting.config.tenants) (own : StandsFor s new) (count : s.row.next_tick ≡ host.clock) (place : s.tenancy.place ≡ u) (placed : ArePlaced host.tenants)
+    module _ (within : u < length setting.config.tenants) (own : StandsFor s new) (count : s.row.next_tick ≡ host.clock) (place : s.tenancy.owner.place ≡ u) (placed : ArePlaced host.tenants)
         (still : AreResultsStill tenants host.entries entries) where
       here_tenant : (t : ℕ) → u ≡ t → tenant_at tenants t ≡ s
       here_tenant t e = ap (λ k. get_or tenants k no_tenant) (sym e) ∙ get_or-set_same host.tenants u s no_tenant (omega (arith, within, stands.as_many))
@@ -168,15 +166,10 @@ module _ (setting : Setting) where
       ∙ (ap step (get_or-enumerate_from 0 state.rows t (0, empty_row state.clock) lt)
       ∙ ap (λ n. after_instant (instant_of setting state frame n) (row_at state t)) (zero-add t))
 
-  -- without binds nothing is granted
-  nothing_granted : (rows halves : ℕ → Row) (t : ℕ) → (rows t).binds ≡ [] → granted_to setting.config rows halves t ≡ []
-  nothing_granted rows halves t none = ap (filter_map (granted_along setting.config rows halves t)) none
-
   module _ (host : HostStanding) (state : HostState) (frame : List ℤ) (after : List Standing) (entries : List TableEntry)
       (stands : Stands setting host state)
-      (known : All (IsAt host.clock) host.tenants)
       (placed : ArePlaced host.tenants)
-      (budgets : HaveBudgets host.config host.tenants)
+      (tenancies : HaveTenancies host.config host.tenants)
       (instants : AreInstants frame host.entries host.tenants after)
       (exact : (j : JobId) → entry_in entries j ≡ cond (is_active_among after j) (Some (record { id = j; result = result_in host.entries j })) None) where
     abbrev rows_behind : List Row
@@ -191,8 +184,8 @@ module _ (setting : Setting) where
 
     placed_after : ArePlaced after
     placed_after t lt =
-        let within : t < length host.tenants = omega (arith, lt, instants.as_many) in
-        ap (λ (y : Tenancy). y.place) (instants.each t within).tenancy ∙ placed t within
+        let within : t < length host.tenants = omega (arith, lt, instants.moved.as_many) in
+        ap (λ (y : Tenancy). y.owner.place) (instants.moved.each t within).tenancy ∙ placed t within
 
     module _ (t : ℕ) (lt : t < length setting.config.tenants) where
       within : t < length host.tenants
@@ -201,77 +194,68 @@ module _ (setting : Setting) where
       abbrev row : Row
       row = row_at state t
 
-      one : IsInstant frame host.entries (tenant_at host.tenants t) (tenant_at after t)
-      one = instants.each t within
+      its_tenancy : (u : ℕ) → u < length host.tenants → (tenant_at host.tenants u).tenancy ≡ tenancy_at setting.config u
+      its_tenancy u below = tenancies u below ∙ ap (λ (k : Rig). tenancy_at k u) stands.same_config
 
-      no_binds : row.binds ≡ []
-      no_binds = sym (ap (λ (r : Row). r.binds) (stands.each t lt)) ∙ (known t no_tenant within).1.known.no_binds
-
-      its_budgets : (tenant_at host.tenants t).tenancy.budgets ≡ budgets_at setting.config t
-      its_budgets = budgets t within ∙ ap (λ (k : Rig). budgets_at k t) stands.same_config
-
-      same_instant : instant_by (tenant_at host.tenants t).tenancy frame host.entries row ≡ instant_of setting state frame t
+      same_instant : instant_by host.tenants frame host.entries (row_at state) t ≡ instant_of setting state frame t
       same_instant =
-          let granted = sym (nothing_granted (row_at state) (λ u. first_half_of (unfinished_at state u) (row_at state u)) t no_binds) in
-          λ k. record {
-            readings = readings_within (its_budgets k).reads frame;
-            unfinished = unfinished_tasks (λ a. stands.results (job_of (placed t within k) a) k) row;
-            granted = granted k;
-          }
+          let first = its_tenancy 0 (omega (arith, within)) in
+          let own = its_tenancy t within in
+          λ k. local_instant (first k).owner.roster (own k).budgets.reads (row_at state) (λ j. stands.results j k) frame t
 
       tick_each : StandsFor (tenant_at after t) (get_or rows_behind t (empty_row (state.clock + 1)))
       tick_each =
           subst (λ r. StandsFor (tenant_at after t) r)
           (ap (λ i. after_instant i row) same_instant ∙ sym (row_behind state frame t (omega (arith, lt, stands.all_rows))))
-          (one.step row (stands.each t lt))
+          (instants.step (row_at state) (λ u below. stands.each u (omega (arith, below, stands.as_many))) t within)
 
       tick_counts : (get_or rows_behind t (empty_row (state.clock + 1))).next_tick ≡ state.clock + 1
       tick_counts =
           same_count (tenant_at after t) (get_or rows_behind t (empty_row (state.clock + 1))) tick_each
-          ∙ (one.next_tick ∙ ap (λ n. n + 1) (sym (same_count (tenant_at host.tenants t) row (stands.each t lt)) ∙ stands.counts t lt))
+          ∙ ((instants.moved.each t within).next_tick ∙ ap (λ n. n + 1) (sym (same_count (tenant_at host.tenants t) row (stands.each t lt)) ∙ stands.counts t lt))
 
     pub stands_after_tick : Stands setting (record { config = host.config; tenants = after; entries = entries; clock = host.clock + 1 }) (after_event setting state (Tick frame))
     stands_after_tick =
         subst (λ n. Stands setting (record { config = host.config; tenants = after; entries = entries; clock = n }) (after_event setting state (Tick frame))) (ap (λ n. n + 1) (sym stands.same_clock))
-        (stands_with_rows host state after entries rows_behind (state.clock + 1) stands (instants.as_many ∙ stands.as_many)
+        (stands_with_rows host state after entries rows_behind (state.clock + 1) stands (instants.moved.as_many ∙ stands.as_many)
         (length-map (enumerate_from 0 state.rows) _ ∙ (length-enumerate_from 0 state.rows ∙ stands.all_rows)) placed_after tick_each tick_counts results_still)
 
   -- a tenant's own step, for the row that its place stands for
   pub own_outcome : (host : HostStanding) (state : HostState) (t : ℕ) (c : Command) (before after : Standing) (reply : Reply)
-      → Stands setting host state → t < length host.config.tenants → HaveBudgets host.config host.tenants → before ≡ get_or host.tenants t before
-      → ((row : Row) → StandsFor before row → reply ≢ Refused Memory → IsOutcome (commanded before.tenancy.budgets c row) reply after)
+      → Stands setting host state → t < length host.config.tenants → HaveTenancies host.config host.tenants → before ≡ get_or host.tenants t before
+      → ((row : Row) → StandsFor before row → reply ≢ Refused Memory → IsOutcome (commanded before.tenancy c row) reply after)
       → reply ≢ Refused Memory → IsOutcome (after_command setting t c (row_at state t)) reply after
-  own_outcome host state t c before after reply stands within budgets here step given =
+  own_outcome host state t c before after reply stands within tenancies here step given =
       let lt : t < length setting.config.tenants = subst (λ (k : Rig). t < length k.tenants) stands.same_config within in
       let same : before ≡ tenant_at host.tenants t = here ∙ get_or_default host.tenants t before no_tenant (omega (arith, lt, stands.as_many)) in
-      let its : before.tenancy.budgets ≡ budgets_at setting.config t =
-      ap (λ (s : Standing). s.tenancy.budgets) same ∙ budgets t (omega (arith, lt, stands.as_many)) ∙ ap (λ (k : Rig). budgets_at k t) stands.same_config in
+      let its : before.tenancy ≡ tenancy_at setting.config t =
+      ap (λ (s : Standing). s.tenancy) same ∙ tenancies t (omega (arith, lt, stands.as_many)) ∙ ap (λ (k : Rig). tenancy_at k t) stands.same_config in
       subst (λ b. IsOutcome (commanded b c (row_at state t)) reply after) its
       (step (row_at state t) (subst (λ s. StandsFor s (row_at state t)) (sym same) (stands.each t lt)) given)
 
 -- the outstanding tasks of a tenant
-pub outstanding_are : (s : Standing) (entries : List TableEntry) (t : ℕ) (row : Row) (counted : JobId → Bool) → StandsFor s row → s.tenancy.place ≡ t → ((j : JobId) → has_result entries j ≡ counted j)
+pub outstanding_are : (s : Standing) (entries : List TableEntry) (t : ℕ) (row : Row) (counted : JobId → Bool) → StandsFor s row → s.tenancy.owner.place ≡ t → ((j : JobId) → has_result entries j ≡ counted j)
     → outstanding_tasks s entries ≡ filter (λ a. not (counted (job_of t a))) row.active
 outstanding_are s entries t row counted stands place results = λ k. filter (λ a. not (results (job_of (place k) a) k)) (stands k).active
 
 -- the job of a name that is released has this name
-pub released_is : (s : Standing) (j : JobId) → IsKnown s.row → is_some (released_job s j) ≡ has_job s.tenancy.place s.row.active j
+pub released_is : (s : Standing) (j : JobId) → IsKnown s.row → is_some (released_job s j) ≡ has_job s.tenancy.owner.place s.row.active j
 released_is s j known = program s.row.program refl
   where
-    program : (o : Option GiottoProgram) → s.row.program ≡ o → is_some (released_job s j) ≡ has_job s.tenancy.place s.row.active j
+    program : (o : Option GiottoProgram) → s.row.program ≡ o → is_some (released_job s j) ≡ has_job s.tenancy.owner.place s.row.active j
     program None e =
-        ap (λ o. is_some (option_and_then (λ p. option_map (job_in p s.tenancy.place) (find (λ a. same_job (job_of s.tenancy.place a) j) s.row.active)) o)) e
-        ∙ sym (ap (λ xs. has_job s.tenancy.place xs j) (known.tasks e))
+        ap (λ o. is_some (option_and_then (λ p. option_map (job_in p s.tenancy.owner.place) (find (λ a. same_job (job_of s.tenancy.owner.place a) j) s.row.active)) o)) e
+        ∙ sym (ap (λ xs. has_job s.tenancy.owner.place xs j) (known.tasks e))
     program (Some p) e =
-        ap (λ o. is_some (option_and_then (λ p. option_map (job_in p s.tenancy.place) (find (λ a. same_job (job_of s.tenancy.place a) j) s.row.active)) o)) e
-        ∙ (is_some-option_map (job_in p s.tenancy.place) (find (λ a. same_job (job_of s.tenancy.place a) j) s.row.active) ∙ find_is_any (λ a. same_job (job_of s.tenancy.place a) j) s.row.active)
+        ap (λ o. is_some (option_and_then (λ p. option_map (job_in p s.tenancy.owner.place) (find (λ a. same_job (job_of s.tenancy.owner.place a) j) s.row.active)) o)) e
+        ∙ (is_some-option_map (job_in p s.tenancy.owner.place) (find (λ a. same_job (job_of s.tenancy.owner.place a) j) s.row.active) ∙ find_is_any (λ a. same_job (job_of s.tenancy.owner.place a) j) s.row.active)
 
-pub awaited_is : (s : Standing) (entries : List TableEntry) (j : JobId) → IsKnown s.row → is_some (awaited_job s entries j) ≡ (has_job s.tenancy.place s.row.active j && not (has_result entries j))
+pub awaited_is : (s : Standing) (entries : List TableEntry) (j : JobId) → IsKnown s.row → is_some (awaited_job s entries j) ≡ (has_job s.tenancy.owner.place s.row.active j && not (has_result entries j))
 awaited_is s entries j known = by (has_result entries j)
   where
-    by : (b : Bool) → is_some (cond b None (released_job s j)) ≡ (has_job s.tenancy.place s.row.active j && not b)
-    by true = sym (and_false (has_job s.tenancy.place s.row.active j))
-    by false = released_is s j known ∙ sym (and_true (has_job s.tenancy.place s.row.active j))
+    by : (b : Bool) → is_some (cond b None (released_job s j)) ≡ (has_job s.tenancy.owner.place s.row.active j && not b)
+    by true = sym (and_false (has_job s.tenancy.owner.place s.row.active j))
+    by false = released_is s j known ∙ sym (and_true (has_job s.tenancy.owner.place s.row.active j))
 
 module _ (setting : Setting) where
   -- the host awaits a job exactly where the definitions do
@@ -307,15 +291,15 @@ module _ (setting : Setting) where
 pub released_name : (s : Standing) (j : JobId) (d : JobValue) → released_job s j ≡ Some d → d.id ≡ j
 released_name s j d e = program s.row.program e
   where
-    found : (p : GiottoProgram) (o : Option ActiveTask) → find (λ a. same_job (job_of s.tenancy.place a) j) s.row.active ≡ o → option_map (job_in p s.tenancy.place) o ≡ Some d → d.id ≡ j
+    found : (p : GiottoProgram) (o : Option ActiveTask) → find (λ a. same_job (job_of s.tenancy.owner.place a) j) s.row.active ≡ o → option_map (job_in p s.tenancy.owner.place) o ≡ Some d → d.id ≡ j
     found p None e f = absurd (cc)
     found p (Some a) e f =
-        let same : job_in p s.tenancy.place a ≡ d = cc in
-        ap (λ (k : JobValue). k.id) (sym same) ∙ same_job_is (job_of s.tenancy.place a) j (find_passes (λ a. same_job (job_of s.tenancy.place a) j) s.row.active a e)
+        let same : job_in p s.tenancy.owner.place a ≡ d = cc in
+        ap (λ (k : JobValue). k.id) (sym same) ∙ same_job_is (job_of s.tenancy.owner.place a) j (find_passes (λ a. same_job (job_of s.tenancy.owner.place a) j) s.row.active a e)
 
-    program : (o : Option GiottoProgram) → option_and_then (λ p. option_map (job_in p s.tenancy.place) (find (λ a. same_job (job_of s.tenancy.place a) j) s.row.active)) o ≡ Some d → d.id ≡ j
+    program : (o : Option GiottoProgram) → option_and_then (λ p. option_map (job_in p s.tenancy.owner.place) (find (λ a. same_job (job_of s.tenancy.owner.place a) j) s.row.active)) o ≡ Some d → d.id ≡ j
     program None f = absurd (cc)
-    program (Some p) f = found p (find (λ a. same_job (job_of s.tenancy.place a) j) s.row.active) refl f
+    program (Some p) f = found p (find (λ a. same_job (job_of s.tenancy.owner.place a) j) s.row.active) refl f
 
 awaited_name : (s : Standing) (entries : List TableEntry) (j : JobId) (d : JobValue) → awaited_job s entries j ≡ Some d → d.id ≡ j
 awaited_name s entries j d e = by (has_result entries j) e

@@ -1,7 +1,7 @@
 -- The table of a host's active tasks behind a command, a completion, and the completion of outstanding jobs.
 use Rattle.std.proofs.Common.{◌≡◌, ◌≢◌, ◌⊎◌, ℕ, ◌+◌, ◌<◌, ◌≤◌, ⊎_elim, inl, inr, Bool, true, false, cond, not, ◌&&◌, ◌||◌, List, [], ◌∷◌, length, get_or, set, length-set, take, Option, Some, None, refl, sym, ap, ◌∙◌, subst, arith}
 use Rattle.std.specs.Prelude.{is_some, IfSome}
-use Rattle.std.specs.List.{All, AllByRecursion, find, list_all, list_any}
+use Rattle.std.specs.List.{AllByRecursion, find, list_all}
 use Rattle.std.specs.Option.{option_and_then, option_map}
 use Rattle.std.proofs.Math.ListN.{get_or-eq_default}
 use Rattle.std.proofs.lemmas.Bool.{and_parts, or_left, or_right, cases_eq, cases_lt, false_from_ne_true, false≢true}
@@ -15,15 +15,15 @@ use Rattle.tenant_jobs.proofs.JobNames.{same_job_is, same_job_self}
 use Rattle.tenant_state.specs.Jobs.{has_job, job_in, job_of}
 use Rattle.tenant_state.specs.Row.{ActiveTask}
 use Rattle.tenant_state.specs.Standing.{Standing, IsKnown, all_different_releases, no_tenant, is_another, released_job}
-use Rattle.tenant_state.specs.inner.Standing.{HasItsEntries, HasItsResults, AreEnded, has_active}
+use Rattle.tenant_state.specs.inner.Standing.{HasItsEntries, HasItsResults, AreEnded, AreTasksKept, has_active}
 use Rattle.instant_engine.specs.inner.Tables.{IsTaskTable}
 use Rattle.instant_engine.specs.Tenants.{ArePlaced, tenant_at}
 use Rattle.instant_engine.specs.inner.Tenants.{is_active_among}
-use Rattle.tenant_state.specs.declared.tenants.Tenancy.{Tenancy}
+use Rattle.tenant_state.specs.Tenancy.{Tenancy}
 use Rattle.rig_config.specs.Roster.{Rig}
 use Rattle.host_core.specs.inner.HostStanding.{IsAt, IsWhole}
-use Rattle.giotto_tasks.proofs.ListLemmas.{all_at, all_map, all_of, all_pass, any_if_all}
-use Rattle.host_core.proofs.HostSteps.{AreResultsStill, budgets_set, placed_set, released_is}
+use Rattle.giotto_tasks.proofs.ListLemmas.{all_map, all_of, all_pass, any_if_all}
+use Rattle.host_core.proofs.HostSteps.{AreResultsStill, tenancies_set, placed_set, released_is}
 use Rattle.host_core.proofs.Outstanding.{another_job}
 
 -- a job of a tenant's tasks is of that tenant
@@ -43,10 +43,10 @@ entered_of_result entries j e = by (entry_in entries j) e
     by (Some entry) h = refl
 
 -- where the results of a tenant's active tasks stay as they are, they stay right
-pub results_moved : (s : Standing) (before after : List TableEntry) → ((a : ActiveTask) → result_in after (job_of s.tenancy.place a) ≡ result_in before (job_of s.tenancy.place a))
+pub results_moved : (s : Standing) (before after : List TableEntry) → ((a : ActiveTask) → result_in after (job_of s.tenancy.owner.place a) ≡ result_in before (job_of s.tenancy.owner.place a))
     → HasItsResults s before → HasItsResults s after
 results_moved s before after same right p has =
-    all_map _ _ s.row.active (λ a h. subst (λ o. IfSome o (λ r. r ≡ result_of (job_in p s.tenancy.place a))) (sym (same a)) h) (right p has)
+    all_map _ _ s.row.active (λ a h. subst (λ o. IfSome o (λ r. r ≡ result_of (job_in p s.tenancy.owner.place a))) (sym (same a)) h) (right p has)
 
 either_way : (a b : Bool) → (b ≡ false) ⊎ (b ≡ a) → b ≡ (a && not (a && not b))
 either_way true b which = ⊎_elim (λ e. e ∙ sym (ap (λ c. not (not c)) e)) (λ e. e ∙ sym (ap (λ c. not (not c)) e)) which
@@ -55,23 +55,23 @@ either_way false b which = ⊎_elim (λ e. e) (λ e. e) which
 -- a command: the tenant at place u was x, and is y behind it, whose ended tasks leave the table
 module _ (tenants : List Standing) (before after : List TableEntry) (u : ℕ) (x y : Standing) {config : Rig} {clock : ℕ} (whole : IsWhole config clock tenants before)
     (within : u < length tenants) (here : x ≡ tenant_at tenants u) (tenancy : y.tenancy ≡ x.tenancy) (count : y.row.next_tick ≡ x.row.next_tick) (known : IsKnown y.row)
-    (ended : AreEnded x y) (active : (y.row.active ≡ []) ⊎ (y ≡ x))
-    (left : (j : JobId) → entry_in after j ≡ cond (has_job y.tenancy.place y.ended j) None (entry_in before j)) where
+    (binds : length y.row.binds ≤ y.tenancy.owner.most_binds) (ended : AreEnded x y) (active : (y.row.active ≡ []) ⊎ AreTasksKept x y)
+    (left : (j : JobId) → entry_in after j ≡ cond (has_job y.tenancy.owner.place y.ended j) None (entry_in before j)) where
   abbrev s : Standing
   s = record y { ended = [] }
 
   abbrev pub tenants_behind : List Standing
   tenants_behind = set tenants u s
 
-  place : y.tenancy.place ≡ x.tenancy.place
-  place = ap (λ (z : Tenancy). z.place) tenancy
+  place : y.tenancy.owner.place ≡ x.tenancy.owner.place
+  place = ap (λ (z : Tenancy). z.owner.place) tenancy
 
-  own_place : x.tenancy.place ≡ u
-  own_place = ap (λ (z : Standing). z.tenancy.place) here ∙ whole.placed u within
+  own_place : x.tenancy.owner.place ≡ u
+  own_place = ap (λ (z : Standing). z.tenancy.owner.place) here ∙ whole.placed u within
 
   -- whether the job's entry leaves
   abbrev leaves : JobId → Bool
-  leaves j = has_job y.tenancy.place y.ended j
+  leaves j = has_job y.tenancy.owner.place y.ended j
 
   there : (t : ℕ) → t ≢ u → tenant_at tenants_behind t ≡ tenant_at tenants t
   there t differ = get_or-set_other tenants u t s no_tenant differ
@@ -80,18 +80,18 @@ module _ (tenants : List Standing) (before after : List TableEntry) (u : ℕ) (x
   here_behind = get_or-set_same tenants u s no_tenant within
 
   none_leaves : (j : JobId) → j.tenant ≢ u → leaves j ≡ false
-  none_leaves j differ = ended j ∙ ap (λ b. b && not (has_active y j)) (other_job x.tenancy.place x.row.active j (λ e. differ (sym e ∙ own_place)))
+  none_leaves j differ = ended j ∙ ap (λ b. b && not (has_active y j)) (other_job x.tenancy.owner.place x.row.active j (λ e. differ (sym e ∙ own_place)))
 
   active_behind : (j : JobId) → is_active_among tenants_behind j ≡ (is_active_among tenants j && not (leaves j))
   active_behind j = ⊎_elim
       (λ (same : j.tenant ≡ u).
-      let now : is_active_among tenants_behind j ≡ has_active y j = ap (λ (z : Standing). has_job z.tenancy.place z.row.active j) (ap (tenant_at tenants_behind) same ∙ here_behind) in
-      let was : is_active_among tenants j ≡ has_active x j = ap (λ (z : Standing). has_job z.tenancy.place z.row.active j) (ap (tenant_at tenants) same ∙ sym here) in
+      let now : is_active_among tenants_behind j ≡ has_active y j = ap (λ (z : Standing). has_job z.tenancy.owner.place z.row.active j) (ap (tenant_at tenants_behind) same ∙ here_behind) in
+      let was : is_active_among tenants j ≡ has_active x j = ap (λ (z : Standing). has_job z.tenancy.owner.place z.row.active j) (ap (tenant_at tenants) same ∙ sym here) in
       let which : (has_active y j ≡ false) ⊎ (has_active y j ≡ has_active x j) =
-      ⊎_elim (λ none. inl (ap (λ xs. has_job y.tenancy.place xs j) none)) (λ e. inr (ap (λ z. has_active z j) e)) active in
+      ⊎_elim (λ none. inl (ap (λ xs. has_job y.tenancy.owner.place xs j) none)) (λ e. inr ((λ k. has_job (tenancy k).owner.place (e.0 k) j))) active in
       now ∙ either_way (has_active x j) (has_active y j) which ∙ ap (λ b. has_active x j && not b) (sym (ended j)) ∙ ap (λ b. b && not (leaves j)) (sym was))
       (λ (differ : j.tenant ≢ u).
-      ap (λ (z : Standing). has_job z.tenancy.place z.row.active j) (there j.tenant differ)
+      ap (λ (z : Standing). has_job z.tenancy.owner.place z.row.active j) (there j.tenant differ)
       ∙ same_and (is_active_among tenants j) (leaves j) (none_leaves j differ))
       (cases_eq j.tenant u)
     where
@@ -134,14 +134,18 @@ module _ (tenants : List Standing) (before after : List TableEntry) (u : ℕ) (x
       (λ (same : k ≡ u).
       subst (λ (z : Standing). HasItsResults z after) (sym (ap (tenant_at tenants_behind) same ∙ here_behind))
       (⊎_elim
-      (λ none p has. subst (λ (xs : List ActiveTask). AllByRecursion (λ a. IfSome (result_in after (job_of y.tenancy.place a)) (λ r. r ≡ result_of (job_in p y.tenancy.place a))) xs) (sym none) tt)
+      (λ none p has. subst (λ (xs : List ActiveTask). AllByRecursion (λ a. IfSome (result_in after (job_of y.tenancy.owner.place a)) (λ r. r ≡ result_of (job_in p y.tenancy.owner.place a))) xs) (sym none) tt)
       (λ e.
-      let right : HasItsResults y before = subst (λ (z : Standing). HasItsResults z before) (sym (e ∙ here)) (whole.table.results u no_tenant within) in
-      results_moved y before after (λ a. stays (job_of y.tenancy.place a) (ended (job_of y.tenancy.place a) ∙ ap (λ z. has_active x (job_of y.tenancy.place a) && not (has_active z (job_of y.tenancy.place a))) e ∙ never (has_active x (job_of y.tenancy.place a)))) right)
+      let was : HasItsResults x before = subst (λ (z : Standing). HasItsResults z before) (sym here) (whole.table.results u no_tenant within) in
+      let right : HasItsResults y before = λ p has.
+      subst (λ (q : ℕ × List ActiveTask). AllByRecursion (λ a. IfSome (result_in before (job_of q.0 a)) (λ r. r ≡ result_of (job_in p q.0 a))) q.1) (λ k. (sym place k, sym e.0 k)) (was p (sym e.1 ∙ has)) in
+      results_moved y before after (λ a. stays (job_of y.tenancy.owner.place a)
+      (ended (job_of y.tenancy.owner.place a)
+      ∙ (λ k. has_active x (job_of y.tenancy.owner.place a) && not (has_job (tenancy k).owner.place (e.0 k) (job_of y.tenancy.owner.place a))) ∙ never (has_active x (job_of y.tenancy.owner.place a)))) right)
       active))
       (λ (differ : k ≢ u).
       subst (λ (z : Standing). HasItsResults z after) (sym (there k differ))
-      (results_moved (tenant_at tenants k) before after (λ a. stays (job_of (tenant_at tenants k).tenancy.place a) (none_leaves (job_of (tenant_at tenants k).tenancy.place a) (λ e. differ (sym (whole.placed k lt) ∙ e))))
+      (results_moved (tenant_at tenants k) before after (λ a. stays (job_of (tenant_at tenants k).tenancy.owner.place a) (none_leaves (job_of (tenant_at tenants k).tenancy.owner.place a) (λ e. differ (sym (whole.placed k lt) ∙ e))))
       (whole.table.results k no_tenant lt)))
       (cases_eq k u)
     where
@@ -153,7 +157,7 @@ module _ (tenants : List Standing) (before after : List TableEntry) (u : ℕ) (x
   at_behind k lt = ⊎_elim
       (λ (same : k ≡ u).
       subst (IsAt clock) (sym (ap (tenant_at tenants_behind) same ∙ here_behind))
-      (count ∙ ap (λ (z : Standing). z.row.next_tick) here ∙ (whole.known u no_tenant within).0, record { known = known; rest = refl }))
+      (count ∙ ap (λ (z : Standing). z.row.next_tick) here ∙ (whole.known u no_tenant within).0, record { known = known; binds = binds; rest = refl }))
       (λ (differ : k ≢ u). subst (IsAt clock) (sym (there k differ)) (whole.known k no_tenant lt))
       (cases_eq k u)
 
@@ -165,7 +169,7 @@ module _ (tenants : List Standing) (before after : List TableEntry) (u : ℕ) (x
     as_many = long_behind ∙ whole.as_many;
     known = λ k d lt. subst (IsAt clock) (sym (get_or_default tenants_behind k d no_tenant lt)) (at_behind k (omega (arith, lt, long_behind)));
     placed = placed_set tenants u s (place ∙ own_place) whole.placed;
-    budgets = budgets_set config tenants u s (ap (λ (z : Tenancy). z.budgets) tenancy ∙ ap (λ (z : Standing). z.tenancy.budgets) here ∙ whole.budgets u within) whole.budgets;
+    tenancies = tenancies_set config tenants u s (tenancy ∙ ap (λ (z : Standing). z.tenancy) here ∙ whole.tenancies u within) whole.tenancies;
     table = record {
       entered = λ j. entered_behind j ∙ ap (λ b. b && not (leaves j)) (whole.table.entered j) ∙ sym (active_behind j);
       results = λ k d lt. subst (λ (z : Standing). HasItsResults z after) (sym (get_or_default tenants_behind k d no_tenant lt)) (results_behind k (omega (arith, lt, long_behind)));
@@ -222,16 +226,16 @@ module _ (tenants : List Standing) (before after : List TableEntry) (d : JobValu
       by false = refl
 
   -- the job of the task that has its name, in its program
-  its_task : (p : GiottoProgram) → x.row.program ≡ Some p → AllByRecursion (λ a. same_job (job_of x.tenancy.place a) d.id ≡ true → job_in p x.tenancy.place a ≡ d) x.row.active
-  its_task p has = by (find (λ a. same_job (job_of x.tenancy.place a) d.id) x.row.active) refl (sym (ap (λ o. option_and_then (λ p. option_map (job_in p x.tenancy.place) (find (λ a. same_job (job_of x.tenancy.place a) d.id) x.row.active)) o) has) ∙ released)
+  its_task : (p : GiottoProgram) → x.row.program ≡ Some p → AllByRecursion (λ a. same_job (job_of x.tenancy.owner.place a) d.id ≡ true → job_in p x.tenancy.owner.place a ≡ d) x.row.active
+  its_task p has = by (find (λ a. same_job (job_of x.tenancy.owner.place a) d.id) x.row.active) refl (sym (ap (λ o. option_and_then (λ p. option_map (job_in p x.tenancy.owner.place) (find (λ a. same_job (job_of x.tenancy.owner.place a) d.id) x.row.active)) o) has) ∙ released)
     where
-      by : (o : Option ActiveTask) → find (λ a. same_job (job_of x.tenancy.place a) d.id) x.row.active ≡ o → option_map (job_in p x.tenancy.place) o ≡ Some d
-          → AllByRecursion (λ a. same_job (job_of x.tenancy.place a) d.id ≡ true → job_in p x.tenancy.place a ≡ d) x.row.active
+      by : (o : Option ActiveTask) → find (λ a. same_job (job_of x.tenancy.owner.place a) d.id) x.row.active ≡ o → option_map (job_in p x.tenancy.owner.place) o ≡ Some d
+          → AllByRecursion (λ a. same_job (job_of x.tenancy.owner.place a) d.id ≡ true → job_in p x.tenancy.owner.place a ≡ d) x.row.active
       by None e is = absurd (cc)
       by (Some a) e is =
-          let here : job_in p x.tenancy.place a ≡ d = cc in
-          all_map _ _ x.row.active (λ b alone same. ap (job_in p x.tenancy.place) (alone same) ∙ here)
-          (found_alone x.tenancy.place d.id x.row.active a (whole.known d.id.tenant no_tenant within).1.known.different e)
+          let here : job_in p x.tenancy.owner.place a ≡ d = cc in
+          all_map _ _ x.row.active (λ b alone same. ap (job_in p x.tenancy.owner.place) (alone same) ∙ here)
+          (found_alone x.tenancy.owner.place d.id x.row.active a (whole.known d.id.tenant no_tenant within).1.known.different e)
 
   result_now : (k : JobId) → result_in after k ≡ cond (same_job d.id k) (Some (result_of d)) (result_in before k)
   result_now k = ap (option_and_then (λ (e : TableEntry). e.result)) (added k) ∙ by (same_job d.id k)
@@ -259,9 +263,9 @@ module _ (tenants : List Standing) (before after : List TableEntry) (d : JobValu
       all_zip_map p has))
       (λ (differ : d.id.tenant ≢ k).
       results_moved (tenant_at tenants k) before after
-      (λ a. result_now (job_of (tenant_at tenants k).tenancy.place a)
-      ∙ ap (λ b. cond b (Some (result_of d)) (result_in before (job_of (tenant_at tenants k).tenancy.place a)))
-      (false_from_ne_true _ (λ e. differ (ap (λ (i : JobId). i.tenant) (same_job_is d.id (job_of (tenant_at tenants k).tenancy.place a) e) ∙ whole.placed k lt))))
+      (λ a. result_now (job_of (tenant_at tenants k).tenancy.owner.place a)
+      ∙ ap (λ b. cond b (Some (result_of d)) (result_in before (job_of (tenant_at tenants k).tenancy.owner.place a)))
+      (false_from_ne_true _ (λ e. differ (ap (λ (i : JobId). i.tenant) (same_job_is d.id (job_of (tenant_at tenants k).tenancy.owner.place a) e) ∙ whole.placed k lt))))
       (whole.table.results k no_tenant lt))
       (cases_eq d.id.tenant k)
     where
@@ -269,15 +273,15 @@ module _ (tenants : List Standing) (before after : List TableEntry) (d : JobValu
       both [] f ps qs = tt
       both (a ∷ xs) f ps qs = (f a ps.0 qs.0, both xs f ps.1 qs.1)
 
-      all_zip_map : (p : GiottoProgram) → x.row.program ≡ Some p → AllByRecursion (λ a. IfSome (result_in after (job_of x.tenancy.place a)) (λ r. r ≡ result_of (job_in p x.tenancy.place a))) x.row.active
-      all_zip_map p has = both x.row.active (λ a is was. right_now p x.tenancy.place a (λ e. is (turned d.id (job_of x.tenancy.place a) e)) was) (its_task p has) (whole.table.results d.id.tenant no_tenant within p has)
+      all_zip_map : (p : GiottoProgram) → x.row.program ≡ Some p → AllByRecursion (λ a. IfSome (result_in after (job_of x.tenancy.owner.place a)) (λ r. r ≡ result_of (job_in p x.tenancy.owner.place a))) x.row.active
+      all_zip_map p has = both x.row.active (λ a is was. right_now p x.tenancy.owner.place a (λ e. is (turned d.id (job_of x.tenancy.owner.place a) e)) was) (its_task p has) (whole.table.results d.id.tenant no_tenant within p has)
 
   pub whole_done : IsWhole config clock tenants after
   whole_done = record {
     as_many = whole.as_many;
     known = whole.known;
     placed = whole.placed;
-    budgets = whole.budgets;
+    tenancies = whole.tenancies;
     table = record {
       entered = λ k. same_entered k ∙ whole.table.entered k;
       results = λ k e lt. subst (λ (z : Standing). HasItsResults z after) (sym (get_or_default tenants k e no_tenant lt)) (results_now k lt);
@@ -301,8 +305,8 @@ table_completed tenants before after i placed within entered right others table 
         (λ (differ : i ≢ k).
         results_moved (tenant_at tenants k) before after
         (λ a. ap (option_and_then (λ (e : TableEntry). e.result))
-        (others (job_of (tenant_at tenants k).tenancy.place a)
-        (other_job (tenant_at tenants i).tenancy.place (tenant_at tenants i).row.active (job_of (tenant_at tenants k).tenancy.place a) (λ e. differ (sym (placed i within) ∙ e ∙ placed k lt)))))
+        (others (job_of (tenant_at tenants k).tenancy.owner.place a)
+        (other_job (tenant_at tenants i).tenancy.owner.place (tenant_at tenants i).row.active (job_of (tenant_at tenants k).tenancy.owner.place a) (λ e. differ (sym (placed i within) ∙ e ∙ placed k lt)))))
         (table.results k no_tenant lt))
         (cases_eq i k)
 
@@ -321,10 +325,10 @@ has_its_entries tenants entries i x within here placed table =
     subst (λ (s : Standing). HasItsEntries s entries) (sym (here ∙ get_or_default tenants i x no_tenant within))
     (all_map _ _ (tenant_at tenants i).row.active
     (λ a own.
-    table.entered (job_of (tenant_at tenants i).tenancy.place a)
-    ∙ ap (λ k. has_job (tenant_at tenants k).tenancy.place (tenant_at tenants k).row.active (job_of (tenant_at tenants i).tenancy.place a)) (placed i within)
+    table.entered (job_of (tenant_at tenants i).tenancy.owner.place a)
+    ∙ ap (λ k. has_job (tenant_at tenants k).tenancy.owner.place (tenant_at tenants k).row.active (job_of (tenant_at tenants i).tenancy.owner.place a)) (placed i within)
     ∙ own)
-    (own_jobs (tenant_at tenants i).tenancy.place (tenant_at tenants i).row.active))
+    (own_jobs (tenant_at tenants i).tenancy.owner.place (tenant_at tenants i).row.active))
 
 -- whether a job is active in one tenant more
 pub active_more : (tenants : List Standing) (i : ℕ) (j : JobId) → ArePlaced tenants → i < length tenants
@@ -333,16 +337,16 @@ active_more tenants i j placed within = ⊎_elim
     (λ lt. first lt)
     (λ le. ⊎_elim
     (λ (same : j.tenant ≡ i).
-    ap (λ (s : Standing). has_job s.tenancy.place s.row.active j) (get_or-take (i + 1) tenants j.tenant no_tenant (omega (arith, same)) ∙ ap (tenant_at tenants) same)
+    ap (λ (s : Standing). has_job s.tenancy.owner.place s.row.active j) (get_or-take (i + 1) tenants j.tenant no_tenant (omega (arith, same)) ∙ ap (tenant_at tenants) same)
     ∙ ap (λ b. b || has_active (tenant_at tenants i) j) (sym (past i le)))
     (λ (differ : j.tenant ≢ i).
     past (i + 1) (omega (arith, le, differ))
-    ∙ sym (ap (λ b. b || has_active (tenant_at tenants i) j) (past i le) ∙ other_job (tenant_at tenants i).tenancy.place (tenant_at tenants i).row.active j (λ e. differ (sym e ∙ placed i within))))
+    ∙ sym (ap (λ b. b || has_active (tenant_at tenants i) j) (past i le) ∙ other_job (tenant_at tenants i).tenancy.owner.place (tenant_at tenants i).row.active j (λ e. differ (sym e ∙ placed i within))))
     (cases_eq j.tenant i))
     (cases_lt j.tenant i)
   where
     past : (n : ℕ) → n ≤ j.tenant → is_active_among (take n tenants) j ≡ false
-    past n le = ap (λ (s : Standing). has_job s.tenancy.place s.row.active j) (get_or-eq_default (take n tenants) no_tenant (omega (arith, le, length-take n tenants)))
+    past n le = ap (λ (s : Standing). has_job s.tenancy.owner.place s.row.active j) (get_or-eq_default (take n tenants) no_tenant (omega (arith, le, length-take n tenants)))
 
     or_false : (b : Bool) → b ≡ (b || false)
     or_false true = refl
@@ -350,12 +354,12 @@ active_more tenants i j placed within = ⊎_elim
 
     first : j.tenant < i → is_active_among (take (i + 1) tenants) j ≡ (is_active_among (take i tenants) j || has_active (tenant_at tenants i) j)
     first lt =
-        ap (λ (s : Standing). has_job s.tenancy.place s.row.active j) (get_or-take (i + 1) tenants j.tenant no_tenant (omega (arith, lt)) ∙ sym (get_or-take i tenants j.tenant no_tenant lt))
+        ap (λ (s : Standing). has_job s.tenancy.owner.place s.row.active j) (get_or-take (i + 1) tenants j.tenant no_tenant (omega (arith, lt)) ∙ sym (get_or-take i tenants j.tenant no_tenant lt))
         ∙ or_false (is_active_among (take i tenants) j)
-        ∙ ap (λ b. is_active_among (take i tenants) j || b) (sym (other_job (tenant_at tenants i).tenancy.place (tenant_at tenants i).row.active j (λ e. absurd (omega (arith, lt, sym (placed i within) ∙ e)))))
+        ∙ ap (λ b. is_active_among (take i tenants) j || b) (sym (other_job (tenant_at tenants i).tenancy.owner.place (tenant_at tenants i).row.active j (λ e. absurd (omega (arith, lt, sym (placed i within) ∙ e)))))
 
 -- what the tenants before this one have completed is no job of its own
-pub none_before : (tenants : List Standing) (i : ℕ) (a : ActiveTask) → ArePlaced tenants → i < length tenants → is_active_among (take i tenants) (job_of (tenant_at tenants i).tenancy.place a) ≡ false
+pub none_before : (tenants : List Standing) (i : ℕ) (a : ActiveTask) → ArePlaced tenants → i < length tenants → is_active_among (take i tenants) (job_of (tenant_at tenants i).tenancy.owner.place a) ≡ false
 none_before tenants i a placed within =
-    ap (λ (s : Standing). has_job s.tenancy.place s.row.active (job_of (tenant_at tenants i).tenancy.place a))
+    ap (λ (s : Standing). has_job s.tenancy.owner.place s.row.active (job_of (tenant_at tenants i).tenancy.owner.place a))
     (get_or-eq_default (take i tenants) no_tenant (omega (arith, placed i within, length-take i tenants)))

@@ -5,6 +5,7 @@ pub mod Completed
 pub mod Completion
 pub mod FirstRun
 pub mod FromABase
+pub mod GrantedRun
 pub mod Histories
 pub mod HostInstants
 pub mod HostSteps

@@ -1,5 +1,5 @@
 -- The value of a line, by the rows of the tenants.
-use Rattle.std.proofs.Common.{◌≡◌, ℕ, ◌<◌, ℤ, pos, List, length, Option, Some, None, unwrap_or, option_and_then, refl, sym, ap, ◌∙◌, arith}
+use Rattle.std.proofs.Common.{◌≡◌, ℕ, ◌<◌, ℤ, pos, length, Option, Some, None, unwrap_or, option_and_then, refl, ap, ◌∙◌}
 use Rattle.std.proofs.lemmas.List.Quantifiers.{position-Some}
 use Rattle.rig_config.specs.Roster.{Rig, may_use}
 use Rattle.rig_config.specs.declared.TenantConfig.{TenantConfig}

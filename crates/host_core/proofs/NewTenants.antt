@@ -4,12 +4,9 @@ use Rattle.std.specs.List.{enumerate_from}
 use Rattle.std.proofs.Math.ListN.{get_or-eq_default}
 use Rattle.std.proofs.lemmas.Bool.{cases_lt}
 use Rattle.std.proofs.lemmas.List.{take_more, take_all}
-use Rattle.std.specs.Option.{option_map_or}
-use Rattle.std.proofs.lemmas.Option.{slice_get-get_or}
 use Rattle.rig_config.specs.declared.TenantConfig.{TenantConfig}
-use Rattle.rig_config.specs.Roster.{Rig, budgets_at, no_budgets}
+use Rattle.rig_config.specs.Roster.{Rig}
 use Rattle.host_core.specs.inner.HostStanding.{IsAt, IsWhole}
-use Rattle.instant_engine.specs.Tenants.{tenant_at}
 use Rattle.instant_engine.specs.inner.Tenants.{is_active_among}
 use Rattle.tenant_jobs.specs.declared.jobs.JobId.{JobId}
 use Rattle.tenant_state.specs.Jobs.{has_job}
@@ -17,26 +14,22 @@ use Rattle.tenant_state.specs.Standing.{Standing, no_tenant}
 use Rattle.tenant_state.specs.inner.Standing.{HasItsResults}
 use Rattle.host_core.proofs.NewHost.{at_place, as_many_places, begun, nobody}
 
--- the budgets of a tenant of the roster
-budgets_there : (config : Rig) (t : ℕ) → t < length config.tenants → budgets_at config t ≡ (get_or config.tenants t nobody).budgets
-budgets_there config t lt = ap (λ o. option_map_or (λ (tenant : TenantConfig). tenant.budgets) o no_budgets) (slice_get-get_or config.tenants t nobody lt)
-
 module _ (n : ℕ) (config : Rig) where
   abbrev roster : List TenantConfig
   roster = config.tenants
 
   -- the empty tenant of each place
   abbrev pub new_tenants : List Standing
-  new_tenants = map (begun n) (enumerate_from 0 roster)
+  new_tenants = map (begun config n) (enumerate_from 0 roster)
 
   as_many_new : length new_tenants ≡ length roster
-  as_many_new = as_many_places (begun n) roster
+  as_many_new = as_many_places (begun config n) roster
 
-  new_at : (t : ℕ) (d : Standing) → t < length roster → get_or new_tenants t d ≡ begun n (t, get_or roster t nobody)
-  new_at t d lt = at_place (begun n) roster t d lt
+  new_at : (t : ℕ) (d : Standing) → t < length roster → get_or new_tenants t d ≡ begun config n (t, get_or roster t nobody)
+  new_at t d lt = at_place (begun config n) roster t d lt
 
   -- one tenant more
-  pub new_more : (i : ℕ) (tenants more : List Standing) (s : Standing) → i < length roster → tenants ≡ take i new_tenants → more ≡ tenants ++ s ∷ [] → s ≡ begun n (i, get_or roster i nobody)
+  pub new_more : (i : ℕ) (tenants more : List Standing) (s : Standing) → i < length roster → tenants ≡ take i new_tenants → more ≡ tenants ++ s ∷ [] → s ≡ begun config n (i, get_or roster i nobody)
       → more ≡ take (i + 1) new_tenants
   new_more i tenants more s lt before added is =
       added
@@ -51,8 +44,8 @@ module _ (n : ℕ) (config : Rig) where
   -- no task is active
   none_active : (j : JobId) → is_active_among new_tenants j ≡ false
   none_active j = ⊎_elim
-      (λ lt. ap (λ (s : Standing). has_job s.tenancy.place s.row.active j) (new_at j.tenant no_tenant lt))
-      (λ le. ap (λ (s : Standing). has_job s.tenancy.place s.row.active j) (get_or-eq_default new_tenants no_tenant (omega (arith, le, as_many_new))))
+      (λ lt. ap (λ (s : Standing). has_job s.tenancy.owner.place s.row.active j) (new_at j.tenant no_tenant lt))
+      (λ le. ap (λ (s : Standing). has_job s.tenancy.owner.place s.row.active j) (get_or-eq_default new_tenants no_tenant (omega (arith, le, as_many_new))))
       (cases_lt j.tenant (length roster))
 
   pub new_whole : IsWhole config n new_tenants []
@@ -62,7 +55,6 @@ module _ (n : ℕ) (config : Rig) where
       refl,
       record {
         known = record {
-          no_binds = refl;
           no_records = refl;
           none_waits = refl;
           tasks = λ none. refl;
@@ -70,13 +62,12 @@ module _ (n : ℕ) (config : Rig) where
           early = tt;
           different = refl;
         };
+        binds = omega arith;
         rest = refl;
       },
     );
-    placed = λ t lt. ap (λ (s : Standing). s.tenancy.place) (new_at t no_tenant (omega (arith, lt, as_many_new)));
-    budgets = λ t lt.
-        let there : t < length roster = omega (arith, lt, as_many_new) in
-        ap (λ (s : Standing). s.tenancy.budgets) (new_at t no_tenant there) ∙ sym (budgets_there config t there);
+    placed = λ t lt. ap (λ (s : Standing). s.tenancy.owner.place) (new_at t no_tenant (omega (arith, lt, as_many_new)));
+    tenancies = λ t lt. ap (λ (s : Standing). s.tenancy) (new_at t no_tenant (omega (arith, lt, as_many_new)));
     table = record {
       entered = λ j. sym (none_active j);
       results = λ t d lt. subst (λ (s : Standing). HasItsResults s []) (sym (new_at t d (omega (arith, lt, as_many_new)))) (λ p is. tt);

@@ -121,13 +121,13 @@ one_fewer_in xs j before after lt placed added none active different =
     here : (d : Standing) → number_outstanding before (get_or xs j.tenant d) ≡ number_outstanding after (get_or xs j.tenant d) + 1
     here d =
         subst (λ (s : Standing). number_outstanding before s ≡ number_outstanding after s + 1) (sym (get_or_default xs j.tenant d no_tenant lt))
-        (one_fewer_of (tenant_at xs j.tenant).tenancy.place j before after added (tenant_at xs j.tenant).row.active different active none)
+        (one_fewer_of (tenant_at xs j.tenant).tenancy.owner.place j before after added (tenant_at xs j.tenant).row.active different active none)
 
     others : (k : ℕ) (d : Standing) → k < length xs → k ≢ j.tenant → number_outstanding before (get_or xs k d) ≡ number_outstanding after (get_or xs k d)
     others k d below differ =
         subst (λ (s : Standing). number_outstanding before s ≡ number_outstanding after s) (sym (get_or_default xs k d no_tenant below))
-        (sym (ap length (same_open (tenant_at xs k).tenancy.place j before after added (tenant_at xs k).row.active
-        (all_of (λ a. false_from_ne_true _ (λ e. differ (sym (placed k below) ∙ sym (ap (λ (i : JobId). i.tenant) (same_job_is j (job_of (tenant_at xs k).tenancy.place a) e))))) (tenant_at xs k).row.active))))
+        (sym (ap length (same_open (tenant_at xs k).tenancy.owner.place j before after added (tenant_at xs k).row.active
+        (all_of (λ a. false_from_ne_true _ (λ e. differ (sym (placed k below) ∙ sym (ap (λ (i : JobId). i.tenant) (same_job_is j (job_of (tenant_at xs k).tenancy.owner.place a) e))))) (tenant_at xs k).row.active))))
 
 -- what is found at the same places of two lists of one length
 places : {A B C : Type 0} (f : ℕ × A → List C) (g : ℕ × B → List C) (a : A) (b : B) (n : ℕ) (xs : List A) (ys : List B) → length xs ≡ length ys
@@ -156,7 +156,7 @@ module _ (setting : Setting) where
   all_jobs state = flat_map (λ (place : ℕ × TenantConfig). jobs_at state place.0) (enumerate_from 0 setting.config.tenants)
 
   -- what a tenant has outstanding is what its row lacks
-  pub awaited_at : (s : Standing) (entries : List TableEntry) (t : ℕ) (row : Row) (c : JobId → Bool) → StandsFor s row → s.tenancy.place ≡ t → ((j : JobId) → has_result entries j ≡ c j)
+  pub awaited_at : (s : Standing) (entries : List TableEntry) (t : ℕ) (row : Row) (c : JobId → Bool) → StandsFor s row → s.tenancy.owner.place ≡ t → ((j : JobId) → has_result entries j ≡ c j)
       → map (job_of t) (outstanding_tasks s entries) ≡ filter (λ j. not (c j)) (map (job_of t) row.active)
   awaited_at s entries t row c h place results =
       ap (map (job_of t)) (outstanding_are s entries t row c h place results) ∙ sym (filter-map (job_of t) (λ j. not (c j)) (λ a. not (c (job_of t a))) row.active (all_of (λ a. refl) row.active))

@@ -24,8 +24,10 @@ use Rattle.host_core.specs.Legal.{next_tick, was_released, may_follow, is_legal}
 use Rattle.host_core.specs.inner.Playing.{IsPlayed}
 use Rattle.host_core.specs.Plays.{IsSettingOf}
 use Rattle.host_core.specs.Setting.{Setting}
-use Rattle.host_core.specs.Views.{after_command, readings_of, run_of, view_of, row_of}
+use Rattle.host_core.specs.Tenancies.{tenancy_at}
+use Rattle.host_core.specs.Views.{after_command, run_of, view_of, row_of}
 use Rattle.rig_config.specs.Roster.{Rig, budgets_at, is_tenant}
+use Rattle.tenant_slots.specs.Readings.{readings_within}
 use Rattle.tenant_state.specs.FirstHalf.{first_half_of}
 use Rattle.tenant_jobs.specs.Jobs.{JobValue, same_job}
 use Rattle.tenant_state.specs.Jobs.{job_of, job_in, is_active, released_at}
@@ -154,7 +156,7 @@ module _ (setting : Setting) (base : IsBase setting.config setting.base) where
       ap (λ b. run_of setting t (cond b (Rattle.host_core.specs.Views.command c ∷ view_of setting past t) (view_of setting past t))) other ∙ row_outside past t parts.1 le
   row_outside (Done i ∷ past) t legal le = row_outside past t (and_parts (may_follow setting past (Done i)) (is_legal setting past) legal).1 le
   row_outside (Tick frame ∷ past) t legal le =
-      ap (λ r. second_half_of (readings_of setting t frame) (own_instant setting past frame t).granted (first_half_of (unfinished_of setting past t r) r))
+      ap (λ r. second_half_of (readings_within (budgets_at setting.config t).reads frame) (own_instant setting past frame t).granted (first_half_of (unfinished_of setting past t r) r))
       (row_outside past t (and_parts (may_follow setting past (Tick frame)) (is_legal setting past) legal).1 le)
 
   released_if_active : (past : List Event) (j : JobId) → is_active (row_of setting past j.tenant) j ≡ true → was_released setting past j ≡ true
@@ -166,7 +168,7 @@ module _ (setting : Setting) (base : IsBase setting.config setting.base) where
   active_before past u c j =
       any_if_all (λ (a : ActiveTask). same_job (job_of j.tenant a) j) (was_released setting past j ≡ true) (row_of setting (Own u c ∷ past) j.tenant).active
       (own_row setting (λ (row : Row). AllByRecursion WasReleased row.active) past c j.tenant (eqb u j.tenant)
-      (kept_by_command WasReleased (next_tick setting past) (budgets_at setting.config j.tenant) c (row_of setting past j.tenant)
+      (kept_by_command WasReleased (next_tick setting past) (tenancy_at setting.config j.tenant) c (row_of setting past j.tenant)
       (record { each = before; at = (releases setting base past j.tenant).at })).each
       before)
     where

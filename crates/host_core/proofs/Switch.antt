@@ -1,17 +1,15 @@
--- Switches, installation and grants, computed from the definitions; no command of today reaches the last two.
-use Rattle.std.proofs.Common.{◌≡◌, ℕ, pos, List, [], ◌∷◌, ◌++◌, refl, reverse, Some}
-use Rattle.std.specs.Prelude.{codes, if◌then◌else◌, nat_eq}
+-- Switches and installation, computed from the definitions; no command of today reaches the latter.
+use Rattle.std.proofs.Common.{◌≡◌, pos, List, [], ◌∷◌, ◌++◌, refl, reverse, Some}
+use Rattle.std.specs.Prelude.{codes}
 use Rattle.std.specs.Fmt.{digits}
 use Rattle.host_core.specs.declared.events.Event.{Event}
 use Rattle.host_core.specs.declared.events.Event.TheVariants.{Own}
 use Rattle.tenant_lines.specs.declared.commands.Command.TheVariants.{Load, Start, Stop, ShowMode, ShowAll}
 use Rattle.tenant_state.specs.declared.trace.Happening.TheVariants as happening
 use Rattle.host_core.specs.Answers.{answers_of}
-use Rattle.host_core.specs.Grants.{granted_to}
-use Rattle.rig_config.specs.BuiltIn.{built_in_config}
 use Rattle.host_core.specs.Views.{row_of}
 use Rattle.tenant_state.specs.FirstHalf.{first_half_of}
-use Rattle.tenant_state.specs.Row.{Row, empty_row}
+use Rattle.tenant_state.specs.Row.{Row}
 use Rattle.tenant_state.specs.SecondHalf.{second_half_of}
 use Rattle.host_core.proofs.FirstRun.{answered, tick, completed, first_run}
 use Rattle.host_core.proofs.Rig.{rig}
@@ -52,23 +50,3 @@ installed_ports = refl
 
 pub installed_mode : (second_half_of ((0, pos 4) ∷ []) [] (first_half_of [] waiting)).mode ≡ codes "k"
 installed_mode = refl
-
--- alpha runs the adder and offers a to beta; beta has bound its sensor g to it
-abbrev supplier : Row
-supplier = record (row_of rig (reverse first_run) 0) { offers = record { actuator = codes "a"; tenant = codes "beta" } ∷ [] }
-
-abbrev consumer : Row
-consumer = record (empty_row 0) { binds = record { sensor = codes "g"; tenant = codes "alpha"; actuator = codes "a" } ∷ [] }
-
-abbrev both : ℕ → Row
-both t = if nat_eq t 0 then supplier else consumer
-
-pub granted : granted_to built_in_config both both 1 ≡ (codes "g", pos 6) ∷ []
-granted = refl
-
--- without the offer nothing is granted
-abbrev without_offer : ℕ → Row
-without_offer t = if nat_eq t 0 then record supplier { offers = [] } else consumer
-
-pub granted_without_offer : granted_to built_in_config without_offer without_offer 1 ≡ []
-granted_without_offer = refl

@@ -7,7 +7,7 @@ use Rattle.host_core.specs.HostState.{HostState, row_at, is_counted, awaits}
 use Rattle.tenant_state.specs.Jobs.{is_active}
 use Rattle.tenant_state.specs.Row.{Row}
 use Rattle.host_core.specs.Setting.{Setting}
-use Rattle.host_core.specs.Views.{after_command, local_instant}
+use Rattle.host_core.specs.Views.{after_command, instant_for}
 use Rattle.tenant_state.specs.Instants.{LocalInstant, after_instant}
 
 -- these rows, with those counted jobs that are still active
@@ -19,7 +19,7 @@ with_rows host rows =
 module _ (setting : Setting) where
   -- what the instant is for a tenant, by the host's rows and counted jobs
   abbrev pub instant_of : HostState → List ℤ → ℕ → LocalInstant
-  instant_of host frame t = local_instant setting (row_at host) (is_counted host) frame t
+  instant_of host frame t = instant_for setting (row_at host) (is_counted host) frame t
 
   -- a command changes its tenant's row alone, an instant all rows, a completion that is awaited the counted jobs, and another one nothing
   abbrev pub after_event : HostState → Event → HostState

@@ -15,7 +15,9 @@ use Rattle.tenant_jobs.specs.Finished.{TableEntry, has_result}
 use Rattle.tenant_jobs.specs.Jobs.{JobValue}
 use Rattle.tenant_state.specs.Jobs.{job_of}
 use Rattle.tenant_state.specs.Standing.{Standing, empty_standing, at_rest, StandsFor, outstanding_tasks, awaited_job}
-use Rattle.rig_config.specs.Roster.{Rig}
+use Rattle.host_core.specs.Tenancies.{owner_at}
+use Rattle.rig_config.specs.Roster.{Rig, budgets_at}
+use Rattle.tenant_grants.specs.Grants.{no_rows}
 
 -- the host as its code has it
 pub record HostStanding : Type 0 where
@@ -27,9 +29,18 @@ pub record HostStanding : Type 0 where
   -- the number of the next instant
   pub clock : ℕ
 
+-- the tenant at place t of a new host, without a program and without rows
+abbrev pub new_tenant : Rig → ℕ → ℕ → Standing
+new_tenant config first_tick t = empty_standing (budgets_at config t) (no_rows (owner_at config t)) first_tick
+
 -- a new host, whose first instant has this number
 abbrev pub new_host : Rig → ℕ → HostStanding
-new_host config first_tick = record { config = config; tenants = map (λ (place : ℕ × TenantConfig). at_rest (empty_standing (record { place = place.0; budgets = place.1.budgets }) first_tick)) (enumerate_from 0 config.tenants); entries = []; clock = first_tick }
+new_host config first_tick = record {
+  config = config;
+  tenants = map (λ (place : ℕ × TenantConfig). at_rest (new_tenant config first_tick place.0)) (enumerate_from 0 config.tenants);
+  entries = [];
+  clock = first_tick;
+}
 
 -- The host stands for a row for each tenant, and has the results of the jobs that were completed and are still active.
 pub record Stands (setting : Setting) (host : HostStanding) (state : HostState) : Type 0 where

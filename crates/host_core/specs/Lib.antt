@@ -1,7 +1,6 @@
 pub mod Answers
 pub mod Base
 pub mod Completions
-pub mod Grants
 pub mod Host
 pub mod HostStanding
 pub mod HostState
@@ -9,5 +8,6 @@ pub mod Legal
 pub mod Lines
 pub mod Plays
 pub mod Setting
+pub mod Tenancies
 pub mod Views
 pub mod inner

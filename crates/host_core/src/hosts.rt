@@ -21,6 +21,7 @@ ghost use Rattle.tenant_lines.specs.declared.replies.Reply.{Reply};
 ghost use Rattle.tenant_state.specs.Commands.{takes_memory};
 ghost use Rattle.tenant_state.specs.Standing.{IsKnown, Standing, at_rest};
 
+use crate::new_tenants::{new_tenant, places};
 use instant_engine::instants::{instant, instant_without_jobs, ready};
 use instant_engine::{Done, Finished, Job, JobId, Jobs, run_job};
 use rig_config::{Config, TenantId};
@@ -28,7 +29,7 @@ use std::alloc::{AllocError, Global};
 use std::marker::Model;
 use tenant_lines::commands::Command;
 use tenant_lines::replies::Reply;
-use tenant_state::tenants::{Tenancy, Tenant};
+use tenant_state::tenants::Tenant;
 use thiserror::Error;
 
 /// Why an instant is refused.
@@ -60,6 +61,8 @@ pub struct Host {
     alloc: Global,
     config: Config,
     tenants: Vec<Tenant>,
+    /// What is granted through each bind at an instant, so that none takes memory for it.
+    granted: Vec<Option<i64>>,
     finished: Finished,
     clock: u64,
 }
@@ -69,7 +72,7 @@ impl Model for Host {
     ghost use Rattle.std.specs.Coded.{codes};
     ghost use Rattle.giotto_text.specs.inner.ProgramCodes.{program_code};
     ghost use Rattle.host_core.specs.HostStanding.{HostStanding};
-    ghost use Rattle.host_core.specs.inner.HostStanding.{IsWhole};
+    ghost use Rattle.host_core.specs.inner.HostStanding.{IsHost};
     ghost use Rattle.tenant_state.specs.Standing.{at_rest};
 
     ghost Value = { HostStanding };
@@ -78,7 +81,7 @@ impl Model for Host {
 
     ghost view = { λ h. record { config = h.config; tenants = map at_rest h.tenants.items; entries = h.finished.entries; clock = h.clock } };
 
-    ghost invariant = { λ h. IsWhole h.config h.clock h.tenants.items h.finished.entries };
+    ghost invariant = { λ h. IsHost h.config h.clock h.tenants.items h.finished.entries h.granted.items };
 }
 
 impl Host {
@@ -90,26 +93,29 @@ impl Host {
         ensures { IfOk result (λ host. host ≡ new_host config.now first_tick) }
     {
         let copy = config.copy(alloc)?;
+        let granted = places(alloc, config)?;
         let mut tenants = Vec::new(alloc);
         for place in 0..config.tenants().len() {
-            let budgets = config.tenants()[place].budgets.copy(alloc)?;
-            tenants.push(Tenant::new(alloc, Tenancy { place, budgets }, first_tick))?;
+            let tenant = new_tenant(alloc, config, place, first_tick)?;
+            tenants.push(tenant)?;
         }
         Ok(Host {
             alloc,
             config: copy,
             tenants,
+            granted,
             finished: Finished::new(alloc),
             clock: first_tick,
         })
     }
 
     /// Carries out a tenant's command. A refusal changes nothing, want of memory included, and no command changes another tenant.
-    /// Only `load`, and `show all` of a tenant with a program, are ever refused for want of memory.
+    /// Only `load`, `show all` of a tenant with a program, `offer`, `bind`, and `rows` where there is one, are ever refused for want of
+    /// memory.
     pub fn command(&mut self, tenant: TenantId, command: Command) -> Reply
         requires { tenant < length self.old.config.tenants }
         ensures memory { result ≡ Reply.Refused Refusal.Memory → self.new ≡ self.old }
-        ensures room { takes_memory command (tenant_at self.old.tenants tenant).row ≡ false → result ≢ Reply.Refused Refusal.Memory }
+        ensures room { takes_memory (tenant_at self.old.tenants tenant).tenancy.owner command (tenant_at self.old.tenants tenant).row ≡ false → result ≢ Reply.Refused Refusal.Memory }
         ensures config { self.new.config ≡ self.old.config }
         ensures reply { result ≢ Reply.Refused Refusal.Memory
             → ForEachState self.old (λ setting state. result ≡ (after_command setting tenant command (row_at state tenant)).reply) }
@@ -122,7 +128,7 @@ impl Host {
         reply
     }
 
-    /// An instant of all tenants: the first half of each, then the second half of each. `frame` has the input value of each line.
+    /// An instant of all tenants: the first half of each, then all granted values at once, then the second half of each. `frame` has the input value of each line.
     /// The jobs of the tasks that are released, tenant by tenant in the order of the roster.
     ///
     /// # Errors
@@ -145,7 +151,8 @@ impl Host {
             return Err(TickFault::Memory);
         };
         let tenants = self.tenants.as_mut_slice();
-        instant(tenants, frame, &mut self.finished, &mut jobs);
+        let granted = self.granted.as_mut_slice();
+        instant(tenants, frame, granted, &mut self.finished, &mut jobs);
         self.clock += 1;
         Ok(jobs)
     }
@@ -166,7 +173,8 @@ impl Host {
             return Err(TickFault::Memory);
         }
         let tenants = self.tenants.as_mut_slice();
-        instant_without_jobs(tenants, frame, &mut self.finished);
+        let granted = self.granted.as_mut_slice();
+        instant_without_jobs(tenants, frame, granted, &mut self.finished);
         self.clock += 1;
         Ok(())
     }

@@ -8,4 +8,5 @@
 pub mod events;
 pub mod hosts;
 pub mod laws;
+mod new_tenants;
 pub mod plays;

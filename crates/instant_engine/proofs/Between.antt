@@ -14,21 +14,29 @@ use Rattle.tenant_jobs.specs.declared.jobs.JobResult.{JobResult}
 use Rattle.tenant_jobs.specs.Finished.{TableEntry, entry_in, result_in, has_result}
 use Rattle.tenant_jobs.specs.inner.Finished.{is_entered, result_of}
 use Rattle.tenant_jobs.specs.Jobs.{JobValue, same_job}
-use Rattle.tenant_state.specs.FirstHalf.{unfinished_tasks}
-use Rattle.tenant_state.specs.Instants.{LocalInstant}
+use Rattle.instant_engine.specs.Grants.{granted_by, granted_from, granted_to}
+use Rattle.giotto_tasks.specs.Names.{same_name}
+use Rattle.std.proofs.lemmas.List.Quantifiers.{position-Some}
+use Rattle.std.specs.Option.{option_map}
+use Rattle.tenant_exchange.specs.Granted.{granted_along}
+use Rattle.tenant_grants.specs.Grants.{granted_value, name_in, offer_of, place_in}
+use Rattle.tenant_grants.specs.declared.rows.Bind.{Bind}
+use Rattle.tenant_state.specs.FirstHalf.{first_half_of, unfinished_tasks}
+use Rattle.tenant_state.specs.Instants.{LocalInstant, after_instant}
+use Rattle.tenant_state.specs.Readers.{actuator_value}
 use Rattle.tenant_state.specs.Jobs.{job_of, job_in, has_job}
 use Rattle.tenant_state.specs.Row.{ActiveTask, Row}
-use Rattle.tenant_state.specs.Standing.{Standing, StandsFor, no_tenant, most_released}
-use Rattle.tenant_state.specs.declared.tenants.Tenancy.{Tenancy}
+use Rattle.tenant_state.specs.Standing.{Standing, StandsFor, no_tenant, most_released, without_records}
+use Rattle.tenant_state.specs.Tenancy.{Tenancy}
 use Rattle.tenant_state.specs.inner.Standing.{HasItsEntries, HasItsResults, AreReleased}
 use Rattle.tenant_state.specs.inner.Halves.{IsFirstHalf, first_half_by}
 use Rattle.tenant_state.specs.SecondHalf.{second_half_of}
 use Rattle.tenant_slots.specs.Readings.{readings_within}
-use Rattle.instant_engine.specs.inner.Instants.{AreInstants, AreStepped, IsBetween, instant_by}
+use Rattle.instant_engine.specs.inner.Instants.{AreInstants, AreStepped, IsBetween, StandForRows, instant_by}
 use Rattle.instant_engine.specs.inner.Tables.{IsTaskTable}
 use Rattle.instant_engine.specs.Tenants.{ArePlaced, most_of, tenant_at}
-use Rattle.instant_engine.specs.inner.Tenants.{is_active_among}
-use Rattle.instant_engine.specs.inner.Halves.{AreEarly, AreReleasedJobs, AreSecondHalves, AreToldEnded, IsReady, IsSecondHalfAndKnown, is_ended_among, is_released_among, without_ended}
+use Rattle.instant_engine.specs.inner.Tenants.{HaveRoster, binds_of, granted_at, is_active_among, roster_among, rows_of}
+use Rattle.instant_engine.specs.inner.Halves.{AreEarly, AreGranted, AreReleasedJobs, AreSecondHalves, AreToldEnded, IsReady, IsSecondHalfAndKnown, is_ended_among, is_released_among, without_ended}
 use Rattle.giotto_tasks.proofs.ListLemmas.{all_map, all_with, find_passes}
 use Rattle.tenant_jobs.proofs.JobNames.{same_job_is, same_job_self}
 use Rattle.tenant_state.proofs.ActiveTasks.{keeps_first_half, kept_by_instant}
@@ -42,7 +50,7 @@ outside : (tenants : List Standing) (t : ℕ) → length tenants ≤ t → tenan
 outside tenants t past = lists.get_or-eq_default tenants no_tenant past
 
 none_active : (tenants : List Standing) (j : JobId) → length tenants ≤ j.tenant → is_active_among tenants j ≡ false
-none_active tenants j past = ap (λ (s : Standing). has_job s.tenancy.place s.row.active j) (outside tenants j.tenant past)
+none_active tenants j past = ap (λ (s : Standing). has_job s.tenancy.owner.place s.row.active j) (outside tenants j.tenant past)
 
 -- what holds of each tenant by its place
 all_at : (P : Standing → Type 0) (tenants : List Standing) → ((t : ℕ) → t < length tenants → P (tenant_at tenants t)) → All P tenants
@@ -57,13 +65,18 @@ all_kept P Q tenants each all =
     all_at P (map without_ended tenants)
     (λ t lt. subst P (sym (at_kept tenants t)) (each (tenant_at tenants t) (all t no_tenant (omega (arith, length-map tenants without_ended)))))
 
+pub binds_kept : (tenants : List Standing) → binds_of (map without_ended tenants) ≡ binds_of tenants
+binds_kept tenants =
+    let binds : Standing → ℕ = λ s. length s.row.binds in
+    sym (sum-map binds (map without_ended tenants)) ∙ (ap sum (map-map binds without_ended tenants) ∙ sum-map binds tenants)
+
 most_kept : (tenants : List Standing) → most_of (map without_ended tenants) ≡ most_of tenants
 most_kept tenants =
     let most : Standing → ℕ = λ s. most_released s.row in
     sym (sum-map most (map without_ended tenants)) ∙ (ap sum (map-map most without_ended tenants) ∙ sum-map most tenants)
 
 placed_kept : (tenants : List Standing) → ArePlaced tenants → ArePlaced (map without_ended tenants)
-placed_kept tenants placed t lt = ap (λ (s : Standing). s.tenancy.place) (at_kept tenants t) ∙ placed t (omega (arith, length-map tenants without_ended))
+placed_kept tenants placed t lt = ap (λ (s : Standing). s.tenancy.owner.place) (at_kept tenants t) ∙ placed t (omega (arith, length-map tenants without_ended))
 
 -- tenants between the halves of an instant, and before it
 pub record AreHalfway (before kept : List Standing) : Type 0 where
@@ -76,12 +89,12 @@ pub record AreHalfway (before kept : List Standing) : Type 0 where
 
 -- each tenant's tasks are active among all
 its_jobs : (tenants : List Standing) → ArePlaced tenants → (t : ℕ) → t < length tenants
-    → AllByRecursion (λ a. is_active_among tenants (job_of (tenant_at tenants t).tenancy.place a) ≡ true) (tenant_at tenants t).row.active
+    → AllByRecursion (λ a. is_active_among tenants (job_of (tenant_at tenants t).tenancy.owner.place a) ≡ true) (tenant_at tenants t).row.active
 its_jobs tenants placed t lt =
     let s : Standing = tenant_at tenants t in
-    all_map (λ a. has_job s.tenancy.place s.row.active (job_of s.tenancy.place a) ≡ true) (λ a. is_active_among tenants (job_of s.tenancy.place a) ≡ true) s.row.active
-    (λ a e. ap (λ t. has_job (tenant_at tenants t).tenancy.place (tenant_at tenants t).row.active (job_of s.tenancy.place a)) (placed t lt) ∙ e)
-    (own_jobs_active s.tenancy.place s.row)
+    all_map (λ a. has_job s.tenancy.owner.place s.row.active (job_of s.tenancy.owner.place a) ≡ true) (λ a. is_active_among tenants (job_of s.tenancy.owner.place a) ≡ true) s.row.active
+    (λ a e. ap (λ t. has_job (tenant_at tenants t).tenancy.owner.place (tenant_at tenants t).row.active (job_of s.tenancy.owner.place a)) (placed t lt) ∙ e)
+    (own_jobs_active s.tenancy.owner.place s.row)
 
 -- an entry has its name, and without an entry there is no result
 entry_whole : (entries : List TableEntry) (j : JobId) → is_entered entries j ≡ true → entry_in entries j ≡ Some (record { id = j; result = result_in entries j })
@@ -105,13 +118,13 @@ module _ {before : List Standing} {entries : List TableEntry} (placed : ArePlace
       all_at (λ s. HasItsEntries s entries) before
       (λ t lt.
       let s : Standing = tenant_at before t in
-      all_map (λ a. is_active_among before (job_of s.tenancy.place a) ≡ true) (λ a. is_entered entries (job_of s.tenancy.place a) ≡ true) s.row.active (λ a e. table.entered (job_of s.tenancy.place a) ∙ e) (its_jobs before placed t lt))
+      all_map (λ a. is_active_among before (job_of s.tenancy.owner.place a) ≡ true) (λ a. is_entered entries (job_of s.tenancy.owner.place a) ≡ true) s.row.active (λ a e. table.entered (job_of s.tenancy.owner.place a) ∙ e) (its_jobs before placed t lt))
 
   -- no active task has the number of the next instant
   early_job : (j : JobId) → j.tenant < length before → is_active_among before j ≡ true → j.tick < (tenant_at before j.tenant).row.next_tick
   early_job j lt =
       let s : Standing = tenant_at before j.tenant in
-      holds_of_job (λ i. i.tick < s.row.next_tick) s.tenancy.place s.row.active j (between j.tenant no_tenant lt).known.early
+      holds_of_job (λ i. i.tick < s.row.next_tick) s.tenancy.owner.place s.row.active j (between j.tenant no_tenant lt).known.early
 
   not_active : (j : JobId) → j.tenant < length before → j.tick ≡ (tenant_at before j.tenant).row.next_tick → is_active_among before j ≡ false
   not_active j lt at = false_from_ne_true _ (λ e. absurd (omega (arith, at, early_job j lt e)))
@@ -119,7 +132,7 @@ module _ {before : List Standing} {entries : List TableEntry} (placed : ArePlace
   -- between the halves
   module _ {middle : List Standing} (first : AreStepped (λ t. IsFirstHalf entries) before middle) where
     pub placed_middle : ArePlaced middle
-    placed_middle = placed_behind (λ t. IsFirstHalf entries) (λ t s x half. ap (λ (y : Tenancy). y.place) half.tenancy) before middle first placed
+    placed_middle = placed_behind (λ t. IsFirstHalf entries) (λ t s x half. ap (λ (y : Tenancy). y.owner.place) half.tenancy) before middle first placed
 
     -- what holds of each active task holds of those that are left
     kept_by_half : (P : ActiveTask → Type 0) (t : ℕ) → t < length before → AllByRecursion P (tenant_at before t).row.active → AllByRecursion P (tenant_at middle t).row.active
@@ -128,7 +141,7 @@ module _ {before : List Standing} {entries : List TableEntry} (placed : ArePlace
         let half = first.each t lt in
         let own : StandsFor s s.row = λ k. record s.row { records = (between t no_tenant lt).known.no_records k } in
         subst (AllByRecursion P) (sym (ap (λ (r : Row). r.active) (half.step s.row own)))
-        (keeps_first_half P s.row.next_tick (unfinished_tasks (λ a. has_result entries (job_of s.tenancy.place a)) s.row) s.row (record { each = all; at = refl })).each
+        (keeps_first_half P s.row.next_tick (unfinished_tasks (λ a. has_result entries (job_of s.tenancy.owner.place a)) s.row) s.row (record { each = all; at = refl })).each
 
     early_middle : AreEarly middle
     early_middle =
@@ -141,9 +154,9 @@ module _ {before : List Standing} {entries : List TableEntry} (placed : ArePlace
     active_before : (j : JobId) → j.tenant < length before → is_active_among middle j ≡ true → is_active_among before j ≡ true
     active_before j lt =
         let s : Standing = tenant_at middle j.tenant in
-        holds_of_job (λ i. is_active_among before i ≡ true) s.tenancy.place s.row.active j
-        (kept_by_half (λ a. is_active_among before (job_of s.tenancy.place a) ≡ true) j.tenant lt
-        (subst (λ t. AllByRecursion (λ a. is_active_among before (job_of t a) ≡ true) (tenant_at before j.tenant).row.active) (sym (ap (λ (y : Tenancy). y.place) (first.each j.tenant lt).tenancy)) (its_jobs before placed j.tenant lt)))
+        holds_of_job (λ i. is_active_among before i ≡ true) s.tenancy.owner.place s.row.active j
+        (kept_by_half (λ a. is_active_among before (job_of s.tenancy.owner.place a) ≡ true) j.tenant lt
+        (subst (λ t. AllByRecursion (λ a. is_active_among before (job_of t a) ≡ true) (tenant_at before j.tenant).row.active) (sym (ap (λ (y : Tenancy). y.owner.place) (first.each j.tenant lt).tenancy)) (its_jobs before placed j.tenant lt)))
 
     not_left : (j : JobId) → j.tenant < length before → j.tick ≡ (tenant_at before j.tenant).row.next_tick → is_active_among middle j ≡ false
     not_left j lt at = false_from_ne_true _ (λ e. true≢false (sym (active_before j lt e) ∙ not_active j lt at))
@@ -159,7 +172,7 @@ module _ {before : List Standing} {entries : List TableEntry} (placed : ArePlace
 
         past : length before ≤ j.tenant → is_ended_among middle j ≡ (is_entered entries j && not (is_active_among middle j))
         past le =
-            ap (λ (s : Standing). has_job s.tenancy.place s.ended j) (outside middle j.tenant (omega (arith, le, first.as_many)))
+            ap (λ (s : Standing). has_job s.tenancy.owner.place s.ended j) (outside middle j.tenant (omega (arith, le, first.as_many)))
             ∙ (ap (λ b. b && not (is_active_among middle j)) (sym (none_active before j le)) ∙ entered)
 
     pub counts_halfway : (P : ℕ → Type 0) (kept : List Standing) → kept ≡ map without_ended middle → All (λ (s : Standing). P s.row.next_tick) before → All (λ (s : Standing). P s.row.next_tick) kept
@@ -188,33 +201,92 @@ module _ {before : List Standing} {entries : List TableEntry} (placed : ArePlace
         sym at ∙ ap (λ (s : Standing). s.row.next_tick) (ap (tenant_at (map without_ended middle)) (sym own) ∙ at_kept middle j.tenant) ∙ (first.each j.tenant within).next_tick in
         ap is_some (stays j) ∙ ap (λ b. is_some (cond b (entry_in entries j) None)) (not_left j within here)
 
+    -- all have one roster still
+    roster_kept : (t : ℕ) → t < length before → (tenant_at (map without_ended middle) t).tenancy.owner.roster ≡ (tenant_at before t).tenancy.owner.roster
+    roster_kept t lt = ap (λ (s : Standing). s.tenancy.owner.roster) (at_kept middle t) ∙ ap (λ (y : Tenancy). y.owner.roster) (first.each t lt).tenancy
+
+    pub same_roster : roster_among (map without_ended middle) ≡ roster_among before
+    same_roster = ⊎_elim (λ lt. roster_kept 0 lt)
+        (λ le. ap (λ (s : Standing). s.tenancy.owner.roster) (outside (map without_ended middle) 0 (omega (arith, le, length-map middle without_ended, first.as_many)) ∙ sym (outside before 0 le)))
+        (cases_lt 0 (length before))
+
+    pub roster_halfway : HaveRoster before → HaveRoster (map without_ended middle)
+    roster_halfway shared = record {
+      same = λ t lt.
+          let within : t < length before = omega (arith, lt, length-map middle without_ended, first.as_many) in
+          roster_kept t within ∙ shared.same t within ∙ sym same_roster;
+      whole = omega (arith, ap length same_roster, shared.whole, length-map middle without_ended, first.as_many);
+    }
+
     -- behind the second halves
-    module _ (frame : List ℤ) {after : List Standing} (second : AreSecondHalves frame (map without_ended middle) after) where
+    module _ (frame : List ℤ) (granted : List (Option ℤ)) {after : List Standing} (shared : HaveRoster before) (passed : AreGranted (map without_ended middle) granted)
+        (second : AreSecondHalves frame granted (map without_ended middle) after) where
       as_many : length after ≡ length before
       as_many = second.as_many ∙ length-map middle without_ended ∙ first.as_many
 
-      its_half : (t : ℕ) → t < length before → IsSecondHalfAndKnown frame (without_ended (tenant_at middle t)) (tenant_at after t)
+      its_half : (t : ℕ) → t < length before → IsSecondHalfAndKnown frame (granted_at (map without_ended middle) t granted) (without_ended (tenant_at middle t)) (tenant_at after t)
       its_half t lt =
-          subst (λ s. IsSecondHalfAndKnown frame s (tenant_at after t)) (at_kept middle t) (second.each t (omega (arith, lt, length-map middle without_ended, first.as_many)))
+          subst (λ s. IsSecondHalfAndKnown frame (granted_at (map without_ended middle) t granted) s (tenant_at after t)) (at_kept middle t) (second.each t (omega (arith, lt, length-map middle without_ended, first.as_many)))
+
+      -- the rows that the tenants stand for
+      module _ (rows : ℕ → Row) (stand : StandForRows before rows) where
+        abbrev halves : ℕ → Row
+        halves u = first_half_of (unfinished_tasks (λ a. has_result entries (job_of u a)) (rows u)) (rows u)
+
+        kept_row : (u : ℕ) → u < length before → rows_of (map without_ended middle) u ≡ without_records (halves u)
+        kept_row u lt =
+            ap (λ (s : Standing). s.row) (at_kept middle u) ∙ (first.each u lt).step (rows u) (stand u lt)
+            ∙ ap (λ k. without_records (first_half_by entries k (rows u))) (placed u lt)
+
+        same_offers : (u : ℕ) → u < length before → (rows_of (map without_ended middle) u).offers ≡ (rows u).offers
+        same_offers u lt = ap (λ (s : Standing). s.row.offers) (at_kept middle u) ∙ (first.each u lt).offers ∙ ap (λ (r : Row). r.offers) (stand u lt)
+
+        same_binds : (u : ℕ) → u < length before → (rows_of (map without_ended middle) u).binds ≡ (rows u).binds
+        same_binds u lt = ap (λ (s : Standing). s.row.binds) (at_kept middle u) ∙ (first.each u lt).binds ∙ ap (λ (r : Row). r.binds) (stand u lt)
+
+        -- what is granted through a bind
+        same_granted : (t : ℕ) (b : Bind)
+            → granted_by (roster_among (map without_ended middle)) (rows_of (map without_ended middle)) (rows_of (map without_ended middle)) t b ≡ granted_by (roster_among before) rows halves t b
+        same_granted t b = (λ k. granted_by (same_roster k) (rows_of (map without_ended middle)) (rows_of (map without_ended middle)) t b) ∙ by (place_in (roster_among before) b.tenant) refl
+          where
+            by : (o : Option ℕ) → place_in (roster_among before) b.tenant ≡ o
+                → option_and_then (granted_from (roster_among before) (rows_of (map without_ended middle)) (rows_of (map without_ended middle)) t b.actuator) o ≡ option_and_then (granted_from (roster_among before) rows halves t b.actuator) o
+            by None e = refl
+            by (Some u) e =
+                let lt : u < length before = omega (arith, (position-Some (λ n. same_name n b.tenant) (roster_among before) u [] e).0, shared.whole) in
+                λ k. option_and_then (λ o. option_map (granted_value o) (actuator_value (kept_row u lt k) b.actuator)) (offer_of (same_offers u lt k) b.actuator (name_in (roster_among before) t))
+
+        same_granted_to : (t : ℕ) → t < length before
+            → granted_along (without_ended (tenant_at middle t)).row.binds (granted_at (map without_ended middle) t granted) ≡ granted_to (roster_among before) rows halves t
+        same_granted_to t lt =
+            (λ k. granted_along (sym (at_kept middle t) k).row.binds (passed t (omega (arith, lt, length-map middle without_ended, first.as_many)) k))
+            ∙ (λ k. granted_along (same_binds t lt k) (map (λ b. same_granted t b k) (same_binds t lt k)))
+
+        stands_behind : (t : ℕ) → t < length before → StandsFor (tenant_at after t) (after_instant (instant_by before frame entries rows t) (rows t))
+        stands_behind t lt =
+            let half = first.each t lt in
+            let own : StandsFor (without_ended (tenant_at middle t)) (halves t) = ap (λ (s : Standing). s.row) (sym (at_kept middle t)) ∙ kept_row t lt in
+            (its_half t lt).half.step (halves t) own
+            ∙ (λ k. without_records (second_half_of (readings_within (half.tenancy k).budgets.reads frame) (same_granted_to t lt k) (halves t)))
 
       pub instants : AreInstants frame entries before after
       instants = record {
-        as_many = as_many;
-        each = λ t lt.
-            let half = first.each t lt in
-            let both = its_half t lt in
-            record {
-              step = λ row stands.
-                  let middle_row : Row = first_half_by entries (tenant_at before t).tenancy.place row in
-                  subst (λ (y : Tenancy). StandsFor (tenant_at after t) (second_half_of (readings_within y.budgets.reads frame) [] middle_row)) half.tenancy (both.half.step middle_row (half.step row stands));
-              next_tick = both.half.next_tick ∙ ap (λ n. n + 1) half.next_tick;
-              tenancy = both.half.tenancy ∙ half.tenancy;
-              between = record { known = both.known; rest = both.half.ended };
-            };
+        moved = record {
+          as_many = as_many;
+          each = λ t lt.
+              let half = first.each t lt in
+              let both = its_half t lt in
+              record {
+                next_tick = both.half.next_tick ∙ ap (λ n. n + 1) half.next_tick;
+                tenancy = both.half.tenancy ∙ half.tenancy;
+                between = record { known = both.known; binds = both.binds; rest = both.half.ended };
+              };
+        };
+        step = stands_behind;
       }
 
       placed_after : ArePlaced after
-      placed_after t lt = let within : t < length before = omega (arith, lt, as_many) in ap (λ (y : Tenancy). y.place) (instants.each t within).tenancy ∙ placed t within
+      placed_after t lt = let within : t < length before = omega (arith, lt, as_many) in ap (λ (y : Tenancy). y.owner.place) (instants.moved.each t within).tenancy ∙ placed t within
 
       active_after : (j : JobId) → is_active_among after j ≡ (is_active_among middle j || is_released_among (map without_ended middle) after j)
       active_after j = ⊎_elim inside past (cases_lt j.tenant (length before))
@@ -232,10 +304,10 @@ module _ {before : List Standing} {entries : List TableEntry} (placed : ArePlace
           inside lt =
               let both = its_half t lt in
               let new : List ActiveTask = drop (length m.row.active) a.row.active in
-              ap (λ xs. has_job a.tenancy.place xs j) (older_and_newer m.row a.row both.released)
-              ∙ list_any-append (λ (task : ActiveTask). same_job (job_of a.tenancy.place task) j) m.row.active new
-              ∙ ap (λ (y : Tenancy). has_job y.place m.row.active j || has_job a.tenancy.place new j) both.half.tenancy
-              ∙ ap (λ (s : Standing). has_job m.tenancy.place m.row.active j || has_job a.tenancy.place (drop (length s.row.active) a.row.active) j) (sym (at_kept middle t))
+              ap (λ xs. has_job a.tenancy.owner.place xs j) (older_and_newer m.row a.row both.released)
+              ∙ list_any-append (λ (task : ActiveTask). same_job (job_of a.tenancy.owner.place task) j) m.row.active new
+              ∙ ap (λ (y : Tenancy). has_job y.owner.place m.row.active j || has_job a.tenancy.owner.place new j) both.half.tenancy
+              ∙ ap (λ (s : Standing). has_job m.tenancy.owner.place m.row.active j || has_job a.tenancy.owner.place (drop (length s.row.active) a.row.active) j) (sym (at_kept middle t))
 
           past : length before ≤ t → is_active_among after j ≡ (is_active_among middle j || is_released_among (map without_ended middle) after j)
           past le =
@@ -255,7 +327,7 @@ module _ {before : List Standing} {entries : List TableEntry} (placed : ArePlace
               let kept : Standing = tenant_at (map without_ended middle) t in
               let count : kept.row.next_tick ≡ (tenant_at before t).row.next_tick = ap (λ (s : Standing). s.row.next_tick) (at_kept middle t) ∙ (first.each t lt).next_tick in
               let released : AreReleased kept.row a.row = (second.each t (omega (arith, lt, length-map middle without_ended, first.as_many))).released in
-              not_active j lt (holds_of_job (λ i. i.tick ≡ kept.row.next_tick) a.tenancy.place (drop (length kept.row.active) a.row.active) j released.newer holds ∙ count)
+              not_active j lt (holds_of_job (λ i. i.tick ≡ kept.row.next_tick) a.tenancy.owner.place (drop (length kept.row.active) a.row.active) j released.newer holds ∙ count)
 
       pub jobs_new : (left : List TableEntry) → ((j : JobId) → entry_in left j ≡ cond (is_active_among middle j) (entry_in entries j) None) → (jobs : List JobValue)
           → AreReleasedJobs (map without_ended middle) after jobs → All (λ (k : JobValue). is_entered left k.id ≡ false) jobs
@@ -295,24 +367,24 @@ module _ {before : List Standing} {entries : List TableEntry} (placed : ArePlace
         results_behind t lt p is =
             let s : Standing = tenant_at before t in
             let a : Standing = tenant_at after t in
-            let one = instants.each t lt in
-            let known = (between t no_tenant lt).known in
-            let i : LocalInstant = instant_by s.tenancy frame entries s.row in
-            let Right : ActiveTask → Type 0 = λ x. IfSome (result_in entries (job_of s.tenancy.place x)) (λ r. r ≡ result_of (job_in p s.tenancy.place x)) in
+            let one = instants.moved.each t lt in
+            let own : StandForRows before (rows_of before) = λ u below k. record (rows_of before u) { records = (between u no_tenant below).known.no_records k } in
+            let i : LocalInstant = instant_by before frame entries (rows_of before) t in
+            let Right : ActiveTask → Type 0 = λ x. IfSome (result_in entries (job_of s.tenancy.owner.place x)) (λ r. r ≡ result_of (job_in p s.tenancy.owner.place x)) in
             let fresh : (x : ActiveTask) → x.release ≡ s.row.next_tick → Right x = λ x at.
-            subst (λ o. IfSome o (λ r. r ≡ result_of (job_in p s.tenancy.place x)))
-            (sym (none_came entries (job_of s.tenancy.place x)
-            (table.entered (job_of s.tenancy.place x) ∙ not_active (job_of s.tenancy.place x) (omega (arith, lt, placed t lt)) (at ∙ ap (λ k. (tenant_at before k).row.next_tick) (sym (placed t lt)))))) tt in
+            subst (λ o. IfSome o (λ r. r ≡ result_of (job_in p s.tenancy.owner.place x)))
+            (sym (none_came entries (job_of s.tenancy.owner.place x)
+            (table.entered (job_of s.tenancy.owner.place x) ∙ not_active (job_of s.tenancy.owner.place x) (omega (arith, lt, placed t lt)) (at ∙ ap (λ k. (tenant_at before k).row.next_tick) (sym (placed t lt)))))) tt in
             let all : AllByRecursion Right a.row.active =
-            subst (AllByRecursion Right) (sym (ap (λ (r : Row). r.active) (one.step s.row (λ k. record s.row { records = known.no_records k }))))
+            subst (AllByRecursion Right) (sym (ap (λ (r : Row). r.active) (instants.step (rows_of before) own t lt)))
             (kept_by_instant Right s.row.next_tick fresh i s.row
             (record { each = table.results t no_tenant lt p (sym ((its_half t lt).half.program ∙ (first.each t lt).program) ∙ is); at = refl })).0 in
-            all_with Right (λ x. is_active_among after (job_of a.tenancy.place x) ≡ true) (λ x. IfSome (result_in new (job_of a.tenancy.place x)) (λ r. r ≡ result_of (job_in p a.tenancy.place x)))
+            all_with Right (λ x. is_active_among after (job_of a.tenancy.owner.place x) ≡ true) (λ x. IfSome (result_in new (job_of a.tenancy.owner.place x)) (λ r. r ≡ result_of (job_in p a.tenancy.owner.place x)))
             (λ x right active.
-            subst (λ o. IfSome o (λ r. r ≡ result_of (job_in p a.tenancy.place x)))
-            (sym (ap (option_and_then (λ (e : TableEntry). e.result)) (entries_behind (job_of a.tenancy.place x))
-            ∙ ap (λ b. option_and_then (λ (e : TableEntry). e.result) (cond b (Some (record { id = job_of a.tenancy.place x; result = result_in entries (job_of a.tenancy.place x) })) None)) active))
-            (subst (λ (y : Tenancy). IfSome (result_in entries (job_of y.place x)) (λ r. r ≡ result_of (job_in p y.place x))) (sym one.tenancy) right))
+            subst (λ o. IfSome o (λ r. r ≡ result_of (job_in p a.tenancy.owner.place x)))
+            (sym (ap (option_and_then (λ (e : TableEntry). e.result)) (entries_behind (job_of a.tenancy.owner.place x))
+            ∙ ap (λ b. option_and_then (λ (e : TableEntry). e.result) (cond b (Some (record { id = job_of a.tenancy.owner.place x; result = result_in entries (job_of a.tenancy.owner.place x) })) None)) active))
+            (subst (λ (y : Tenancy). IfSome (result_in entries (job_of y.owner.place x)) (λ r. r ≡ result_of (job_in p y.owner.place x))) (sym one.tenancy) right))
             a.row.active all (its_jobs after placed_after t (omega (arith, lt, as_many)))
 
         pub table_behind : IsTaskTable after new

@@ -1,13 +1,14 @@
 -- One tenant more has gone through its step, in the loops over all tenants.
-use Rattle.std.proofs.Common.{◌≡◌, ℕ, ◌+◌, ◌<◌, ◌≤◌, ◌≢◌, ⊎_elim, List, [], ◌∷◌, ◌++◌, ℤ, length, get_or, map, set, take, drop, refl, sym, ap, ◌∙◌, subst, length-set, arith}
+use Rattle.std.proofs.Common.{◌≡◌, ℕ, ◌+◌, ◌<◌, ◌≤◌, ◌≢◌, ⊎_elim, List, [], ◌∷◌, ◌++◌, Option, ℤ, length, get_or, map, set, take, drop, refl, sym, ap, ◌∙◌, subst, length-set, arith}
 use Rattle.std.proofs.lemmas.Bool.{cases_eq}
-use Rattle.std.proofs.lemmas.List.{get_or-set_same, get_or-set_other, get_or_default, append-nil, append_assoc, take_more_set, length-take}
+use Rattle.std.proofs.lemmas.List.{get_or-set_same, get_or-set_other, get_or_default, append-nil, append_assoc, take_more, take_more_set, take-append-drop, take-take, length-take}
 use Rattle.std.proofs.lemmas.List.Sums.{sum_by-append, sum_by-cons, sum_by-drop_more, get_or-le-sum_by}
 use Rattle.tenant_jobs.specs.Jobs.{JobValue}
 use Rattle.tenant_state.specs.Jobs.{released_at}
 use Rattle.tenant_state.specs.Standing.{Standing, at_rest, no_tenant, most_released}
 use Rattle.instant_engine.specs.inner.Instants.{AreStepped}
 use Rattle.instant_engine.specs.Tenants.{ArePlaced, most_of, released_from, tenant_at}
+use Rattle.instant_engine.specs.inner.Tenants.{binds_of, granted_at}
 use Rattle.instant_engine.specs.inner.Halves.{IsSecondHalfAndKnown}
 use Rattle.instant_engine.proofs.AtRest.{same_most}
 
@@ -17,8 +18,8 @@ pub record AreSteppedTo (step : ℕ → Standing → Standing → Type 0) (n : �
   pub stepped : (t : ℕ) → t < n → step t (tenant_at before t) (tenant_at now t)
   pub others : (t : ℕ) → n ≤ t → tenant_at now t ≡ tenant_at before t
 
-abbrev pub AreSecondHalvesTo : List ℤ → ℕ → List Standing → List Standing → Type 0
-AreSecondHalvesTo frame = AreSteppedTo (λ t. IsSecondHalfAndKnown frame)
+abbrev pub AreSecondHalvesTo : List ℤ → List (Option ℤ) → ℕ → List Standing → List Standing → Type 0
+AreSecondHalvesTo frame granted n before = AreSteppedTo (λ t. IsSecondHalfAndKnown frame (granted_at before t granted)) n before
 
 -- at the loop's end
 pub stepped_all : (R : ℕ → Standing → Standing → Type 0) (n : ℕ) (before now : List Standing) → length before ≤ n → AreSteppedTo R n before now → AreStepped R before now
@@ -46,6 +47,33 @@ stepped_more R i before now d s lt steps one = record {
 }
 
 -- how many jobs the tenants left can release
+-- the binds of the tenants before the next
+pub binds_more : (R : ℕ → Standing → Standing → Type 0) (i : ℕ) (before now : List Standing) (d : Standing) → i < length before → AreSteppedTo R i before now
+    → binds_of (take (i + 1) before) ≡ binds_of (take i before) + length (get_or now i d).row.binds
+binds_more R i before now d lt steps =
+    ap binds_of (take_more before i no_tenant lt) ∙ sum_by-append (λ (s : Standing). length s.row.binds) (take i before) (tenant_at before i ∷ [])
+    ∙ omega (arith, ap (λ (s : Standing). length s.row.binds) (unstepped R i before now d lt steps))
+
+-- those of the tenants before the next, where none has taken a step
+pub binds_next : (i : ℕ) (tenants : List Standing) → i < length tenants → binds_of (take (i + 1) tenants) ≡ binds_of (take i tenants) + length (tenant_at tenants i).row.binds
+binds_next i tenants lt = binds_more (λ t x y. x ≡ y) i tenants tenants no_tenant lt (record { as_many = refl; stepped = λ t below. refl; others = λ t le. refl })
+
+-- they are among all
+pub binds_within : (i : ℕ) (before : List Standing) → binds_of (take i before) ≤ binds_of before
+binds_within i before =
+    let binds : Standing → ℕ = λ s. length s.row.binds in
+    omega (arith, ap binds_of (sym (take-append-drop i before)) ∙ sum_by-append binds (take i before) (drop i before))
+
+-- those of the tenants before one are among those before a later one
+pub binds_upto : (t i : ℕ) (tenants : List Standing) → t < i → i < length tenants → binds_of (take t tenants) + length (tenant_at tenants t).row.binds ≤ binds_of (take i tenants)
+binds_upto t i tenants lt below =
+    omega (
+      arith,
+      binds_next t tenants (omega (arith, lt, below)),
+      ap binds_of (take-take (t + 1) i tenants (omega (arith, lt))),
+      binds_within (t + 1) (take i tenants),
+    )
+
 pub most_left : (R : ℕ → Standing → Standing → Type 0) (i : ℕ) (before now : List Standing) (d : Standing) → i < length before → AreSteppedTo R i before now
     → most_of (drop i before) ≡ most_released (get_or now i d).row + most_of (drop (i + 1) before)
 most_left R i before now d lt steps =
@@ -61,8 +89,8 @@ released_more n from (x ∷ xs) s =
     ∙ ap (λ k. (released_at from n x.row ++ released_from n (from + 1) xs) ++ released_at k n s.row) (omega arith))
 
 -- the jobs of the next tenant stand behind those of the tenants before
-pub jobs_more : (n i : ℕ) (now : List Standing) (s x : Standing) (old new : List JobValue) → i < length now → x.tenancy.place ≡ i → x.row.next_tick ≡ n
-    → new ≡ old ++ released_at x.tenancy.place x.row.next_tick s.row → old ≡ released_from n 0 (take i now) → new ≡ released_from n 0 (take (i + 1) (set now i s))
+pub jobs_more : (n i : ℕ) (now : List Standing) (s x : Standing) (old new : List JobValue) → i < length now → x.tenancy.owner.place ≡ i → x.row.next_tick ≡ n
+    → new ≡ old ++ released_at x.tenancy.owner.place x.row.next_tick s.row → old ≡ released_from n 0 (take i now) → new ≡ released_from n 0 (take (i + 1) (set now i s))
 jobs_more n i now s x old new lt own count more before =
     let place : 0 + length (take i now) ≡ i = omega (arith, length-take i now) in
     more
@@ -84,7 +112,7 @@ none_of_one before now i d same lt none =
     omega (arith, same_most before now same, none, get_or-le-sum_by most now i d lt)
 
 -- behind a step of all tenants
-pub placed_behind : (R : ℕ → Standing → Standing → Type 0) → ((t : ℕ) (s x : Standing) → R t s x → x.tenancy.place ≡ s.tenancy.place) → (before after : List Standing)
+pub placed_behind : (R : ℕ → Standing → Standing → Type 0) → ((t : ℕ) (s x : Standing) → R t s x → x.tenancy.owner.place ≡ s.tenancy.owner.place) → (before after : List Standing)
     → AreStepped R before after → ArePlaced before → ArePlaced after
 placed_behind R keeps before after steps placed t lt =
     let within : t < length before = omega (arith, steps.as_many) in

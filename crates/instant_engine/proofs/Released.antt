@@ -105,42 +105,42 @@ released_none tenants jobs none = rw (none) (record {
   few = omega arith;
 })
 
-pub released_more : (i : ℕ) (before now : List Standing) (x s : Standing) (jobs next : List JobValue) → i < length now → x ≡ tenant_at before i → x.tenancy.place ≡ i → s.tenancy.place ≡ x.tenancy.place
+pub released_more : (i : ℕ) (before now : List Standing) (x s : Standing) (jobs next : List JobValue) → i < length now → x ≡ tenant_at before i → x.tenancy.owner.place ≡ i → s.tenancy.owner.place ≡ x.tenancy.owner.place
     → most_of (drop i before) ≡ most_released x.row + most_of (drop (i + 1) before) → AllByRecursion (λ (a : ActiveTask). a.release < x.row.next_tick) x.row.active → AreReleased x.row s.row → IsKnown s.row
-    → next ≡ jobs ++ released_at x.tenancy.place x.row.next_tick s.row → AreReleasedTo i before now jobs → AreReleasedTo (i + 1) before (set now i s) next
+    → next ≡ jobs ++ released_at x.tenancy.owner.place x.row.next_tick s.row → AreReleasedTo i before now jobs → AreReleasedTo (i + 1) before (set now i s) next
 released_more i before now x s jobs next within here own same_place most early released known more so_far = record {
   names = λ j lt. ⊎_elim
       (λ (e : j.tenant ≡ i).
-      both j ∙ ap (λ b. b || has_job x.tenancy.place new j) (so_far.others j (omega (arith, e)))
-      ∙ ap (λ t. has_job t new j) (sym same_place) ∙ ap (λ (b : Standing). has_job s.tenancy.place (drop (length b.row.active) s.row.active) j) (here ∙ ap (tenant_at before) (sym e))
-      ∙ ap (λ (y : Standing). has_job y.tenancy.place (drop (length (tenant_at before j.tenant).row.active) y.row.active) j) (sym (ap (tenant_at (set now i s)) e ∙ get_or-set_same now i s no_tenant within)))
+      both j ∙ ap (λ b. b || has_job x.tenancy.owner.place new j) (so_far.others j (omega (arith, e)))
+      ∙ ap (λ t. has_job t new j) (sym same_place) ∙ ap (λ (b : Standing). has_job s.tenancy.owner.place (drop (length b.row.active) s.row.active) j) (here ∙ ap (tenant_at before) (sym e))
+      ∙ ap (λ (y : Standing). has_job y.tenancy.owner.place (drop (length (tenant_at before j.tenant).row.active) y.row.active) j) (sym (ap (tenant_at (set now i s)) e ∙ get_or-set_same now i s no_tenant within)))
       (λ (differ : j.tenant ≢ i).
       both j ∙ ap (λ b. is_job_of jobs j || b) (other j differ) ∙ or_false _ ∙ so_far.names j (omega arith)
-      ∙ ap (λ (y : Standing). has_job y.tenancy.place (drop (length (tenant_at before j.tenant).row.active) y.row.active) j) (sym (get_or-set_other now i j.tenant s no_tenant differ)))
+      ∙ ap (λ (y : Standing). has_job y.tenancy.owner.place (drop (length (tenant_at before j.tenant).row.active) y.row.active) j) (sym (get_or-set_other now i j.tenant s no_tenant differ)))
       (cases_eq j.tenant i);
   others = λ j le. both j ∙ or_from _ _ (so_far.others j (omega arith)) (other j (λ e. absurd (omega (arith, e))));
-  differ = subst JobsDiffer (sym all) (differ_behind x.tenancy.place are.made are.named jobs new so_far.differ
+  differ = subst JobsDiffer (sym all) (differ_behind x.tenancy.owner.place are.made are.named jobs new so_far.differ
       (different_behind x.row.active new (subst (λ xs. all_different_releases xs ≡ true) (older_and_newer x.row s.row released) known.different))
-      (all_of (λ a. so_far.others (job_of x.tenancy.place a) (omega (arith, own))) new));
+      (all_of (λ a. so_far.others (job_of x.tenancy.owner.place a) (omega (arith, own))) new));
   few = omega (arith, so_far.few, most, ap length all, length-append jobs (map are.made new), length-map new are.made, length-drop (length x.row.active) s.row.active, released.few);
 }
   where
     new : List ActiveTask
     new = drop (length x.row.active) s.row.active
 
-    are : AreJobsOf x.tenancy.place new (released_at x.tenancy.place x.row.next_tick s.row)
-    are = jobs_of_released x.tenancy.place x.row.next_tick x.row s.row refl early released known
+    are : AreJobsOf x.tenancy.owner.place new (released_at x.tenancy.owner.place x.row.next_tick s.row)
+    are = jobs_of_released x.tenancy.owner.place x.row.next_tick x.row s.row refl early released known
 
     all : next ≡ jobs ++ map are.made new
     all = more ∙ ap (λ js. jobs ++ js) are.are
 
-    both : (j : JobId) → is_job_of next j ≡ (is_job_of jobs j || has_job x.tenancy.place new j)
+    both : (j : JobId) → is_job_of next j ≡ (is_job_of jobs j || has_job x.tenancy.owner.place new j)
     both j =
         ap (λ js. is_job_of js j) all ∙ list_any-append (λ (k : JobValue). same_job k.id j) jobs (map are.made new)
         ∙ ap (λ b. is_job_of jobs j || b) (any_map (λ (k : JobValue). same_job k.id j) are.made new ∙ (λ k. list_any (λ a. same_job (are.named a k) j) new))
 
-    other : (j : JobId) → j.tenant ≢ i → has_job x.tenancy.place new j ≡ false
-    other j differ = other_tenant x.tenancy.place new j (λ e. differ (sym (sym own ∙ e)))
+    other : (j : JobId) → j.tenant ≢ i → has_job x.tenancy.owner.place new j ≡ false
+    other j differ = other_tenant x.tenancy.owner.place new j (λ e. differ (sym (sym own ∙ e)))
 
     or_false : (b : Bool) → (b || false) ≡ b
     or_false true = refl

@@ -1,2 +1,4 @@
+pub mod Grants
+pub mod Instants
 pub mod Tenants
 pub mod inner

@@ -11,7 +11,7 @@ tenant_at tenants t = slice_index_or tenants t no_tenant
 
 -- each tenant knows its place
 abbrev pub ArePlaced : List Standing → Type 0
-ArePlaced tenants = (t : ℕ) → t < length tenants → (tenant_at tenants t).tenancy.place ≡ t
+ArePlaced tenants = (t : ℕ) → t < length tenants → (tenant_at tenants t).tenancy.owner.place ≡ t
 
 -- the most jobs that the next instant of all these can release
 abbrev pub most_of : List Standing → ℕ

@@ -1,4 +1,4 @@
-//! An instant of all tenants of a host: the first half of each, and then the second half of each.
+//! An instant of all tenants of a host: the first half of each, then all granted values, and then the second half of each.
 //!
 //! [`instants::instant`] goes from one instant to the next. Completed jobs stand in one table of all active tasks, [`finished::Finished`],
 //! and in no tenant: an instant takes from it the results of what ends, takes the entries of what ended out, and enters what it released.
@@ -6,6 +6,7 @@
 //! The names of jobs and of that table are those of `tenant_jobs`, and stand here too.
 #![tactic(auto)]
 
+pub mod grants;
 pub mod instants;
 
 pub use tenant_jobs::finished::Finished;

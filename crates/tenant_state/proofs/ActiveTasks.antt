@@ -8,13 +8,14 @@ use Rattle.giotto_tasks.specs.Names.{Valuation}
 use Rattle.giotto_text.specs.Program.{TaskDeclaration, TaskInvocation, ModeDeclaration, GiottoProgram}
 use Rattle.rig_config.specs.declared.Budgets.{Budgets}
 use Rattle.tenant_lines.specs.declared.commands.Command.{Command}
-use Rattle.tenant_lines.specs.declared.commands.Command.TheVariants.{Load, Start, Stop, ShowMode, ShowPort, ShowAll}
+use Rattle.tenant_lines.specs.declared.commands.Command.TheVariants.{Load, Start, Stop, ShowMode, ShowPort, ShowAll, Grants}
 use Rattle.tenant_lines.specs.declared.ports.PortName.{PortName}
 use Rattle.tenant_lines.specs.declared.replies.Budget.{Budget}
 use Rattle.giotto_rules.specs.Declarations.{task_named, mode_named}
 use Rattle.tenant_lines.specs.declared.replies.Refusal.{Refusal}
 use Rattle.tenant_lines.specs.declared.replies.Refusal.TheVariants.{NotRunning}
 use Rattle.tenant_lines.specs.declared.replies.Reply.TheVariants.{Stopped}
+use Rattle.tenant_state.specs.Tenancy.{Tenancy}
 use Rattle.tenant_state.specs.Row.{ActiveTask, Row, StopReason, asked, overrun, is_running, where_some, in_program, in_mode}
 use Rattle.tenant_state.specs.Commands.{Outcome, refused, load_within, load_read, start_program, stop_program, show_value, show_port, show_all, commanded}
 use Rattle.tenant_state.specs.FirstHalf.{stopped_with, completed_in_mode, first_half_with, first_half_of}
@@ -133,10 +134,11 @@ module _ (P : ActiveTask → Type 0) (n : ℕ) where
   keeps_all_shown row None k = k
   keeps_all_shown row (Some p) k = k
 
-  pub kept_by_command : (budgets : Budgets) (c : Command) (row : Row) → Keeps row → Keeps (commanded budgets c row).row
-  kept_by_command budgets (Load text) row k = keeps_read budgets (length text) row (program_of text) k
-  kept_by_command budgets Start row k = keeps_outcome_if _ _ (start_program row row.program) k (keeps_started row row.program k)
-  kept_by_command budgets Stop row k = keeps_asked row k
-  kept_by_command budgets ShowMode row k = k
-  kept_by_command budgets (ShowPort x) row k = keeps_show x row row.program k
-  kept_by_command budgets ShowAll row k = keeps_all_shown row row.program k
+  pub kept_by_command : (tenancy : Tenancy) (c : Command) (row : Row) → Keeps row → Keeps (commanded tenancy c row).row
+  kept_by_command tenancy (Load text) row k = keeps_read tenancy.budgets (length text) row (program_of text) k
+  kept_by_command tenancy Start row k = keeps_outcome_if _ _ (start_program row row.program) k (keeps_started row row.program k)
+  kept_by_command tenancy Stop row k = keeps_asked row k
+  kept_by_command tenancy ShowMode row k = k
+  kept_by_command tenancy (ShowPort x) row k = keeps_show x row row.program k
+  kept_by_command tenancy ShowAll row k = keeps_all_shown row row.program k
+  kept_by_command tenancy (Grants c) row k = record { each = k.each; at = k.at }

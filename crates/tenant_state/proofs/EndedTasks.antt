@@ -27,6 +27,7 @@ use Rattle.tenant_slots.specs.inner.Due.{IsQuietAt}
 use Rattle.tenant_slots.specs.Places.{name_of_task}
 use Rattle.tenant_slots.specs.Updates.{all_updated}
 use Rattle.tenant_slots.proofs.Numbered.{invocation_due, mode_here, same_task, task_here}
+use Rattle.tenant_grants.specs.Grants.{GrantRows}
 use Rattle.tenant_state.specs.declared.tenants.Active.{Active}
 use Rattle.tenant_state.specs.declared.tenants.State as code
 use Rattle.tenant_state.specs.declared.tenants.State.TheVariants as states
@@ -41,7 +42,7 @@ use Rattle.tenant_state.specs.FirstHalf.{all_ended, due_tasks, names_due, still_
 use Rattle.tenant_state.specs.Row.{overrun, ActiveTask, Row}
 use Rattle.tenant_state.specs.Standing.{is_another, all_different_releases, without_records, Standing}
 use Rattle.tenant_state.specs.inner.Standing.{AreEnded, has_active}
-use Rattle.tenant_state.specs.declared.tenants.Tenancy.{Tenancy}
+use Rattle.rig_config.specs.declared.Budgets.{Budgets}
 use Rattle.tenant_state.specs.Tenants.{active_of, standing_of, state_of}
 use Rattle.tenant_state.specs.inner.Tenants.{FitsProgram, FitsIts, IsActiveAs, IsActiveIn, IsActiveOf, IsTenant}
 use Rattle.tenant_state.proofs.DueTasks.{any_parted, group, ends, is_open, is_unfinished, names_of_tasks, none_passes, stay}
@@ -50,7 +51,7 @@ use Rattle.tenant_state.proofs.Stops.{row_of}
 
 -- a tenant that stays as it is, where none had ended, has none that end
 pub none_ended : (s : Standing) → s.ended ≡ [] → AreEnded s s
-none_ended s e j = ap (λ l. has_job s.tenancy.place l j) e ∙ neither (has_active s j)
+none_ended s e j = ap (λ l. has_job s.tenancy.owner.place l j) e ∙ neither (has_active s j)
   where
     neither : (b : Bool) → false ≡ (b && not b)
     neither true = refl
@@ -230,21 +231,21 @@ pub its_mode : (p : GiottoProgram) (k : ℕ) → k < length p.modes → (m : Mod
 its_mode p k lt = ⊎_elim (λ found. (found.0, found.2)) (λ past. absurd (omega (arith, past.0, lt))) (slice_get_cases p.modes k).1
 
 -- a running tenant with this program, as its fields stand
-pub record IsRunning (tenant : Standing) (p : GiottoProgram) (mode time next : ℕ) (active ended : List Active) (values : List ℤ) (shares : List (Option TaskBody)) (next_tick : ℕ) : Type 0 where
-  pub row : tenant.row ≡ row_of states.Running (Some p) mode time active values next_tick
+pub record IsRunning (tenant : Standing) (grants : GrantRows) (p : GiottoProgram) (mode time next : ℕ) (active ended : List Active) (values : List ℤ) (shares : List (Option TaskBody)) (next_tick : ℕ) : Type 0 where
+  pub row : tenant.row ≡ row_of grants states.Running (Some p) mode time active values next_tick
   pub fits : FitsProgram p mode time next active ended values shares next_tick
   pub declared : AllByRecursion (IsActiveOf p) active
   pub its : ModeDeclaration
   pub there : slice_get p.modes mode ≡ Some its
 
-pub as_running : {tenant : Standing} {state : code.State} {program : Option GiottoProgram} {p : GiottoProgram} {tenancy : Tenancy} {mode time next : ℕ} {active ended : List Active} {room : ℕ} {values : List ℤ} {shares : List (Option TaskBody)} {next_tick : ℕ}
-    → standing_of tenancy state program mode time active ended room values shares next_tick ≡ tenant → IsTenant (state_of state) program mode time next active ended values shares next_tick → state ≡ states.Running → program ≡ Some p
-    → IsRunning tenant p mode time next active ended values shares next_tick
-as_running {p = p} {mode = mode} {time = time} {next = next} {active = active} {ended = ended} {values = values} {shares = shares} {next_tick = next_tick} view known running some =
+pub as_running : {tenant : Standing} {state : code.State} {program : Option GiottoProgram} {p : GiottoProgram} {budgets : Budgets} {grants : GrantRows} {mode time next : ℕ} {active ended : List Active} {room : ℕ} {values : List ℤ} {shares : List (Option TaskBody)} {next_tick : ℕ}
+    → standing_of budgets grants state program mode time active ended room values shares next_tick ≡ tenant → IsTenant (state_of state) program mode time next active ended values shares next_tick → state ≡ states.Running → program ≡ Some p
+    → IsRunning tenant grants p mode time next active ended values shares next_tick
+as_running {p = p} {grants = grants} {mode = mode} {time = time} {next = next} {active = active} {ended = ended} {values = values} {shares = shares} {next_tick = next_tick} view known running some =
     let fits : FitsProgram p mode time next active ended values shares next_tick = subst (λ o. FitsIts o mode time next active ended values shares next_tick) some known.fits in
     let m = its_mode p mode fits.mode_there in
     record {
-      row = sym (ap (λ (t : Standing). t.row) view) ∙ (λ k. row_of (running k) (some k) mode time active values next_tick);
+      row = sym (ap (λ (t : Standing). t.row) view) ∙ (λ k. row_of grants (running k) (some k) mode time active values next_tick);
       fits = fits;
       declared = all_map (IsActiveIn p next_tick) (IsActiveOf p) active (λ a is. is.declared) fits.each;
       its = m.0;
@@ -302,8 +303,8 @@ different_filter p test (x ∷ xs) h =
     others ys h = list_all-map (is_another (active_of p x)) (active_of p) (filter test ys) ∙ list_all-filter (λ y. is_another (active_of p x) (active_of p y)) test ys (sym (list_all-map (is_another (active_of p x)) (active_of p) ys) ∙ h)
 
 -- a running tenant, and a row for which it stands
-module _ (p : GiottoProgram) (fits : ProgramFits p) (m : ModeDeclaration) (mode time : ℕ) (items : List Active) (values : List ℤ) (count : ℕ)
-    (at : slice_get p.modes mode ≡ Some m) (completed : ActiveTask → Bool) (row : Row) (st : row_of states.Running (Some p) mode time items values count ≡ without_records row) where
+module _ (grants : GrantRows) (p : GiottoProgram) (fits : ProgramFits p) (m : ModeDeclaration) (mode time : ℕ) (items : List Active) (values : List ℤ) (count : ℕ)
+    (at : slice_get p.modes mode ≡ Some m) (completed : ActiveTask → Bool) (row : Row) (st : row_of grants states.Running (Some p) mode time items values count ≡ without_records row) where
   runs : Runs row p m
   runs = record {
     state = sym (ap (λ (r : Row). r.state) st);
@@ -321,7 +322,7 @@ module _ (p : GiottoProgram) (fits : ProgramFits p) (m : ModeDeclaration) (mode 
   same_ports = ap (λ (r : Row). r.ports) st
 
   -- nothing is due
-  pub quiet_stands : IsQuietAt m time → row_of states.Running (Some p) mode time items values count ≡ without_records (first_half_of (unfinished_tasks completed row) row)
+  pub quiet_stands : IsQuietAt m time → row_of grants states.Running (Some p) mode time items values count ≡ without_records (first_half_of (unfinished_tasks completed row) row)
   quiet_stands quiet = st ∙ sym (unchanged row p m runs completed (subst (IsQuietAt m) same_time quiet))
 
   module _ (es : List SlotInvocation) (each : AreEach (IsInvocation p m) m.invocations es) (all : AllByRecursion (IsActiveOf p) items) where
@@ -336,7 +337,7 @@ module _ (p : GiottoProgram) (fits : ProgramFits p) (m : ModeDeclaration) (mode 
     pub finished : find left_open es ≡ None → (ended after : List ℤ)
         → valuation_of p ended ≡ all_ended p (flat_map (group m time (map (active_of p) items)) m.invocations) (valuation_of p values)
         → valuation_of p after ≡ all_updated m time m.updates (valuation_of p ended)
-        → row_of states.Running (Some p) mode time (kept time es items) after count ≡ without_records (first_half_of (unfinished_tasks completed row) row)
+        → row_of grants states.Running (Some p) mode time (kept time es items) after count ≡ without_records (first_half_of (unfinished_tasks completed row) row)
     finished none ended after end_value update_value =
         let steps = goes_on row p m runs completed (by_none _ (subst (FoundAlike (IsInvocation p m) _) none found)) in
         let remaining : map (active_of p) (kept time es items) ≡ still_active (names_due row) row.active =

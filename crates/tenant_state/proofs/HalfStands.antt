@@ -14,6 +14,8 @@ use Rattle.giotto_text.specs.Program.{TaskDeclaration, TaskInvocation, ModeDecla
 use Rattle.giotto_rules.specs.Declarations.{task_named, sensor_names}
 use Rattle.giotto_check.specs.inner.Facts.{ProgramFits}
 use Rattle.giotto_check.specs.Slots.{valuation_of}
+use Rattle.rig_config.specs.declared.Budgets.{Budgets}
+use Rattle.tenant_grants.specs.Grants.{GrantRows}
 use Rattle.tenant_slots.specs.Due.{is_due_at}
 use Rattle.tenant_slots.specs.Places.{name_of_mode}
 use Rattle.tenant_slots.specs.Readings.{Readings, reading_taken}
@@ -25,7 +27,6 @@ use Rattle.tenant_state.specs.Row.{ActiveTask, Row, in_mode}
 use Rattle.tenant_state.specs.SecondHalf.{is_invoked, released, invoked, all_invoked, all_released, invoked_in_mode, moved_on, counted, second_half_of}
 use Rattle.tenant_state.specs.Standing.{Standing, StandsFor, most_at, most_released, without_records}
 use Rattle.tenant_state.specs.inner.Standing.{AreReleased}
-use Rattle.tenant_state.specs.declared.tenants.Tenancy.{Tenancy}
 use Rattle.tenant_state.specs.Tenants.{active_of, standing_of}
 use Rattle.tenant_state.specs.inner.Tenants.{AreInvoked}
 use Rattle.tenant_state.proofs.SecondHalfSteps.{in_its_mode, running_half, placed, IsBehindSwitch}
@@ -66,27 +67,27 @@ module _ (p : GiottoProgram) (m : ModeDeclaration) (time n : ℕ) where
   none_due (i ∷ is) ports all = rw all.0 (none_due is ports all.1)
 
 -- a step that is told for each list of records, as a tenant keeps none
-stands_behind : (readings : Readings) (old new : Standing) → ((rs : List Record) → without_records (second_half_of readings [] (record old.row { records = rs })) ≡ new.row)
-    → (row : Row) → StandsFor old row → StandsFor new (second_half_of readings [] row)
-stands_behind readings old new behind row stands = sym (behind row.records) ∙ (λ k. without_records (second_half_of readings [] (record (stands k) { records = row.records })))
+stands_behind : (readings : Readings) (granted : Valuation) (old new : Standing) → ((rs : List Record) → without_records (second_half_of readings granted (record old.row { records = rs })) ≡ new.row)
+    → (row : Row) → StandsFor old row → StandsFor new (second_half_of readings granted row)
+stands_behind readings granted old new behind row stands = sym (behind row.records) ∙ (λ k. without_records (second_half_of readings granted (record (stands k) { records = row.records })))
 
 -- the ports behind the sensors' readings
-abbrev pub sensed_ports : GiottoProgram → List ℤ → Readings → Valuation
-sensed_ports p values readings = with_values (valuation_of p values) (sensor_names p) (map (reading_taken readings []) p.sensors)
+abbrev pub sensed_ports : GiottoProgram → List ℤ → Readings → Valuation → Valuation
+sensed_ports p values readings granted = with_values (valuation_of p values) (sensor_names p) (map (reading_taken readings granted) p.sensors)
 
-module _ (tenancy : Tenancy) (p : GiottoProgram) (kept : ProgramFits p) (m : ModeDeclaration) (mode time n places : ℕ) (old gone : List Active) (values : List ℤ) (shares : List (Option TaskBody)) where
+module _ (budgets : Budgets) (grants : GrantRows) (p : GiottoProgram) (kept : ProgramFits p) (m : ModeDeclaration) (mode time n places : ℕ) (old gone : List Active) (values : List ℤ) (shares : List (Option TaskBody)) where
   abbrev before : Standing
-  before = standing_of tenancy Running (Some p) mode time old gone places values shares n
+  before = standing_of budgets grants Running (Some p) mode time old gone places values shares n
 
   abbrev after : ℕ → ℕ → ℕ → List Active → List ℤ → Standing
-  after to later room new written = standing_of tenancy Running (Some p) to later new gone room written shares (n + 1)
+  after to later room new written = standing_of budgets grants Running (Some p) to later new gone room written shares (n + 1)
 
   module _ (at_mode : slice_get p.modes mode ≡ Some m) where
     -- the most that the instant can release
     most_due : most_released before.row ≡ most_at p m time
     most_due = ap (λ o. option_map_or (λ (m : ModeDeclaration). most_at p m time) o 0) (mode_here p kept mode m at_mode)
 
-    module _ (to at next : ℕ) (readings : Readings) (given : List ℤ) (is : IsBehindSwitch p m mode time (map (active_of p) old) (sensed_ports p values readings) to at next given) where
+    module _ (to at next : ℕ) (readings : Readings) (granted : Valuation) (given : List ℤ) (is : IsBehindSwitch p m mode time (map (active_of p) old) (sensed_ports p values readings granted) to at next given) where
       pub room_due : most_released before.row ≤ places → (m : ModeDeclaration) → slice_get p.modes to ≡ Some m
           → length (filter (λ (i : TaskInvocation). is_due_at at m i.frequency) m.invocations) ≤ places
       room_due room m there =
@@ -101,19 +102,19 @@ module _ (tenancy : Tenancy) (p : GiottoProgram) (kept : ProgramFits p) (m : Mod
 
         -- the row behind the step, where it had these records
         row_behind : (rs : List Record)
-            → without_records (second_half_of readings [] (record before.row { records = rs })) ≡ (after to ((at + 1) % period) room new written).row
+            → without_records (second_half_of readings granted (record before.row { records = rs })) ≡ (after to ((at + 1) % period) room new written).row
         row_behind rs =
             let switch = is.step before.row rs in
             let steps : Row → Row = in_mode (λ p m row. moved_on m (invoked_in_mode p m row)) in
             ap without_records
-            (running_half readings (record before.row { records = rs }) p m refl refl (mode_here p kept mode m at_mode) refl
+            (running_half readings granted (record before.row { records = rs }) p m refl refl (mode_here p kept mode m at_mode) refl
             ∙ ap (λ row. counted (steps row)) switch.1
             ∙ ap counted (in_its_mode (λ p m row. moved_on m (invoked_in_mode p m row)) (placed before.row (name_of_mode p to) at (map (active_of p) old) (valuation_of p given) switch.0) p is.new refl (mode_here p kept to is.new is.there)))
             ∙ (λ k. record (after to ((at + 1) % sym lasts k) room new written).row { active = sym happened.tasks k; ports = sym happened.ports k })
 
         -- the step of a running tenant
-        pub half_stands : (row : Row) → StandsFor before row → StandsFor (after to ((at + 1) % period) room new written) (second_half_of readings [] row)
-        half_stands row stands = stands_behind readings before (after to ((at + 1) % period) room new written) row_behind row stands
+        pub half_stands : (row : Row) → StandsFor before row → StandsFor (after to ((at + 1) % period) room new written) (second_half_of readings granted row)
+        half_stands row stands = stands_behind readings granted before (after to ((at + 1) % period) room new written) row_behind row stands
 
         -- what it released
         pub half_released : AreReleased before.row (after to ((at + 1) % period) room new written).row

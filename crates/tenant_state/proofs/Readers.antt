@@ -27,13 +27,14 @@ use Rattle.tenant_slots.specs.Due.{is_due_at}
 use Rattle.tenant_slots.specs.Places.{name_of_task}
 use Rattle.tenant_slots.proofs.Numbered.{invocation_due, mode_here, same_task}
 use Rattle.tenant_jobs.specs.declared.jobs.JobId.{JobId}
+use Rattle.tenant_grants.specs.Grants.{GrantRows}
+use Rattle.rig_config.specs.Roster.{no_budgets}
 use Rattle.tenant_state.specs.declared.tenants.Active.{Active}
 use Rattle.tenant_state.specs.declared.tenants.State.TheVariants as states
 use Rattle.tenant_state.specs.FirstHalf.{names_due}
 use Rattle.tenant_jobs.specs.Jobs.{same_job}
 use Rattle.tenant_state.specs.Jobs.{has_job, job_of}
 use Rattle.tenant_state.specs.Row.{ActiveTask, Row}
-use Rattle.tenant_state.specs.Standing.{no_tenant}
 use Rattle.tenant_state.specs.Tenants.{active_of, standing_of}
 use Rattle.tenant_slots.specs.Ports.{drives}
 use Rattle.tenant_state.specs.Readers.{actuator_value, driver_of, line_value}
@@ -124,10 +125,10 @@ due_named row p m runs x =
         rw (here, rest) refl
 
 -- a tenant that runs its program, and its due tasks by places
-module _ (p : GiottoProgram) (fits : ProgramFits p) (m : ModeDeclaration) (mode time : ℕ) (items : List Active) (at : slice_get p.modes mode ≡ Some m) (x : Name) where
+module _ (p : GiottoProgram) (fits : ProgramFits p) (m : ModeDeclaration) (mode time : ℕ) (items : List Active) (at : slice_get p.modes mode ≡ Some m) (x : Name) (grants : GrantRows) where
   -- its row, as far as it tells what is due
   abbrev row : Row
-  row = (standing_of no_tenant.tenancy states.Running (Some p) mode time items [] 0 [] [] 0).row
+  row = (standing_of no_budgets grants states.Running (Some p) mode time items [] 0 [] [] 0).row
 
   runs : Runs row p m
   runs = record { state = refl; program = refl; mode = mode_here p fits mode m at }

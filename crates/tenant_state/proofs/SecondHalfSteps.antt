@@ -38,14 +38,14 @@ none_waits : (row : Row) → row.waiting ≡ None → replaced_if_due row ≡ ro
 none_waits row e = ap (λ o. cond (row.mode_time == 0) (where_some installed o row) row) e ∙ cond-same (row.mode_time == 0) row
 
 -- up to the switch
-pub running_half : (readings : Readings) (row : Row) (p : GiottoProgram) (m : ModeDeclaration) → row.state ≡ running → row.program ≡ Some p → mode_named p row.mode ≡ Some m → row.waiting ≡ None
-    → second_half_of readings [] row ≡ counted (in_mode (λ p m row. moved_on m (invoked_in_mode p m row)) (switched p m (sensed readings [] p row)))
-running_half readings row p m runs program mode waits =
-    let first : Row → Row = in_mode (λ p m row. switched p m (sensed readings [] p row)) in
+pub running_half : (readings : Readings) (granted : Valuation) (row : Row) (p : GiottoProgram) (m : ModeDeclaration) → row.state ≡ running → row.program ≡ Some p → mode_named p row.mode ≡ Some m → row.waiting ≡ None
+    → second_half_of readings granted row ≡ counted (in_mode (λ p m row. moved_on m (invoked_in_mode p m row)) (switched p m (sensed readings granted p row)))
+running_half readings granted row p m runs program mode waits =
+    let first : Row → Row = in_mode (λ p m row. switched p m (sensed readings granted p row)) in
     let second : Row → Row = in_mode (λ p m row. moved_on m (invoked_in_mode p m row)) in
-    ap (λ b. counted (cond b (second_half_running readings [] row) row)) (ap is_running_state runs)
+    ap (λ b. counted (cond b (second_half_running readings granted row) row)) (ap is_running_state runs)
     ∙ ap (λ r. counted (second (first r))) (none_waits row waits)
-    ∙ ap (λ r. counted (second r)) (in_its_mode (λ p m row. switched p m (sensed readings [] p row)) row p m program mode)
+    ∙ ap (λ r. counted (second r)) (in_its_mode (λ p m row. switched p m (sensed readings granted p row)) row p m program mode)
 
 -- a row in this mode, with these active tasks, ports and records
 abbrev pub placed : Row → Name → ℕ → List ActiveTask → Valuation → List Record → Row

@@ -27,7 +27,8 @@ use Rattle.tenant_state.specs.Row.{running, ActiveTask, Row}
 use Rattle.tenant_state.specs.SecondHalf.{released, all_released}
 use Rattle.tenant_state.specs.Standing.{is_another, all_different_releases, Standing, most_released}
 use Rattle.tenant_state.specs.inner.Standing.{AreReleased}
-use Rattle.tenant_state.specs.declared.tenants.Tenancy.{Tenancy}
+use Rattle.rig_config.specs.declared.Budgets.{Budgets}
+use Rattle.tenant_grants.specs.Grants.{GrantRows, no_rows}
 use Rattle.tenant_state.specs.Tenants.{active_of, tasks_in, standing_of, state_of}
 use Rattle.tenant_state.specs.inner.Tenants.{AreInvoked, IsActiveOf, IsActiveIn, FitsIts, IsTenant}
 use Rattle.tenant_state.proofs.AwaitedTasks.{all_drop, different_drop}
@@ -100,7 +101,7 @@ module _ (p : GiottoProgram) (kept : ProgramFits p) (mode : ℕ) where
           short_time = omega (arith, below, lasts, fits.short);
           rests = λ e. absurd (false≢true (sym e));
           different = ap all_different_releases ran.tasks
-              ∙ other_joined n (map (active_of p) old) (all_released p m time n m.invocations ports) (known_of from before since old gone values shares n Running (Some p) is).early (new_releases p m time n m.invocations ports)
+              ∙ other_joined n (map (active_of p) old) (all_released p m time n m.invocations ports) (known_of (no_rows (record { place = 0; roster = []; most_offers = 0; most_binds = 0 })) from before since old gone values shares n Running (Some p) is).early (new_releases p m time n m.invocations ports)
               is.different (released_other p m time n m.invocations ports fits.tasks_once);
           fits = record {
             long = ran.long;
@@ -164,14 +165,14 @@ active_long None mode time next active gone values shares n none = ap length (sy
 active_long (Some p) mode time next active gone values shares n fits = length-map active (active_of p)
 
 -- as the code has them
-pub are_new : {o q : Option GiottoProgram} {mode time next places n to at later room m : ℕ} {old items gone ended : List Active} {values written : List ℤ} {shares others : List (Option TaskBody)} {tenancy tenancy_behind : Tenancy}
+pub are_new : {o q : Option GiottoProgram} {mode time next places n to at later room m : ℕ} {old items gone ended : List Active} {values written : List ℤ} {shares others : List (Option TaskBody)} {budgets budgets_behind : Budgets} {grants grants_behind : GrantRows}
     (p : GiottoProgram) (tenant : ℕ) (before after : Standing) (s t : code.State)
-    → IsTenant (state_of s) o mode time next old gone values shares n → standing_of tenancy s o mode time old gone places values shares n ≡ before
-    → IsTenant (state_of t) q to at later items ended written others m → standing_of tenancy_behind t q to at items ended room written others m ≡ after
+    → IsTenant (state_of s) o mode time next old gone values shares n → standing_of budgets grants s o mode time old gone places values shares n ≡ before
+    → IsTenant (state_of t) q to at later items ended written others m → standing_of budgets_behind grants_behind t q to at items ended room written others m ≡ after
     → q ≡ Some p → AreReleased before.row after.row → (k : ℕ) (xs : List Active) → k ≡ length old → xs ≡ items → AreNew p tenant before.row after.row (take (length xs - k) (drop k xs))
-are_new {o} {q} {mode} {time} {next} {places} {n} {to} {at} {later} {room} {m} {old} {items} {gone} {ended} {values} {written} {shares} {others} p tenant before after s t known view known_after view_after program released k xs long same =
+are_new {o} {q} {mode} {time} {next} {places} {n} {to} {at} {later} {room} {m} {old} {items} {gone} {ended} {values} {written} {shares} {others} {grants = grants} p tenant before after s t known view known_after view_after program released k xs long same =
     let is : IsTenant (state_of t) (Some p) to at later items ended written others m = subst (λ o. IsTenant (state_of t) o to at later items ended written others m) program known_after in
-    let early = (known_of mode time next old gone values shares n s o known).early in
+    let early = (known_of grants mode time next old gone values shares n s o known).early in
     let olds : length before.row.active ≡ k = ap (λ (b : Standing). length b.row.active) (sym view) ∙ active_long o mode time next old gone values shares n known.fits ∙ sym long in
     subst (λ news. AreNew p tenant before.row after.row news) (ap (λ i. drop i items) olds ∙ ap (drop k) (sym same) ∙ sym (take_rest xs k))
     (new_tasks p tenant m before.row after.row items released (subst (λ (b : Standing). AllByRecursion (λ (a : ActiveTask). a.release < b.row.next_tick) b.row.active) view early)

@@ -9,6 +9,7 @@ use Rattle.giotto_text.specs.declared.programs.Task.{Task}
 use Rattle.giotto_text.specs.ProgramTrees.{task_of}
 use Rattle.giotto_check.specs.inner.Timetables.{AreEach}
 use Rattle.giotto_check.specs.Slots.{valuation_of}
+use Rattle.tenant_grants.specs.Grants.{GrantRows}
 use Rattle.tenant_slots.specs.Places.{name_of_mode}
 use Rattle.tenant_slots.specs.Ports.{initial_ports}
 use Rattle.tenant_state.specs.Row.{Row}
@@ -18,10 +19,10 @@ use Rattle.tenant_state.proofs.Stops.{row_of}
 use Rattle.tenant_state.specs.inner.Tenants.{IsShareOf}
 
 -- what stands after a program was put at its beginning
-pub stands_at_beginning : (state : code.State) (program : Option GiottoProgram) (mode time : ℕ) (active : List Active) (values : List ℤ) (count : ℕ) (row : Row) (next : code.State) (p : GiottoProgram) (start : ℕ) (new : List ℤ)
-    → row_of state program mode time active values count ≡ without_records row → name_of_mode p start ≡ p.start → valuation_of p new ≡ initial_ports p
-    → row_of next (Some p) start 0 [] new count ≡ without_records (at_beginning (state_of next) p row)
-stands_at_beginning state program mode time active values count row next p start new stands starts initial = λ k. record {
+pub stands_at_beginning : (grants : GrantRows) (state : code.State) (program : Option GiottoProgram) (mode time : ℕ) (active : List Active) (values : List ℤ) (count : ℕ) (row : Row) (next : code.State) (p : GiottoProgram) (start : ℕ) (new : List ℤ)
+    → row_of grants state program mode time active values count ≡ without_records row → name_of_mode p start ≡ p.start → valuation_of p new ≡ initial_ports p
+    → row_of grants next (Some p) start 0 [] new count ≡ without_records (at_beginning (state_of next) p row)
+stands_at_beginning grants state program mode time active values count row next p start new stands starts initial = λ k. record {
   state = state_of next;
   program = Some p;
   mode = starts k;

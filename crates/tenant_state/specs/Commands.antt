@@ -2,8 +2,11 @@
 use Rattle.std.specs.Prelude.{ℕ, length, Bool, true, false, if◌then◌else◌, ℤ, [], map, Option, Some, None, is_some, Result, Ok, Err}
 use Rattle.giotto_text.specs.Program.{GiottoProgram}
 use Rattle.rig_config.specs.declared.Budgets.{Budgets}
+use Rattle.tenant_exchange.specs.Commands.{GrantOutcome, grants_commanded}
+use Rattle.tenant_exchange.specs.Commands as grants
+use Rattle.tenant_grants.specs.Grants.{Owner, GrantRows}
 use Rattle.tenant_lines.specs.declared.commands.Command.{Command}
-use Rattle.tenant_lines.specs.declared.commands.Command.TheVariants.{Load, Start, Stop, ShowMode, ShowPort, ShowAll}
+use Rattle.tenant_lines.specs.declared.commands.Command.TheVariants.{Load, Start, Stop, ShowMode, ShowPort, ShowAll, Grants}
 use Rattle.tenant_lines.specs.declared.replies.Budget.{Budget}
 use Rattle.tenant_lines.specs.declared.replies.Refusal.{Refusal}
 use Rattle.tenant_lines.specs.declared.replies.Refusal.TheVariants.{Running, NotRunning, NotLoaded, NoPort, OverBudget}
@@ -15,6 +18,7 @@ use Rattle.tenant_lines.specs.declared.ports.PortName.{PortName}
 use Rattle.tenant_state.specs.declared.trace.Happening.TheVariants as happening
 use Rattle.giotto_check.specs.Slots.{ports_of}
 use Rattle.tenant_state.specs.FirstHalf.{stopped_with}
+use Rattle.tenant_state.specs.Tenancy.{Tenancy}
 use Rattle.tenant_state.specs.Row.{StopReason, asked, overrun, State, empty, loaded, running, stopped, Row, is_running, recorded}
 use Rattle.tenant_slots.specs.Ports.{initial_ports, value_of_port}
 use Rattle.tenant_programs.specs.Admission.{broken_budget, program_of}
@@ -85,20 +89,31 @@ abbrev pub show_all : Row → Option GiottoProgram → Outcome
 show_all row None = refused row NotLoaded
 show_all row (Some p) = record { row = row; reply = All (map (port_with_value row.ports) (ports_of p)) }
 
--- whether a command takes memory, and so can be refused for want of it: `load` for its program, and `show all` for the list of all values, where the tenant has a program
-abbrev pub takes_memory : Command → Row → Bool
-takes_memory (Load text) row = true
-takes_memory Start row = false
-takes_memory Stop row = false
-takes_memory ShowMode row = false
-takes_memory (ShowPort x) row = false
-takes_memory ShowAll row = is_some row.program
+-- the offers and binds of a row, as those of this owner
+abbrev pub grant_rows : Owner → Row → GrantRows
+grant_rows owner row = record { owner = owner; offers = row.offers; binds = row.binds }
+
+-- the row with the offers and binds behind a command about grants, and the command's reply
+abbrev pub with_grants : Row → GrantOutcome → Outcome
+with_grants row o = record { row = record row { offers = o.rows.offers; binds = o.rows.binds }; reply = o.reply }
+
+-- whether a command takes memory, and so can be refused for want of it: `load` for its program; `show all` for the list of all values,
+-- where the tenant has a program; and those about grants that do
+abbrev pub takes_memory : Owner → Command → Row → Bool
+takes_memory owner (Load text) row = true
+takes_memory owner Start row = false
+takes_memory owner Stop row = false
+takes_memory owner ShowMode row = false
+takes_memory owner (ShowPort x) row = false
+takes_memory owner ShowAll row = is_some row.program
+takes_memory owner (Grants c) row = grants.takes_memory c (grant_rows owner row)
 
 -- the step of a command: the row after it, and its reply
-abbrev pub commanded : Budgets → Command → Row → Outcome
-commanded budgets (Load text) row = load_read budgets (length text) row (program_of text)
-commanded budgets Start row = if is_running row then refused row Running else start_program row row.program
-commanded budgets Stop row = stop_program row
-commanded budgets ShowMode row = record { row = row; reply = Mode (status_of row) }
-commanded budgets (ShowPort x) row = show_port x row row.program
-commanded budgets ShowAll row = show_all row row.program
+abbrev pub commanded : Tenancy → Command → Row → Outcome
+commanded tenancy (Load text) row = load_read tenancy.budgets (length text) row (program_of text)
+commanded tenancy Start row = if is_running row then refused row Running else start_program row row.program
+commanded tenancy Stop row = stop_program row
+commanded tenancy ShowMode row = record { row = row; reply = Mode (status_of row) }
+commanded tenancy (ShowPort x) row = show_port x row row.program
+commanded tenancy ShowAll row = show_all row row.program
+commanded tenancy (Grants c) row = with_grants row (grants_commanded c (grant_rows tenancy.owner row))

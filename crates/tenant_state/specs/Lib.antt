@@ -7,5 +7,6 @@ pub mod Readers
 pub mod Row
 pub mod SecondHalf
 pub mod Standing
+pub mod Tenancy
 pub mod Tenants
 pub mod inner

@@ -8,15 +8,17 @@ use Rattle.giotto_text.specs.Program.{GiottoProgram, ModeDeclaration, ModeSwitch
 use Rattle.giotto_check.specs.Costs.{greatest}
 use Rattle.giotto_rules.specs.Declarations.{mode_named}
 use Rattle.rig_config.specs.Roster.{no_budgets}
+use Rattle.rig_config.specs.declared.Budgets.{Budgets}
+use Rattle.tenant_grants.specs.Grants.{GrantRows, no_rows}
 use Rattle.tenant_jobs.specs.declared.jobs.JobId.{JobId}
 use Rattle.tenant_slots.specs.Due.{is_due_at}
 use Rattle.tenant_jobs.specs.Finished.{TableEntry, has_result}
 use Rattle.tenant_jobs.specs.Jobs.{JobValue, same_job}
 use Rattle.tenant_state.specs.Jobs.{job_in, job_of}
-use Rattle.tenant_state.specs.declared.tenants.Tenancy.{Tenancy}
+use Rattle.tenant_state.specs.Tenancy.{Tenancy}
 use Rattle.tenant_state.specs.Row.{ActiveTask, Row, empty_row, is_running}
 
--- what a tenant's code keeps: its place in the roster and its budgets, and a row without records; and what it has ready for the next instant
+-- what a tenant's code keeps: whose it is and what it may use, and a row without records; and what it has ready for the next instant
 pub record Standing : Type 0 where
   pub tenancy : Tenancy
   pub row : Row
@@ -31,13 +33,19 @@ pub record Standing : Type 0 where
 abbrev pub at_rest : Standing → Standing
 at_rest s = record s { room = 0; shared = false }
 
--- that of a tenant with this place and these budgets, without a program, whose first instant has this number
-abbrev pub empty_standing : Tenancy → ℕ → Standing
-empty_standing tenancy first_tick = record { tenancy = tenancy; row = empty_row first_tick; ended = []; room = 0; shared = true }
+-- that of a tenant with these budgets and these rows of grants, without a program, whose first instant has this number
+abbrev pub empty_standing : Budgets → GrantRows → ℕ → Standing
+empty_standing budgets rows first_tick = record {
+  tenancy = record { owner = rows.owner; budgets = budgets };
+  row = record (empty_row first_tick) { offers = rows.offers; binds = rows.binds };
+  ended = [];
+  room = 0;
+  shared = true;
+}
 
 -- that of no tenant, which may use nothing
 abbrev pub no_tenant : Standing
-no_tenant = empty_standing (record { place = 0; budgets = no_budgets }) 0
+no_tenant = empty_standing no_budgets (no_rows (record { place = 0; roster = []; most_offers = 0; most_binds = 0 })) 0
 
 -- the row but for its records, which the code doesn't keep
 abbrev pub without_records : Row → Row
@@ -63,11 +71,11 @@ most_released row = if is_running row then option_map_or (λ p. option_map_or (�
 
 -- the outstanding tasks: active, and without a result in this table
 abbrev pub outstanding_tasks : Standing → List TableEntry → List ActiveTask
-outstanding_tasks s entries = filter (λ a. not (has_result entries (job_of s.tenancy.place a))) s.row.active
+outstanding_tasks s entries = filter (λ a. not (has_result entries (job_of s.tenancy.owner.place a))) s.row.active
 
 -- the job of this name, if it is one of the tenant's and its task is active with the job's release
 abbrev pub released_job : Standing → JobId → Option JobValue
-released_job s j = option_and_then (λ p. option_map (job_in p s.tenancy.place) (find (λ a. same_job (job_of s.tenancy.place a) j) s.row.active)) s.row.program
+released_job s j = option_and_then (λ p. option_map (job_in p s.tenancy.owner.place) (find (λ a. same_job (job_of s.tenancy.owner.place a) j) s.row.active)) s.row.program
 
 -- the job of this name, if its completion is awaited: its task is active with its release, and its result isn't in this table
 abbrev pub awaited_job : Standing → List TableEntry → JobId → Option JobValue
@@ -82,10 +90,9 @@ abbrev pub all_different_releases : List ActiveTask → Bool
 all_different_releases [] = true
 all_different_releases (a ∷ rest) = list_all (is_another a) rest && all_different_releases rest
 
--- what is known of every tenant's row: it has no binds, no records, and no program that waits; it has active tasks only while its
+-- what is known of every tenant's row: it has no records, and no program that waits; it has active tasks only while its
 -- program runs, each released before the next instant, and no two of them are one release of one task
 pub record IsKnown (row : Row) : Type 0 where
-  pub no_binds : row.binds ≡ []
   pub no_records : row.records ≡ []
   pub none_waits : row.waiting ≡ None
   pub tasks : row.program ≡ None → row.active ≡ []

@@ -7,10 +7,11 @@ use Rattle.giotto_tasks.specs.Names.{Valuation}
 use Rattle.giotto_tasks.specs.Syntax.{TaskBody}
 use Rattle.giotto_text.specs.Program.{GiottoProgram}
 use Rattle.giotto_check.specs.Slots.{valuation_of}
+use Rattle.rig_config.specs.declared.Budgets.{Budgets}
+use Rattle.tenant_grants.specs.Grants.{GrantRows}
 use Rattle.tenant_slots.specs.Places.{name_of_task, name_of_mode}
 use Rattle.tenant_state.specs.declared.tenants.Active.{Active}
 use Rattle.tenant_state.specs.declared.tenants.Reason.{Reason}
-use Rattle.tenant_state.specs.declared.tenants.Tenancy.{Tenancy}
 use Rattle.tenant_state.specs.declared.tenants.Reason.TheVariants.{Asked, Overrun}
 use Rattle.tenant_state.specs.declared.tenants.State as code
 use Rattle.tenant_state.specs.declared.tenants.State.TheVariants as states
@@ -44,9 +45,9 @@ abbrev pub ports_in : Option GiottoProgram → List ℤ → Valuation
 ports_in o values = option_map_or (λ p. valuation_of p values) o []
 
 -- what a tenant's fields stand for: `room` is that left for active tasks, and `shares` has the shares of bodies that are at hand
-abbrev pub standing_of : Tenancy → code.State → Option GiottoProgram → ℕ → ℕ → List Active → List Active → ℕ → List ℤ → List (Option TaskBody) → ℕ → Standing
-standing_of tenancy state program mode time active ended room values shares next_tick = record {
-  tenancy = tenancy;
+abbrev pub standing_of : Budgets → GrantRows → code.State → Option GiottoProgram → ℕ → ℕ → List Active → List Active → ℕ → List ℤ → List (Option TaskBody) → ℕ → Standing
+standing_of budgets grants state program mode time active ended room values shares next_tick = record {
+  tenancy = record { owner = grants.owner; budgets = budgets };
   row = record {
     state = state_of state;
     program = program;
@@ -54,8 +55,8 @@ standing_of tenancy state program mode time active ended room values shares next
     mode_time = time;
     active = tasks_in program active;
     ports = ports_in program values;
-    offers = [];
-    binds = [];
+    offers = grants.offers;
+    binds = grants.binds;
     waiting = None;
     records = [];
     next_tick = next_tick;

@@ -1,12 +1,13 @@
 //! A tenant: its program and what the program is at.
 
-ghost use Rattle.std.specs.Prelude.{◌≡◌};
+ghost use Rattle.std.specs.Prelude.{◌≡◌, ◌≤◌, length};
 ghost use Rattle.tenant_state.specs.Standing.{empty_standing, IsKnown};
 
 pub mod active_tasks;
 pub mod commands;
 pub mod completions;
 pub mod entries;
+pub mod granted;
 pub mod phase_one;
 pub mod phase_two;
 pub mod readers;
@@ -21,10 +22,11 @@ use giotto_check::Checked;
 use giotto_tasks::bodies::Body;
 use giotto_tasks::names::Name;
 use giotto_tasks::values::Values;
-use rig_config::{Budgets, TenantId};
+use rig_config::Budgets;
 use std::alloc::Global;
 use std::marker::Model;
 use std::sync::Arc;
+use tenant_grants::grants::Grants;
 use tenant_jobs::jobs::Key;
 
 /// Why a tenant was stopped.
@@ -59,20 +61,12 @@ pub(crate) struct Active {
     pub(crate) states: Values,
 }
 
-/// What a tenant is given when it is made, and keeps.
-#[derive(Drop)]
-pub struct Tenancy {
-    /// Its place in the roster, from 0.
-    pub place: TenantId,
-    /// What it may use.
-    pub budgets: Budgets,
-}
-
 /// One tenant of a host.
 #[derive(Drop)]
 pub struct Tenant {
     pub(crate) alloc: Global,
-    pub(crate) tenancy: Tenancy,
+    pub(crate) budgets: Budgets,
+    pub(crate) grants: Grants,
     pub(crate) state: State,
     pub(crate) program: Option<Checked>,
     /// The place of the mode in the program's text, from 0.
@@ -103,19 +97,21 @@ impl Model for Tenant {
 
     ghost coded = { Prim.hlevel (codes, program_code) };
 
-    ghost view = { λ t. standing_of t.tenancy t.state t.program t.mode t.mode_time t.active.items t.active.ended t.active.room t.values.items (map (option_map arc_value) t.shares.items) t.next_tick };
+    ghost view = { λ t. standing_of t.budgets t.grants t.state t.program t.mode t.mode_time t.active.items t.active.ended t.active.room t.values.items (map (option_map arc_value) t.shares.items) t.next_tick };
 
     ghost invariant = { λ t. IsTenant (state_of t.state) t.program t.mode t.mode_time t.next_due t.active.items t.active.ended t.values.items (map (option_map arc_value) t.shares.items) t.next_tick };
 }
 
 impl Tenant {
-    /// A tenant with this place and these budgets, without a program. Its first instant has this number. Takes no memory.
-    pub fn new(alloc: Global, tenancy: Tenancy, first_tick: u64) -> Tenant
-        ensures { result ≡ empty_standing tenancy first_tick }
+    /// The tenant with these budgets, whose rows of grants these are, without a program. Its first instant has this number. Takes no
+    /// memory.
+    pub fn new(alloc: Global, budgets: Budgets, grants: Grants, first_tick: u64) -> Tenant
+        ensures { result ≡ empty_standing budgets grants first_tick }
     {
         Tenant {
             alloc,
-            tenancy,
+            budgets,
+            grants,
             state: State::Empty,
             program: None,
             mode: 0,
@@ -128,11 +124,13 @@ impl Tenant {
         }
     }
 
-    /// The number of the tenant's next instant. Each active task was released before it.
+    /// The number of the tenant's next instant. Each active task was released before it, and it has no more binds than it may have.
     pub fn next_tick(&self) -> u64
         ensures number { result ≡ self.now.row.next_tick }
         ensures known { IsKnown self.now.row }
+        ensures binds { length self.now.row.binds ≤ self.now.tenancy.owner.most_binds }
     {
+        let _own = self.grants.own();
         self.next_tick
     }
 }

@@ -1,9 +1,12 @@
 -- What is known of a host at any time.
-use Rattle.std.specs.Prelude.{◌≡◌, ◌<◌, ℕ, List, length, All}
+use Rattle.std.specs.Prelude.{◌≡◌, ◌<◌, ◌≤◌, ℕ, List, Option, ℤ, length, All}
+use Rattle.std.specs.List.{sum_by}
 use Rattle.instant_engine.specs.inner.Instants.{IsBetween}
 use Rattle.instant_engine.specs.inner.Tables.{IsTaskTable}
 use Rattle.instant_engine.specs.Tenants.{ArePlaced, tenant_at}
-use Rattle.rig_config.specs.Roster.{Rig, budgets_at}
+use Rattle.host_core.specs.Tenancies.{tenancy_at}
+use Rattle.rig_config.specs.Roster.{Rig}
+use Rattle.rig_config.specs.declared.TenantConfig.{TenantConfig}
 use Rattle.tenant_jobs.specs.Finished.{TableEntry}
 use Rattle.tenant_state.specs.Standing.{Standing}
 
@@ -11,15 +14,24 @@ use Rattle.tenant_state.specs.Standing.{Standing}
 abbrev pub IsAt : ℕ → Standing → Type 0
 IsAt n s = (s.row.next_tick ≡ n) × IsBetween s
 
--- each tenant has the budgets of its place in the roster
-abbrev pub HaveBudgets : Rig → List Standing → Type 0
-HaveBudgets config tenants = (t : ℕ) → t < length tenants → (tenant_at tenants t).tenancy.budgets ≡ budgets_at config t
+-- each tenant is given what is due to its place in the roster
+abbrev pub HaveTenancies : Rig → List Standing → Type 0
+HaveTenancies config tenants = (t : ℕ) → t < length tenants → (tenant_at tenants t).tenancy ≡ tenancy_at config t
 
--- what is known of all: they are those of the roster, each is at the next instant's number and knows its place and its budgets, and the
--- table is that of their active tasks
+-- what is known of all: they are those of the roster, each is at the next instant's number and has what is due to its place, and the table
+-- is that of their active tasks
 pub record IsWhole (config : Rig) (clock : ℕ) (tenants : List Standing) (entries : List TableEntry) : Type 0 where
   pub as_many : length tenants ≡ length config.tenants
   pub known : All (IsAt clock) tenants
   pub placed : ArePlaced tenants
-  pub budgets : HaveBudgets config tenants
+  pub tenancies : HaveTenancies config tenants
   pub table : IsTaskTable tenants entries
+
+-- how many binds all tenants may have
+abbrev pub most_binds : Rig → ℕ
+most_binds config = sum_by (λ (tenant : TenantConfig). tenant.budgets.binds) config.tenants
+
+-- what is known of a host: this, and there is a place for each bind that its tenants may have
+pub record IsHost (config : Rig) (clock : ℕ) (tenants : List Standing) (entries : List TableEntry) (granted : List (Option ℤ)) : Type 0 where
+  pub whole : IsWhole config clock tenants entries
+  pub places : most_binds config ≤ length granted

@@ -1,6 +1,7 @@
 -- A tenant before and behind the two halves of an instant.
-use Rattle.std.specs.Prelude.{◌≡◌, ◌+◌, ℤ, List, [], ℕ}
+use Rattle.std.specs.Prelude.{◌≡◌, ◌+◌, ℤ, List, Option, [], ℕ}
 use Rattle.tenant_jobs.specs.Finished.{TableEntry, has_result}
+use Rattle.tenant_exchange.specs.Granted.{granted_along}
 use Rattle.tenant_slots.specs.Readings.{readings_within}
 use Rattle.tenant_state.specs.FirstHalf.{unfinished_tasks, first_half_of}
 use Rattle.tenant_state.specs.Jobs.{job_of}
@@ -15,16 +16,20 @@ first_half_by entries place row = first_half_of (unfinished_tasks (λ a. has_res
 
 -- a tenant before and behind its first half: whatever row it stood for, it stands for that behind the half
 pub record IsFirstHalf (entries : List TableEntry) (before after : Standing) : Type 0 where
-  pub step : (row : Row) → StandsFor before row → StandsFor after (first_half_by entries before.tenancy.place row)
+  pub step : (row : Row) → StandsFor before row → StandsFor after (first_half_by entries before.tenancy.owner.place row)
   pub next_tick : after.row.next_tick ≡ before.row.next_tick
   pub tenancy : after.tenancy ≡ before.tenancy
   pub program : after.row.program ≡ before.row.program
+  pub offers : after.row.offers ≡ before.row.offers
+  pub binds : after.row.binds ≡ before.row.binds
   pub ended : AreEnded before after
 
--- a tenant before and behind its second half, where nothing is granted: it reads the lines that it may read
-pub record IsSecondHalf (frame : List ℤ) (before after : Standing) : Type 0 where
-  pub step : (row : Row) → StandsFor before row → StandsFor after (second_half_of (readings_within before.tenancy.budgets.reads frame) [] row)
+-- a tenant before and behind its second half: it reads the lines that it may read, and takes what is granted along its binds
+pub record IsSecondHalf (frame : List ℤ) (granted : List (Option ℤ)) (before after : Standing) : Type 0 where
+  pub step : (row : Row) → StandsFor before row → StandsFor after (second_half_of (readings_within before.tenancy.budgets.reads frame) (granted_along before.row.binds granted) row)
   pub next_tick : after.row.next_tick ≡ before.row.next_tick + 1
   pub tenancy : after.tenancy ≡ before.tenancy
   pub program : after.row.program ≡ before.row.program
+  pub offers : after.row.offers ≡ before.row.offers
+  pub binds : after.row.binds ≡ before.row.binds
   pub ended : after.ended ≡ []

@@ -35,11 +35,15 @@ IsRefused standing step r = HoldsOfRow standing (λ row. step row ≡ refused ro
 
 -- whether the tenant has an active task with the job of this name
 abbrev pub has_active : Standing → JobId → Bool
-has_active s j = has_job s.tenancy.place s.row.active j
+has_active s j = has_job s.tenancy.owner.place s.row.active j
+
+-- the active tasks and the program stay as they were
+abbrev pub AreTasksKept : Standing → Standing → Type 0
+AreTasksKept before after = (after.row.active ≡ before.row.active) × (after.row.program ≡ before.row.program)
 
 -- just those tasks that were active before and aren't behind are told as ended
 abbrev pub AreEnded : Standing → Standing → Type 0
-AreEnded before after = (j : JobId) → has_job after.tenancy.place after.ended j ≡ (has_active before j && not (has_active after j))
+AreEnded before after = (j : JobId) → has_job after.tenancy.owner.place after.ended j ≡ (has_active before j && not (has_active after j))
 
 -- room for the most tasks that the next instant can release
 abbrev pub HasRoom : Standing → Type 0
@@ -57,9 +61,9 @@ pub record AreReleased (before after : Row) : Type 0 where
 
 -- each active task has its entry in the table
 abbrev pub HasItsEntries : Standing → List TableEntry → Type 0
-HasItsEntries s entries = AllByRecursion (λ a. is_entered entries (job_of s.tenancy.place a) ≡ true) s.row.active
+HasItsEntries s entries = AllByRecursion (λ a. is_entered entries (job_of s.tenancy.owner.place a) ≡ true) s.row.active
 
 -- the results that came for its active tasks are those of their jobs
 abbrev pub HasItsResults : Standing → List TableEntry → Type 0
 HasItsResults s entries = (p : GiottoProgram) → s.row.program ≡ Some p
-    → AllByRecursion (λ a. IfSome (result_in entries (job_of s.tenancy.place a)) (λ r. r ≡ result_of (job_in p s.tenancy.place a))) s.row.active
+    → AllByRecursion (λ a. IfSome (result_in entries (job_of s.tenancy.owner.place a)) (λ r. r ≡ result_of (job_in p s.tenancy.owner.place a))) s.row.active

@@ -1,7 +1,6 @@
 //! What a tenant's commands do.
 
 ghost use Rattle.std.specs.Prelude.{◌≡◌, ◌≢◌, ◌⊎◌, [], false, Err, None, IfOk, IfErr, OnOk, OnErr, length, map};
-ghost use Rattle.rig_config.specs.declared.Budgets.{Budgets};
 ghost use Rattle.std.specs.Arc.{arc_value};
 ghost use Rattle.std.specs.Option.{option_map};
 ghost use Rattle.tenant_lines.specs.declared.commands.Command.{Command};
@@ -12,7 +11,8 @@ ghost use Rattle.giotto_check.specs.Slots.{valuation_of};
 ghost use Rattle.tenant_slots.specs.Ports.{initial_ports};
 ghost use Rattle.tenant_state.specs.Commands.{at_beginning, commanded, takes_memory, load_kept};
 ghost use Rattle.tenant_state.specs.Row.{Row, is_running, loaded};
-ghost use Rattle.tenant_state.specs.inner.Standing.{AreEnded, HoldsOfRow, IsAnswered, IsBehind, IsOutcome, IsRefused};
+ghost use Rattle.tenant_state.specs.Tenancy.{Tenancy};
+ghost use Rattle.tenant_state.specs.inner.Standing.{AreEnded, AreTasksKept, HoldsOfRow, IsAnswered, IsBehind, IsOutcome, IsRefused};
 ghost use Rattle.tenant_state.specs.Standing.{without_records};
 
 use crate::tenants::{Reason, State, Tenant};
@@ -21,6 +21,7 @@ use giotto_tasks::bodies::Body;
 use giotto_text::programs::Task;
 use std::alloc::{AllocError, Global};
 use std::sync::Arc;
+use tenant_exchange::commands::carry_out;
 use tenant_lines::commands::Command;
 use tenant_lines::ports::PortValue;
 use tenant_lines::replies::{Refusal, Reply};
@@ -37,17 +38,17 @@ pub(crate) struct Beginning {
 }
 
 impl Tenant {
-    /// Carries out a command. A refusal changes nothing, want of memory included. Only `load`, and `show all` of a tenant with a
-    /// program, take memory; no other command is refused for it.
+    /// Carries out a command. A refusal changes nothing, want of memory included. Only `load`, `show all` of a tenant with a
+    /// program, `offer`, `bind`, and `rows` where there is one, take memory; no other command is refused for it.
     pub fn command(&mut self, command: Command) -> Reply
         requires rest { self.old.ended ≡ [] }
         ensures memory { result ≡ Reply.Refused Refusal.Memory → self.new ≡ self.old }
-        ensures room { takes_memory command self.old.row ≡ false → result ≢ Reply.Refused Refusal.Memory }
+        ensures room { takes_memory self.old.tenancy.owner command self.old.row ≡ false → result ≢ Reply.Refused Refusal.Memory }
         ensures tenancy { self.new.tenancy ≡ self.old.tenancy }
         ensures next_tick { self.new.row.next_tick ≡ self.old.row.next_tick }
         ensures ended { AreEnded self.old self.new }
-        ensures active { (self.new.row.active ≡ []) ⊎ (self.new ≡ self.old) }
-        ensures step { HoldsOfRow self.old (λ row. result ≢ Reply.Refused Refusal.Memory → IsOutcome (commanded self.old.tenancy.budgets command row) result self.new) }
+        ensures active { (self.new.row.active ≡ []) ⊎ AreTasksKept self.old self.new }
+        ensures step { HoldsOfRow self.old (λ row. result ≢ Reply.Refused Refusal.Memory → IsOutcome (commanded self.old.tenancy command row) result self.new) }
     {
         match command {
             Command::Load(text) => match self.load(text.as_str()) {
@@ -71,6 +72,7 @@ impl Tenant {
                 Ok(all) => Reply::All(all),
                 Err(refusal) => Reply::Refused(refusal),
             },
+            Command::Grants(command) => carry_out(self.alloc, &mut self.grants, command),
         }
     }
 
@@ -85,8 +87,8 @@ impl Tenant {
         ensures unchanged { OnErr result (self.new ≡ self.old) }
         ensures tenancy { self.new.tenancy ≡ self.old.tenancy }
         ensures next_tick { self.new.row.next_tick ≡ self.old.row.next_tick }
-        ensures refused { IfErr result (λ r. r ≢ Refusal.Memory → IsRefused self.old (commanded self.old.tenancy.budgets (Command.Load text.now)) r) }
-        ensures loaded { OnOk result (IsAnswered self.old (commanded self.old.tenancy.budgets (Command.Load text.now)) Reply.Loaded self.new) }
+        ensures refused { IfErr result (λ r. r ≢ Refusal.Memory → IsRefused self.old (commanded self.old.tenancy (Command.Load text.now)) r) }
+        ensures loaded { OnOk result (IsAnswered self.old (commanded self.old.tenancy (Command.Load text.now)) Reply.Loaded self.new) }
         ensures none_ended { OnOk result ((self.old.row.active ≡ []) × (self.new.row.active ≡ []) × (self.new.ended ≡ [])) }
     {
         let program = read_program(self.alloc, text)?;
@@ -115,7 +117,7 @@ impl Tenant {
         if self.is_running() {
             return Err(Refusal::Running);
         }
-        if let Some(budget) = broken_budget(&self.tenancy.budgets, bytes, program) {
+        if let Some(budget) = broken_budget(&self.budgets, bytes, program) {
             return Err(Refusal::OverBudget(budget));
         }
         let Ok(values) = initial_values(self.alloc, program) else {
@@ -155,8 +157,8 @@ impl Tenant {
         ensures tenancy { self.new.tenancy ≡ self.old.tenancy }
         ensures next_tick { self.new.row.next_tick ≡ self.old.row.next_tick }
         ensures room { result ≢ Err Refusal.Memory }
-        ensures refused { IfErr result (λ r. (budgets : Budgets) → IsRefused self.old (commanded budgets Command.Start) r) }
-        ensures started { OnOk result ((budgets : Budgets) → IsAnswered self.old (commanded budgets Command.Start) Reply.Started self.new) }
+        ensures refused { IfErr result (λ r. (tenancy : Tenancy) → IsRefused self.old (commanded tenancy Command.Start) r) }
+        ensures started { OnOk result ((tenancy : Tenancy) → IsAnswered self.old (commanded tenancy Command.Start) Reply.Started self.new) }
         ensures none_ended { OnOk result ((self.old.row.active ≡ []) × (self.new.row.active ≡ []) × (self.new.ended ≡ [])) }
     {
         if self.is_running() {
@@ -180,8 +182,8 @@ impl Tenant {
         ensures tenancy { self.new.tenancy ≡ self.old.tenancy }
         ensures next_tick { self.new.row.next_tick ≡ self.old.row.next_tick }
         ensures room { result ≢ Err Refusal.Memory }
-        ensures refused { IfErr result (λ r. (budgets : Budgets) → IsRefused self.old (commanded budgets Command.Stop) r) }
-        ensures stopped { OnOk result ((budgets : Budgets) → IsAnswered self.old (commanded budgets Command.Stop) Reply.Stopped self.new) }
+        ensures refused { IfErr result (λ r. (tenancy : Tenancy) → IsRefused self.old (commanded tenancy Command.Stop) r) }
+        ensures stopped { OnOk result ((tenancy : Tenancy) → IsAnswered self.old (commanded tenancy Command.Stop) Reply.Stopped self.new) }
         ensures all_ended { OnOk result ((self.new.row.active ≡ []) × (self.new.ended ≡ self.old.row.active)) }
     {
         if !self.is_running() {

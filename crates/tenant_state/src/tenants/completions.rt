@@ -36,7 +36,7 @@ impl Tenant {
         };
         let Some(place) = place_of(
             checked,
-            self.tenancy.place,
+            self.grants.own(),
             self.active.as_slice(),
             done.id(),
         ) else {
@@ -57,11 +57,12 @@ impl Tenant {
         let Some(checked) = &self.program else {
             return Ok(None);
         };
-        let Some(place) = place_of(checked, self.tenancy.place, self.active.as_slice(), id) else {
+        let tenant = self.grants.own();
+        let Some(place) = place_of(checked, tenant, self.active.as_slice(), id) else {
             return Ok(None);
         };
         let active = &self.active.as_slice()[place];
-        if result_of(checked, self.tenancy.place, finished, active).is_some() {
+        if result_of(checked, tenant, finished, active).is_some() {
             return Ok(None);
         }
         let body = Arc::try_clone(&declared(checked, active).body)?;
@@ -85,7 +86,7 @@ impl Tenant {
         };
         let mut number = 0;
         for active in self.active.as_slice() {
-            if compute(checked, self.tenancy.place, active, finished) {
+            if compute(checked, self.grants.own(), active, finished) {
                 number += 1;
             }
         }
@@ -101,7 +102,7 @@ impl Tenant {
         };
         let mut number = 0;
         for active in self.active.as_slice() {
-            if result_of(checked, self.tenancy.place, finished, active).is_none() {
+            if result_of(checked, self.grants.own(), finished, active).is_none() {
                 number += 1;
             }
         }

@@ -24,7 +24,7 @@ impl Tenant {
     /// Takes the entries of the tasks that ended out of the table. Nothing is known of them any longer.
     pub fn leave(&mut self, finished: &mut Finished)
         ensures entries { (j : JobId) → entry_in finished.new.entries j
-            ≡ (if has_job self.old.tenancy.place self.old.ended j then None else entry_in finished.old.entries j) }
+            ≡ (if has_job self.old.tenancy.owner.place self.old.ended j then None else entry_in finished.old.entries j) }
         ensures none { self.old.ended ≡ [] → finished.new ≡ finished.old }
         ensures room { finished.old.room ≤ finished.new.room }
         ensures same { self.new ≡ record self.old { ended = [] } }
@@ -33,7 +33,7 @@ impl Tenant {
             return;
         };
         for active in self.active.ended() {
-            finished.remove(&job_id(checked, self.tenancy.place, active), &active.key);
+            finished.remove(&job_id(checked, self.grants.own(), active), &active.key);
         }
         self.active.forget_ended();
     }
@@ -41,22 +41,16 @@ impl Tenant {
     /// Enters the active tasks from this place on, the oldest at 0, and notes the keys of their entries. Takes no memory.
     pub fn enter(&mut self, from: usize, finished: &mut Finished)
         requires room { length (drop from self.old.row.active) ≤ finished.old.room }
-        requires new { AllByRecursion (λ (a : ActiveTask). is_entered finished.old.entries (job_of self.old.tenancy.place a) ≡ false) (drop from self.old.row.active) }
+        requires new { AllByRecursion (λ (a : ActiveTask). is_entered finished.old.entries (job_of self.old.tenancy.owner.place a) ≡ false) (drop from self.old.row.active) }
         ensures entries { (j : JobId) → entry_in finished.new.entries j
-            ≡ entry_put (has_job self.old.tenancy.place (drop from self.old.row.active) j) j None finished.old.entries }
+            ≡ entry_put (has_job self.old.tenancy.owner.place (drop from self.old.row.active) j) j None finished.old.entries }
         ensures room { finished.new.room + length (drop from self.old.row.active) ≡ finished.old.room }
         ensures same { self.new ≡ self.old }
     {
         let Some(checked) = &self.program else {
             return;
         };
-        enter_each(
-            checked,
-            self.tenancy.place,
-            from,
-            &mut self.active,
-            finished,
-        );
+        enter_each(checked, self.grants.own(), from, &mut self.active, finished);
     }
 
     /// Notes the keys of the tasks that the last instant released: those of the jobs from this place on, in their order. The place behind

@@ -25,12 +25,11 @@ use crate::tenants::completions::result_of;
 use crate::tenants::{Active, Reason, State, Tenant};
 use giotto_check::Checked;
 use giotto_check::timetables::SlotInvocation;
-use giotto_tasks::names::Name;
-use giotto_text::programs::Program;
 use rig_config::TenantId;
 use tenant_jobs::finished::Finished;
 use tenant_slots::actuators::update_due;
 use tenant_slots::due::{Due, due_marks, is_task_due};
+use tenant_slots::names::task_name;
 use tenant_slots::tasks::write_results;
 
 impl Tenant {
@@ -56,7 +55,7 @@ impl Tenant {
         if time < self.next_due {
             return;
         }
-        let tenant = self.tenancy.place;
+        let tenant = self.grants.own();
         let invocations = checked.invocations(self.mode);
         let active = self.active.as_slice();
         let table = entry_table(active);
@@ -70,7 +69,7 @@ impl Tenant {
             &table,
         );
         if let Some(task) = unfinished {
-            let name = name_of(checked.program(), task);
+            let name = task_name(checked, task);
             self.stop_with(Reason::Overrun(name));
             return;
         }
@@ -88,14 +87,6 @@ impl Tenant {
         drop_due(invocations, time, &mut self.active);
         update_due(checked, self.mode, time, values);
     }
-}
-
-// The name of the task at this place.
-fn name_of(program: &Program, task: usize) -> Name
-    requires { task < length program.now.tasks }
-    ensures { result ≡ name_of_task program.now task }
-{
-    program.tasks()[task].name.copy()
 }
 
 // Whether an active task at this place of the program has no result.

@@ -27,48 +27,48 @@ use giotto_text::programs::Program;
 use rig_config::TenantId;
 use std::alloc::Global;
 use std::sync::Arc;
+use tenant_exchange::sensors::read_sensors;
 use tenant_jobs::jobs::{Job, JobId, Jobs};
 use tenant_slots::due::due_behind;
-use tenant_slots::sensors::sense;
 
 impl Tenant {
-    /// The second half of an instant whose number is below the greatest. `frame` has the input value of each line. The jobs of the
-    /// tasks that are released are added to `jobs`, which has room for them. Takes no memory.
-    pub fn phase_two(&mut self, frame: &[i64], jobs: &mut Jobs)
+    /// The second half of an instant whose number is below the greatest. `frame` has the input value of each line, and `granted` what is
+    /// granted through each bind, if something is, by the bind's place. The jobs of the tasks that are released are added to `jobs`, which
+    /// has room for them. Takes no memory.
+    pub fn phase_two(&mut self, frame: &[i64], granted: &[Option<i64>], jobs: &mut Jobs)
         requires rest { self.old.ended ≡ [] }
         requires next_tick { self.old.row.next_tick < 2 ^ 64 - 1 }
         requires room { HasRoom self.old }
         requires shares { HasShares self.old }
         requires jobs { most_released self.old.row ≤ jobs.old.room }
-        ensures half { IsSecondHalf frame.now self.old self.new }
+        ensures half { IsSecondHalf frame.now granted.now self.old self.new }
         ensures released { AreReleased self.old.row self.new.row }
-        ensures jobs { jobs.new.jobs ≡ jobs.old.jobs ++ released_at self.old.tenancy.place self.old.row.next_tick self.new.row }
+        ensures jobs { jobs.new.jobs ≡ jobs.old.jobs ++ released_at self.old.tenancy.owner.place self.old.row.next_tick self.new.row }
         ensures room { jobs.old.room ≤ jobs.new.room + most_released self.old.row }
     {
         let before = self.active.len();
-        self.phase_two_without_jobs(frame);
+        self.phase_two_without_jobs(frame, granted);
         let Some(checked) = &self.program else {
             return;
         };
         let released = &self.active.as_slice()[before..];
         add_jobs(
             checked,
-            self.tenancy.place,
+            self.grants.own(),
             released,
             self.shares.as_mut_slice(),
             jobs,
         );
     }
 
-    /// The second half of an instant whose number is below the greatest, where nobody takes its jobs. `frame` has the input value
-    /// of each line. Takes no memory.
+    /// The second half of an instant, as `phase_two`, where nobody takes its jobs. Takes no memory.
     // Inlined, so that a tenant that isn't running costs its host no call.
     #[inline(always)]
-    pub fn phase_two_without_jobs(&mut self, frame: &[i64])
+    pub fn phase_two_without_jobs(&mut self, frame: &[i64], granted: &[Option<i64>])
         requires rest { self.old.ended ≡ [] }
         requires next_tick { self.old.row.next_tick < 2 ^ 64 - 1 }
         requires room { HasRoom self.old }
-        ensures half { IsSecondHalf frame.now self.old self.new }
+        ensures half { IsSecondHalf frame.now granted.now self.old self.new }
         ensures released { AreReleased self.old.row self.new.row }
         ensures shared { self.new.shared ≡ self.old.shared }
     {
@@ -81,7 +81,7 @@ impl Tenant {
             return;
         };
         let values = self.values.as_mut_slice();
-        sense(checked, &self.tenancy.budgets, frame, values);
+        read_sensors(checked, &self.budgets, frame, &self.grants, granted, values);
         let mut mode = self.mode;
         let mut time = self.mode_time;
         let mut next = self.next_due;

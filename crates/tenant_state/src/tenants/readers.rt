@@ -20,6 +20,7 @@ use giotto_text::programs::Actuator;
 use tenant_jobs::jobs::JobId;
 use tenant_slots::actuators::{actuator_place, driver_name};
 use tenant_slots::due::ends_at;
+use tenant_slots::names::is_task_named;
 
 impl Tenant {
     /// Whether the task of this name is active and ends at the next instant. Nothing is due where no program runs. Takes no memory.
@@ -44,7 +45,7 @@ impl Tenant {
     pub fn is_active(&self, id: &JobId) -> bool
         ensures { result ≡ has_active self.now id.now }
     {
-        if id.tenant != self.tenancy.place {
+        if id.tenant != self.grants.own() {
             return false;
         }
         let Some(checked) = &self.program else {
@@ -91,7 +92,7 @@ fn active_place(checked: &Checked, active: &[Active], name: &str) -> Option<usiz
     ensures { result ≡ option_map (λ a. a.task) (find (λ a. same_name (name_of_task checked.now a.task) name.now) active.now) }
 {
     for entry in active {
-        if is_named(checked, entry.task, name) {
+        if is_task_named(checked, entry.task, name) {
             return Some(entry.task);
         }
     }
@@ -104,17 +105,9 @@ fn has_release(checked: &Checked, active: &[Active], id: &JobId) -> bool
     ensures { result ≡ list_any (is_of_job checked.now id.now) active.now }
 {
     for entry in active {
-        if entry.release == id.tick && is_named(checked, entry.task, id.task.as_str()) {
+        if entry.release == id.tick && is_task_named(checked, entry.task, id.task.as_str()) {
             return true;
         }
     }
     false
-}
-
-// Whether the task at this place of the program's text has this name.
-fn is_named(checked: &Checked, place: usize, name: &str) -> bool
-    requires { place < length checked.now.tasks }
-    ensures { result ≡ same_name (name_of_task checked.now place) name.now }
-{
-    checked.program().tasks()[place].name.as_str() == name
 }

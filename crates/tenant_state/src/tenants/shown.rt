@@ -21,22 +21,16 @@ impl Tenant {
     pub(crate) fn status(&self) -> Status
         ensures { (row : Row) → self.now.row ≡ without_records row → result ≡ status_of row }
     {
-        match &self.state {
-            State::Empty => Status::Empty,
-            State::Loaded => Status::Loaded(self.mode_name()),
-            State::Running => Status::Running(self.mode_name(), self.mode_time),
-            State::Stopped(Reason::Asked) => Status::StoppedAsked,
-            State::Stopped(Reason::Overrun(task)) => Status::StoppedOverrun(task.copy()),
-        }
-    }
-
-    // The name of its mode; of no byte where it has no program.
-    fn mode_name(&self) -> Name
-        ensures { result ≡ self.now.row.mode }
-    {
-        match &self.program {
+        let mode = match &self.program {
             Some(checked) => checked.program().modes()[self.mode].name.copy(),
             None => Name::default(),
+        };
+        match &self.state {
+            State::Empty => Status::Empty,
+            State::Loaded => Status::Loaded(mode),
+            State::Running => Status::Running(mode, self.mode_time),
+            State::Stopped(Reason::Asked) => Status::StoppedAsked,
+            State::Stopped(Reason::Overrun(task)) => Status::StoppedOverrun(task.copy()),
         }
     }
 

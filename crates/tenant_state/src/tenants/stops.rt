@@ -20,6 +20,8 @@ impl Tenant {
         ensures fewer { most_released self.new.row ≡ 0 }
         ensures tenancy { self.new.tenancy ≡ self.old.tenancy }
         ensures program { self.new.row.program ≡ self.old.row.program }
+        ensures offers { self.new.row.offers ≡ self.old.row.offers }
+        ensures binds { self.new.row.binds ≡ self.old.row.binds }
         ensures next_tick { self.new.row.next_tick ≡ self.old.row.next_tick }
     {
         self.state = State::Stopped(reason);

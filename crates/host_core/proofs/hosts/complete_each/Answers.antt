@@ -34,9 +34,9 @@ loop-tenant-preserved c =
     c.complete_all.ensures.number
     ∙ ap (number_outstanding c.loop-tenant.finished.entries) here
     ∙ ap length (same_filter _ _ (tenant_at tenants i).row.active
-    (all_of (λ a. ap not (before.results (job_of (tenant_at tenants i).tenancy.place a)
-    ∙ ap (λ b. has_result c.args.finished.now.entries (job_of (tenant_at tenants i).tenancy.place a) || b) (none_before tenants i a c.requires.placed within)
-    ∙ or_false (has_result c.args.finished.now.entries (job_of (tenant_at tenants i).tenancy.place a)))) (tenant_at tenants i).row.active)) in
+    (all_of (λ a. ap not (before.results (job_of (tenant_at tenants i).tenancy.owner.place a)
+    ∙ ap (λ b. has_result c.args.finished.now.entries (job_of (tenant_at tenants i).tenancy.owner.place a) || b) (none_before tenants i a c.requires.placed within)
+    ∙ or_false (has_result c.args.finished.now.entries (job_of (tenant_at tenants i).tenancy.owner.place a)))) (tenant_at tenants i).row.active)) in
     record {
       table = table_completed tenants c.loop-tenant.finished.entries c.complete_all.new.finished.entries i c.requires.placed within c.complete_all.ensures.entered
           (subst (λ (s : Standing). HasItsResults s c.loop-tenant.finished.entries → HasItsResults s c.complete_all.new.finished.entries) here c.complete_all.ensures.right)

@@ -38,6 +38,13 @@ loop-i-preserved c =
             c.phase_one.ensures.fewer,
             sum_by-set (λ (s : Standing). most_released s.row) c.loop-i.tenants c.loop-i.i half d within,
           );
+      binds =
+          omega (
+            arith,
+            c.loop-i.invariant.binds,
+            ap length c.phase_one.ensures.half.binds,
+            sum_by-set (λ (s : Standing). length s.row.binds) c.loop-i.tenants c.loop-i.i half d within,
+          );
     }
 
 pub returns-clause-halves : goal.returns-clause-halves

@@ -2,8 +2,9 @@ use Rattle.std.proofs.Common.{◌≡◌, ◌<◌, ◌-◌, ◌^◌, cond, map, S
 use Rattle.tenant_jobs.specs.declared.jobs.JobId.{JobId}
 use Rattle.tenant_jobs.specs.Finished.{entry_in}
 use Rattle.tenant_jobs.specs.JobLists.{JobList}
-use Rattle.instant_engine.specs.inner.Halves.{AreReleasedJobs, AreSecondHalves, is_released_among, without_ended}
-use Rattle.instant_engine.proofs.Between.{AreHalfway, all_its_entries, told, placed_middle, halfway, counts_halfway, instants, jobs_new, entries_behind, table_behind}
+use Rattle.instant_engine.specs.inner.Halves.{AreGranted, AreReleasedJobs, AreSecondHalves, is_released_among, without_ended}
+use Rattle.instant_engine.specs.inner.Tenants.{binds_of}
+use Rattle.instant_engine.proofs.Between.{AreHalfway, binds_kept, roster_halfway, all_its_entries, told, placed_middle, halfway, counts_halfway, instants, jobs_new, entries_behind, table_behind}
 use Rattle.instant_engine.proofs.instants.instant.Goals as goal
 
 pub first_halves-requires : goal.first_halves-requires
@@ -15,6 +16,12 @@ keep-requires c = record {
   told = told c.requires.placed c.requires.between c.requires.table c.first_halves.ensures.halves;
 }
 
+pub grant-requires : goal.grant-requires
+grant-requires c = record {
+  rosters = rw (c.keep.ensures.tenants) (roster_halfway c.requires.placed c.requires.between c.requires.table c.first_halves.ensures.halves c.requires.rosters);
+  places = omega (arith, ap binds_of c.keep.ensures.tenants, binds_kept c.first_halves.new.tenants, c.first_halves.ensures.binds, c.requires.places);
+}
+
 pub second_halves-requires : goal.second_halves-requires
 second_halves-requires c =
     let half : AreHalfway c.args.tenants.now c.keep.new.tenants =
@@ -22,6 +29,7 @@ second_halves-requires c =
     record {
       rest = half.rest;
       counts = counts_halfway c.requires.placed c.requires.between c.requires.table c.first_halves.ensures.halves (λ n. n < 2 ^ 64 - 1) c.keep.new.tenants c.keep.ensures.tenants c.requires.counts;
+      places = omega (arith, c.grant.auto.granted, ap binds_of c.keep.ensures.tenants, binds_kept c.first_halves.new.tenants, c.first_halves.ensures.binds, c.requires.places);
       placed = half.placed;
       early = half.early;
       ready = half.ready;
@@ -33,24 +41,26 @@ pub enter-requires : goal.enter-requires
 enter-requires c =
     let half : AreHalfway c.args.tenants.now c.keep.new.tenants =
     halfway c.requires.placed c.requires.between c.requires.table c.first_halves.ensures.halves c.keep.new.tenants c.keep.ensures.tenants (c.first_halves.ensures.ready c.requires.ready) c.first_halves.ensures.fewer in
-    let second = subst (λ ts. AreSecondHalves c.args.frame.now ts c.second_halves.new.tenants) c.keep.ensures.tenants c.second_halves.ensures.halves in
+    let passed = subst (λ ts. AreGranted ts c.grant.new.granted) c.keep.ensures.tenants c.grant.ensures.granted in
+    let second = subst (λ ts. AreSecondHalves c.args.frame.now c.grant.new.granted ts c.second_halves.new.tenants) c.keep.ensures.tenants c.second_halves.ensures.halves in
     let released = subst (λ ts. AreReleasedJobs ts c.second_halves.new.tenants c.second_halves.new.jobs.jobs) c.keep.ensures.tenants c.second_halves.ensures.released in
     record {
       room = omega (arith, c.second_halves.ensures.released.few, half.few, c.requires.entries, c.keep.ensures.room);
-      new = jobs_new c.requires.placed c.requires.between c.requires.table c.first_halves.ensures.halves c.args.frame.now second c.keep.new.finished.entries c.keep.ensures.entries c.second_halves.new.jobs.jobs released;
+      new = jobs_new c.requires.placed c.requires.between c.requires.table c.first_halves.ensures.halves c.args.frame.now c.grant.new.granted c.requires.rosters passed second c.keep.new.finished.entries c.keep.ensures.entries c.second_halves.new.jobs.jobs released;
       differ = released.differ;
     }
 
 pub returns : goal.returns
 returns c =
-    let second = subst (λ ts. AreSecondHalves c.args.frame.now ts c.second_halves.new.tenants) c.keep.ensures.tenants c.second_halves.ensures.halves in
+    let passed = subst (λ ts. AreGranted ts c.grant.new.granted) c.keep.ensures.tenants c.grant.ensures.granted in
+    let second = subst (λ ts. AreSecondHalves c.args.frame.now c.grant.new.granted ts c.second_halves.new.tenants) c.keep.ensures.tenants c.second_halves.ensures.halves in
     let released = subst (λ ts. AreReleasedJobs ts c.second_halves.new.tenants c.second_halves.new.jobs.jobs) c.keep.ensures.tenants c.second_halves.ensures.released in
     let enters : (j : JobId) → entry_in c.enter.new.self.entries j ≡ cond (is_released_among (map without_ended c.first_halves.new.tenants) c.second_halves.new.tenants j) (Some (record { id = j; result = None })) (entry_in c.keep.new.finished.entries j) =
     λ j. c.enter.ensures.entries j ∙ ap (λ b. cond b (Some (record { id = j; result = None })) (entry_in c.keep.new.finished.entries j)) (released.names j) in
     rw (c.note_keys.ensures) (record {
-      instants = instants c.requires.placed c.requires.between c.requires.table c.first_halves.ensures.halves c.args.frame.now second;
-      entries = entries_behind c.requires.placed c.requires.between c.requires.table c.first_halves.ensures.halves c.args.frame.now second c.keep.new.finished.entries c.enter.new.self.entries c.keep.ensures.entries enters;
-      table = table_behind c.requires.placed c.requires.between c.requires.table c.first_halves.ensures.halves c.args.frame.now second c.keep.new.finished.entries c.enter.new.self.entries c.keep.ensures.entries enters;
+      instants = instants c.requires.placed c.requires.between c.requires.table c.first_halves.ensures.halves c.args.frame.now c.grant.new.granted c.requires.rosters passed second;
+      entries = entries_behind c.requires.placed c.requires.between c.requires.table c.first_halves.ensures.halves c.args.frame.now c.grant.new.granted c.requires.rosters passed second c.keep.new.finished.entries c.enter.new.self.entries c.keep.ensures.entries enters;
+      table = table_behind c.requires.placed c.requires.between c.requires.table c.first_halves.ensures.halves c.args.frame.now c.grant.new.granted c.requires.rosters passed second c.keep.new.finished.entries c.enter.new.self.entries c.keep.ensures.entries enters;
       jobs = λ n counts.
           ap (λ (l : JobList). l.jobs) c.enter.ensures.jobs
           ∙ c.second_halves.ensures.jobs n (counts_halfway c.requires.placed c.requires.between c.requires.table c.first_halves.ensures.halves (λ k. k ≡ n) c.keep.new.tenants c.keep.ensures.tenants counts);

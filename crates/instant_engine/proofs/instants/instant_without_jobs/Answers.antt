@@ -1,8 +1,9 @@
 use Rattle.std.proofs.Common.{◌≡◌, ◌<◌, ◌-◌, ◌^◌, cond, map, Some, None, ap, subst, ◌∙◌, arith}
 use Rattle.tenant_jobs.specs.declared.jobs.JobId.{JobId}
 use Rattle.tenant_jobs.specs.Finished.{entry_in}
-use Rattle.instant_engine.specs.inner.Halves.{AreSecondHalves, is_released_among, without_ended}
-use Rattle.instant_engine.proofs.Between.{AreHalfway, all_its_entries, told, placed_middle, halfway, counts_halfway, instants, none_left, entries_behind, table_behind}
+use Rattle.instant_engine.specs.inner.Halves.{AreGranted, AreSecondHalves, is_released_among, without_ended}
+use Rattle.instant_engine.specs.inner.Tenants.{binds_of}
+use Rattle.instant_engine.proofs.Between.{AreHalfway, binds_kept, roster_halfway, all_its_entries, told, placed_middle, halfway, counts_halfway, instants, none_left, entries_behind, table_behind}
 use Rattle.instant_engine.proofs.instants.instant_without_jobs.Goals as goal
 
 pub first_halves-requires : goal.first_halves-requires
@@ -14,6 +15,12 @@ keep-requires c = record {
   told = told c.requires.placed c.requires.between c.requires.table c.first_halves.ensures.halves;
 }
 
+pub grant-requires : goal.grant-requires
+grant-requires c = record {
+  rosters = rw (c.keep.ensures.tenants) (roster_halfway c.requires.placed c.requires.between c.requires.table c.first_halves.ensures.halves c.requires.rosters);
+  places = omega (arith, ap binds_of c.keep.ensures.tenants, binds_kept c.first_halves.new.tenants, c.first_halves.ensures.binds, c.requires.places);
+}
+
 pub second_halves_without_jobs-requires : goal.second_halves_without_jobs-requires
 second_halves_without_jobs-requires c =
     let half : AreHalfway c.args.tenants.now c.keep.new.tenants =
@@ -21,6 +28,7 @@ second_halves_without_jobs-requires c =
     record {
       rest = half.rest;
       counts = counts_halfway c.requires.placed c.requires.between c.requires.table c.first_halves.ensures.halves (λ n. n < 2 ^ 64 - 1) c.keep.new.tenants c.keep.ensures.tenants c.requires.counts;
+      places = omega (arith, c.grant.auto.granted, ap binds_of c.keep.ensures.tenants, binds_kept c.first_halves.new.tenants, c.first_halves.ensures.binds, c.requires.places);
       placed = half.placed;
       ready = half.ready;
       room = omega (arith, half.few, c.requires.entries, c.keep.ensures.room);
@@ -29,12 +37,13 @@ second_halves_without_jobs-requires c =
 
 pub returns : goal.returns
 returns c =
-    let second = subst (λ ts. AreSecondHalves c.args.frame.now ts c.second_halves_without_jobs.new.tenants) c.keep.ensures.tenants c.second_halves_without_jobs.ensures.halves in
+    let passed = subst (λ ts. AreGranted ts c.grant.new.granted) c.keep.ensures.tenants c.grant.ensures.granted in
+    let second = subst (λ ts. AreSecondHalves c.args.frame.now c.grant.new.granted ts c.second_halves_without_jobs.new.tenants) c.keep.ensures.tenants c.second_halves_without_jobs.ensures.halves in
     let enters : (j : JobId) → entry_in c.second_halves_without_jobs.new.finished.entries j ≡ cond (is_released_among (map without_ended c.first_halves.new.tenants) c.second_halves_without_jobs.new.tenants j) (Some (record { id = j; result = None })) (entry_in c.keep.new.finished.entries j) =
     λ j. c.second_halves_without_jobs.ensures.entries j
     ∙ ap (λ ts. cond (is_released_among ts c.second_halves_without_jobs.new.tenants j) (Some (record { id = j; result = None })) (entry_in c.keep.new.finished.entries j)) c.keep.ensures.tenants in
     record {
-      instants = instants c.requires.placed c.requires.between c.requires.table c.first_halves.ensures.halves c.args.frame.now second;
-      entries = entries_behind c.requires.placed c.requires.between c.requires.table c.first_halves.ensures.halves c.args.frame.now second c.keep.new.finished.entries c.second_halves_without_jobs.new.finished.entries c.keep.ensures.entries enters;
-      table = table_behind c.requires.placed c.requires.between c.requires.table c.first_halves.ensures.halves c.args.frame.now second c.keep.new.finished.entries c.second_halves_without_jobs.new.finished.entries c.keep.ensures.entries enters;
+      instants = instants c.requires.placed c.requires.between c.requires.table c.first_halves.ensures.halves c.args.frame.now c.grant.new.granted c.requires.rosters passed second;
+      entries = entries_behind c.requires.placed c.requires.between c.requires.table c.first_halves.ensures.halves c.args.frame.now c.grant.new.granted c.requires.rosters passed second c.keep.new.finished.entries c.second_halves_without_jobs.new.finished.entries c.keep.ensures.entries enters;
+      table = table_behind c.requires.placed c.requires.between c.requires.table c.first_halves.ensures.halves c.args.frame.now c.grant.new.granted c.requires.rosters passed second c.keep.new.finished.entries c.second_halves_without_jobs.new.finished.entries c.keep.ensures.entries enters;
     }

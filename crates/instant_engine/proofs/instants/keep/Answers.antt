@@ -18,7 +18,7 @@ loop-i-preserved c =
     record {
       steps = stepped_more (λ t x y. y ≡ without_ended x) c.loop-i.i c.args.tenants.now c.loop-i.tenants d c.leave.new.self inside c.loop-i.invariant.steps c.leave.ensures.same;
       left = left_more c.loop-i.i c.args.tenants.now x c.args.finished.now.entries c.loop-i.finished.entries c.leave.new.finished.entries here
-          (ap (λ (s : Standing). s.tenancy.place) here ∙ c.requires.placed c.loop-i.i inside) c.leave.ensures.entries c.loop-i.invariant.left;
+          (ap (λ (s : Standing). s.tenancy.owner.place) here ∙ c.requires.placed c.loop-i.i inside) c.leave.ensures.entries c.loop-i.invariant.left;
       room = omega (arith, c.loop-i.invariant.room, c.leave.ensures.room);
     }
 

@@ -1,19 +1,21 @@
-use Rattle.std.proofs.Common.{◌≡◌, ◌<◌, false, cond, length, length-drop, drop, get_or, Some, None, ap, sym, subst, ◌∙◌, arith}
+use Rattle.std.proofs.Common.{◌≡◌, ◌+◌, ◌-◌, ◌<◌, ◌≤◌, take, false, cond, length, length-drop, drop, get_or, Some, None, refl, ap, sym, subst, ◌∙◌, arith}
 use Rattle.std.specs.List.{AllByRecursion}
 use Rattle.tenant_jobs.specs.Finished.{entry_in}
 use Rattle.tenant_jobs.specs.inner.Finished.{is_entered}
 use Rattle.tenant_state.specs.Jobs.{has_job, job_of}
 use Rattle.tenant_state.specs.Row.{ActiveTask}
 use Rattle.tenant_state.specs.Standing.{IsKnown, Standing, no_tenant}
-use Rattle.tenant_state.specs.declared.tenants.Tenancy.{Tenancy}
+use Rattle.tenant_state.specs.Tenancy.{Tenancy}
 use Rattle.tenant_state.specs.inner.Standing.{HasRoom}
+use Rattle.tenant_state.specs.inner.Halves.{IsSecondHalf}
 use Rattle.instant_engine.specs.Tenants.{tenant_at}
+use Rattle.instant_engine.specs.inner.Tenants.{granted_at}
 use Rattle.instant_engine.proofs.Entered.{entered_none, entered_more, entered_all, not_yet}
-use Rattle.instant_engine.proofs.Loops.{stepped_more, stepped_none, stepped_all, unstepped, most_left}
+use Rattle.instant_engine.proofs.Loops.{binds_more, binds_within, stepped_more, stepped_none, stepped_all, unstepped, most_left}
 use Rattle.instant_engine.proofs.instants.second_halves_without_jobs.Goals as goal
 
 pub loop-i-init : goal.loop-i-init
-loop-i-init c = record { halves = stepped_none _ c.args.tenants.now; space = c.requires.room; entered = entered_none c.args.tenants.now c.args.finished.now.entries }
+loop-i-init c = record { first = refl; halves = stepped_none _ c.args.tenants.now; space = c.requires.room; entered = entered_none c.args.tenants.now c.args.finished.now.entries }
 
 pub phase_two_without_jobs-requires : goal.phase_two_without_jobs-requires
 phase_two_without_jobs-requires c =
@@ -41,10 +43,22 @@ enter-requires c =
         length-drop c.active-before.result s.row.active,
         c.phase_two_without_jobs.ensures.released.few,
       );
-      new = subst (λ k. AllByRecursion (λ (a : ActiveTask). is_entered c.loop-i.finished.entries (job_of s.tenancy.place a) ≡ false) (drop k s.row.active)) (sym c.active-before.ensures)
-          (not_yet c.loop-i.i c.args.tenants.now c.loop-i.tenants x s c.args.finished.now.entries c.loop-i.finished.entries inside here (ap (λ (s : Standing). s.tenancy.place) here ∙ c.requires.placed c.loop-i.i inside)
-          (ap (λ (y : Tenancy). y.place) c.phase_two_without_jobs.ensures.half.tenancy) c.phase_two_without_jobs.ensures.released c.requires.new c.loop-i.invariant.entered);
+      new = subst (λ k. AllByRecursion (λ (a : ActiveTask). is_entered c.loop-i.finished.entries (job_of s.tenancy.owner.place a) ≡ false) (drop k s.row.active)) (sym c.active-before.ensures)
+          (not_yet c.loop-i.i c.args.tenants.now c.loop-i.tenants x s c.args.finished.now.entries c.loop-i.finished.entries inside here (ap (λ (s : Standing). s.tenancy.owner.place) here ∙ c.requires.placed c.loop-i.i inside)
+          (ap (λ (y : Tenancy). y.owner.place) c.phase_two_without_jobs.ensures.half.tenancy) c.phase_two_without_jobs.ensures.released c.requires.new c.loop-i.invariant.entered);
     }
+
+pub slice_bounds-phase_two_without_jobs-end : goal.slice_bounds-phase_two_without_jobs-end
+slice_bounds-phase_two_without_jobs-end c =
+    let inside : c.loop-i.i < length c.args.tenants.now = omega (arith, c.loop-i-test.true) in
+    omega (
+      arith,
+      c.loop-i.invariant.first,
+      c.bind_count.ensures,
+      binds_more _ c.loop-i.i c.args.tenants.now c.loop-i.tenants c.index-tenants-i.result inside c.loop-i.invariant.halves,
+      binds_within (c.loop-i.i + 1) c.args.tenants.now,
+      c.requires.places,
+    )
 
 pub loop-i-preserved : goal.loop-i-preserved
 loop-i-preserved c =
@@ -55,10 +69,14 @@ loop-i-preserved c =
     let within : c.loop-i.i < length c.loop-i.tenants = omega (arith, inside, c.loop-i.invariant.halves.as_many) in
     let here : x ≡ tenant_at c.args.tenants.now c.loop-i.i = unstepped _ c.loop-i.i c.args.tenants.now c.loop-i.tenants d inside c.loop-i.invariant.halves in
     let known : IsKnown s.row = subst (λ (y : Standing). IsKnown y.row) c.enter.ensures.same c.next_tick.ensures.known in
+    let its_grants : take (c.loop-i.first + c.bind_count.result - c.loop-i.first) (drop c.loop-i.first c.args.granted.now) ≡ granted_at c.args.tenants.now c.loop-i.i c.args.granted.now =
+    let many : c.loop-i.first + c.bind_count.result - c.loop-i.first ≡ length (tenant_at c.args.tenants.now c.loop-i.i).row.binds = omega (arith, c.bind_count.ensures, ap (λ (y : Standing). length y.row.binds) here) in
+    λ k. take (many k) (drop (c.loop-i.invariant.first k) c.args.granted.now) in
     record {
+      first = omega (arith, c.loop-i.invariant.first, c.bind_count.ensures, binds_more _ c.loop-i.i c.args.tenants.now c.loop-i.tenants d inside c.loop-i.invariant.halves);
       halves = rw (c.enter.ensures.same)
           (stepped_more _ c.loop-i.i c.args.tenants.now c.loop-i.tenants d s inside c.loop-i.invariant.halves
-          (record { half = c.phase_two_without_jobs.ensures.half; released = c.phase_two_without_jobs.ensures.released; known = known }));
+          (record { half = subst (λ zs. IsSecondHalf c.args.frame.now zs (get_or c.loop-i.tenants c.loop-i.i d) c.phase_two_without_jobs.new.self) its_grants c.phase_two_without_jobs.ensures.half; released = c.phase_two_without_jobs.ensures.released; known = known; binds = subst (λ (y : Standing). length y.row.binds ≤ y.tenancy.owner.most_binds) c.enter.ensures.same c.next_tick.ensures.binds }));
       space = omega (
         arith,
         c.active-before.ensures,
@@ -70,9 +88,9 @@ loop-i-preserved c =
       );
       entered = rw (c.enter.ensures.same)
           (entered_more c.loop-i.i c.args.tenants.now c.loop-i.tenants x s c.args.finished.now.entries c.loop-i.finished.entries c.enter.new.finished.entries within here
-          (ap (λ (s : Standing). s.tenancy.place) here ∙ c.requires.placed c.loop-i.i inside) (ap (λ (y : Tenancy). y.place) c.phase_two_without_jobs.ensures.half.tenancy)
+          (ap (λ (s : Standing). s.tenancy.owner.place) here ∙ c.requires.placed c.loop-i.i inside) (ap (λ (y : Tenancy). y.owner.place) c.phase_two_without_jobs.ensures.half.tenancy)
           (λ j. c.enter.ensures.entries j
-          ∙ ap (λ k. cond (has_job s.tenancy.place (drop k s.row.active) j) (Some (record { id = j; result = None })) (entry_in c.loop-i.finished.entries j)) c.active-before.ensures) c.loop-i.invariant.entered);
+          ∙ ap (λ k. cond (has_job s.tenancy.owner.place (drop k s.row.active) j) (Some (record { id = j; result = None })) (entry_in c.loop-i.finished.entries j)) c.active-before.ensures) c.loop-i.invariant.entered);
     }
 
 pub returns-clause-halves : goal.returns-clause-halves

@@ -1,12 +1,14 @@
-use Rattle.std.proofs.Common.{◌≤◌, drop}
+use Rattle.std.proofs.Common.{◌≡◌, ◌≤◌, drop, take}
 use Rattle.instant_engine.specs.Tenants.{most_of}
+use Rattle.instant_engine.specs.inner.Tenants.{binds_of}
 use Rattle.instant_engine.proofs.Entered.{AreEnteredTo}
 use Rattle.instant_engine.proofs.Loops.{AreSecondHalvesTo}
 use Rattle.instant_engine.proofs.instants.second_halves_without_jobs.Given as goal
 
 abbrev pub invariant-loop-i : goal.invariant-loop-i
 invariant-loop-i l = record {
-  halves : AreSecondHalvesTo l.frame l.i l.initial.tenants l.tenants;
+  first : l.first ≡ binds_of (take l.i l.initial.tenants);
+  halves : AreSecondHalvesTo l.frame l.granted l.i l.initial.tenants l.tenants;
   space : most_of (drop l.i l.initial.tenants) ≤ l.finished.room;
   entered : AreEnteredTo l.i l.initial.tenants l.tenants l.initial.finished.entries l.finished.entries;
 }

@@ -13,11 +13,14 @@ use Rattle.host_core.proofs.hosts.Host.complete_all.Goals as goal
 
 pub invariant_of-self : goal.invariant_of-self
 invariant_of-self c = record {
-  as_many = c.self.invariant.as_many;
-  known = c.self.invariant.known;
-  placed = c.self.invariant.placed;
-  budgets = c.self.invariant.budgets;
-  table = subst (λ (xs : List Standing). IsTaskTable xs c.complete_each.new.finished.entries) c.as_slice.ensures.value c.complete_each.ensures.table;
+  whole = record {
+    as_many = c.self.invariant.whole.as_many;
+    known = c.self.invariant.whole.known;
+    placed = c.self.invariant.whole.placed;
+    tenancies = c.self.invariant.whole.tenancies;
+    table = subst (λ (xs : List Standing). IsTaskTable xs c.complete_each.new.finished.entries) c.as_slice.ensures.value c.complete_each.ensures.table;
+  };
+  places = c.self.invariant.places;
 }
 
 pub returns-clause-step : goal.returns-clause-step
@@ -31,7 +34,7 @@ returns-clause-step c = λ setting past stands.
     let jobs = ap (λ (h : HostStanding). outstanding_jobs h) (sym c.self.view_is) ∙ outstanding_at_rest host.entries host.tenants in
     let done = host_after_done setting (outstanding_jobs c.args.self.now) past ∙ ap (λ js. after_done setting js state) jobs in
     subst (Stands setting (record later { tenants = map at_rest later.tenants })) (sym done)
-    (stands_outside setting later (after_done setting (outstanding_jobs host) state) (stands_completed setting host state c.self.invariant.placed inside later.entries results))
+    (stands_outside setting later (after_done setting (outstanding_jobs host) state) (stands_completed setting host state c.self.invariant.whole.placed inside later.entries results))
 
 pub returns-clause-number : goal.returns-clause-number
 returns-clause-number c =

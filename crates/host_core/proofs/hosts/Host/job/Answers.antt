@@ -19,7 +19,7 @@ returns-clause-awaited c =
     let host : HostStanding = standing c.self.inside in
     let within : c.args.id.now.tenant < length host.tenants = omega (arith, c.if-id-len.false) in
     subst (λ (h : HostStanding). IfOk c.job.result (λ job. ForEachState h (λ setting state. is_some job ≡ awaits state c.args.id.now))) c.self.view_is
-    (job_awaits host c.args.id.now c.index.result.now c.job.result within c.index.ensures c.self.invariant.known c.self.invariant.placed c.job.ensures.job)
+    (job_awaits host c.args.id.now c.index.result.now c.job.result within c.index.ensures c.self.invariant.whole.known c.self.invariant.whole.placed c.job.ensures.job)
 
 pub returns-clause-never_refused : goal.returns-clause-never_refused
 returns-clause-never_refused c = λ none.

@@ -5,8 +5,8 @@ use Rattle.tenant_state.proofs.tenants.Tenant.awaits.Goals as goal
 
 pub returns-in_default-place_of : goal.returns-in_default-place_of
 returns-in_default-place_of c =
-    let found = rw (c.as_slice.ensures, c.id.ensures) at c.in_default-place_of.ensures.found in
-    let none = none_there c.in-Some.checked c.self.inside.tenancy.place c.args.done.now.id c.self.inside.active.items found in
+    let found = rw (c.as_slice.ensures, c.id.ensures, c.own.ensures.place) at c.in_default-place_of.ensures.found in
+    let none = none_there c.in-Some.checked c.self.inside.grants.owner.place c.args.done.now.id c.self.inside.active.items found in
     rw (← c.self.view_is, c.in-Some.is) (λ h. absurd (false≢true h), λ e. absurd (let f : None ≡ Some c.args.done.now = sym none ∙ e in cc))
 
 pub declared-requires : goal.declared-requires
@@ -18,7 +18,7 @@ declared-requires c =
 pub returns : goal.returns
 returns c =
     let within = rw c.as_slice.ensures at c.in-Some-place_of.ensures.within in
-    let found = rw (c.as_slice.ensures, c.id.ensures) at c.in-Some-place_of.ensures.found in
+    let found = rw (c.as_slice.ensures, c.id.ensures, c.own.ensures.place) at c.in-Some-place_of.ensures.found in
     let at = rw c.as_slice-2.ensures at c.index-as_slice-place.is in
     let is = awaits c.in-Some.checked _ _ _ _ _ within at found c.declared.ensures.fits c.declared.result.now c.declared.ensures.task c.args.done.now refl in
     let tests = rw c.job.ensures at c.is_of_release.ensures in

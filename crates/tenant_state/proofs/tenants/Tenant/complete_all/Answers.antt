@@ -17,8 +17,8 @@ loop-active-init c = record {
 pub compute-requires-clause-entered : goal.compute-requires-clause-entered
 compute-requires-clause-entered c =
     let entries = rw (← c.self.view_is, c.in-Some.is) at c.requires.entries in
-    entered_there c.in-Some.checked c.self.inside.tenancy.place c.self.inside.active.items c.as_slice-active-items.result.now c.loop-active.active-index c.active-item.result c.args.finished.now.entries c.loop-active.finished.entries
-    c.as_slice-active-items.ensures c.loop-active-test.true c.active-item.is entries c.loop-active.invariant.to.entered
+    rw c.own.ensures.place (entered_there c.in-Some.checked c.self.inside.grants.owner.place c.self.inside.active.items c.as_slice-active-items.result.now c.loop-active.active-index c.active-item.result c.args.finished.now.entries c.loop-active.finished.entries
+    c.as_slice-active-items.ensures c.loop-active-test.true c.active-item.is entries c.loop-active.invariant.to.entered)
 
 pub overflow_add-number : goal.overflow_add-number
 overflow_add-number c = omega (arith, c.loop-active.invariant.few, c.loop-active-test.true, c.as_slice-active-items.type_inv)
@@ -26,7 +26,7 @@ overflow_add-number c = omega (arith, c.loop-active.invariant.few, c.loop-active
 pub loop-active-preserved : goal.loop-active-preserved
 loop-active-preserved c =
     let p = c.in-Some.checked in
-    let t = c.self.inside.tenancy.place in
+    let t = c.self.inside.grants.owner.place in
     let items = c.as_slice-active-items.result.now in
     let i = c.loop-active.active-index in
     let a = c.active-item.result in
@@ -37,7 +37,9 @@ loop-active-preserved c =
     let entries = rw (← c.self.view_is, c.in-Some.is) at c.requires.entries in
     let entered = entered_there p t c.self.inside.active.items items i a c.args.finished.now.entries c.loop-active.finished.entries c.as_slice-active-items.ensures c.loop-active-test.true c.active-item.is entries c.loop-active.invariant.to.entered in
     let now = c.loop-active.invariant in
-    let fewer = left_fewer p t (map (active_of p) items) i (active_of p a) lt at different c.loop-active.finished.entries c.compute.new.finished.entries c.compute.result entered c.compute.ensures.computed c.compute.ensures.entries in
+    let computed = rw c.own.ensures.place at c.compute.ensures.computed in
+    let behind = rw c.own.ensures.place at c.compute.ensures.entries in
+    let fewer = left_fewer p t (map (active_of p) items) i (active_of p a) lt at different c.loop-active.finished.entries c.compute.new.finished.entries c.compute.result entered computed behind in
     record {
       few = elim c.if-compute.branch [
         | then-compute w ↦ omega (arith, now.few, w.number-is)
@@ -47,6 +49,6 @@ loop-active-preserved c =
         | then-compute w ↦ omega (arith, now.number, w.number-is, rw w.if-compute.true at fewer)
         | else-compute w ↦ omega (arith, now.number, w.number-is, rw w.if-compute.false at fewer)
       ];
-      to = computed_more p t (map (active_of p) items) i (active_of p a) lt at different c.loop-active.finished.entries c.compute.new.finished.entries c.compute.result entered c.compute.ensures.computed c.compute.ensures.entries now.to;
+      to = computed_more p t (map (active_of p) items) i (active_of p a) lt at different c.loop-active.finished.entries c.compute.new.finished.entries c.compute.result entered computed behind now.to;
       room = c.compute.ensures.room ∙ now.room;
     }

@@ -16,7 +16,7 @@ returns-in_default-active_place c =
     let known = rw c.in-Some.is at c.self.invariant in
     let m = its_mode p s.mode known.fits.mode_there in
     let none = map_none (λ (a : Active). a.task) _ (rw c.as_slice.ensures at c.in_default-active_place.ensures) in
-    rw (← c.self.view_is, c.in-Some.is, c.in-Running.is) (not_due p c.program-program.ensures.fits m.0 s.mode s.mode_time s.active.items m.1 c.args.task.now none)
+    rw (← c.self.view_is, c.in-Some.is, c.in-Running.is) (not_due p c.program-program.ensures.fits m.0 s.mode s.mode_time s.active.items m.1 c.args.task.now s.grants none)
 
 pub ends_at-requires : goal.ends_at-requires
 ends_at-requires c =
@@ -32,4 +32,4 @@ returns c =
     let here = ap (λ k. list_any (λ (e : SlotInvocation). nat_eq k e.task && (s.mode_time % e.interval == 0)) c.invocations.result.now) (sym some.2) in
     let all = all_map (IsActiveIn p s.next_tick) (IsActiveOf p) s.active.items (λ a is. is.declared) known.fits.each in
     rw (← c.self.view_is, c.in-Some.is, c.in-Running.is)
-    (c.ends_at.ensures ∙ here ∙ due_by_place p c.program-program.ensures.fits m.0 s.mode s.mode_time s.active.items m.1 c.args.task.now all _ (c.invocations.ensures.there m.0 m.1) some.0 some.1)
+    (c.ends_at.ensures ∙ here ∙ due_by_place p c.program-program.ensures.fits m.0 s.mode s.mode_time s.active.items m.1 c.args.task.now s.grants all _ (c.invocations.ensures.there m.0 m.1) some.0 some.1)

@@ -8,8 +8,8 @@ use Rattle.tenant_state.proofs.tenants.Tenant.job.Goals as goal
 
 pub returns-in_default-place_of-clause-job : goal.returns-in_default-place_of-clause-job
 returns-in_default-place_of-clause-job c =
-    let found = rw c.as_slice.ensures at c.in_default-place_of.ensures.found in
-    rw (← c.self.view_is, c.in-Some.is) (sym (none_awaited (has_result c.args.finished.now.entries c.args.id.now) _ (none_there c.in-Some.checked c.self.inside.tenancy.place c.args.id.now c.self.inside.active.items found)))
+    let found = rw (c.as_slice.ensures, c.own-tenant.ensures.place) at c.in_default-place_of.ensures.found in
+    rw (← c.self.view_is, c.in-Some.is) (sym (none_awaited (has_result c.args.finished.now.entries c.args.id.now) _ (none_there c.in-Some.checked c.self.inside.grants.owner.place c.args.id.now c.self.inside.active.items found)))
 
 pub declared-requires : goal.declared-requires
 declared-requires c =
@@ -28,18 +28,18 @@ new-requires c =
 pub returns-then-is_some-clause-job : goal.returns-then-is_some-clause-job
 returns-then-is_some-clause-job c =
     let within = rw c.as_slice.ensures at c.in-Some-place_of.ensures.within in
-    let found = rw c.as_slice.ensures at c.in-Some-place_of.ensures.found in
+    let found = rw (c.as_slice.ensures, c.own-tenant.ensures.place) at c.in-Some-place_of.ensures.found in
     let at = rw c.as_slice-2.ensures at c.index-as_slice-place.is in
-    let came : has_result c.args.finished.now.entries (job_of c.self.inside.tenancy.place (active_of c.in-Some.checked c.index-as_slice-place.result)) ≡ true =
-    ap is_some (sym c.result_of.ensures) ∙ (is_some-option_map _ c.result_of.result ∙ sym c.if-is_some.ensures) in
-    rw (← c.self.view_is, c.in-Some.is) (sym (not_awaited c.in-Some.checked c.self.inside.tenancy.place c.args.id.now c.self.inside.active.items c.args.finished.now.entries _ _ within at found came))
+    let came : has_result c.args.finished.now.entries (job_of c.self.inside.grants.owner.place (active_of c.in-Some.checked c.index-as_slice-place.result)) ≡ true =
+    ap (λ t. has_result c.args.finished.now.entries (job_of t (active_of c.in-Some.checked c.index-as_slice-place.result))) (sym c.own-tenant.ensures.place) ∙ ap is_some (sym c.result_of.ensures) ∙ (is_some-option_map _ c.result_of.result ∙ sym c.if-is_some.ensures) in
+    rw (← c.self.view_is, c.in-Some.is) (sym (not_awaited c.in-Some.checked c.self.inside.grants.owner.place c.args.id.now c.self.inside.active.items c.args.finished.now.entries _ _ within at found came))
 
 pub returns-clause-job : goal.returns-clause-job
 returns-clause-job c =
     let within = rw c.as_slice.ensures at c.in-Some-place_of.ensures.within in
-    let found = rw c.as_slice.ensures at c.in-Some-place_of.ensures.found in
-    let none : has_result c.args.finished.now.entries (job_of c.self.inside.tenancy.place (active_of c.in-Some.checked c.index-as_slice-place.result)) ≡ false =
-    ap is_some (sym c.result_of.ensures) ∙ (is_some-option_map _ c.result_of.result ∙ sym c.if-is_some.ensures) in
+    let found = rw (c.as_slice.ensures, c.own-tenant.ensures.place) at c.in-Some-place_of.ensures.found in
+    let none : has_result c.args.finished.now.entries (job_of c.self.inside.grants.owner.place (active_of c.in-Some.checked c.index-as_slice-place.result)) ≡ false =
+    ap (λ t. has_result c.args.finished.now.entries (job_of t (active_of c.in-Some.checked c.index-as_slice-place.result))) (sym c.own-tenant.ensures.place) ∙ ap is_some (sym c.result_of.ensures) ∙ (is_some-option_map _ c.result_of.result ∙ sym c.if-is_some.ensures) in
     rw (← c.self.view_is, c.in-Some.is, c.new.ensures, c.copy.ensures, c.in_ok-body.ensures, c.copy-inputs.ensures, c.copy-states.ensures)
     (sym (awaited_now c.in-Some.checked _ _ _ _ _ within (rw c.as_slice-2.ensures at c.index-as_slice-place.is) found c.declared.ensures.fits c.declared.result.now c.declared.ensures.task c.args.finished.now.entries none))
 
@@ -47,9 +47,9 @@ returns-clause-job c =
 pub returns-in_err-body-clause-never_refused : goal.returns-in_err-body-clause-never_refused
 returns-in_err-body-clause-never_refused c = λ none.
     let within = rw c.as_slice.ensures at c.in-Some-place_of.ensures.within in
-    let found = rw c.as_slice.ensures at c.in-Some-place_of.ensures.found in
-    let not_yet : has_result c.args.finished.now.entries (job_of c.self.inside.tenancy.place (active_of c.in-Some.checked c.index-as_slice-place.result)) ≡ false =
-    ap is_some (sym c.result_of.ensures) ∙ (is_some-option_map _ c.result_of.result ∙ sym c.if-is_some.ensures) in
+    let found = rw (c.as_slice.ensures, c.own-tenant.ensures.place) at c.in-Some-place_of.ensures.found in
+    let not_yet : has_result c.args.finished.now.entries (job_of c.self.inside.grants.owner.place (active_of c.in-Some.checked c.index-as_slice-place.result)) ≡ false =
+    ap (λ t. has_result c.args.finished.now.entries (job_of t (active_of c.in-Some.checked c.index-as_slice-place.result))) (sym c.own-tenant.ensures.place) ∙ ap is_some (sym c.result_of.ensures) ∙ (is_some-option_map _ c.result_of.result ∙ sym c.if-is_some.ensures) in
     let some = awaited_now c.in-Some.checked _ _ _ _ _ within (rw c.as_slice-2.ensures at c.index-as_slice-place.is) found c.declared.ensures.fits c.declared.result.now c.declared.ensures.task c.args.finished.now.entries not_yet in
     let none_there = rw (← c.self.view_is, c.in-Some.is) at none in
     let bad = sym some ∙ none_there in

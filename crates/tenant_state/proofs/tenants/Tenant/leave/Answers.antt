@@ -16,9 +16,9 @@ loop-active-preserved c =
     let i = c.loop-active.active-index in
     let a = c.active-item.result in
     let lt : i < length (map (active_of p) items) = omega (arith, length-map items (active_of p), c.loop-active-test.true) in
-    let name : c.job_id.result ≡ job_of c.args.self.now.tenancy.place (active_of p a) = c.job_id.ensures ∙ ap (λ (s : Standing). job_of s.tenancy.place (active_of p a)) c.self.view_is in
+    let name : c.job_id.result ≡ job_of c.args.self.now.tenancy.owner.place (active_of p a) = c.job_id.ensures ∙ ap (λ t. job_of t (active_of p a)) c.own.ensures.place ∙ ap (λ (s : Standing). job_of s.tenancy.owner.place (active_of p a)) c.self.view_is in
     record {
-      entries = λ j. put_more c.args.self.now.tenancy.place (map (active_of p) items) i (active_of p a) lt (stands_there p items i a c.active-item.is) _ _ _ j (c.remove.ensures.entries j ∙ ap (λ n. cond (same_job n j) None (entry_in c.loop-active.finished.entries j)) name) ∙ c.loop-active.invariant.entries j;
+      entries = λ j. put_more c.args.self.now.tenancy.owner.place (map (active_of p) items) i (active_of p a) lt (stands_there p items i a c.active-item.is) _ _ _ j (c.remove.ensures.entries j ∙ ap (λ n. cond (same_job n j) None (entry_in c.loop-active.finished.entries j)) name) ∙ c.loop-active.invariant.entries j;
       room = omega (arith, c.remove.ensures.room, c.loop-active.invariant.room);
       none = λ first. absurd (omega (arith, first));
     }

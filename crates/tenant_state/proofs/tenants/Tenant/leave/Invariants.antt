@@ -8,7 +8,7 @@ use Rattle.tenant_state.proofs.tenants.Tenant.leave.Given as goal
 abbrev pub invariant-loop-active : goal.invariant-loop-active
 invariant-loop-active l =
     let tasks = map (active_of l.checked) l.active-items in
-    let t = l.fn.self.tenancy.place in
+    let t = l.fn.self.tenancy.owner.place in
     record {
       entries : (j : JobId) → cond (has_job t (drop l.active-index tasks) j) None (entry_in l.finished.entries j) ≡ cond (has_job t tasks j) None (entry_in l.initial.finished.entries j);
       room : l.initial.finished.room ≤ l.finished.room;

@@ -6,5 +6,5 @@ use Rattle.tenant_state.proofs.tenants.Tenant.outstanding.Given as goal
 abbrev pub invariant-loop-active : goal.invariant-loop-active
 invariant-loop-active l = record {
   few : l.number ≤ l.active-index;
-  number : l.number ≡ length (left_of l.self-inside.tenancy.place l.finished.entries (map (active_of l.checked) (take l.active-index l.active-items)));
+  number : l.number ≡ length (left_of l.self-inside.grants.owner.place l.finished.entries (map (active_of l.checked) (take l.active-index l.active-items)));
 }

@@ -3,7 +3,6 @@ use Rattle.std.specs.Arc.{arc_value}
 use Rattle.std.specs.List.{find, flat_map, AllByRecursion}
 use Rattle.std.specs.Option.{option_map}
 use Rattle.std.proofs.lemmas.Bool.{false≢true}
-use Rattle.giotto_text.specs.Program.{GiottoProgram}
 use Rattle.giotto_check.specs.Slots.{valuation_of}
 use Rattle.giotto_check.specs.declared.timetables.SlotInvocation.{SlotInvocation}
 use Rattle.giotto_tasks.proofs.ListLemmas.{all_filter, filter_shorter, found_has, whole_slice}
@@ -30,11 +29,13 @@ returns-then-time-self-clause-half c = record {
   step = λ row st.
       let s = c.self.inside in
       let run = as_running c.self.view_is c.self.invariant c.in-Running.is c.in-Some.is in
-      run.row ∙ quiet_stands c.in-Some.checked c.program-program.ensures.fits run.its s.mode s.mode_time s.active.items s.values.items s.next_tick run.there
-      (λ a. has_result c.args.finished.now.entries (job_of c.args.self.now.tenancy.place a)) row (sym run.row ∙ st) (run.fits.quiet run.its run.there s.mode_time (omega arith) c.if-time-self.true);
+      run.row ∙ quiet_stands s.grants c.in-Some.checked c.program-program.ensures.fits run.its s.mode s.mode_time s.active.items s.values.items s.next_tick run.there
+      (λ a. has_result c.args.finished.now.entries (job_of c.args.self.now.tenancy.owner.place a)) row (sym run.row ∙ st) (run.fits.quiet run.its run.there s.mode_time (omega arith) c.if-time-self.true);
   next_tick = search rules;
   tenancy = search rules;
   program = search rules;
+  offers = search rules;
+  binds = search rules;
   ended = none_ended c.args.self.now c.requires.rest;
 }
 
@@ -45,12 +46,12 @@ first_unfinished-unfinished-requires-clause-positive c =
 pub first_unfinished-unfinished-requires-clause-entered : goal.first_unfinished-unfinished-requires-clause-entered
 first_unfinished-unfinished-requires-clause-entered c =
     let entered = rw (← c.self.view_is, c.in-Some.is) at c.requires.entries in
-    rw c.as_slice-active.ensures (all_unmapped _ (active_of c.in-Some.checked) c.self.inside.active.items entered)
+    rw (c.as_slice-active.ensures, c.own-tenant.ensures.place) (all_unmapped _ (active_of c.in-Some.checked) c.self.inside.active.items entered)
 
 pub end_due-requires-clause-right : goal.end_due-requires-clause-right
 end_due-requires-clause-right c =
     let right = rw (← c.self.view_is, c.in-Some.is) at c.requires.results in
-    rw c.as_slice-active.ensures (all_unmapped _ (active_of c.in-Some.checked) c.self.inside.active.items (right c.in-Some.checked refl))
+    rw (c.as_slice-active.ensures, c.own-tenant.ensures.place) (all_unmapped _ (active_of c.in-Some.checked) c.self.inside.active.items (right c.in-Some.checked refl))
 
 pub drop_due-requires : goal.drop_due-requires
 drop_due-requires c = record {
@@ -76,33 +77,34 @@ end_due-requires-clause-active c =
     let run = as_running c.self.view_is c.self.invariant c.in-Running.is c.in-Some.is in
     subst (AllByRecursion (IsActiveOf c.in-Some.checked)) (sym c.as_slice-active.ensures) run.declared
 
-pub name_of-name-requires : goal.name_of-name-requires
-name_of-name-requires c =
+pub task_name-name-requires : goal.task_name-name-requires
+task_name-name-requires c =
     let p = c.in-Some.checked in
     let run = as_running c.self.view_is c.self.invariant c.in-Running.is c.in-Some.is in
-    let some = map_some (λ (i : SlotInvocation). i.task) _ c.in-Some-unfinished.task c.in-Some-unfinished.ensures in
+    let some = map_some (λ (i : SlotInvocation). i.task) _ c.in-Some-unfinished.task (rw c.own-tenant.ensures.place at c.in-Some-unfinished.ensures) in
     let there = tasks_within p run.its run.its.invocations _ (c.invocations-invocations.ensures.there run.its run.there) in
     let within = found_has (λ (e : SlotInvocation). e.task < length p.tasks) _ _ some.0 there some.1 in
-    subst (λ (q : GiottoProgram). c.in-Some-unfinished.task < length q.tasks) (sym c.program.ensures.tree) (subst (λ k. k < length p.tasks) some.2 within)
+    subst (λ k. k < length p.tasks) some.2 within
 
 pub returns-in-Some-unfinished-clause-half : goal.returns-in-Some-unfinished-clause-half
 returns-in-Some-unfinished-clause-half c = record {
   step = λ row st.
       let s = c.self.inside in
       let p = c.in-Some.checked in
-      let completed = λ (a : ActiveTask). has_result c.args.finished.now.entries (job_of s.tenancy.place a) in
+      let completed = λ (a : ActiveTask). has_result c.args.finished.now.entries (job_of s.grants.owner.place a) in
       let run = as_running c.self.view_is c.self.invariant c.in-Running.is c.in-Some.is in
-      let some = map_some (λ (i : SlotInvocation). i.task) _ c.in-Some-unfinished.task c.in-Some-unfinished.ensures in
+      let some = map_some (λ (i : SlotInvocation). i.task) _ c.in-Some-unfinished.task (rw c.own-tenant.ensures.place at c.in-Some-unfinished.ensures) in
       let first = subst (λ acts. find (is_left_open s.mode_time (λ a. completed (active_of p a)) acts) c.invocations-invocations.result.now ≡ Some some.0) c.as_slice-active.ensures some.1 in
-      let name : c.name_of-name.result ≡ name_of_task p some.0.task =
-      c.name_of-name.ensures ∙ ap (λ (q : GiottoProgram). name_of_task q c.in-Some-unfinished.task) c.program.ensures.tree ∙ ap (name_of_task p) (sym some.2) in
+      let name : c.task_name-name.result ≡ name_of_task p some.0.task = c.task_name-name.ensures ∙ ap (name_of_task p) (sym some.2) in
       c.stop_with.ensures.step row st ∙ ap without_records (sym
-      (halted p c.program-program.ensures.fits run.its s.mode s.mode_time s.active.items s.values.items s.next_tick run.there completed row (sym run.row ∙ st)
-      c.invocations-invocations.result.now (c.invocations-invocations.ensures.there run.its run.there) run.declared some.0 first c.name_of-name.result name))
-      ∙ ap (λ (t : Standing). without_records (first_half_by c.args.finished.now.entries t.tenancy.place row)) c.self.view_is;
+      (halted s.grants p c.program-program.ensures.fits run.its s.mode s.mode_time s.active.items s.values.items s.next_tick run.there completed row (sym run.row ∙ st)
+      c.invocations-invocations.result.now (c.invocations-invocations.ensures.there run.its run.there) run.declared some.0 first c.task_name-name.result name))
+      ∙ ap (λ (t : Standing). without_records (first_half_by c.args.finished.now.entries t.tenancy.owner.place row)) c.self.view_is;
   next_tick = search rules;
   tenancy = search rules;
   program = search rules;
+  offers = search rules;
+  binds = search rules;
   ended = λ j. rw (c.stop_with.ensures.tenancy, c.stop_with.ensures.ended, c.stop_with.ensures.active) (sym (and_true _));
 }
 
@@ -142,27 +144,29 @@ returns-clause-half c = record {
   step = λ row st.
       let s = c.self.inside in
       let p = c.in-Some.checked in
-      let completed = λ (a : ActiveTask). has_result c.args.finished.now.entries (job_of s.tenancy.place a) in
+      let completed = λ (a : ActiveTask). has_result c.args.finished.now.entries (job_of s.grants.owner.place a) in
       let run = as_running c.self.view_is c.self.invariant c.in-Running.is c.in-Some.is in
       let es = c.invocations-invocations.result.now in
-      let none = subst (λ acts. find (is_left_open s.mode_time (λ a. completed (active_of p a)) acts) es ≡ None) c.as_slice-active.ensures (map_none (λ (i : SlotInvocation). i.task) _ c.in_default-unfinished.ensures) in
+      let none = subst (λ acts. find (is_left_open s.mode_time (λ a. completed (active_of p a)) acts) es ≡ None) c.as_slice-active.ensures (map_none (λ (i : SlotInvocation). i.task) _ (rw c.own-tenant.ensures.place at c.in_default-unfinished.ensures)) in
       let written = whole_slice s.values.len c.update_due.new.values s.values.items (omega (arith, c.as_mut_slice-values.ensures.len, c.end_due.auto.values, c.update_due.auto.values)) in
       let each = c.invocations-invocations.ensures.there run.its run.there in
       let ended : valuation_of p c.end_due.new.values ≡ all_ended p (flat_map (group run.its s.mode_time (map (active_of p) s.active.items)) run.its.invocations) (valuation_of p s.values.items) =
       c.end_due.ensures run.its each ∙ (λ k. all_ended p (flat_map (group run.its s.mode_time (map (active_of p) (c.as_slice-active.ensures k))) run.its.invocations) (valuation_of p (c.as_mut_slice-values.ensures.value k))) in
-      (λ k. row_of (c.in-Running.is k) (c.in-Some.is k) s.mode s.mode_time (c.drop_due.ensures.items k) (written k) s.next_tick)
-      ∙ finished p c.program-program.ensures.fits run.its s.mode s.mode_time s.active.items s.values.items s.next_tick run.there completed row (sym run.row ∙ st)
+      (λ k. row_of s.grants (c.in-Running.is k) (c.in-Some.is k) s.mode s.mode_time (c.drop_due.ensures.items k) (written k) s.next_tick)
+      ∙ finished s.grants p c.program-program.ensures.fits run.its s.mode s.mode_time s.active.items s.values.items s.next_tick run.there completed row (sym run.row ∙ st)
       es each run.declared none c.end_due.new.values c.update_due.new.values ended (c.update_due.ensures.there run.its run.there)
-      ∙ ap (λ (t : Standing). without_records (first_half_by c.args.finished.now.entries t.tenancy.place row)) c.self.view_is;
+      ∙ ap (λ (t : Standing). without_records (first_half_by c.args.finished.now.entries t.tenancy.owner.place row)) c.self.view_is;
   next_tick = search rules;
   tenancy = search rules;
   program = search rules;
+  offers = search rules;
+  binds = search rules;
   ended = λ j.
       let s = c.self.inside in
       let p = c.in-Some.checked in
       let run = as_running c.self.view_is c.self.invariant c.in-Running.is c.in-Some.is in
       rw (← c.self.view_is, c.in-Some.is)
-      (told_ended p c.program-program.ensures.fits run.its s.mode_time run.its.invocations _ (c.invocations-invocations.ensures.there run.its run.there) s.active.items run.declared s.tenancy.place j _ _ c.drop_due.ensures.items c.drop_due.ensures.ended);
+      (told_ended p c.program-program.ensures.fits run.its s.mode_time run.its.invocations _ (c.invocations-invocations.ensures.there run.its run.there) s.active.items run.declared s.grants.owner.place j _ _ c.drop_due.ensures.items c.drop_due.ensures.ended);
 }
 
 pub returns-clause-room : goal.returns-clause-room

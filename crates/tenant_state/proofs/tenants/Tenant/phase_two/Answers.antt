@@ -1,16 +1,17 @@
-use Rattle.std.proofs.Common.{rules, ◌≡◌, ◌++◌, ap, sym, ◌∙◌, arith}
+use Rattle.std.proofs.Common.{rules, ◌++◌, ap, sym, ◌∙◌, arith}
 use Rattle.std.specs.Prelude.{is_some}
 use Rattle.std.specs.Arc.{arc_value}
 use Rattle.std.specs.List.{list_all}
 use Rattle.tenant_state.specs.Jobs.{released_at}
 use Rattle.tenant_state.specs.Standing.{Standing}
+use Rattle.tenant_state.specs.Tenancy.{Tenancy}
 use Rattle.tenant_state.proofs.Shares.{shared_map}
 use Rattle.tenant_state.proofs.TenantBehind.{are_new}
 use Rattle.tenant_state.proofs.tenants.Tenant.phase_two.Goals as goal
 
 pub add_jobs-requires : goal.add_jobs-requires
 add_jobs-requires c =
-    let new = are_new c.in-Some.checked c.self-2.inside.tenancy.place c.args.self.now c.phase_two_without_jobs.new.self c.self.inside.state c.self-2.inside.state c.self.invariant c.self.view_is c.self-2.invariant c.self-2.view_is
+    let new = are_new c.in-Some.checked c.own.result c.args.self.now c.phase_two_without_jobs.new.self c.self.inside.state c.self-2.inside.state c.self.invariant c.self.view_is c.self-2.invariant c.self-2.view_is
     c.in-Some.is c.phase_two_without_jobs.ensures.released c.len-before.result c.as_slice.result.now c.len-before.ensures c.as_slice.ensures in
     record {
       each = new.declared;
@@ -23,12 +24,12 @@ add_jobs-requires c =
 
 pub returns : goal.returns
 returns c =
-    let new = are_new c.in-Some.checked c.self-2.inside.tenancy.place c.args.self.now c.phase_two_without_jobs.new.self c.self.inside.state c.self-2.inside.state c.self.invariant c.self.view_is c.self-2.invariant c.self-2.view_is
+    let new = are_new c.in-Some.checked c.own.result c.args.self.now c.phase_two_without_jobs.new.self c.self.inside.state c.self-2.inside.state c.self.invariant c.self.view_is c.self-2.invariant c.self-2.view_is
     c.in-Some.is c.phase_two_without_jobs.ensures.released c.len-before.result c.as_slice.result.now c.len-before.ensures c.as_slice.ensures in
-    let tenancy : c.self-2.inside.tenancy ≡ c.args.self.now.tenancy = ap (λ (s : Standing). s.tenancy) c.self-2.view_is ∙ c.phase_two_without_jobs.ensures.half.tenancy in
+    let tenancy = ap (λ (s : Standing). s.tenancy) c.self-2.view_is ∙ c.phase_two_without_jobs.ensures.half.tenancy in
     record {
-      half = record { step = search rules; next_tick = search rules; tenancy = tenancy; program = search rules; ended = search rules };
+      half = record { step = search rules; next_tick = search rules; tenancy = tenancy; program = search rules; offers = search rules; binds = search rules; ended = search rules };
       released = search rules;
-      jobs = c.add_jobs.ensures.jobs ∙ ap (λ js. c.args.jobs.now.jobs ++ js) (sym new.jobs ∙ (λ k. released_at (tenancy k).place c.args.self.now.row.next_tick (sym c.self-2.view_is k).row));
+      jobs = c.add_jobs.ensures.jobs ∙ ap (λ js. c.args.jobs.now.jobs ++ js) (sym new.jobs ∙ (λ k. released_at ((c.own.ensures.place ∙ ap (λ (y : Tenancy). y.owner.place) tenancy) k) c.args.self.now.row.next_tick (sym c.self-2.view_is k).row));
       room = omega (arith, new.few, c.add_jobs.ensures.room);
     }

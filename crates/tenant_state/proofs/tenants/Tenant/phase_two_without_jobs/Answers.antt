@@ -10,6 +10,8 @@ use Rattle.giotto_text.specs.declared.programs.Mode.{Mode}
 use Rattle.giotto_text.specs.Program.{ModeDeclaration, GiottoProgram}
 use Rattle.giotto_text.specs.ProgramTrees.{mode_of}
 use Rattle.giotto_check.specs.Slots.{valuation_of}
+use Rattle.giotto_tasks.specs.Names.{Valuation}
+use Rattle.tenant_exchange.specs.Granted.{granted_along}
 use Rattle.tenant_slots.specs.Readings.{Readings, readings_within}
 use Rattle.tenant_slots.proofs.Numbered.{mode_fits_at}
 use Rattle.tenant_state.specs.Tenants.{active_of}
@@ -28,33 +30,36 @@ switch-requires c =
     let is = rw c.in-Some.is at c.self.invariant in
     record {
       quiet = is.fits.quiet;
-      values = omega (arith, c.sense.auto.values, ap length c.as_mut_slice-values.ensures.value, is.fits.long);
+      values = omega (arith, c.read_sensors.auto.values, ap length c.as_mut_slice-values.ensures.value, is.fits.long);
       active = subst (λ xs. AllByRecursion (IsActiveOf p) xs) (sym c.as_slice-active.ensures) (all_map (IsActiveIn p c.self.inside.next_tick) (IsActiveOf p) c.self.inside.active.items (λ a is. is.declared) is.fits.each);
     }
 
 module _ (c : After-modes) where
   abbrev readings : Readings
-  readings = readings_within c.self.inside.tenancy.budgets.reads c.args.frame.now
+  readings = readings_within c.self.inside.budgets.reads c.args.frame.now
+
+  abbrev granted : Valuation
+  granted = granted_along c.self.inside.grants.binds c.args.granted.now
 
   -- the mode before the switch
   its : (m : ModeDeclaration) × (slice_get c.in-Some.checked.modes c.self.inside.mode ≡ Some m)
   its = let is = rw c.in-Some.is at c.self.invariant in its_mode c.in-Some.checked c.self.inside.mode is.fits.mode_there
 
   behind : IsBehindSwitch c.in-Some.checked its.0 c.self.inside.mode c.self.inside.mode_time (map (active_of c.in-Some.checked) c.self.inside.active.items)
-      (sensed_ports c.in-Some.checked c.self.inside.values.items readings) c.match-switch.mode c.match-switch.time c.match-switch.next c.switch.new.values
+      (sensed_ports c.in-Some.checked c.self.inside.values.items readings granted) c.match-switch.mode c.match-switch.time c.match-switch.next c.switch.new.values
   behind =
       let p = c.in-Some.checked in
       let s = c.self.inside in
       let is = rw c.in-Some.is at c.self.invariant in
-      let sensed = c.sense.ensures ∙ ap (λ zs. sensed_ports p zs readings) c.as_mut_slice-values.ensures.value in
-      let active = subst (λ xs. IsSwitched p its.0 s.mode_time (map (active_of p) xs) (valuation_of p c.sense.new.values) c.switch.result c.switch.new.values) c.as_slice-active.ensures (c.switch.ensures its.0 its.1) in
+      let sensed = c.read_sensors.ensures ∙ ap (λ zs. sensed_ports p zs readings granted) c.as_mut_slice-values.ensures.value in
+      let active = subst (λ xs. IsSwitched p its.0 s.mode_time (map (active_of p) xs) (valuation_of p c.read_sensors.new.values) c.switch.result c.switch.new.values) c.as_slice-active.ensures (c.switch.ensures its.0 its.1) in
       let switched = subst (λ ports. IsSwitched p its.0 s.mode_time (map (active_of p) s.active.items) ports c.switch.result c.switch.new.values) sensed active in
       elim c.match-switch.branch [
         | in-Some-switch w ↦
-            let taken = subst (λ o. IsSwitched p its.0 s.mode_time (map (active_of p) s.active.items) (sensed_ports p s.values.items readings) o c.switch.new.values) w.in-Some-switch.is switched in
+            let taken = subst (λ o. IsSwitched p its.0 s.mode_time (map (active_of p) s.active.items) (sensed_ports p s.values.items readings granted) o c.switch.new.values) w.in-Some-switch.is switched in
             one_taken p c.program.ensures.fits its.0 s.mode s.mode_time s.next_due _ _ _ w.in-Some-switch.entry _ _ _ w.mode-is w.time-is w.next-is taken
         | in_default-switch w ↦
-            let none = subst (λ o. IsSwitched p its.0 s.mode_time (map (active_of p) s.active.items) (sensed_ports p s.values.items readings) o c.switch.new.values) w.in_default-switch.is switched in
+            let none = subst (λ o. IsSwitched p its.0 s.mode_time (map (active_of p) s.active.items) (sensed_ports p s.values.items readings granted) o c.switch.new.values) w.in_default-switch.is switched in
             none_taken p c.program.ensures.fits its.0 s.mode s.mode_time s.next_due _ _ _ _ _ _ w.mode-is w.time-is w.next-is its.1 is.fits.quiet is.short_time none
       ]
 
@@ -68,8 +73,8 @@ invoke_due-requires c =
     let new = behind read in
     record {
       quiet = new.quiet;
-      values = omega (arith, c.switch.auto.values, c.sense.auto.values, ap length c.as_mut_slice-values.ensures.value, is.fits.long);
-      room = room_due s.tenancy p c.program.ensures.fits (its read).0 s.mode s.mode_time 0 s.active.room s.active.items s.active.ended s.values.items [] (its read).1 c.match-switch.mode c.match-switch.time c.match-switch.next (readings read) c.switch.new.values new room;
+      values = omega (arith, c.switch.auto.values, c.read_sensors.auto.values, ap length c.as_mut_slice-values.ensures.value, is.fits.long);
+      room = room_due s.budgets s.grants p c.program.ensures.fits (its read).0 s.mode s.mode_time 0 s.active.room s.active.items s.active.ended s.values.items [] (its read).1 c.match-switch.mode c.match-switch.time c.match-switch.next (readings read) (granted read) c.switch.new.values new room;
       each = active_later p s.next_tick s.active.items is.fits.each;
       rest = none_stand p s.active.ended (rw (← c.self.view_is, c.in-Some.is) at c.requires.rest);
     }
@@ -116,7 +121,7 @@ module _ (c : goal.After-self-6-1) where
   happened =
       let whole : vec_items (with_items c.self.inside.values c.invoke_due.new.values) ≡ c.invoke_due.new.values =
       whole_slice c.self.inside.values.len c.invoke_due.new.values c.self.inside.values.items
-      (omega (arith, c.invoke_due.auto.values, c.switch.auto.values, c.sense.auto.values, ap length c.as_mut_slice-values.ensures.value, c.self.inside.values.ok.0)) in
+      (omega (arith, c.invoke_due.auto.values, c.switch.auto.values, c.read_sensors.auto.values, ap length c.as_mut_slice-values.ensures.value, c.self.inside.values.ok.0)) in
       rw whole (c.invoke_due.ensures.invoked (behind read).new (behind read).there)
 
 pub invariant_of-self-2 : goal.invariant_of-self-2
@@ -134,11 +139,13 @@ returns-clause-half c = record {
       let p = c.in-Some.checked in
       let new = behind (read c) in
       rw (← c.self.view_is, c.in-Running.is, c.in-Some.is)
-      (half_stands s.tenancy p c.program.ensures.fits (its (read c)).0 s.mode s.mode_time s.next_tick s.active.room s.active.items s.active.ended s.values.items (map (option_map arc_value) s.shares.items) (its (read c)).1
-      c.match-switch.mode c.match-switch.time c.match-switch.next (readings (read c)) c.switch.new.values new _ c.invoke_due.new.active.room (lasts (read c) c.index-modes-mode.result) _ _ (happened c));
+      (half_stands s.budgets s.grants p c.program.ensures.fits (its (read c)).0 s.mode s.mode_time s.next_tick s.active.room s.active.items s.active.ended s.values.items (map (option_map arc_value) s.shares.items) (its (read c)).1
+      c.match-switch.mode c.match-switch.time c.match-switch.next (readings (read c)) (granted (read c)) c.switch.new.values new _ c.invoke_due.new.active.room (lasts (read c) c.index-modes-mode.result) _ _ (happened c));
   next_tick = search rules;
   tenancy = search rules;
   program = search rules;
+  offers = search rules;
+  binds = search rules;
   ended = search rules;
 }
 
@@ -148,5 +155,5 @@ returns-clause-released c =
     let p = c.in-Some.checked in
     let new = behind (read c) in
     rw (← c.self.view_is, c.in-Running.is, c.in-Some.is)
-    (half_released s.tenancy p c.program.ensures.fits (its (read c)).0 s.mode s.mode_time s.next_tick 0 s.active.items s.active.ended s.values.items [] (its (read c)).1
-    c.match-switch.mode c.match-switch.time c.match-switch.next (readings (read c)) c.switch.new.values new _ 0 (lasts (read c) c.index-modes-mode.result) _ _ (happened c))
+    (half_released s.budgets s.grants p c.program.ensures.fits (its (read c)).0 s.mode s.mode_time s.next_tick 0 s.active.items s.active.ended s.values.items [] (its (read c)).1
+    c.match-switch.mode c.match-switch.time c.match-switch.next (readings (read c)) (granted (read c)) c.switch.new.values new _ 0 (lasts (read c) c.index-modes-mode.result) _ _ (happened c))

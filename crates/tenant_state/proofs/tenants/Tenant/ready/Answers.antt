@@ -9,7 +9,7 @@ use Rattle.tenant_state.proofs.tenants.Tenant.ready.Goals as goal
 
 pub returns-then-self-clause-most : goal.returns-then-self-clause-most
 returns-then-self-clause-most c =
-    none_due _ _ _ _ _ _ _ _ _ _ 0 _ c.self.invariant c.in-Running.is c.in-Some.is c.program-program.ensures.fits c.if-self.true ∙ ap (λ (s : Standing). most_released s.row) c.self.view_is
+    none_due c.self.inside.grants _ _ _ _ _ _ _ _ _ _ 0 _ c.self.invariant c.in-Running.is c.in-Some.is c.program-program.ensures.fits c.if-self.true ∙ ap (λ (s : Standing). most_released s.row) c.self.view_is
 
 pub returns-then-self-clause-room : goal.returns-then-self-clause-room
 returns-then-self-clause-room c = omega (arith, returns-then-self-clause-most c)
@@ -19,7 +19,7 @@ returns-then-self-clause-shares c some = absurd (omega (arith, returns-then-self
 
 pub returns-then-most-eq0-clause-most : goal.returns-then-most-eq0-clause-most
 returns-then-most-eq0-clause-most c =
-    sym c.if-most-eq0.true ∙ most_due _ _ _ _ _ _ _ _ _ _ 0 _ c.self.invariant c.in-Running.is c.in-Some.is c.program-program.ensures.fits c.most_at-most.result c.most_at-most.ensures
+    sym c.if-most-eq0.true ∙ most_due c.self.inside.grants _ _ _ _ _ _ _ _ _ _ 0 _ c.self.invariant c.in-Running.is c.in-Some.is c.program-program.ensures.fits c.most_at-most.result c.most_at-most.ensures
     ∙ ap (λ (s : Standing). most_released s.row) c.self.view_is
 
 pub returns-then-most-eq0-clause-room : goal.returns-then-most-eq0-clause-room
@@ -30,25 +30,25 @@ returns-then-most-eq0-clause-shares c some = absurd (omega (arith, returns-then-
 
 pub returns-in_err-reserve-clause-never_refused : goal.returns-in_err-reserve-clause-never_refused
 returns-in_err-reserve-clause-never_refused c none =
-    let most = most_due _ _ _ _ _ _ _ _ _ _ 0 _ c.self.invariant c.in-Running.is c.in-Some.is c.program-program.ensures.fits c.most_at-most.result c.most_at-most.ensures
+    let most = most_due c.self.inside.grants _ _ _ _ _ _ _ _ _ _ 0 _ c.self.invariant c.in-Running.is c.in-Some.is c.program-program.ensures.fits c.most_at-most.result c.most_at-most.ensures
     ∙ ap (λ (s : Standing). most_released s.row) c.self.view_is in
     absurd (c.if-most-eq0.false (most ∙ none))
 
 pub returns-in_err-share_bodies-clause-never_refused : goal.returns-in_err-share_bodies-clause-never_refused
 returns-in_err-share_bodies-clause-never_refused c none =
-    let most = most_due _ _ _ _ _ _ _ _ _ _ 0 _ c.self.invariant c.in-Running.is c.in-Some.is c.program-program.ensures.fits c.most_at-most.result c.most_at-most.ensures
+    let most = most_due c.self.inside.grants _ _ _ _ _ _ _ _ _ _ 0 _ c.self.invariant c.in-Running.is c.in-Some.is c.program-program.ensures.fits c.most_at-most.result c.most_at-most.ensures
     ∙ ap (λ (s : Standing). most_released s.row) c.self.view_is in
     absurd (c.if-most-eq0.false (most ∙ none))
 
 pub returns-clause-most : goal.returns-clause-most
 returns-clause-most c =
-    most_due _ _ _ _ _ _ _ _ _ _ 0 _ c.self.invariant c.in-Running.is c.in-Some.is c.program-program.ensures.fits c.most_at-most.result c.most_at-most.ensures
+    most_due c.self.inside.grants _ _ _ _ _ _ _ _ _ _ 0 _ c.self.invariant c.in-Running.is c.in-Some.is c.program-program.ensures.fits c.most_at-most.result c.most_at-most.ensures
     ∙ ap (λ (s : Standing). most_released s.row) c.self.view_is
 
 pub returns-clause-room : goal.returns-clause-room
 returns-clause-room c = omega (
   arith,
-  most_due _ _ _ _ _ _ _ _ _ _ 0 _ c.self.invariant c.in-Running.is c.in-Some.is c.program-program.ensures.fits c.most_at-most.result c.most_at-most.ensures,
+  most_due c.self.inside.grants _ _ _ _ _ _ _ _ _ _ 0 _ c.self.invariant c.in-Running.is c.in-Some.is c.program-program.ensures.fits c.most_at-most.result c.most_at-most.ensures,
   c.in_ok-reserve.ensures.room,
 )
 

@@ -15,7 +15,7 @@ use Rattle.tenant_state.proofs.TenantCommands.{stands_at_beginning}
 use Rattle.tenant_state.proofs.tenants.Tenant.start.Goals as goal
 
 pub returns-clause-started : goal.returns-clause-started
-returns-clause-started c = λ budgets row stands.
+returns-clause-started c = λ tenancy row stands.
     let s = c.self.inside in
     let p = c.in-Some.program in
     let start = c.start_place-self-inside.result in
@@ -30,6 +30,6 @@ returns-clause-started c = λ budgets row stands.
     let steps = ap (λ b. cond b (refused row Refusal.Running) (start_program row row.program)) rests ∙ ap (start_program row) has in
     rw steps (record {
       same_reply = refl;
-      stands = (λ k. row_of Running (c.in-Some.is k) start 0 (none k) (written k) s.next_tick)
-          ∙ stands_at_beginning s.state s.program s.mode s.mode_time s.active.items s.values.items s.next_tick row Running p start new (view ∙ stands) starts c.reset_ports.ensures;
+      stands = (λ k. row_of s.grants Running (c.in-Some.is k) start 0 (none k) (written k) s.next_tick)
+          ∙ stands_at_beginning s.grants s.state s.program s.mode s.mode_time s.active.items s.values.items s.next_tick row Running p start new (view ∙ stands) starts c.reset_ports.ensures;
     })

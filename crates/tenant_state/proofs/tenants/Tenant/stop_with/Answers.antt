@@ -17,6 +17,6 @@ returns-in-Some-clause-step c = λ row stands.
     let written : after.items ≡ c.reset_actuators.new.values = whole_slice s.values.len c.reset_actuators.new.values s.values.items (omega (arith, c.as_mut_slice.ensures.len, c.reset_actuators.auto.values)) in
     let new = c.reset_actuators.new.values in
     let reset : ports_in (Some p) new ≡ reset_in (Some p) (ports_in (Some p) s.values.items) = c.reset_actuators.ensures ∙ ap (λ vs. actuators_reset p (valuation_of p vs)) c.as_mut_slice.ensures.value in
-    (λ k. row_of (Stopped c.args.reason) s.program s.mode s.mode_time (c.end_all.ensures.items k) (written k) s.next_tick)
-    ∙ stands_stopped s.state s.program s.mode s.mode_time s.active.items s.values.items s.next_tick row c.args.reason new (ap (λ (t : Standing). t.row) c.self.view_is ∙ stands)
+    (λ k. row_of s.grants (Stopped c.args.reason) s.program s.mode s.mode_time (c.end_all.ensures.items k) (written k) s.next_tick)
+    ∙ stands_stopped s.grants s.state s.program s.mode s.mode_time s.active.items s.values.items s.next_tick row c.args.reason new (ap (λ (t : Standing). t.row) c.self.view_is ∙ stands)
     (subst (λ o. ports_in o new ≡ reset_in o (ports_in o s.values.items)) (sym c.in-Some.is) reset)

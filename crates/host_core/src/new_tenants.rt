@@ -1,0 +1,60 @@
+//! The tenants of a new host.
+
+ghost use Rattle.std.specs.Prelude.{◌≡◌, ◌<◌, IfOk, length};
+ghost use Rattle.host_core.specs.inner.HostStanding.{most_binds};
+ghost use Rattle.host_core.specs.Tenancies.{owner_at, roster_of};
+ghost use Rattle.rig_config.specs.Roster.{budgets_at};
+ghost use Rattle.tenant_grants.specs.Grants.{no_rows};
+ghost use Rattle.tenant_state.specs.Standing.{empty_standing};
+
+use arrayvec::ArrayVec;
+use giotto_tasks::names::Name;
+use rig_config::{Config, TenantId};
+use std::alloc::{AllocError, Global};
+use tenant_grants::grants::Grants;
+use tenant_state::tenants::Tenant;
+
+/// The tenant of a configuration at this place, without a program and without rows. Its first instant has this number.
+///
+/// # Errors
+/// Want of memory.
+pub(crate) fn new_tenant(
+    alloc: Global,
+    config: &Config,
+    place: TenantId,
+    first_tick: u64,
+) -> Result<Tenant, AllocError>
+    requires { place < length config.now.tenants }
+    ensures { IfOk result (λ tenant. tenant ≡ empty_standing (budgets_at config.now place) (no_rows (owner_at config.now place)) first_tick) }
+{
+    let budgets = config.tenants()[place].budgets.copy(alloc)?;
+    let grants = Grants::new(alloc, place, roster(config), budgets.offers, budgets.binds)?;
+    Ok(Tenant::new(alloc, budgets, grants, first_tick))
+}
+
+// The names of all tenants, by their places.
+fn roster(config: &Config) -> ArrayVec<Name, 16>
+    ensures { result.items ≡ roster_of config.now }
+{
+    let mut names = ArrayVec::new();
+    for tenant in config.tenants() {
+        names.push(tenant.name.copy());
+    }
+    names
+}
+
+/// A place for each bind that all tenants may have.
+///
+/// # Errors
+/// Want of memory.
+pub(crate) fn places(alloc: Global, config: &Config) -> Result<Vec<Option<i64>>, AllocError>
+    ensures { IfOk result (λ places. length places.items ≡ most_binds config.now) }
+{
+    let mut places = Vec::new(alloc);
+    for tenant in config.tenants() {
+        for _bind in 0..tenant.budgets.binds {
+            places.push(None)?;
+        }
+    }
+    Ok(places)
+}

@@ -1,0 +1,92 @@
+-- What is granted through the binds of a tenant, and how it is written place by place.
+use Rattle.std.proofs.Common.{◌≡◌, ℕ, ◌+◌, ◌<◌, ◌≤◌, ℤ, List, [], ◌∷◌, ◌++◌, length, map, take, drop, set, get_or, cond, slice_get, Option, Some, None, option_map, refl, sym, ap, ◌∙◌, arith, length-drop}
+use Rattle.std.specs.Prelude.{is_some}
+use Rattle.std.specs.Option.{option_and_then}
+use Rattle.std.proofs.lemmas.List.{drop-set-add, drop-take, take-take, get_or-map, length-map, take-set-le, take_more, take_more_set}
+use Rattle.std.proofs.lemmas.List.Quantifiers.{position-Some}
+use Rattle.std.proofs.lemmas.Option.{slice_get-get_or}
+use Rattle.giotto_tasks.specs.declared.names.Name.{Name}
+use Rattle.giotto_tasks.specs.Names.{same_name}
+use Rattle.giotto_tasks.proofs.ListLemmas.{find_is_any, some_same}
+use Rattle.instant_engine.specs.Grants.{granted_by, granted_from}
+use Rattle.instant_engine.specs.Tenants.{tenant_at}
+use Rattle.instant_engine.specs.inner.Tenants.{HaveRoster, roster_among, rows_of}
+use Rattle.tenant_grants.specs.Grants.{bind_at, granted_value, is_offer_of, name_in, offer_of, offers, place_in, with_place}
+use Rattle.tenant_grants.specs.declared.rows.Bind.{Bind}
+use Rattle.tenant_grants.specs.declared.rows.Offer.{Offer}
+use Rattle.tenant_state.specs.Readers.{actuator_value}
+use Rattle.tenant_state.specs.Standing.{Standing}
+
+-- the supplier of a bind is in the roster
+pub bound_within : (roster : List Name) (bs : List Bind) (i u : ℕ) (sensor actuator : Name) → bind_at roster bs i ≡ Some (sensor, u, actuator) → u < length roster
+bound_within roster bs i u sensor actuator = by (slice_get bs i)
+  where
+    placed : (b : Bind) (o : Option ℕ) → place_in roster b.tenant ≡ o → option_map {U = Name × ℕ × Name} (λ v. (b.sensor, v, b.actuator)) o ≡ Some (sensor, u, actuator) → u < length roster
+    placed b None at e = absurd (cc)
+    placed b (Some v) at e =
+        let same : v ≡ u = ap (λ (x : Name × ℕ × Name). x.1) (some_same (b.sensor, v, b.actuator) (sensor, u, actuator) e) in
+        omega (arith, same, (position-Some (λ n. same_name n b.tenant) roster v [] at).0)
+
+    by : (o : Option Bind) → option_and_then (with_place roster) o ≡ Some (sensor, u, actuator) → u < length roster
+    by None e = absurd (cc)
+    by (Some b) e = placed b (place_in roster b.tenant) refl e
+
+-- what is granted through a bind, by its supplier's place and actuator
+through_bind : (roster : List Name) (bs : List Bind) (i : ℕ) (from : Name → ℕ → Option ℤ)
+    → option_and_then (λ (b : Bind). option_and_then (from b.actuator) (place_in roster b.tenant)) (slice_get bs i) ≡ option_and_then (λ (x : Name × ℕ × Name). from x.2 x.1) (bind_at roster bs i)
+through_bind roster bs i from = by (slice_get bs i)
+  where
+    placed : (b : Bind) (o : Option ℕ) → option_and_then (from b.actuator) o ≡ option_and_then (λ (x : Name × ℕ × Name). from x.2 x.1) (option_map {U = Name × ℕ × Name} (λ v. (b.sensor, v, b.actuator)) o)
+    placed b None = refl
+    placed b (Some v) = refl
+
+    by : (o : Option Bind)
+        → option_and_then (λ (b : Bind). option_and_then (from b.actuator) (place_in roster b.tenant)) o ≡ option_and_then (λ (x : Name × ℕ × Name). from x.2 x.1) (option_and_then (with_place roster) o)
+    by None = refl
+    by (Some b) = placed b (place_in roster b.tenant)
+
+-- an offer grants the value as it is
+by_offer : (o : Option Offer) (v : Option ℤ) → option_and_then (λ o. option_map (granted_value o) v) o ≡ cond (is_some o) v None
+by_offer None v = refl
+by_offer (Some o) None = refl
+by_offer (Some o) (Some z) = refl
+
+-- what is granted through the bind at a place: its supplier is the tenant at place u
+pub granted_there : (tenants : List Standing) (place i u : ℕ) (sensor actuator : Name) (x s : Standing) → HaveRoster tenants → place < length tenants → x ≡ tenant_at tenants place → s ≡ tenant_at tenants u → u < length tenants
+    → bind_at x.tenancy.owner.roster x.row.binds i ≡ Some (sensor, u, actuator)
+    → option_and_then (granted_by (roster_among tenants) (rows_of tenants) (rows_of tenants) place) (slice_get (rows_of tenants place).binds i)
+    ≡ cond (offers s.row.offers actuator (name_in s.tenancy.owner.roster place)) (actuator_value s.row actuator) None
+granted_there tenants place i u sensor actuator x s shared lt own supplier below bound =
+    let roster : x.tenancy.owner.roster ≡ roster_among tenants = ap (λ (y : Standing). y.tenancy.owner.roster) own ∙ shared.same place lt in
+    let its : s.tenancy.owner.roster ≡ roster_among tenants = ap (λ (y : Standing). y.tenancy.owner.roster) supplier ∙ shared.same u below in
+    let at : bind_at (roster_among tenants) (rows_of tenants place).binds i ≡ Some (sensor, u, actuator) = (λ k. bind_at (sym roster k) (sym own k).row.binds i) ∙ bound in
+    through_bind (roster_among tenants) (rows_of tenants place).binds i (granted_from (roster_among tenants) (rows_of tenants) (rows_of tenants) place)
+    ∙ ap (option_and_then (λ (y : Name × ℕ × Name). granted_from (roster_among tenants) (rows_of tenants) (rows_of tenants) place y.2 y.1)) at
+    ∙ by_offer (offer_of (rows_of tenants u).offers actuator (name_in (roster_among tenants) place)) (actuator_value (rows_of tenants u) actuator)
+    ∙ ap (λ b. cond b (actuator_value (rows_of tenants u) actuator) None) (find_is_any (is_offer_of actuator (name_in (roster_among tenants) place)) (rows_of tenants u).offers)
+    ∙ (λ k. cond (offers (sym supplier k).row.offers actuator (name_in (sym its k) place)) (actuator_value (sym supplier k).row actuator) None)
+
+-- what stands before the places that are written
+pub written_others : (old new : List (Option ℤ)) (first n from : ℕ) → from + n ≤ first → take first new ≡ take first old → take n (drop from new) ≡ take n (drop from old)
+written_others old new first n from le same =
+    let rest : (xs : List (Option ℤ)) → take n (drop from xs) ≡ take n (drop from (take first xs)) = λ xs.
+    sym (drop-take from n xs) ∙ (ap (drop from) (sym (take-take (from + n) first xs le)) ∙ drop-take from n (take first xs)) in
+    rest new ∙ ap (λ xs. take n (drop from xs)) same ∙ sym (rest old)
+
+-- no bind
+abbrev pub no_bind : Bind
+no_bind = record { sensor = []; tenant = []; actuator = [] }
+
+-- one place more is written
+module _ (granted : List (Option ℤ)) (first i : ℕ) (v : Option ℤ) where
+  pub others_before : take first (set granted (first + i) v) ≡ take first granted
+  others_before = take-set-le first granted (first + i) v (omega arith)
+
+  pub written_more : (by : Bind → Option ℤ) (bs : List Bind) → first + length bs ≤ length granted → i < length bs → v ≡ option_and_then by (slice_get bs i)
+      → take i (drop first granted) ≡ take i (map by bs) → take (i + 1) (drop first (set granted (first + i) v)) ≡ take (i + 1) (map by bs)
+  written_more by bs room lt is so_far =
+      let value : v ≡ get_or (map by bs) i v = is ∙ ap (option_and_then by) (slice_get-get_or bs i no_bind lt) ∙ sym (get_or-map by bs i no_bind v lt) in
+      ap (take (i + 1)) (drop-set-add first granted i v)
+      ∙ take_more_set (drop first granted) i v (omega (arith, length-drop first granted))
+      ∙ (λ k. so_far k ++ value k ∷ [])
+      ∙ sym (take_more (map by bs) i v (omega (arith, length-map bs by)))

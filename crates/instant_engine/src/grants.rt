@@ -1,0 +1,54 @@
+//! The values that tenants grant each other, taken between the halves of an instant.
+
+ghost use Rattle.std.specs.Prelude.{◌≡◌, ◌<◌, ◌≤◌, ◌+◌, drop, length, map, slice_get, take};
+ghost use Rattle.std.specs.Option.{option_and_then};
+ghost use Rattle.instant_engine.specs.Grants.{granted_by};
+ghost use Rattle.instant_engine.specs.inner.Tenants.{HaveRoster, binds_of, roster_among, rows_of};
+ghost use Rattle.instant_engine.specs.inner.Halves.{AreGranted};
+
+use rig_config::TenantId;
+use tenant_state::tenants::Tenant;
+
+/// Writes what is granted through each bind, tenant by tenant, where all tenants are behind the first half of an instant: the value of
+/// the actuator that it is bound to, where the other tenant offers it to this one and its program has it. Takes no memory.
+pub fn grant(tenants: &[Tenant], granted: &mut [Option<i64>])
+    requires rosters { HaveRoster tenants.now }
+    requires places { binds_of tenants.now ≤ length granted.old }
+    ensures granted { AreGranted tenants.now granted.new }
+{
+    let mut first = 0;
+    for place in 0..tenants.len() {
+        first = grant_to(tenants, place, first, granted);
+    }
+}
+
+// Writes what is granted through each bind of the tenant at this place, from the place `first` on. The place behind them.
+fn grant_to(tenants: &[Tenant], place: TenantId, first: usize, granted: &mut [Option<i64>]) -> usize
+    requires rosters { HaveRoster tenants.now }
+    requires tenant { place < length tenants.now }
+    requires places { first + length (rows_of tenants.now place).binds ≤ length granted.old }
+    ensures behind { result ≡ first + length (rows_of tenants.now place).binds }
+    ensures before { take first granted.new ≡ take first granted.old }
+    ensures granted { take (length (rows_of tenants.now place).binds) (drop first granted.new)
+        ≡ map (granted_by (roster_among tenants.now) (rows_of tenants.now) (rows_of tenants.now) place) (rows_of tenants.now place).binds }
+{
+    let binds = tenants[place].bind_count();
+    for i in 0..binds {
+        granted[first + i] = granted_by(tenants, place, i);
+    }
+    first + binds
+}
+
+// What is granted through the bind at place `i` of those of the tenant at this place.
+fn granted_by(tenants: &[Tenant], place: TenantId, i: usize) -> Option<i64>
+    requires rosters { HaveRoster tenants.now }
+    requires tenant { place < length tenants.now }
+    ensures { result ≡ option_and_then (granted_by (roster_among tenants.now) (rows_of tenants.now) (rows_of tenants.now) place) (slice_get (rows_of tenants.now place).binds i) }
+{
+    let (_, supplier, actuator) = tenants[place].bind_at(i)?;
+    let supplier = &tenants[supplier];
+    if !supplier.offers(&actuator, place) {
+        return None;
+    }
+    supplier.actuator(actuator.as_str())
+}
