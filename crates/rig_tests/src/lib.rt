@@ -10,6 +10,8 @@ mod completions;
 #[cfg(test)]
 mod copies;
 #[cfg(test)]
+mod grants;
+#[cfg(test)]
 mod plays;
 #[cfg(test)]
 mod readers;
