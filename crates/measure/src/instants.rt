@@ -1,10 +1,12 @@
 //! Instants of a host of which some tenants run a program.
 
+use giotto_tasks::names::Name;
 use host_core::hosts::Host;
 use rig_config::{Config, read_config};
 use std::alloc::Global;
 use std::io::Read;
 use tenant_lines::commands::Command;
+use tenant_lines::grant_lines::GrantCommand;
 use tenant_lines::texts::Text;
 
 /// Which instants are run.
@@ -15,6 +17,8 @@ pub(crate) struct Work {
     pub(crate) running: usize,
     /// Whether all jobs are computed behind each instant.
     pub(crate) computes: bool,
+    /// How many sensors of each of them are bound to actuators of the one before, which offers these.
+    pub(crate) binds: usize,
 }
 
 /// Runs the program of a reader's text for so many instants. How many jobs were computed; -1 where the host has fewer tenants than
@@ -34,6 +38,7 @@ pub(crate) fn instants<R: Read + Drop>(
         }
         let _ = host.command(tenant, Command::Load(Text::from_str(alloc, text.as_str())?));
         let _ = host.command(tenant, Command::Start);
+        bind_all(alloc, &mut host, tenant, work)?;
     }
     let mut computed = 0i64;
     for _time in 0..times {
@@ -49,6 +54,53 @@ pub(crate) fn instants<R: Read + Drop>(
     Ok(computed)
 }
 
+// Binds the sensors g0, g1, .. of a tenant to the actuators a0, a1, .. of the one before, and lets that one offer these.
+fn bind_all(alloc: Global, host: &mut Host, tenant: usize, work: &Work) -> anyhow::Result<()> {
+    let before = if tenant == 0 {
+        work.tenants.saturating_sub(1)
+    } else {
+        tenant - 1
+    };
+    for k in 0..work.binds {
+        if tenant >= host.config().tenants().len() || before >= host.config().tenants().len() {
+            return Ok(());
+        }
+        if let Some(command) = offer(numbered(alloc, "a", k)?, numbered(alloc, "t", tenant)?) {
+            let _ = host.command(before, Command::Grants(command));
+        }
+        let (supplier, actuator) = (numbered(alloc, "t", before)?, numbered(alloc, "a", k)?);
+        if let Some(command) = bind(numbered(alloc, "g", k)?, supplier, actuator) {
+            let _ = host.command(tenant, Command::Grants(command));
+        }
+    }
+    Ok(())
+}
+
+fn offer(actuator: Option<Name>, tenant: Option<Name>) -> Option<GrantCommand> {
+    Some(GrantCommand::Offer {
+        actuator: actuator?,
+        tenant: tenant?,
+    })
+}
+
+fn bind(
+    sensor: Option<Name>,
+    tenant: Option<Name>,
+    actuator: Option<Name>,
+) -> Option<GrantCommand> {
+    Some(GrantCommand::Bind {
+        sensor: sensor?,
+        tenant: tenant?,
+        actuator: actuator?,
+    })
+}
+
+// A letter and a number, as a name.
+fn numbered(alloc: Global, letter: &str, number: usize) -> anyhow::Result<Option<Name>> {
+    let text = format!(in alloc; "{letter}{number}")?;
+    Ok(Name::new(text.as_str()))
+}
+
 // The other fields of each tenant: all that a budget can be.
 const FIELDS: &str = "key = \"k\"
 reads = [0]
@@ -59,8 +111,8 @@ tasks = 64
 modes = 64
 steps = 1000000
 trace = 1
-offers = 1
-binds = 1
+offers = 64
+binds = 64
 ";
 
 // So many tenants, which may read the one line.

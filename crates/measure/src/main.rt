@@ -20,7 +20,7 @@ fn main(rt: HostRuntime) -> anyhow::Result<ExitCode> {
     let words: Vec<String> = std::env::args(&rt)?.collect(rt.alloc())?;
     let [_, work, times] = words.as_slice() else {
         eprintln!(rt;
-            "usage: measure tokens|read|check|print|drive|alone|crowded|all|quiet|done TIMES < TEXT, or measure evaluate|jobs|operate|loop|play TIMES"
+            "usage: measure tokens|read|check|print|drive|alone|crowded|all|quiet|bound|unbound|done TIMES < TEXT, or measure evaluate|jobs|operate|loop|play TIMES"
         )?;
         return Ok(ExitCode::from(2));
     };
@@ -31,7 +31,7 @@ fn main(rt: HostRuntime) -> anyhow::Result<ExitCode> {
         "check" => check_many_times(rt.alloc(), rt.reader(), times)?,
         "print" => print_many_times(rt.alloc(), rt.reader(), times)?,
         "drive" => drive_many_times(rt.alloc(), rt.reader(), times)?,
-        "alone" | "crowded" | "all" | "quiet" => {
+        "alone" | "crowded" | "all" | "quiet" | "bound" | "unbound" => {
             instants::instants(rt.alloc(), rt.reader(), &work_of(work.as_str()), times)?
         }
         "done" => completions::counted(rt.alloc(), rt.reader(), times)?,
@@ -49,17 +49,19 @@ fn main(rt: HostRuntime) -> anyhow::Result<ExitCode> {
     Ok(ExitCode::SUCCESS)
 }
 
-// Which instants are run: of a tenant alone, beside 15 idle ones, of 16 tenants, or of one whose jobs nobody computes.
+// Which instants are run: of a tenant alone, beside 15 idle ones, of 16 tenants, of one whose jobs nobody computes, or of 16 such
+// with 64 binds each or with none.
 fn work_of(name: &str) -> Work {
     let (tenants, running) = match name {
         "crowded" => (16, 1),
-        "all" => (16, 16),
+        "all" | "bound" | "unbound" => (16, 16),
         _ => (1, 1),
     };
     Work {
         tenants,
         running,
-        computes: name != "quiet",
+        computes: !matches!(name, "quiet" | "bound" | "unbound"),
+        binds: if name == "bound" { 64 } else { 0 },
     }
 }
 
