@@ -1,0 +1,73 @@
+//! A trace: the last records, in a ring.
+
+ghost use Rattle.std.specs.Prelude.{◌≡◌, ◌<◌, [], length, reverse, IfOk, IsErr};
+ghost use Rattle.tenant_trace.specs.inner.Noted.{noted, pushed};
+ghost use Rattle.tenant_trace.specs.declared.records.Happening.{Happening as AnyHappening};
+
+use crate::records::{Happening, Record};
+use circular_buffer::HeapCircularBuffer;
+use giotto_tasks::lists::List;
+use std::alloc::{AllocError, Global};
+use std::marker::Model;
+
+/// The last records of a tenant. Contracts see it as how many records it keeps at most and those that it has, the newest first.
+#[derive(Drop)]
+pub struct Trace {
+    ring: HeapCircularBuffer<Record, Global>,
+}
+
+impl Model for Trace {
+    ghost use Rattle.std.specs.Prelude.{reverse, length, ◌≤◌};
+    ghost use Rattle.tenant_trace.specs.Trace.{LastRecords};
+
+    ghost Value = { LastRecords };
+
+    ghost view = { λ t. record { most = t.ring.capacity; records = reverse t.ring.items } };
+
+    ghost invariant = { λ t. length t.ring.items ≤ t.ring.capacity };
+}
+
+impl Trace {
+    /// A trace without records, which keeps at most so many.
+    ///
+    /// # Errors
+    /// Want of memory.
+    pub fn new(alloc: Global, most: usize) -> Result<Trace, AllocError>
+        ensures { IfOk result (λ trace. trace ≡ record { most = most; records = [] }) }
+    {
+        let ring = HeapCircularBuffer::with_capacity(alloc, most)?;
+        Ok(Trace { ring })
+    }
+
+    /// Adds a record. One that is full gives up its oldest for it. Takes no memory.
+    pub fn push(&mut self, latest: Record)
+        ensures { self.new ≡ pushed latest self.old }
+    {
+        let _oldest = self.ring.push_back(latest);
+    }
+
+    /// Adds the record of what happens at this tick. Takes no memory.
+    pub fn note(&mut self, tick: u64, happening: Happening)
+        ensures { self.new ≡ pushed (record { tick = tick; happening = happening }) self.old }
+    {
+        self.push(Record { tick, happening });
+    }
+
+    /// The records, the oldest first.
+    ///
+    /// # Errors
+    /// Want of memory, where there is a record.
+    pub fn list(&self, alloc: Global) -> Result<List<Record>, AllocError>
+        ensures records { IfOk result (λ records. records ≡ reverse self.now.records) }
+        ensures memory { IsErr result → 0 < length self.now.records }
+    {
+        let mut records = Vec::new(alloc);
+        for i in 0..self.ring.len() {
+            let Some(record) = self.ring.get(i) else {
+                unreachable!()
+            };
+            records.push(record.copy())?;
+        }
+        Ok(List::from_vec(records))
+    }
+}
