@@ -8,7 +8,7 @@ use Rattle.giotto_tasks.proofs.NameLemmas.{same_name_is}
 use Rattle.tenant_lines.specs.declared.commands.Command.{Command}
 use Rattle.tenant_lines.specs.declared.commands.Command.TheVariants.{ShowPort, Grants}
 use Rattle.tenant_lines.specs.declared.ports.PortName.{PortName}
-use Rattle.tenant_lines.specs.CommandLine.{alone, command_of_words, port_of_word, port_shown_by, shown_by}
+use Rattle.tenant_lines.specs.CommandLine.{alone, command_of_line, command_of_words, port_of_word, port_shown_by, shown_by}
 use Rattle.tenant_lines.specs.GrantLines.{grant_command_of_words}
 use Rattle.tenant_lines.specs.Words.{words_of, first_word_of, behind_first_word}
 use Rattle.tenant_lines.proofs.WordLemmas.{words_first, words_none}
@@ -62,7 +62,14 @@ others_shown rest no_mode no_all no_port = by_word rest (λ ws. shown_by ws ≡ 
     (λ some. rw (not_same (first_word_of rest) (codes "mode") no_mode, not_same (first_word_of rest) (codes "all") no_all, not_same (first_word_of rest) (codes "port") no_port) refl)
 
 -- what begins with another word is a command about grants, or none
-pub other_words : (line : List ℕ) → (first_word_of line ≡ codes "start" → ⊥) → (first_word_of line ≡ codes "stop" → ⊥) → (first_word_of line ≡ codes "show" → ⊥)
+pub other_words : (line : List ℕ)
+    → (first_word_of line ≡ codes "start" → ⊥) → (first_word_of line ≡ codes "stop" → ⊥) → (first_word_of line ≡ codes "show" → ⊥) → (first_word_of line ≡ codes "trace" → ⊥)
     → command_of_words (words_of line) ≡ option_map Grants (grant_command_of_words (words_of line))
-other_words line no_start no_stop no_show = by_word line (λ ws. command_of_words ws ≡ option_map Grants (grant_command_of_words ws)) (λ none. refl)
-    (λ some. rw (not_same (first_word_of line) (codes "start") no_start, not_same (first_word_of line) (codes "stop") no_stop, not_same (first_word_of line) (codes "show") no_show) refl)
+other_words line no_start no_stop no_show no_trace = by_word line (λ ws. command_of_words ws ≡ option_map Grants (grant_command_of_words ws)) (λ none. refl)
+    (λ some. rw (not_same (first_word_of line) (codes "start") no_start, not_same (first_word_of line) (codes "stop") no_stop, not_same (first_word_of line) (codes "show") no_show, not_same (first_word_of line) (codes "trace") no_trace) refl)
+
+-- what begins with neither word that a text follows is a command of words alone, or none
+pub words_alone : (line : List ℕ) → (first_word_of line ≡ codes "load" → ⊥) → (first_word_of line ≡ codes "replace" → ⊥)
+    → command_of_line line ≡ command_of_words (words_of line)
+words_alone line no_load no_replace =
+    rw (not_same (first_word_of line) (codes "load") no_load, not_same (first_word_of line) (codes "replace") no_replace) refl

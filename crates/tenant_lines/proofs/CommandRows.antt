@@ -1,6 +1,6 @@
 -- Which lines are commands, computed from the definitions.
-use Rattle.std.proofs.Common.{◌≡◌, Some, None, codes, refl}
-use Rattle.tenant_lines.specs.declared.commands.Command.TheVariants.{Stop, ShowMode, ShowPort, ShowAll}
+use Rattle.std.proofs.Common.{◌≡◌, [], Some, None, codes, refl}
+use Rattle.tenant_lines.specs.declared.commands.Command.TheVariants.{Load, Replace, Stop, ShowMode, ShowPort, ShowAll, Trace}
 use Rattle.tenant_lines.specs.CommandLine.{command_of_line}
 
 pub stop_alone : command_of_line (codes " stop\r") ≡ Some Stop
@@ -32,3 +32,31 @@ word_too_many = refl
 
 pub blank_in_port : command_of_line (codes "show port T. i") ≡ None
 blank_in_port = refl
+
+pub trace_alone : command_of_line (codes " trace\r") ≡ Some Trace
+trace_alone = refl
+
+pub word_behind_trace : command_of_line (codes "trace x") ≡ None
+word_behind_trace = refl
+
+pub load_text : command_of_line (codes " load start m;") ≡ Some (Load (codes "start m;"))
+load_text = refl
+
+pub replace_text : command_of_line (codes "replace start m;") ≡ Some (Replace (codes "start m;"))
+replace_text = refl
+
+-- the first blank stands between the word and the text, all others belong to the text
+pub blanks_of_text : command_of_line (codes " replace  start m; \r") ≡ Some (Replace (codes " start m; \r"))
+blanks_of_text = refl
+
+pub tab_before_text : command_of_line (codes "replace\tstart m;") ≡ Some (Replace (codes "start m;"))
+tab_before_text = refl
+
+pub no_text : command_of_line (codes "replace") ≡ Some (Replace [])
+no_text = refl
+
+pub blank_alone : command_of_line (codes "replace ") ≡ Some (Replace [])
+blank_alone = refl
+
+pub other_word : command_of_line (codes "replace;") ≡ None
+other_word = refl

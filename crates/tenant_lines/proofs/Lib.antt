@@ -3,6 +3,7 @@ pub mod CommandRows
 pub mod GrantLines
 pub mod GrantRows
 pub mod PortWords
+pub mod ReplyRows
 pub mod ValueLemmas
 pub mod WordLemmas
 pub mod WordRows

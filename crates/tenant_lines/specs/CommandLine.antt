@@ -5,7 +5,7 @@ use Rattle.std.specs.Option.{option_and_then, option_map}
 use Rattle.giotto_tasks.specs.Names.{same_name}
 use Rattle.giotto_text.specs.Bytes.{is_name}
 use Rattle.tenant_lines.specs.declared.commands.Command.{Command}
-use Rattle.tenant_lines.specs.declared.commands.Command.TheVariants.{Load, Start, Stop, ShowMode, ShowPort, ShowAll, Grants}
+use Rattle.tenant_lines.specs.declared.commands.Command.TheVariants.{Load, Replace, Start, Stop, ShowMode, ShowPort, ShowAll, Trace, Grants}
 use Rattle.tenant_lines.specs.declared.ports.PortName.{PortName}
 use Rattle.tenant_lines.specs.GrantLines.{grant_command_of_words}
 use Rattle.tenant_lines.specs.Words.{is_dot, words_of, first_word_of, behind_first_word}
@@ -39,17 +39,23 @@ shown_by (w ∷ ws) =
     else if same_name w (codes "port") then port_shown_by ws
     else None
 
--- "start", "stop", "show mode", "show all", "show port NAME" or "show port TASK.NAME", or else a command about grants
+-- "start", "stop", "show mode", "show all", "show port NAME", "show port TASK.NAME" or "trace", or else a command about grants
 abbrev pub command_of_words : List (List ℕ) → Option Command
 command_of_words [] = None
 command_of_words (w ∷ ws) =
     if same_name w (codes "start") then alone Start ws
     else if same_name w (codes "stop") then alone Stop ws
     else if same_name w (codes "show") then shown_by ws
+    else if same_name w (codes "trace") then alone Trace ws
     else option_map Grants (grant_command_of_words (w ∷ ws))
 
--- "load TEXT", where the text is all that follows the one blank behind the word; or the other commands by their words
+-- the text of a command: all that follows the one blank behind its first word, or nothing
+abbrev pub text_behind : List ℕ → List ℕ
+text_behind line = drop 1 (behind_first_word line)
+
+-- "load TEXT" or "replace TEXT", or else another command by its words
 abbrev pub command_of_line : List ℕ → Option Command
 command_of_line line =
-    if same_name (first_word_of line) (codes "load") then Some (Load (drop 1 (behind_first_word line)))
+    if same_name (first_word_of line) (codes "load") then Some (Load (text_behind line))
+    else if same_name (first_word_of line) (codes "replace") then Some (Replace (text_behind line))
     else command_of_words (words_of line)

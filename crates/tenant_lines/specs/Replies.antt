@@ -6,6 +6,9 @@ use Rattle.std.specs.Option.{option_map_or}
 use Rattle.giotto_text.specs.PortNames.{own_port}
 use Rattle.tenant_grants.specs.declared.rows.Row.{Row}
 use Rattle.tenant_grants.specs.declared.rows.Row.TheVariants as row
+use Rattle.tenant_trace.specs.declared.records.Happening.{Happening}
+use Rattle.tenant_trace.specs.declared.records.Happening.TheVariants as happening
+use Rattle.tenant_trace.specs.declared.records.Record.{Record}
 use Rattle.tenant_lines.specs.declared.ports.PortName.{PortName}
 use Rattle.tenant_lines.specs.declared.ports.PortValue.{PortValue}
 use Rattle.tenant_lines.specs.declared.replies.Budget.{Budget}
@@ -13,7 +16,7 @@ use Rattle.tenant_lines.specs.declared.replies.Budget.TheVariants.{Bytes, Ports,
 use Rattle.tenant_lines.specs.declared.replies.Refusal.{Refusal}
 use Rattle.tenant_lines.specs.declared.replies.Refusal.TheVariants.{BadCommand, Syntax, TooDeep, TooMany, Rule, Running, NotRunning, NotLoaded, NoPort, NoTenant, Own, Twice, NotThere, OverBudget, Memory}
 use Rattle.tenant_lines.specs.declared.replies.Reply.{Reply}
-use Rattle.tenant_lines.specs.declared.replies.Reply.TheVariants.{Loaded, Started, Stopped, Mode, Port, All, Offered, Unoffered, Bound, Unbound, Rows, Refused}
+use Rattle.tenant_lines.specs.declared.replies.Reply.TheVariants.{Loaded, Replaced, Started, Stopped, Mode, Port, All, Trace, Offered, Unoffered, Bound, Unbound, Rows, Refused}
 use Rattle.tenant_lines.specs.declared.replies.Status.{Status}
 use Rattle.tenant_lines.specs.declared.replies.Status.TheVariants as status
 
@@ -54,6 +57,20 @@ text_of_port x = option_map_or (λ t. own_port t x.name) x.task x.name
 abbrev pub text_of_value : PortValue → List ℕ
 text_of_value v = codes " " ++ (text_of_port v.port ++ (codes "=" ++ signed_decimal v.value))
 
+-- what a record tells behind its tick
+abbrev pub text_of_happening : Happening → List ℕ
+text_of_happening (happening.Start m) = codes "start:" ++ m
+text_of_happening (happening.Mode m) = codes "mode:" ++ m
+text_of_happening (happening.Act a v) = codes "act:" ++ (a ++ (codes ":" ++ signed_decimal v))
+text_of_happening (happening.Out o v) = codes "out:" ++ (o ++ (codes ":" ++ signed_decimal v))
+text_of_happening happening.Asked = codes "stop:asked"
+text_of_happening (happening.Overrun t) = codes "stop:overrun:" ++ t
+text_of_happening (happening.Replaced m) = codes "replaced:" ++ m
+
+-- " N:" and what happened, N the tick
+abbrev pub text_of_record : Record → List ℕ
+text_of_record r = codes " " ++ (decimal r.tick ++ (codes ":" ++ text_of_happening r.happening))
+
 -- " offer:ACTUATOR:TENANT" or " bind:SENSOR:TENANT:ACTUATOR"
 abbrev pub text_of_row : Row → List ℕ
 text_of_row (row.Offer o) = codes " offer:" ++ (o.actuator ++ (codes ":" ++ o.tenant))
@@ -70,11 +87,13 @@ text_of_status (status.StoppedOverrun t) = codes "stopped overrun " ++ t
 -- the text of a reply: "ok ..", or "err " and why
 abbrev pub text_of_reply : Reply → List ℕ
 text_of_reply Loaded = codes "ok load"
+text_of_reply Replaced = codes "ok replace"
 text_of_reply Started = codes "ok start"
 text_of_reply Stopped = codes "ok stop"
 text_of_reply (Mode s) = codes "ok mode " ++ text_of_status s
 text_of_reply (Port v) = codes "ok port " ++ (text_of_port v.port ++ (codes " " ++ signed_decimal v.value))
 text_of_reply (All vs) = codes "ok all" ++ flat_map text_of_value vs
+text_of_reply (Trace rs) = codes "ok trace" ++ flat_map text_of_record rs
 text_of_reply Offered = codes "ok offer"
 text_of_reply Unoffered = codes "ok unoffer"
 text_of_reply Bound = codes "ok bind"

@@ -1,9 +1,11 @@
 //! From the text of a line to a command.
 
-ghost use Rattle.std.specs.Prelude.{◌≡◌, drop, IfOk, if◌then◌else◌, Some, None};
+ghost use Rattle.std.specs.Prelude.{◌≡◌, true, IfOk, IfErr, if◌then◌else◌, Some, None};
+ghost use Rattle.std.specs.Option.{option_map};
 ghost use Rattle.giotto_text.specs.Bytes.{is_name};
-ghost use Rattle.tenant_lines.specs.CommandLine.{alone, command_of_words, command_of_line, own_port_of, port_of_word, port_shown_by, shown_by};
-ghost use Rattle.tenant_lines.specs.Words.{words_of, behind_first_word};
+ghost use Rattle.tenant_lines.specs.CommandLine.{alone, command_of_words, command_of_line, own_port_of, port_of_word, port_shown_by, shown_by, text_behind};
+ghost use Rattle.tenant_lines.specs.Words.{words_of};
+ghost use Rattle.tenant_lines.specs.inner.Copies.{has_text};
 
 use crate::commands::Command;
 use crate::grant_lines::grant_command_of;
@@ -21,35 +23,43 @@ pub enum LineFault {
     /// The line is none of the forms of a command.
     #[error("the line has none of the forms of a command")]
     BadCommand,
-    /// Want of memory for the text of a `load`.
+    /// Want of memory for the text of a `load` or a `replace`.
     #[error("no memory for the text of the command")]
     Memory,
 }
 
-/// The command of a line, without the tenant's name: `load TEXT`, `start`, `stop`, `show mode`, `show all`, `show port NAME` or
-/// `show port TASK.NAME`, or a command about grants: `offer NAME to TENANT`, `unoffer NAME to TENANT`, `bind NAME from TENANT.NAME`,
-/// `unbind NAME` or `rows`. NAME, TASK and TENANT have the shape of a program's name.
+/// The command of a line, without the tenant's name: `load TEXT`, `replace TEXT`, `start`, `stop`, `show mode`, `show all`,
+/// `show port NAME`, `show port TASK.NAME` or `trace`, or a command about grants: `offer NAME to TENANT`, `unoffer NAME to TENANT`,
+/// `bind NAME from TENANT.NAME`, `unbind NAME` or `rows`. NAME, TASK and TENANT have the shape of a program's name.
 ///
-/// The text of `load` is all that follows the one blank behind the word; it alone takes memory. Words of the others are
-/// separated by one or more blanks.
+/// The text of `load` and of `replace` is all that follows the one blank behind the word, or nothing; it alone takes memory.
+/// Words of the others are separated by one or more blanks.
 ///
 /// # Errors
-/// `BadCommand` for every other line, and `Memory` where there is want of memory for the text of a `load`.
+/// `BadCommand` for every other line, and `Memory` where there is want of memory for the text of a `load` or a `replace`.
 pub fn command_of(alloc: Global, line: &str) -> Result<Command, LineFault>
     ensures command { IfOk result (λ c. command_of_line line.now ≡ Some c) }
     ensures none { result ≡ Err LineFault.BadCommand → command_of_line line.now ≡ None }
-    ensures memory { result ≡ Err LineFault.Memory → command_of_line line.now ≡ Some (Command.Load (drop 1 (behind_first_word line.now))) }
+    ensures memory { result ≡ Err LineFault.Memory → option_map has_text (command_of_line line.now) ≡ Some true }
 {
-    if first_word(line) == "load" {
-        let text = Text::from_str(alloc, text_behind(line)).map_err(|_| LineFault::Memory)?;
-        return Ok(Command::Load(text));
+    match first_word(line) {
+        "load" => Ok(Command::Load(text_of(alloc, line)?)),
+        "replace" => Ok(Command::Replace(text_of(alloc, line)?)),
+        _ => command_of_words(line).ok_or(LineFault::BadCommand),
     }
-    command_of_words(line).ok_or(LineFault::BadCommand)
+}
+
+// The text behind the first word.
+fn text_of(alloc: Global, line: &str) -> Result<Text, LineFault>
+    ensures text { IfOk result (λ text. text ≡ text_behind line.now) }
+    ensures memory { IfErr result (λ fault. fault ≡ LineFault.Memory) }
+{
+    Text::from_str(alloc, text_behind(line)).map_err(|_| LineFault::Memory)
 }
 
 // What stands behind the first word and one blank.
 fn text_behind(line: &str) -> &str
-    ensures { result.now ≡ drop 1 (behind_first_word line.now) }
+    ensures { result.now ≡ text_behind line.now }
 {
     let rest = behind_first_word(line);
     if rest.is_empty() { rest } else { &rest[1..] }
@@ -64,6 +74,7 @@ fn command_of_words(line: &str) -> Option<Command>
         "start" => alone(Command::Start, rest),
         "stop" => alone(Command::Stop, rest),
         "show" => show(rest),
+        "trace" => alone(Command::Trace, rest),
         _ => Some(Command::Grants(grant_command_of(line)?)),
     }
 }

@@ -4,13 +4,14 @@ ghost use Rattle.std.specs.Prelude.{◌≡◌, ◌↔◌, ◌++◌, codes, IfOk,
 ghost use Rattle.std.specs.Fmt.{signed_decimal};
 ghost use Rattle.std.specs.List.{flat_map};
 ghost use Rattle.tenant_lines.specs.inner.Copies.{has_list};
-ghost use Rattle.tenant_lines.specs.Replies.{word_of_budget, text_of_port, text_of_refusal, text_of_reply, text_of_row, text_of_status, text_of_value};
+ghost use Rattle.tenant_lines.specs.Replies.{word_of_budget, text_of_happening, text_of_port, text_of_record, text_of_refusal, text_of_reply, text_of_row, text_of_status, text_of_value};
 
 use crate::ports::PortValue;
 use giotto_tasks::lists::List;
 use giotto_tasks::names::Name;
 use std::alloc::{AllocError, Global};
 use tenant_grants::rows::Row;
+use tenant_trace::records::{Happening, Record};
 
 /// What a budget bounds.
 #[derive(Clone, Copy, Debug, PartialEq, Eq)]
@@ -80,6 +81,8 @@ pub enum Status {
 pub enum Reply {
     /// `ok load`
     Loaded,
+    /// `ok replace`
+    Replaced,
     /// `ok start`
     Started,
     /// `ok stop`
@@ -90,6 +93,9 @@ pub enum Reply {
     Port(PortValue),
     /// `ok all`, and for each port ` P=V`
     All(List<PortValue>),
+    /// `ok trace`, and for each record, the oldest first, ` N:` and what happened; N is the record's tick:
+    /// `start:M`, `mode:M`, `act:P:V`, `out:P:V`, `stop:asked`, `stop:overrun:T` or `replaced:M`
+    Trace(List<Record>),
     /// `ok offer`
     Offered,
     /// `ok unoffer`
@@ -120,7 +126,7 @@ impl Status {
 }
 
 impl Reply {
-    /// An equal reply. Takes memory for the ports of `show all` and the rows of `rows` alone.
+    /// An equal reply. Takes memory for the ports of `show all`, the records of `trace` and the rows of `rows` alone.
     ///
     /// # Errors
     /// Want of memory.
@@ -130,11 +136,13 @@ impl Reply {
     {
         Ok(match self {
             Reply::Loaded => Reply::Loaded,
+            Reply::Replaced => Reply::Replaced,
             Reply::Started => Reply::Started,
             Reply::Stopped => Reply::Stopped,
             Reply::Mode(status) => Reply::Mode(status.copy()),
             Reply::Port(port) => Reply::Port(port.copy()),
             Reply::All(ports) => Reply::All(copy_of_ports(alloc, ports.as_slice())?),
+            Reply::Trace(records) => Reply::Trace(copy_of_records(alloc, records.as_slice())?),
             Reply::Offered => Reply::Offered,
             Reply::Unoffered => Reply::Unoffered,
             Reply::Bound => Reply::Bound,
@@ -158,6 +166,16 @@ fn copy_of_ports(alloc: Global, ports: &[PortValue]) -> Result<List<PortValue>, 
     let mut copy = Vec::new(alloc);
     for port in ports {
         copy.push(port.copy())?;
+    }
+    Ok(List::from_vec(copy))
+}
+
+fn copy_of_records(alloc: Global, records: &[Record]) -> Result<List<Record>, AllocError>
+    ensures { IfOk result (λ copy. copy ≡ records.now) }
+{
+    let mut copy = Vec::new(alloc);
+    for record in records {
+        copy.push(record.copy())?;
     }
     Ok(List::from_vec(copy))
 }
@@ -199,11 +217,13 @@ pub fn print_reply(alloc: Global, reply: &Reply) -> Result<String, AllocError>
 {
     match reply {
         Reply::Loaded => String::from_str(alloc, "ok load"),
+        Reply::Replaced => String::from_str(alloc, "ok replace"),
         Reply::Started => String::from_str(alloc, "ok start"),
         Reply::Stopped => String::from_str(alloc, "ok stop"),
         Reply::Mode(status) => print_status(alloc, status),
         Reply::Port(port) => print_port(alloc, port),
         Reply::All(ports) => print_all(alloc, ports.as_slice()),
+        Reply::Trace(records) => print_trace(alloc, records.as_slice()),
         Reply::Offered => String::from_str(alloc, "ok offer"),
         Reply::Unoffered => String::from_str(alloc, "ok unoffer"),
         Reply::Bound => String::from_str(alloc, "ok bind"),
@@ -254,6 +274,41 @@ fn print_all(alloc: Global, ports: &[PortValue]) -> Result<String, AllocError>
         text.push_str(one.as_str())?;
     }
     Ok(text)
+}
+
+// The text of the reply to `trace`.
+fn print_trace(alloc: Global, records: &[Record]) -> Result<String, AllocError>
+    ensures { IfOk result (λ text. string_bytes text ≡ codes "ok trace" ++ flat_map text_of_record records.now) }
+{
+    let mut text = String::from_str(alloc, "ok trace")?;
+    for record in records {
+        let one = print_record(alloc, record)?;
+        text.push_str(one.as_str())?;
+    }
+    Ok(text)
+}
+
+// A record as it is told, with the blank before it.
+fn print_record(alloc: Global, record: &Record) -> Result<String, AllocError>
+    ensures { IfOk result (λ text. string_bytes text ≡ text_of_record «record».now) }
+{
+    let what = print_happening(alloc, &record.happening)?;
+    format!(in alloc; " {}:{}", record.tick, what.as_str())
+}
+
+// What happened, as a record tells it.
+fn print_happening(alloc: Global, happening: &Happening) -> Result<String, AllocError>
+    ensures { IfOk result (λ text. string_bytes text ≡ text_of_happening happening.now) }
+{
+    match happening {
+        Happening::Start(mode) => format!(in alloc; "start:{}", mode.as_str()),
+        Happening::Mode(mode) => format!(in alloc; "mode:{}", mode.as_str()),
+        Happening::Act(actuator, value) => format!(in alloc; "act:{}:{}", actuator.as_str(), value),
+        Happening::Out(output, value) => format!(in alloc; "out:{}:{}", output.as_str(), value),
+        Happening::Asked => String::from_str(alloc, "stop:asked"),
+        Happening::Overrun(task) => format!(in alloc; "stop:overrun:{}", task.as_str()),
+        Happening::Replaced(mode) => format!(in alloc; "replaced:{}", mode.as_str()),
+    }
 }
 
 // The text of the reply to `rows`.

@@ -20,12 +20,17 @@ returns-in-show c =
     let first = sym c.first_word.ensures ∙ c.in-show.is in
     c.show.ensures ∙ rw c.behind_first_word-rest.ensures (sym (ap command_of_words (words_begin c.args.line.now (codes "show") first (omega arith))))
 
+pub returns-in-trace : goal.returns-in-trace
+returns-in-trace c =
+    let first = sym c.first_word.ensures ∙ c.in-trace.is in
+    c.alone-in-trace.ensures ∙ rw c.behind_first_word-rest.ensures (sym (ap command_of_words (words_begin c.args.line.now (codes "trace") first (omega arith))))
+
 pub returns-in_err-grant_command_of-in_default : goal.returns-in_err-grant_command_of-in_default
 returns-in_err-grant_command_of-in_default c =
-    let other = other_words c.args.line.now (λ is. c.in_default.not-start (c.first_word.ensures ∙ is)) (λ is. c.in_default.not-stop (c.first_word.ensures ∙ is)) (λ is. c.in_default.not-show (c.first_word.ensures ∙ is)) in
+    let other = other_words c.args.line.now (λ is. c.in_default.not-start (c.first_word.ensures ∙ is)) (λ is. c.in_default.not-stop (c.first_word.ensures ∙ is)) (λ is. c.in_default.not-show (c.first_word.ensures ∙ is)) (λ is. c.in_default.not-trace (c.first_word.ensures ∙ is)) in
     c.from_residual.ensures ∙ sym (other ∙ ap (option_map Grants) (sym c.grant_command_of.ensures ∙ c.in_err-grant_command_of-in_default.was))
 
 pub returns-in_ok-grant_command_of-in_default : goal.returns-in_ok-grant_command_of-in_default
 returns-in_ok-grant_command_of-in_default c =
-    let other = other_words c.args.line.now (λ is. c.in_default.not-start (c.first_word.ensures ∙ is)) (λ is. c.in_default.not-stop (c.first_word.ensures ∙ is)) (λ is. c.in_default.not-show (c.first_word.ensures ∙ is)) in
+    let other = other_words c.args.line.now (λ is. c.in_default.not-start (c.first_word.ensures ∙ is)) (λ is. c.in_default.not-stop (c.first_word.ensures ∙ is)) (λ is. c.in_default.not-show (c.first_word.ensures ∙ is)) (λ is. c.in_default.not-trace (c.first_word.ensures ∙ is)) in
     sym (other ∙ ap (option_map Grants) (sym c.grant_command_of.ensures ∙ c.in_ok-grant_command_of-in_default.was))
