@@ -1,4 +1,7 @@
+pub mod ActuatorPlaces
 pub mod ActuatorSlots
+pub mod CarriedValues
+pub mod CarryTables
 pub mod CommonMultiples
 pub mod GrantRows
 pub mod Granted
@@ -8,6 +11,9 @@ pub mod Numbered
 pub mod PortRows
 pub mod Quiet
 pub mod Readings
+pub mod RecordRows
+pub mod Recorded
+pub mod ReplacementRows
 pub mod SensedSlots
 pub mod SwitchRows
 pub mod TakenSwitches

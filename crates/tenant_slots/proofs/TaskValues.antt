@@ -1,6 +1,7 @@
 -- A task's ports by their slots: those of its inputs, and of its states, are next to one another.
 use Rattle.std.proofs.Common.{◌≡◌, ℕ, zero, suc, ◌+◌, ◌-◌, ◌<◌, ℤ, List, [], ◌∷◌, length, map, take, drop, get_or, Some, None, sym, ap, subst, ◌∙◌, arith}
 use Rattle.std.specs.Prelude.{slice_get}
+use Rattle.std.specs.Arc.{arc_value}
 use Rattle.std.specs.Option.{option_map}
 use Rattle.std.specs.List.{AllByRecursion, range_with_len}
 use Rattle.std.proofs.lemmas.List.{length-map}
@@ -29,6 +30,14 @@ states_counted p items k d t all at =
     let lt : k < length items = omega (arith, slice_get_within p.tasks k t at, ap length all, length-map items trees.task_of) in
     let here : slice_get p.tasks k ≡ Some (trees.task_of item) = ap (λ ts. slice_get ts k) (sym all) ∙ slice_get-map trees.task_of items k ∙ ap (option_map trees.task_of) (slice_get-get_or items k d lt) in
     subst (λ (t : TaskDeclaration). length item.states ≡ length (names_of t.states)) (some_same _ t (sym here ∙ at)) (item.each_state ∙ ap length (sym (firsts-zip _ item.states item.each_state)))
+
+-- and its body names its outputs
+pub outputs_named : (p : GiottoProgram) (items : List Task) (k : ℕ) (d : Task) (t : TaskDeclaration) → map trees.task_of items ≡ p.tasks → slice_get p.tasks k ≡ Some t → (arc_value (get_or items k d).body).outputs ≡ t.outputs
+outputs_named p items k d t all at =
+    let lt : k < length items = omega (arith, slice_get_within p.tasks k t at, ap length all, length-map items trees.task_of) in
+    let here : slice_get p.tasks k ≡ Some (trees.task_of (get_or items k d)) =
+    ap (λ ts. slice_get ts k) (sym all) ∙ slice_get-map trees.task_of items k ∙ ap (option_map trees.task_of) (slice_get-get_or items k d lt) in
+    ap (λ (t : TaskDeclaration). t.outputs) (some_same _ t (sym here ∙ at))
 
 module _ (p : GiottoProgram) where
   -- slots next to one another are slots

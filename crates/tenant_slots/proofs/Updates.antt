@@ -32,16 +32,22 @@ module _ (p : GiottoProgram) (fits : ProgramFits p) where
       (λ past. absurd (omega (arith, subst (λ l. k < length l) (none past.0) lt))) (slice_get_cases p.modes mode).1
 
   module _ (m : ModeDeclaration) (time : ℕ) (u : ActuatorUpdate) (e : SlotUpdate) (is : IsUpdate p m u e) (values : List ℤ) (long : length values ≡ slots_of p) where
+    pub is_made : (time % e.interval == 0) ≡ true → holds u.guard (valuation_of p values) ≡ true → is_updated m time u (valuation_of p values) ≡ true
+    is_made due held = rw (← update_due p fits time m u e is, due, held) refl
+
+    pub is_left_out : ((time % e.interval == 0) && holds u.guard (valuation_of p values)) ≡ false → is_updated m time u (valuation_of p values) ≡ false
+    is_left_out waits = ap (λ b. b && holds u.guard (valuation_of p values)) (sym (update_due p fits time m u e is)) ∙ waits
+
     pub update_happens : (time % e.interval == 0) ≡ true → holds u.guard (valuation_of p values) ≡ true → updated m time u (valuation_of p values) ≡ valuation_of p (set values e.actuator (value_over e.value values))
     update_happens due held =
         let value = is.value values long in
         let written = with_value_at_place (port_names p) values e.actuator u.actuator (value_over e.value values) fits.ports_once (name_at_slot p None u.actuator e.actuator is.actuator) (length-map (ports_of p) shown_name ∙ sym long) in
-        let happens : is_updated m time u (valuation_of p values) ≡ true = rw (← update_due p fits time m u e is, due, held) refl in
+        let happens = is_made due held in
         rw (happens, ← value) written
 
     pub update_waits : ((time % e.interval == 0) && holds u.guard (valuation_of p values)) ≡ false → updated m time u (valuation_of p values) ≡ valuation_of p values
     update_waits waits =
-        let still : is_updated m time u (valuation_of p values) ≡ false = ap (λ b. b && holds u.guard (valuation_of p values)) (sym (update_due p fits time m u e is)) ∙ waits in
+        let still = is_left_out waits in
         rw (still) refl
 
 pub next_update : (m : ModeDeclaration) (time : ℕ) (us : List ActuatorUpdate) (k : ℕ) (u : ActuatorUpdate) (ports after whole : Valuation) → drop k us ≡ u ∷ drop (k + 1) us → updated m time u ports ≡ after

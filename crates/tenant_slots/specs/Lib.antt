@@ -3,6 +3,8 @@ pub mod Due
 pub mod Places
 pub mod Ports
 pub mod Readings
+pub mod Replacement
+pub mod Results
 pub mod Switches
 pub mod Updates
 pub mod inner

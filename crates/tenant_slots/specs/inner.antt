@@ -3,5 +3,6 @@ pub mod Due
 pub mod Grants
 pub mod Places
 pub mod Readings
+pub mod Replacement
 pub mod Switches
 pub mod Tasks

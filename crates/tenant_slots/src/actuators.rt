@@ -10,7 +10,9 @@ ghost use Rattle.giotto_check.specs.inner.Slots.{slots_of};
 ghost use Rattle.giotto_check.specs.Slots.{valuation_of};
 ghost use Rattle.tenant_slots.specs.inner.Places.{IsModeAt};
 ghost use Rattle.tenant_slots.specs.Ports.{actuators_reset, drives};
-ghost use Rattle.tenant_slots.specs.Updates.{all_updated};
+ghost use Rattle.tenant_slots.specs.Updates.{all_updated, updates_happened};
+ghost use Rattle.tenant_trace.specs.inner.Noted.{noted, pushed};
+ghost use Rattle.tenant_trace.specs.declared.records.Happening.TheVariants as happening;
 
 use crate::drivers::holds;
 use crate::due::Due;
@@ -18,6 +20,8 @@ use giotto_check::Checked;
 use giotto_check::timetables::slot_value;
 use giotto_tasks::names::Name;
 use giotto_text::programs::Actuator;
+use tenant_trace::records::Happening;
+use tenant_trace::traces::Trace;
 
 /// Gives each actuator its initial value. Takes no memory.
 pub fn reset_actuators(checked: &Checked, values: &mut [i64])
@@ -32,22 +36,42 @@ pub fn reset_actuators(checked: &Checked, values: &mut [i64])
     }
 }
 
-/// Updates the actuators that are due in the mode at this place, at this mode time, and whose guards hold, in text order.
-/// Where there is no such mode it leaves the values as they are. Takes no memory.
-pub fn update_due(checked: &Checked, mode: usize, time: u64, values: &mut [i64])
+/// Updates the actuators that are due in the mode at this place, at this mode time, and whose guards hold, in text order. The
+/// trace is told each update as it is made, at this tick. Where there is no such mode it leaves all as it is. Takes no memory.
+pub fn update_due(
+    checked: &Checked,
+    mode: usize,
+    time: u64,
+    tick: u64,
+    values: &mut [i64],
+    trace: &mut Trace,
+)
     requires { length values.old ≡ slots_of checked.now }
     ensures there { (m : ModeDeclaration) → IsModeAt checked.now mode m
         → valuation_of checked.now values.new ≡ all_updated m time m.updates (valuation_of checked.now values.old) }
-    ensures missing { length checked.now.modes ≤ mode → values.new ≡ values.old }
+    ensures noted { (m : ModeDeclaration) → IsModeAt checked.now mode m
+        → trace.new ≡ noted tick (updates_happened m time m.updates (valuation_of checked.now values.old)) trace.old }
+    ensures missing { length checked.now.modes ≤ mode → (values.new ≡ values.old) × (trace.new ≡ trace.old) }
 {
-    // Its frequencies are positive, and its ports stand once.
-    let _program = checked.program();
+    // Its frequencies are positive, and its ports stand once: the actuators' slots are behind those of the sensors.
+    let program = checked.program();
+    let first = program.sensors().len();
+    let actuators = program.actuators();
     let mut due = Due::at(time);
     for update in checked.updates(mode) {
         if due.is_due(update.interval) && holds(&update.guard, values) {
-            values[update.actuator] = slot_value(&update.value, values);
+            let value = slot_value(&update.value, values);
+            values[update.actuator] = value;
+            note_update(&actuators[update.actuator - first], value, tick, trace);
         }
     }
+}
+
+// Tells the trace that this actuator was updated to this value, at this tick.
+fn note_update(actuator: &Actuator, value: i64, tick: u64, trace: &mut Trace)
+    ensures { trace.new ≡ pushed (record { tick = tick; happening = happening.Act actuator.now.name value }) trace.old }
+{
+    trace.note(tick, Happening::Act(actuator.name.copy(), value));
 }
 
 /// The place of the actuator of this name among these, counted from 0; `None` where none has it.

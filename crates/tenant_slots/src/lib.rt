@@ -5,6 +5,8 @@
 //! it anew in place, [`names::port_value`] reads a port by its name, and the others are steps of an instant: sensors are
 //! read, granted values taken, actuators updated or reset, a switch is taken, and tasks are given their inputs and write their
 //! results.
+//! Updates and outputs are recorded in the tenant's trace as they are made. [`replacement::carry_over`] gives a program the values
+//! that it keeps of the one that it replaces.
 //! [`due::Due`] tells what is due at a mode time, and [`due::next_due`] until when nothing is; [`periods::period_of`] how far apart
 //! a mode invokes a task.
 #![tactic(auto)]
@@ -16,6 +18,7 @@ pub mod due;
 pub mod laws;
 pub mod names;
 pub mod periods;
+pub mod replacement;
 pub mod sensors;
 pub mod switches;
 pub mod tasks;

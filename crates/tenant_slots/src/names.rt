@@ -7,7 +7,7 @@ ghost use Rattle.giotto_tasks.specs.Names.{same_name};
 ghost use Rattle.giotto_text.specs.declared.programs.Mode.{Mode};
 ghost use Rattle.giotto_check.specs.inner.Slots.{slots_of};
 ghost use Rattle.giotto_check.specs.Slots.{valuation_of};
-ghost use Rattle.tenant_slots.specs.Places.{name_of_task};
+ghost use Rattle.tenant_slots.specs.Places.{name_of_mode, name_of_task};
 ghost use Rattle.tenant_slots.specs.Ports.{value_of_port};
 
 use giotto_check::Checked;
@@ -32,6 +32,14 @@ pub fn task_name(checked: &Checked, place: usize) -> Name
     ensures { result ≡ name_of_task checked.now place }
 {
     checked.program().tasks()[place].name.copy()
+}
+
+/// The name of the mode at a place of the program, in text order from 0. Takes no memory.
+pub fn mode_name(checked: &Checked, place: usize) -> Name
+    requires { place < length checked.now.modes }
+    ensures { result ≡ name_of_mode checked.now place }
+{
+    checked.program().modes()[place].name.copy()
 }
 
 /// Whether the task at a place of the program has this name. Takes no memory.

@@ -9,12 +9,18 @@ ghost use Rattle.giotto_check.specs.inner.Facts.{ProgramFits};
 ghost use Rattle.giotto_check.specs.inner.Slots.{slots_of, with_slots};
 ghost use Rattle.giotto_check.specs.Slots.{valuation_of};
 ghost use Rattle.giotto_check.specs.inner.Timetables.{AreEach, AreTaskSlots, IsExpression};
+ghost use Rattle.tenant_slots.specs.Results.{outputs_happened};
 ghost use Rattle.tenant_slots.specs.inner.Places.{IsTaskAt};
 ghost use Rattle.tenant_slots.specs.inner.Tasks.{states_in, with_input_values, with_results};
+ghost use Rattle.tenant_trace.specs.inner.Noted.{noted};
 
 use giotto_check::Checked;
 use giotto_check::timetables::{SlotExpr, TaskSlots, slot_value};
+use giotto_tasks::bodies::Body;
+use giotto_tasks::names::Name;
 use giotto_tasks::values::Values;
+use tenant_trace::records::Happening;
+use tenant_trace::traces::Trace;
 
 /// Puts the values of an invocation's arguments, at most 16, into an empty list, in their order. Takes no memory.
 pub fn argument_values(arguments: &[SlotExpr], values: &[i64], given: &mut Values)
@@ -50,23 +56,30 @@ pub fn write_inputs(checked: &Checked, task: usize, inputs: &Values, values: &mu
     write_range(slots_at(checked, task).inputs, inputs.as_slice(), values);
 }
 
-/// Gives the outputs and the states of the task at this place these values, one for each. Takes no memory.
+/// Gives the outputs and the states of the task at this place these values, one for each. The trace is told each output that is
+/// written, at this tick. Takes no memory.
 pub fn write_results(
     checked: &Checked,
     task: usize,
     outputs: &Values,
     states: &Values,
+    tick: u64,
     values: &mut [i64],
+    trace: &mut Trace,
 )
     requires there { task < length checked.now.tasks }
     requires values { length values.old ≡ slots_of checked.now }
     requires states { (t : TaskDeclaration) → IsTaskAt checked.now task t → length states.now ≡ length t.states }
-    ensures { (t : TaskDeclaration) → IsTaskAt checked.now task t
+    ensures written { (t : TaskDeclaration) → IsTaskAt checked.now task t
         → valuation_of checked.now values.new ≡ with_results t outputs.now states.now (valuation_of checked.now values.old) }
+    ensures noted { (t : TaskDeclaration) → IsTaskAt checked.now task t
+        → trace.new ≡ noted tick (outputs_happened t.outputs outputs.now) trace.old }
 {
     let slots = slots_at(checked, task);
     write_each(slots.outputs.as_slice(), outputs.as_slice(), values);
     write_range(slots.states, states.as_slice(), values);
+    let body: &Body = &checked.program().tasks()[task].body;
+    note_outputs(body.outputs.as_slice(), outputs.as_slice(), tick, trace);
 }
 
 // The slots of the task at this place.
@@ -99,6 +112,15 @@ fn write_range(first: usize, numbers: &[i64], values: &mut [i64])
 {
     for (i, number) in numbers.iter().enumerate() {
         values[first + i] = *number;
+    }
+}
+
+// Tells the trace that these outputs were written at this tick, each with its number.
+fn note_outputs(names: &[Name], numbers: &[i64], tick: u64, trace: &mut Trace)
+    ensures { trace.new ≡ noted tick (outputs_happened names.now numbers.now) trace.old }
+{
+    for (name, number) in names.iter().zip(numbers) {
+        trace.note(tick, Happening::Out(name.copy(), *number));
     }
 }
 

@@ -2,7 +2,8 @@ use Rattle.std.proofs.Common.{◌≡◌, ◌≤◌, Some, length, drop, slice_ge
 use Rattle.giotto_text.specs.Program.{ModeDeclaration}
 use Rattle.giotto_check.specs.inner.Slots.{slots_of}
 use Rattle.giotto_check.specs.Slots.{valuation_of}
-use Rattle.tenant_slots.specs.Updates.{all_updated}
+use Rattle.tenant_trace.specs.inner.Noted.{noted}
+use Rattle.tenant_slots.specs.Updates.{all_updated, updates_happened}
 use Rattle.tenant_slots.proofs.actuators.update_due.Given as goal
 
 abbrev pub invariant-loop-update : goal.invariant-loop-update
@@ -11,5 +12,8 @@ invariant-loop-update l = record {
   long : length l.values ≡ slots_of l.checked;
   updated : (m : ModeDeclaration) → slice_get l.checked.modes l.mode ≡ Some m
       → all_updated m l.time (drop l.update-index m.updates) (valuation_of l.checked l.values) ≡ all_updated m l.time m.updates (valuation_of l.checked l.initial.values);
-  missing : length l.checked.modes ≤ l.mode → l.values ≡ l.initial.values;
+  noted : (m : ModeDeclaration) → slice_get l.checked.modes l.mode ≡ Some m
+      → noted l.tick (updates_happened m l.time (drop l.update-index m.updates) (valuation_of l.checked l.values)) l.trace
+      ≡ noted l.tick (updates_happened m l.time m.updates (valuation_of l.checked l.initial.values)) l.initial.trace;
+  missing : length l.checked.modes ≤ l.mode → (l.values ≡ l.initial.values) × (l.trace ≡ l.initial.trace);
 }

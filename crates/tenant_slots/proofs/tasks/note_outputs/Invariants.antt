@@ -1,0 +1,9 @@
+use Rattle.std.proofs.Common.{◌≡◌, length, drop}
+use Rattle.tenant_trace.specs.inner.Noted.{noted}
+use Rattle.tenant_slots.specs.Results.{outputs_happened}
+use Rattle.tenant_slots.proofs.tasks.note_outputs.Given as goal
+
+abbrev pub invariant-loop-name : goal.invariant-loop-name
+invariant-loop-name l =
+    let i = length l.yielded in
+    noted l.tick (outputs_happened (drop i l.names) (drop i l.numbers)) l.trace ≡ noted l.tick (outputs_happened l.names l.numbers) l.initial.trace
