@@ -8,6 +8,7 @@ use Rattle.giotto_tasks.specs.Names.{Valuation}
 use Rattle.giotto_text.specs.Program.{TaskDeclaration, TaskInvocation, ModeDeclaration, GiottoProgram}
 use Rattle.rig_config.specs.declared.Budgets.{Budgets}
 use Rattle.tenant_lines.specs.declared.commands.Command.{Command}
+use Rattle.tenant_lines.specs.declared.commands.Command.TheVariants as command
 use Rattle.tenant_lines.specs.declared.commands.Command.TheVariants.{Load, Start, Stop, ShowMode, ShowPort, ShowAll, Grants}
 use Rattle.tenant_lines.specs.declared.ports.PortName.{PortName}
 use Rattle.tenant_lines.specs.declared.replies.Budget.{Budget}
@@ -17,9 +18,9 @@ use Rattle.tenant_lines.specs.declared.replies.Refusal.TheVariants.{NotRunning}
 use Rattle.tenant_lines.specs.declared.replies.Reply.TheVariants.{Stopped}
 use Rattle.tenant_state.specs.Tenancy.{Tenancy}
 use Rattle.tenant_state.specs.Row.{ActiveTask, Row, StopReason, asked, overrun, is_running, where_some, in_program, in_mode}
-use Rattle.tenant_state.specs.Commands.{Outcome, refused, load_within, load_read, start_program, stop_program, show_value, show_port, show_all, commanded}
+use Rattle.tenant_state.specs.Commands.{Outcome, refused, load_within, replace_read, replace_within, load_read, start_program, stop_program, show_value, show_port, show_all, commanded}
 use Rattle.tenant_state.specs.FirstHalf.{stopped_with, completed_in_mode, first_half_with, first_half_of}
-use Rattle.tenant_state.specs.SecondHalf.{installed, replaced_if_due, sensed, entered, switched, is_invoked, released, invoked, all_released, invoked_in_mode, second_half_running}
+use Rattle.tenant_state.specs.SecondHalf.{installed, replaced_if_due, sensed, entered, switched, is_invoked, released, invoked, all_released, invoked_in_mode, second_half_running, second_half_of}
 use Rattle.tenant_programs.specs.Admission.{broken_budget, program_of}
 use Rattle.tenant_slots.specs.Readings.{Readings}
 use Rattle.tenant_slots.specs.Switches.{switch_taken}
@@ -95,6 +96,10 @@ module _ (P : ActiveTask → Type 0) (n : ℕ) where
         keeps_in_mode _ _ (λ p m r kr. let all = keeps_invoked p m r kr in record { each = all.each; at = all.at })
         (keeps_in_mode _ _ (λ p m r kr. keeps_switched readings granted p m r kr) (keeps_replaced row k))
 
+    -- what holds before the second half, and of what is released, holds behind it
+    pub kept_by_second_half : (readings : Readings) (granted : Valuation) (row : Row) → Keeps row → AllByRecursion P (second_half_of readings granted row).active
+    kept_by_second_half readings granted row k = (keeps_if (is_running row) _ row (keeps_running readings granted row k) k).each
+
     -- the second half, but for the next tick, which it moves on
     pub kept_by_instant : (i : LocalInstant) (row : Row) → Keeps row → AllByRecursion P (after_instant i row).active × ((after_instant i row).next_tick ≡ n + 1)
     kept_by_instant i row k =
@@ -114,6 +119,14 @@ module _ (P : ActiveTask → Type 0) (n : ℕ) where
   keeps_read : (budgets : Budgets) (bytes : ℕ) (row : Row) (r : Result GiottoProgram Refusal) → Keeps row → Keeps (load_read budgets bytes row r).row
   keeps_read budgets bytes row (Err refusal) k = k
   keeps_read budgets bytes row (Ok p) k = keeps_outcome_if _ _ (load_within p row (broken_budget budgets bytes p)) k (keeps_within p row _ k)
+
+  keeps_replace_within : (p : GiottoProgram) (row : Row) (o : Option Budget) → Keeps row → Keeps (replace_within p row o).row
+  keeps_replace_within p row None k = record { each = k.each; at = k.at }
+  keeps_replace_within p row (Some b) k = k
+
+  keeps_replace_read : (budgets : Budgets) (bytes : ℕ) (row : Row) (r : Result GiottoProgram Refusal) → Keeps row → Keeps (replace_read budgets bytes row r).row
+  keeps_replace_read budgets bytes row (Err refusal) k = k
+  keeps_replace_read budgets bytes row (Ok p) k = keeps_outcome_if (is_running row) (replace_within p row (broken_budget budgets bytes p)) (refused row NotRunning) (keeps_replace_within p row _ k) k
 
   keeps_started : (row : Row) (o : Option GiottoProgram) → Keeps row → Keeps (start_program row o).row
   keeps_started row None k = k
@@ -136,9 +149,11 @@ module _ (P : ActiveTask → Type 0) (n : ℕ) where
 
   pub kept_by_command : (tenancy : Tenancy) (c : Command) (row : Row) → Keeps row → Keeps (commanded tenancy c row).row
   kept_by_command tenancy (Load text) row k = keeps_read tenancy.budgets (length text) row (program_of text) k
+  kept_by_command tenancy (command.Replace text) row k = keeps_replace_read tenancy.budgets (length text) row (program_of text) k
   kept_by_command tenancy Start row k = keeps_outcome_if _ _ (start_program row row.program) k (keeps_started row row.program k)
   kept_by_command tenancy Stop row k = keeps_asked row k
   kept_by_command tenancy ShowMode row k = k
   kept_by_command tenancy (ShowPort x) row k = keeps_show x row row.program k
   kept_by_command tenancy ShowAll row k = keeps_all_shown row row.program k
+  kept_by_command tenancy command.Trace row k = k
   kept_by_command tenancy (Grants c) row k = record { each = k.each; at = k.at }

@@ -18,7 +18,7 @@ use Rattle.tenant_state.specs.Row.{ActiveTask}
 abbrev pub names_of_tasks : List ActiveTask → List Name
 names_of_tasks tasks = map (λ (a : ActiveTask). a.task) tasks
 
-all_pass : {X : Type 0} (test : X → Bool) (xs : List X) → AllByRecursion (λ x. test x ≡ true) (filter test xs)
+pub all_pass : {X : Type 0} (test : X → Bool) (xs : List X) → AllByRecursion (λ x. test x ≡ true) (filter test xs)
 all_pass test [] = tt
 all_pass {X = X} test (x ∷ xs) = by (test x) refl (all_pass test xs)
   where

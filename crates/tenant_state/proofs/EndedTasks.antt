@@ -1,12 +1,12 @@
 -- What the code does in a first half, by places and slots, and the first half of the row for which the tenant stands.
-use Rattle.std.proofs.Common.{◌≡◌, ℕ, ◌<◌, ◌+◌, ◌%◌, ◌==◌, nat_eq, Bool, true, false, not, cond, ◌&&◌, ◌||◌, ⊎_elim, ℤ, List, [], ◌∷◌, ◌++◌, map, filter, length, drop, get_or, Option, Some, None, sym, refl, ap, subst, ◌∙◌, arith}
+use Rattle.std.proofs.Common.{take, ◌≡◌, ℕ, ◌<◌, ◌+◌, ◌%◌, ◌==◌, nat_eq, Bool, true, false, not, cond, ◌&&◌, ◌||◌, ⊎_elim, ℤ, List, [], ◌∷◌, ◌++◌, map, filter, length, drop, get_or, Option, Some, None, sym, refl, ap, subst, ◌∙◌, arith}
 use Rattle.std.specs.Prelude.{IsSomeAnd, slice_get}
 use Rattle.std.specs.List.{list_any, list_all, find, flat_map, AllByRecursion}
 use Rattle.std.proofs.lemmas.Bool.{and_parts, and_from, eqb-true, eq-eqb, false≢true}
 use Rattle.std.proofs.lemmas.List.Folds.{list_all-map}
 use Rattle.std.proofs.lemmas.List.{drop_more, length-map}
 use Rattle.std.proofs.lemmas.Option.{slice_get_cases}
-use Rattle.giotto_rules.specs.Declarations.{mode_named}
+use Rattle.giotto_rules.specs.Declarations.{task_named, mode_named}
 use Rattle.std.specs.Option.{option_map, option_map_or}
 use Rattle.giotto_tasks.specs.declared.names.Name.{Name}
 use Rattle.giotto_tasks.specs.Names.{Valuation, same_name}
@@ -29,25 +29,31 @@ use Rattle.tenant_slots.specs.Updates.{all_updated}
 use Rattle.tenant_slots.proofs.Numbered.{invocation_due, mode_here, same_task, task_here}
 use Rattle.tenant_grants.specs.Grants.{GrantRows}
 use Rattle.tenant_state.specs.declared.tenants.Active.{Active}
+use Rattle.tenant_state.specs.declared.tenants.waiting.Waiting.{Waiting}
 use Rattle.tenant_state.specs.declared.tenants.State as code
 use Rattle.tenant_state.specs.declared.tenants.State.TheVariants as states
 use Rattle.tenant_slots.specs.inner.Due.{is_among_due}
-use Rattle.tenant_state.specs.inner.EntryTable.{is_left_open, is_task_open}
+use Rattle.tenant_state.specs.inner.EntryTable.{ends_noted, is_left_open, is_task_open}
 use Rattle.tenant_jobs.specs.declared.jobs.JobId.{JobId}
 use Rattle.tenant_jobs.specs.declared.jobs.JobResult.{JobResult}
 use Rattle.tenant_jobs.specs.inner.Finished.{result_of}
 use Rattle.tenant_jobs.specs.Jobs.{same_job}
 use Rattle.tenant_state.specs.Jobs.{body_in, has_job, job_in, job_of}
-use Rattle.tenant_state.specs.FirstHalf.{all_ended, due_tasks, names_due, still_active, unfinished_tasks, first_half_of, stopped_with}
+use Rattle.tenant_state.specs.FirstHalf.{all_ended, ends_happened, outputs_of_end, due_tasks, names_due, still_active, unfinished_tasks, first_half_of, stopped_with}
 use Rattle.tenant_state.specs.Row.{overrun, ActiveTask, Row}
-use Rattle.tenant_state.specs.Standing.{is_another, all_different_releases, without_records, Standing}
+use Rattle.tenant_state.specs.Standing.{is_another, all_different_releases, with_last, Standing}
 use Rattle.tenant_state.specs.inner.Standing.{AreEnded, has_active}
 use Rattle.rig_config.specs.declared.Budgets.{Budgets}
 use Rattle.tenant_state.specs.Tenants.{active_of, standing_of, state_of}
 use Rattle.tenant_state.specs.inner.Tenants.{FitsProgram, FitsIts, IsActiveAs, IsActiveIn, IsActiveOf, IsTenant}
 use Rattle.tenant_state.proofs.DueTasks.{any_parted, group, ends, is_open, is_unfinished, names_of_tasks, none_passes, stay}
 use Rattle.tenant_state.proofs.FirstHalfOf.{Runs, due_are, goes_on, stops, unchanged}
+use Rattle.tenant_state.proofs.Records.{last_noted}
 use Rattle.tenant_state.proofs.Stops.{row_of}
+use Rattle.tenant_slots.specs.Updates.{updates_happened}
+use Rattle.tenant_trace.specs.Trace.{LastRecords, with_happenings}
+use Rattle.tenant_trace.specs.inner.Noted.{noted}
+use Rattle.tenant_trace.proofs.Kept.{noted_behind}
 
 -- a tenant that stays as it is, where none had ended, has none that end
 pub none_ended : (s : Standing) → s.ended ≡ [] → AreEnded s s
@@ -143,6 +149,20 @@ name_of_place p x k place =
     let here : found.0 ≡ k = omega (arith, found.2) in
     ap (name_of_task p) (sym here) ∙ ap (λ o. option_map_or (λ (t : TaskDeclaration). t.name) o []) found.3 ∙ same_name_is found.1.name x found.4
 
+-- what ends make of ports and of a trace, task by task
+pub ended_one_by_one : (p : GiottoProgram) (xs ys : List ActiveTask) (ports : Valuation) → all_ended p (xs ++ ys) ports ≡ all_ended p ys (all_ended p xs ports)
+ended_one_by_one p [] ys ports = refl
+ended_one_by_one p (x ∷ xs) ys ports = ended_one_by_one p xs ys _
+
+pub noted_one_by_one : (p : GiottoProgram) (n : ℕ) (xs ys : List ActiveTask) (t : LastRecords) → ends_noted p n (xs ++ ys) t ≡ ends_noted p n ys (ends_noted p n xs t)
+noted_one_by_one p n [] ys t = refl
+noted_one_by_one p n (x ∷ xs) ys t = noted_one_by_one p n xs ys _
+
+-- the trace records what happened
+pub ends_are_noted : (p : GiottoProgram) (n : ℕ) (xs : List ActiveTask) (t : LastRecords) → ends_noted p n xs t ≡ noted n (ends_happened p xs) t
+ends_are_noted p n [] t = refl
+ends_are_noted p n (x ∷ xs) t = ends_are_noted p n xs _ ∙ sym (noted_behind n (option_map_or (outputs_of_end x) (task_named p x.task) []) (ends_happened p xs) t)
+
 module _ (p : GiottoProgram) (fits : ProgramFits p) (m : ModeDeclaration) (time : ℕ) where
   -- an active task has the name of an invocation's task where it has its place
   same_place : (a : Active) (i : TaskInvocation) (e : SlotInvocation) → IsActiveOf p a → IsInvocation p m i e → same_name (name_of_task p a.task) i.task ≡ nat_eq a.task e.task
@@ -198,26 +218,24 @@ module _ (p : GiottoProgram) (fits : ProgramFits p) (m : ModeDeclaration) (time 
         filter-map (active_of p) _ _ items
         (all_map _ _ items (λ a is_of. ap (λ c. c && is_due_at time m i.frequency) (same_place a i e is_of entry) ∙ ap (λ c. nat_eq a.task e.task && c) (sym (invocation_due p fits time m i e entry) ∙ due)) all)
 
-    end_step : (b : Bool) → (time % e.interval == 0) ≡ b → (start after whole : Valuation) → after ≡ all_ended p (map (active_of p) (filter (λ a. nat_eq a.task e.task && b) items)) start
-        → all_ended p (flat_map (group m time (map (active_of p) items)) (drop k is)) start ≡ whole → all_ended p (flat_map (group m time (map (active_of p) items)) (drop (k + 1) is)) after ≡ whole
-    end_step b due start after whole same h =
-        let rest = flat_map (group m time (map (active_of p) items)) (drop (k + 1) is) in
-        ap (all_ended p rest) (same ∙ ap (λ ts. all_ended p ts start) (sym (group_alike b due))) ∙ sym (both_end (group m time (map (active_of p) items) i) rest start)
-        ∙ ap (λ l. all_ended p (flat_map (group m time (map (active_of p) items)) l) start) (sym here) ∙ h
-      where
-        both_end : (xs ys : List ActiveTask) (ports : Valuation) → all_ended p (xs ++ ys) ports ≡ all_ended p ys (all_ended p xs ports)
-        both_end [] ys ports = refl
-        both_end (x ∷ xs) ys ports = both_end xs ys _
+    -- whatever the ends make of something, task by task
+    module _ {S : Type 0} (by_ends : List ActiveTask → S → S) (one_by_one : (xs ys : List ActiveTask) (s : S) → by_ends (xs ++ ys) s ≡ by_ends ys (by_ends xs s)) where
+      end_step : (b : Bool) → (time % e.interval == 0) ≡ b → (start after whole : S) → after ≡ by_ends (map (active_of p) (filter (λ a. nat_eq a.task e.task && b) items)) start
+          → by_ends (flat_map (group m time (map (active_of p) items)) (drop k is)) start ≡ whole → by_ends (flat_map (group m time (map (active_of p) items)) (drop (k + 1) is)) after ≡ whole
+      end_step b due start after whole same h =
+          let rest = flat_map (group m time (map (active_of p) items)) (drop (k + 1) is) in
+          ap (by_ends rest) (same ∙ ap (λ ts. by_ends ts start) (sym (group_alike b due))) ∙ sym (one_by_one (group m time (map (active_of p) items) i) rest start)
+          ∙ ap (λ l. by_ends (flat_map (group m time (map (active_of p) items)) l) start) (sym here) ∙ h
 
-    pub end_due : (time % e.interval == 0) ≡ true → (start after whole : Valuation) → after ≡ all_ended p (map (active_of p) (filter (λ a. nat_eq a.task e.task) items)) start
-        → all_ended p (flat_map (group m time (map (active_of p) items)) (drop k is)) start ≡ whole → all_ended p (flat_map (group m time (map (active_of p) items)) (drop (k + 1) is)) after ≡ whole
-    end_due due start after whole same h =
-        end_step true due start after whole (same ∙ ap (λ xs. all_ended p (map (active_of p) xs) start) (same_filter _ _ items (all_of (λ a. sym (and_true (nat_eq a.task e.task))) items))) h
+      pub end_due : (time % e.interval == 0) ≡ true → (start after whole : S) → after ≡ by_ends (map (active_of p) (filter (λ a. nat_eq a.task e.task) items)) start
+          → by_ends (flat_map (group m time (map (active_of p) items)) (drop k is)) start ≡ whole → by_ends (flat_map (group m time (map (active_of p) items)) (drop (k + 1) is)) after ≡ whole
+      end_due due start after whole same h =
+          end_step true due start after whole (same ∙ ap (λ xs. by_ends (map (active_of p) xs) start) (same_filter _ _ items (all_of (λ a. sym (and_true (nat_eq a.task e.task))) items))) h
 
-    pub end_none : (time % e.interval == 0) ≡ false → (start whole : Valuation)
-        → all_ended p (flat_map (group m time (map (active_of p) items)) (drop k is)) start ≡ whole → all_ended p (flat_map (group m time (map (active_of p) items)) (drop (k + 1) is)) start ≡ whole
-    end_none due start whole h =
-        end_step false due start start whole (sym (ap (λ xs. all_ended p (map (active_of p) xs) start) (none_passes _ items (all_of (λ a. and_false (nat_eq a.task e.task)) items)))) h
+      pub end_none : (time % e.interval == 0) ≡ false → (none : (s : S) → by_ends [] s ≡ s) → (start whole : S)
+          → by_ends (flat_map (group m time (map (active_of p) items)) (drop k is)) start ≡ whole → by_ends (flat_map (group m time (map (active_of p) items)) (drop (k + 1) is)) start ≡ whole
+      end_none due none start whole h =
+          end_step false due start start whole (sym (ap (λ xs. by_ends (map (active_of p) xs) start) (none_passes _ items (all_of (λ a. and_false (nat_eq a.task e.task)) items)) ∙ none start)) h
 
 -- the tasks of a mode's invocations have places
 pub tasks_within : (p : GiottoProgram) (m : ModeDeclaration) (is : List TaskInvocation) (es : List SlotInvocation) → AreEach (IsInvocation p m) is es → AllByRecursion (λ (e : SlotInvocation). e.task < length p.tasks) es
@@ -231,21 +249,21 @@ pub its_mode : (p : GiottoProgram) (k : ℕ) → k < length p.modes → (m : Mod
 its_mode p k lt = ⊎_elim (λ found. (found.0, found.2)) (λ past. absurd (omega (arith, past.0, lt))) (slice_get_cases p.modes k).1
 
 -- a running tenant with this program, as its fields stand
-pub record IsRunning (tenant : Standing) (grants : GrantRows) (p : GiottoProgram) (mode time next : ℕ) (active ended : List Active) (values : List ℤ) (shares : List (Option TaskBody)) (next_tick : ℕ) : Type 0 where
-  pub row : tenant.row ≡ row_of grants states.Running (Some p) mode time active values next_tick
+pub record IsRunning (tenant : Standing) (grants : GrantRows) (p : GiottoProgram) (mode time next : ℕ) (active ended : List Active) (values : List ℤ) (shares : List (Option TaskBody)) (waiting : Option Waiting) (trace : LastRecords) (next_tick : ℕ) : Type 0 where
+  pub row : tenant.row ≡ row_of grants states.Running (Some p) mode time active values waiting trace next_tick
   pub fits : FitsProgram p mode time next active ended values shares next_tick
   pub declared : AllByRecursion (IsActiveOf p) active
   pub its : ModeDeclaration
   pub there : slice_get p.modes mode ≡ Some its
 
 pub as_running : {tenant : Standing} {state : code.State} {program : Option GiottoProgram} {p : GiottoProgram} {budgets : Budgets} {grants : GrantRows} {mode time next : ℕ} {active ended : List Active} {room : ℕ} {values : List ℤ} {shares : List (Option TaskBody)} {next_tick : ℕ}
-    → standing_of budgets grants state program mode time active ended room values shares next_tick ≡ tenant → IsTenant (state_of state) program mode time next active ended values shares next_tick → state ≡ states.Running → program ≡ Some p
-    → IsRunning tenant grants p mode time next active ended values shares next_tick
-as_running {p = p} {grants = grants} {mode = mode} {time = time} {next = next} {active = active} {ended = ended} {values = values} {shares = shares} {next_tick = next_tick} view known running some =
+    → (waiting : Option Waiting) (trace : LastRecords) → standing_of budgets grants state program mode time active ended room values shares waiting trace next_tick ≡ tenant → IsTenant (state_of state) program mode time next active ended values shares next_tick → state ≡ states.Running → program ≡ Some p
+    → IsRunning tenant grants p mode time next active ended values shares waiting trace next_tick
+as_running {p = p} {grants = grants} {mode = mode} {time = time} {next = next} {active = active} {ended = ended} {values = values} {shares = shares} {next_tick = next_tick} waiting trace view known running some =
     let fits : FitsProgram p mode time next active ended values shares next_tick = subst (λ o. FitsIts o mode time next active ended values shares next_tick) some known.fits in
     let m = its_mode p mode fits.mode_there in
     record {
-      row = sym (ap (λ (t : Standing). t.row) view) ∙ (λ k. row_of grants (running k) (some k) mode time active values next_tick);
+      row = sym (ap (λ (t : Standing). t.row) view) ∙ (λ k. row_of grants (running k) (some k) mode time active values waiting trace next_tick);
       fits = fits;
       declared = all_map (IsActiveIn p next_tick) (IsActiveOf p) active (λ a is. is.declared) fits.each;
       its = m.0;
@@ -303,8 +321,8 @@ different_filter p test (x ∷ xs) h =
     others ys h = list_all-map (is_another (active_of p x)) (active_of p) (filter test ys) ∙ list_all-filter (λ y. is_another (active_of p x) (active_of p y)) test ys (sym (list_all-map (is_another (active_of p x)) (active_of p) ys) ∙ h)
 
 -- a running tenant, and a row for which it stands
-module _ (grants : GrantRows) (p : GiottoProgram) (fits : ProgramFits p) (m : ModeDeclaration) (mode time : ℕ) (items : List Active) (values : List ℤ) (count : ℕ)
-    (at : slice_get p.modes mode ≡ Some m) (completed : ActiveTask → Bool) (row : Row) (st : row_of grants states.Running (Some p) mode time items values count ≡ without_records row) where
+module _ (grants : GrantRows) (p : GiottoProgram) (fits : ProgramFits p) (m : ModeDeclaration) (mode time : ℕ) (items : List Active) (values : List ℤ) (waiting : Option Waiting) (trace : LastRecords) (count most : ℕ)
+    (at : slice_get p.modes mode ≡ Some m) (completed : ActiveTask → Bool) (row : Row) (st : row_of grants states.Running (Some p) mode time items values waiting trace count ≡ with_last most row) where
   runs : Runs row p m
   runs = record {
     state = sym (ap (λ (r : Row). r.state) st);
@@ -322,8 +340,8 @@ module _ (grants : GrantRows) (p : GiottoProgram) (fits : ProgramFits p) (m : Mo
   same_ports = ap (λ (r : Row). r.ports) st
 
   -- nothing is due
-  pub quiet_stands : IsQuietAt m time → row_of grants states.Running (Some p) mode time items values count ≡ without_records (first_half_of (unfinished_tasks completed row) row)
-  quiet_stands quiet = st ∙ sym (unchanged row p m runs completed (subst (IsQuietAt m) same_time quiet))
+  pub quiet_stands : IsQuietAt m time → row_of grants states.Running (Some p) mode time items values waiting trace count ≡ with_last most (first_half_of (unfinished_tasks completed row) row)
+  quiet_stands quiet = st ∙ ap (with_last most) (sym (unchanged row p m runs completed (subst (IsQuietAt m) same_time quiet)))
 
   module _ (es : List SlotInvocation) (each : AreEach (IsInvocation p m) m.invocations es) (all : AllByRecursion (IsActiveOf p) items) where
     abbrev left_open : SlotInvocation → Bool
@@ -334,11 +352,12 @@ module _ (grants : GrantRows) (p : GiottoProgram) (fits : ProgramFits p) (m : Mo
         (find_alike (IsInvocation p m) (is_open m time (map (active_of p) items) completed) left_open (open_alike p fits m time completed items all) m.invocations es each)
 
     -- no due task is left open
-    pub finished : find left_open es ≡ None → (ended after : List ℤ)
+    pub finished : trace.most ≡ most → find left_open es ≡ None → (ended after : List ℤ) (told : LastRecords)
         → valuation_of p ended ≡ all_ended p (flat_map (group m time (map (active_of p) items)) m.invocations) (valuation_of p values)
         → valuation_of p after ≡ all_updated m time m.updates (valuation_of p ended)
-        → row_of grants states.Running (Some p) mode time (kept time es items) after count ≡ without_records (first_half_of (unfinished_tasks completed row) row)
-    finished none ended after end_value update_value =
+        → told ≡ noted count (ends_happened p (flat_map (group m time (map (active_of p) items)) m.invocations) ++ updates_happened m time m.updates (valuation_of p ended)) trace
+        → row_of grants states.Running (Some p) mode time (kept time es items) after waiting told count ≡ with_last most (first_half_of (unfinished_tasks completed row) row)
+    finished same none ended after told end_value update_value told_value =
         let steps = goes_on row p m runs completed (by_none _ (subst (FoundAlike (IsInvocation p m) _) none found)) in
         let remaining : map (active_of p) (kept time es items) ≡ still_active (names_due row) row.active =
         sym (stay_alike p fits m time m.invocations es each items all) ∙ sym (stay m time (map (active_of p) items) m.invocations)
@@ -348,8 +367,15 @@ module _ (grants : GrantRows) (p : GiottoProgram) (fits : ProgramFits p) (m : Mo
         update_value ∙ ap (all_updated m time m.updates) end_value
         ∙ (λ k. all_updated m (same_time k) m.updates (all_ended p (flat_map (group m (same_time k) (same_active k)) m.invocations) (same_ports k)))
         ∙ ap (λ ts. all_updated m row.mode_time m.updates (all_ended p ts row.ports)) (sym (due_are row p m runs completed)) in
-        ap (λ (r : Row). record r { active = map (active_of p) (kept time es items); ports = valuation_of p after }) st
-        ∙ (λ k. record row { active = remaining k; ports = new_ports k; records = [] }) ∙ ap without_records (sym steps)
+        let dues : flat_map (group m time (map (active_of p) items)) m.invocations ≡ due_tasks row =
+        (λ k. flat_map (group m (same_time k) (same_active k)) m.invocations) ∙ sym (due_are row p m runs completed) in
+        let ports_ended : valuation_of p ended ≡ all_ended p (due_tasks row) row.ports = end_value ∙ (λ k. all_ended p (dues k) (same_ports k)) in
+        let new_records : told.records ≡ take most (with_happenings row.next_tick (ends_happened p (due_tasks row) ++ updates_happened m row.mode_time m.updates (all_ended p (due_tasks row) row.ports)) row.records) =
+        ap (λ (t : LastRecords). t.records) told_value
+        ∙ last_noted most count (ends_happened p (flat_map (group m time (map (active_of p) items)) m.invocations) ++ updates_happened m time m.updates (valuation_of p ended)) row.records trace same (ap (λ (r : Row). r.records) st)
+        ∙ (λ k. take most (with_happenings (st k).next_tick (ends_happened p (dues k) ++ updates_happened m (same_time k) m.updates (ports_ended k)) row.records)) in
+        ap (λ (r : Row). record r { active = map (active_of p) (kept time es items); ports = valuation_of p after; records = told.records }) st
+        ∙ (λ k. record row { active = remaining k; ports = new_ports k; records = new_records k }) ∙ ap (with_last most) (sym steps)
       where
         by_none : (o : Option TaskInvocation) → FoundAlike (IsInvocation p m) o None → o ≡ None
         by_none None h = refl

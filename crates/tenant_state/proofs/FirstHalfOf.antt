@@ -11,10 +11,11 @@ use Rattle.giotto_rules.specs.Declarations.{mode_named}
 use Rattle.tenant_slots.specs.Due.{is_due_at}
 use Rattle.tenant_slots.specs.inner.Due.{IsQuietAt}
 use Rattle.tenant_slots.specs.Ports.{holds}
-use Rattle.tenant_slots.specs.Updates.{all_updated}
-use Rattle.tenant_state.specs.FirstHalf.{all_ended, still_active, unfinished_tasks, due_in_mode, due_tasks, names_due, first_half_with, completed_in_mode, first_half_of, stopped_with}
+use Rattle.tenant_slots.specs.Updates.{all_updated, updated, updates_happened}
+use Rattle.tenant_trace.specs.declared.records.Happening.TheVariants as happening
+use Rattle.tenant_trace.specs.Trace.{with_happenings}
+use Rattle.tenant_state.specs.FirstHalf.{all_ended, ends_happened, still_active, unfinished_tasks, due_in_mode, due_tasks, names_due, first_half_with, completed_in_mode, first_half_of, stopped_with}
 use Rattle.tenant_state.specs.Row.{running, overrun, ActiveTask, Row, is_running_state, where_some, in_mode}
-use Rattle.tenant_state.specs.Standing.{without_records}
 use Rattle.tenant_state.proofs.DueTasks.{group, is_open, is_unfinished, names_of_tasks, open_names, none_open, none_passes, first_open}
 
 -- a row that runs in this mode of its program
@@ -60,14 +61,22 @@ module _ (row : Row) (p : GiottoProgram) (m : ModeDeclaration) (h : Runs row p m
     none_updated (u ∷ us) ports all =
         ap (λ b. all_updated m row.mode_time us (cond (b && holds u.guard ports) (with_value ports u.actuator (value_of u.value ports)) ports)) all.0 ∙ none_updated us ports all.1
 
-    pub unchanged : without_records (first_half_of (unfinished_tasks completed row) row) ≡ without_records row
+    none_happened : (us : List ActuatorUpdate) (ports : Valuation) → AllByRecursion (λ (u : ActuatorUpdate). is_due_at row.mode_time m u.frequency ≡ false) us → updates_happened m row.mode_time us ports ≡ []
+    none_happened [] ports all = refl
+    none_happened (u ∷ us) ports all =
+        ap (λ b. cond (b && holds u.guard ports) (happening.Act u.actuator (value_of u.value ports) ∷ []) [] ++ updates_happened m row.mode_time us (updated m row.mode_time u ports)) all.0
+        ∙ none_happened us (updated m row.mode_time u ports) all.1
+
+    pub unchanged : first_half_of (unfinished_tasks completed row) row ≡ row
     unchanged =
         let none = none_due m.invocations quiet.no_invocation in
         let due : due_tasks row ≡ [] = due_are ∙ none.1 in
         let same_ports : all_updated m row.mode_time m.updates (all_ended p (due_tasks row) row.ports) ≡ row.ports =
         ap (λ ts. all_updated m row.mode_time m.updates (all_ended p ts row.ports)) due ∙ none_updated m.updates row.ports quiet.no_update in
         let same_active : still_active (names_due row) row.active ≡ row.active = ap (λ ts. still_active (names_of_tasks ts) row.active) due ∙ all_stay row.active in
-        ap without_records (goes_on none.0) ∙ (λ k. record row { ports = same_ports k; active = same_active k; records = [] })
+        let nothing : ends_happened p (due_tasks row) ++ updates_happened m row.mode_time m.updates (all_ended p (due_tasks row) row.ports) ≡ [] =
+        ap (λ ts. ends_happened p ts ++ updates_happened m row.mode_time m.updates (all_ended p ts row.ports)) due ∙ none_happened m.updates row.ports quiet.no_update in
+        goes_on none.0 ∙ (λ k. record row { ports = same_ports k; active = same_active k; records = with_happenings row.next_tick (nothing k) row.records })
       where
         all_stay : (xs : List ActiveTask) → still_active [] xs ≡ xs
         all_stay [] = refl

@@ -21,14 +21,17 @@ use Rattle.tenant_slots.specs.Places.{name_of_mode}
 use Rattle.tenant_slots.specs.Readings.{Readings, reading_taken}
 use Rattle.tenant_slots.proofs.Numbered.{mode_here}
 use Rattle.tenant_state.specs.declared.tenants.Active.{Active}
+use Rattle.tenant_state.specs.declared.tenants.waiting.Waiting.{Waiting}
 use Rattle.tenant_state.specs.declared.tenants.State.TheVariants.{Running}
-use Rattle.tenant_state.specs.declared.trace.Record.{Record}
+use Rattle.tenant_trace.specs.declared.records.Record.{Record}
 use Rattle.tenant_state.specs.Row.{ActiveTask, Row, in_mode}
 use Rattle.tenant_state.specs.SecondHalf.{is_invoked, released, invoked, all_invoked, all_released, invoked_in_mode, moved_on, counted, second_half_of}
-use Rattle.tenant_state.specs.Standing.{Standing, StandsFor, most_at, most_released, without_records}
-use Rattle.tenant_state.specs.inner.Standing.{AreReleased}
+use Rattle.tenant_state.specs.Standing.{Standing, StandsFor, most_at, most_in_mode, most_released, with_last}
+use Rattle.tenant_state.specs.inner.Standing.{AreReleased, IsSettled}
 use Rattle.tenant_state.specs.Tenants.{active_of, standing_of}
 use Rattle.tenant_state.specs.inner.Tenants.{AreInvoked}
+use Rattle.tenant_state.proofs.Records.{last_noted}
+use Rattle.tenant_trace.specs.Trace.{LastRecords, with_happenings}
 use Rattle.tenant_state.proofs.SecondHalfSteps.{in_its_mode, running_half, placed, IsBehindSwitch}
 
 module _ (p : GiottoProgram) (m : ModeDeclaration) (time n : ℕ) where
@@ -66,32 +69,34 @@ module _ (p : GiottoProgram) (m : ModeDeclaration) (time n : ℕ) where
   none_due [] ports all = (refl, refl)
   none_due (i ∷ is) ports all = rw all.0 (none_due is ports all.1)
 
--- a step that is told for each list of records, as a tenant keeps none
-stands_behind : (readings : Readings) (granted : Valuation) (old new : Standing) → ((rs : List Record) → without_records (second_half_of readings granted (record old.row { records = rs })) ≡ new.row)
+-- a step that is told for each list of records, of which a tenant keeps the last
+stands_behind : (readings : Readings) (granted : Valuation) (old new : Standing) → ((rs : List Record) → old.row.records ≡ take old.tenancy.budgets.trace rs → with_last new.tenancy.budgets.trace (second_half_of readings granted (record old.row { records = rs })) ≡ new.row)
     → (row : Row) → StandsFor old row → StandsFor new (second_half_of readings granted row)
-stands_behind readings granted old new behind row stands = sym (behind row.records) ∙ (λ k. without_records (second_half_of readings granted (record (stands k) { records = row.records })))
+stands_behind readings granted old new behind row stands =
+    sym (behind row.records (ap (λ (r : Row). r.records) stands)) ∙ (λ k. with_last new.tenancy.budgets.trace (second_half_of readings granted (record (stands k) { records = row.records })))
 
 -- the ports behind the sensors' readings
 abbrev pub sensed_ports : GiottoProgram → List ℤ → Readings → Valuation → Valuation
 sensed_ports p values readings granted = with_values (valuation_of p values) (sensor_names p) (map (reading_taken readings granted) p.sensors)
 
-module _ (budgets : Budgets) (grants : GrantRows) (p : GiottoProgram) (kept : ProgramFits p) (m : ModeDeclaration) (mode time n places : ℕ) (old gone : List Active) (values : List ℤ) (shares : List (Option TaskBody)) where
+module _ (budgets : Budgets) (grants : GrantRows) (p : GiottoProgram) (kept : ProgramFits p) (m : ModeDeclaration) (mode time n places : ℕ) (old gone : List Active) (values : List ℤ) (shares : List (Option TaskBody)) (waiting : Option Waiting) (trace : LastRecords) where
   abbrev before : Standing
-  before = standing_of budgets grants Running (Some p) mode time old gone places values shares n
+  before = standing_of budgets grants Running (Some p) mode time old gone places values shares waiting trace n
 
-  abbrev after : ℕ → ℕ → ℕ → List Active → List ℤ → Standing
-  after to later room new written = standing_of budgets grants Running (Some p) to later new gone room written shares (n + 1)
+  abbrev after : ℕ → ℕ → ℕ → List Active → List ℤ → LastRecords → Standing
+  after to later room new written told = standing_of budgets grants Running (Some p) to later new gone room written shares waiting told (n + 1)
 
   module _ (at_mode : slice_get p.modes mode ≡ Some m) where
     -- the most that the instant can release
-    most_due : most_released before.row ≡ most_at p m time
-    most_due = ap (λ o. option_map_or (λ (m : ModeDeclaration). most_at p m time) o 0) (mode_here p kept mode m at_mode)
+    most_due : IsSettled before.row → most_released before.row ≡ most_at p m time
+    most_due settled = ap most_in_mode (settled before.row.records) ∙ ap (λ o. option_map_or (λ (m : ModeDeclaration). most_at p m time) o 0) (mode_here p kept mode m at_mode)
 
-    module _ (to at next : ℕ) (readings : Readings) (granted : Valuation) (given : List ℤ) (is : IsBehindSwitch p m mode time (map (active_of p) old) (sensed_ports p values readings granted) to at next given) where
-      pub room_due : most_released before.row ≤ places → (m : ModeDeclaration) → slice_get p.modes to ≡ Some m
+    module _ (to at next : ℕ) (readings : Readings) (granted : Valuation) (given : List ℤ) (told : LastRecords)
+        (is : IsBehindSwitch p m mode time (map (active_of p) old) (sensed_ports p values readings granted) to at next given n trace told) where
+      pub room_due : IsSettled before.row → most_released before.row ≤ places → (m : ModeDeclaration) → slice_get p.modes to ≡ Some m
           → length (filter (λ (i : TaskInvocation). is_due_at at m i.frequency) m.invocations) ≤ places
-      room_due room m there =
-          subst (λ (m : ModeDeclaration). length (filter (λ (i : TaskInvocation). is_due_at at m i.frequency) m.invocations) ≤ places) (some_same is.new m (sym is.there ∙ there)) (omega (arith, room, most_due, is.few))
+      room_due settled room m there =
+          subst (λ (m : ModeDeclaration). length (filter (λ (i : TaskInvocation). is_due_at at m i.frequency) m.invocations) ≤ places) (some_same is.new m (sym is.there ∙ there)) (omega (arith, room, most_due settled, is.few))
 
       module _ (period room : ℕ) (lasts : period ≡ is.new.period) (new : List Active) (written : List ℤ) (happened : AreInvoked p is.new at n (valuation_of p given) old new written) where
         abbrev news : List ActiveTask
@@ -101,25 +106,29 @@ module _ (budgets : Budgets) (grants : GrantRows) (p : GiottoProgram) (kept : Pr
         fresh = new_releases p is.new at n is.new.invocations (valuation_of p given)
 
         -- the row behind the step, where it had these records
-        row_behind : (rs : List Record)
-            → without_records (second_half_of readings granted (record before.row { records = rs })) ≡ (after to ((at + 1) % period) room new written).row
-        row_behind rs =
+        row_behind : IsSettled before.row → trace.most ≡ budgets.trace → (rs : List Record) → trace.records ≡ take budgets.trace rs
+            → with_last budgets.trace (second_half_of readings granted (record before.row { records = rs })) ≡ (after to ((at + 1) % period) room new written told).row
+        row_behind settled same rs last =
             let switch = is.step before.row rs in
             let steps : Row → Row = in_mode (λ p m row. moved_on m (invoked_in_mode p m row)) in
-            ap without_records
-            (running_half readings granted (record before.row { records = rs }) p m refl refl (mode_here p kept mode m at_mode) refl
-            ∙ ap (λ row. counted (steps row)) switch.1
-            ∙ ap counted (in_its_mode (λ p m row. moved_on m (invoked_in_mode p m row)) (placed before.row (name_of_mode p to) at (map (active_of p) old) (valuation_of p given) switch.0) p is.new refl (mode_here p kept to is.new is.there)))
-            ∙ (λ k. record (after to ((at + 1) % sym lasts k) room new written).row { active = sym happened.tasks k; ports = sym happened.ports k })
+            ap (with_last budgets.trace)
+            (running_half readings granted (record before.row { records = rs }) p m refl refl (mode_here p kept mode m at_mode) (settled rs)
+            ∙ ap (λ row. counted (steps row)) switch
+            ∙ ap counted (in_its_mode (λ p m row. moved_on m (invoked_in_mode p m row)) (placed before.row (name_of_mode p to) at (map (active_of p) old) (valuation_of p given) (with_happenings n is.happened rs)) p is.new refl (mode_here p kept to is.new is.there)))
+            ∙ (λ k. record (after to ((at + 1) % sym lasts k) room new written told).row {
+              active = sym happened.tasks k;
+              ports = sym happened.ports k;
+              records = (sym (last_noted budgets.trace n is.happened rs trace same last) ∙ ap (λ (t : LastRecords). t.records) (sym is.noted)) k;
+            })
 
         -- the step of a running tenant
-        pub half_stands : (row : Row) → StandsFor before row → StandsFor (after to ((at + 1) % period) room new written) (second_half_of readings granted row)
-        half_stands row stands = stands_behind readings granted before (after to ((at + 1) % period) room new written) row_behind row stands
+        pub half_stands : IsSettled before.row → trace.most ≡ budgets.trace → (row : Row) → StandsFor before row → StandsFor (after to ((at + 1) % period) room new written told) (second_half_of readings granted row)
+        half_stands settled same row stands = stands_behind readings granted before (after to ((at + 1) % period) room new written told) (row_behind settled same) row stands
 
         -- what it released
-        pub half_released : AreReleased before.row (after to ((at + 1) % period) room new written).row
-        half_released = let olds : List ActiveTask = map (active_of p) old in record {
+        pub half_released : IsSettled before.row → AreReleased before.row (after to ((at + 1) % period) room new written told).row
+        half_released settled = let olds : List ActiveTask = map (active_of p) old in record {
           older = ap (take (length olds)) happened.tasks ∙ take-append_seam olds news;
           newer = subst (AllByRecursion (λ (a : ActiveTask). a.release ≡ n)) (sym (ap (drop (length olds)) happened.tasks ∙ drop-append_seam olds news)) fresh;
-          few = omega (arith, ap length happened.tasks ∙ length-append olds news, few_released p is.new at n is.new.invocations (valuation_of p given), most_due, is.few);
+          few = omega (arith, ap length happened.tasks ∙ length-append olds news, few_released p is.new at n is.new.invocations (valuation_of p given), most_due settled, is.few);
         }

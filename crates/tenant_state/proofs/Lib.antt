@@ -11,11 +11,16 @@ pub mod EntryTimeRows
 pub mod FirstHalfOf
 pub mod GreatestOf
 pub mod HalfStands
+pub mod Invoked
 pub mod JobNames
+pub mod NoneDue
 pub mod Readers
 pub mod Released
 pub mod SecondHalfSteps
 pub mod Shares
+pub mod Installed
+pub mod Records
+pub mod Replaced
 pub mod Stops
 pub mod SwitchRows
 pub mod TaskEntries

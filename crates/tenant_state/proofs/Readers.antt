@@ -128,7 +128,7 @@ due_named row p m runs x =
 module _ (p : GiottoProgram) (fits : ProgramFits p) (m : ModeDeclaration) (mode time : ℕ) (items : List Active) (at : slice_get p.modes mode ≡ Some m) (x : Name) (grants : GrantRows) where
   -- its row, as far as it tells what is due
   abbrev row : Row
-  row = (standing_of no_budgets grants states.Running (Some p) mode time items [] 0 [] [] 0).row
+  row = (standing_of no_budgets grants states.Running (Some p) mode time items [] 0 [] [] None (record { most = 0; records = [] }) 0).row
 
   runs : Runs row p m
   runs = record { state = refl; program = refl; mode = mode_here p fits mode m at }

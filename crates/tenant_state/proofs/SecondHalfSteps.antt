@@ -18,8 +18,11 @@ use Rattle.tenant_slots.specs.Ports.{holds}
 use Rattle.tenant_slots.specs.Readings.{Readings}
 use Rattle.tenant_slots.proofs.Numbered.{mode_fits_at}
 use Rattle.tenant_state.specs.declared.tenants.switches.Entry.{Entry}
-use Rattle.tenant_state.specs.declared.trace.Happening.TheVariants as happening
-use Rattle.tenant_state.specs.declared.trace.Record.{Record}
+use Rattle.tenant_trace.specs.declared.records.Happening.TheVariants as happening
+use Rattle.tenant_trace.specs.declared.records.Happening.{Happening}
+use Rattle.tenant_trace.specs.declared.records.Record.{Record}
+use Rattle.tenant_trace.specs.Trace.{LastRecords, with_happenings}
+use Rattle.tenant_trace.specs.inner.Noted.{noted}
 use Rattle.tenant_state.specs.Row.{running, ActiveTask, Row, is_running_state, where_some, in_mode}
 use Rattle.tenant_state.specs.SecondHalf.{installed, replaced_if_due, sensed, time_before_end, entry_time, entered, switched, invoked_in_mode, moved_on, counted, second_half_running, second_half_of}
 use Rattle.giotto_check.specs.Costs.{greatest}
@@ -34,17 +37,17 @@ pub in_its_mode : (step : GiottoProgram → ModeDeclaration → Row → Row) (ro
     → in_mode step row ≡ step p m row
 in_its_mode step row p m e f = ap (λ o. where_some (λ p. where_some (step p) (mode_named p row.mode)) o row) e ∙ ap (λ o. where_some (step p) o row) f
 
-none_waits : (row : Row) → row.waiting ≡ None → replaced_if_due row ≡ row
+pub none_waits : (row : Row) → row.waiting ≡ None → replaced_if_due row ≡ row
 none_waits row e = ap (λ o. cond (row.mode_time == 0) (where_some installed o row) row) e ∙ cond-same (row.mode_time == 0) row
 
 -- up to the switch
-pub running_half : (readings : Readings) (granted : Valuation) (row : Row) (p : GiottoProgram) (m : ModeDeclaration) → row.state ≡ running → row.program ≡ Some p → mode_named p row.mode ≡ Some m → row.waiting ≡ None
+pub running_half : (readings : Readings) (granted : Valuation) (row : Row) (p : GiottoProgram) (m : ModeDeclaration) → row.state ≡ running → row.program ≡ Some p → mode_named p row.mode ≡ Some m → replaced_if_due row ≡ row
     → second_half_of readings granted row ≡ counted (in_mode (λ p m row. moved_on m (invoked_in_mode p m row)) (switched p m (sensed readings granted p row)))
-running_half readings granted row p m runs program mode waits =
+running_half readings granted row p m runs program mode settled =
     let first : Row → Row = in_mode (λ p m row. switched p m (sensed readings granted p row)) in
     let second : Row → Row = in_mode (λ p m row. moved_on m (invoked_in_mode p m row)) in
     ap (λ b. counted (cond b (second_half_running readings granted row) row)) (ap is_running_state runs)
-    ∙ ap (λ r. counted (second (first r))) (none_waits row waits)
+    ∙ ap (λ r. counted (second (first r))) settled
     ∙ ap (λ r. counted (second r)) (in_its_mode (λ p m row. switched p m (sensed readings granted p row)) row p m program mode)
 
 -- a row in this mode, with these active tasks, ports and records
@@ -52,14 +55,17 @@ abbrev pub placed : Row → Name → ℕ → List ActiveTask → Valuation → L
 placed row x time active ports records = record row { mode = x; mode_time = time; active = active; ports = ports; records = records }
 
 -- the mode at place `to` stands behind the switch of mode m: it was entered, or it is m, and no switch was taken
-pub record IsBehindSwitch (p : GiottoProgram) (m : ModeDeclaration) (mode time : ℕ) (active : List ActiveTask) (ports : Valuation) (to at next : ℕ) (values : List ℤ) : Type 0 where
+pub record IsBehindSwitch (p : GiottoProgram) (m : ModeDeclaration) (mode time : ℕ) (active : List ActiveTask) (ports : Valuation) (to at next : ℕ) (values : List ℤ) (n : ℕ) (trace told : LastRecords) : Type 0 where
   pub new : ModeDeclaration
   pub there : slice_get p.modes to ≡ Some new
   pub quiet : (m : ModeDeclaration) → slice_get p.modes to ≡ Some m → IsQuietUntil m at next
   pub short : at < 2 ^ 32
   pub few : length (filter (λ (i : TaskInvocation). is_due_at at new i.frequency) new.invocations) ≤ most_at p m time
+  -- what the trace records of it
+  pub happened : List Happening
+  pub noted : told ≡ noted n happened trace
   pub step : (row : Row) (rs : List Record)
-      → (more : List Record) × (switched p m (placed row (name_of_mode p mode) time active ports rs) ≡ placed row (name_of_mode p to) at active (valuation_of p values) more)
+      → switched p m (placed row (name_of_mode p mode) time active ports rs) ≡ placed row (name_of_mode p to) at active (valuation_of p values) (with_happenings row.next_tick happened rs)
 
 -- what passes both tests first is no more than the greatest of what passes one
 found_within : {X : Type 0} (f : X → ℕ) (one other : X → Bool) (xs : List X) (x : X) → find (λ y. one y && other y) xs ≡ Some x → f x ≤ greatest (map f (filter one xs))
@@ -87,21 +93,21 @@ before_end from target time (k ∷ ks) = omega arith
 entry_within : (from target : ModeDeclaration) (time : ℕ) (active : List ActiveTask) → entry_time from target time active ≤ target.period
 entry_within from target time active = before_end from target time (filter_map (λ (a : ActiveTask). period_of_task from a.task) active)
 
-module _ (p : GiottoProgram) (kept : ProgramFits p) (m : ModeDeclaration) (mode time next : ℕ) (active : List ActiveTask) (ports : Valuation) (values : List ℤ) where
+module _ (p : GiottoProgram) (kept : ProgramFits p) (m : ModeDeclaration) (mode time next : ℕ) (active : List ActiveTask) (ports : Valuation) (values : List ℤ) (n : ℕ) (trace : LastRecords) where
   -- no switch is taken
-  pub none_taken : (to at later : ℕ) → to ≡ mode → at ≡ time → later ≡ next → slice_get p.modes mode ≡ Some m → ((m : ModeDeclaration) → slice_get p.modes mode ≡ Some m → IsQuietUntil m time next) → time < 2 ^ 32 → IsSwitched p m time active ports None values
-      → IsBehindSwitch p m mode time active ports to at later values
-  none_taken to at later same_mode same_time same_next here quiet short none = rw (same_mode, same_time, same_next) (record {
+  pub none_taken : (to at later : ℕ) (told : LastRecords) → told ≡ trace → to ≡ mode → at ≡ time → later ≡ next → slice_get p.modes mode ≡ Some m → ((m : ModeDeclaration) → slice_get p.modes mode ≡ Some m → IsQuietUntil m time next) → time < 2 ^ 32 → IsSwitched p m time active ports None values
+      → IsBehindSwitch p m mode time active ports to at later values n trace told
+  none_taken to at later told quiet_trace same_mode same_time same_next here quiet short none = rw (same_mode, same_time, same_next) (record {
     new = m;
     there = here;
     quiet = quiet;
     short = short;
     few = le-max_left _ _;
-    step = λ row rs. (
-      rs,
-      ap (λ o. where_some (λ s. where_some (entered m s) (mode_named p s.target)) o (placed row (name_of_mode p mode) time active ports rs)) none.0
-          ∙ (λ k. placed row (name_of_mode p mode) time active (sym none.1 k) rs),
-    );
+    happened = [];
+    noted = quiet_trace;
+    step = λ row rs.
+        ap (λ o. where_some (λ s. where_some (entered m s) (mode_named p s.target)) o (placed row (name_of_mode p mode) time active ports rs)) none.0
+        ∙ (λ k. placed row (name_of_mode p mode) time active (sym none.1 k) rs);
   })
 
   -- the target of a switch is found by its name
@@ -120,19 +126,20 @@ module _ (p : GiottoProgram) (kept : ProgramFits p) (m : ModeDeclaration) (mode 
       omega (arith, mine, among, others, le-max_right (length (filter (λ (i : TaskInvocation). is_due_at time m i.frequency) m.invocations)) (greatest (map (λ (s : ModeSwitch). invoked_in p s.target) (filter (λ (s : ModeSwitch). is_due_at time m s.frequency) m.switches))))
 
   -- a switch is taken
-  pub one_taken : (entry : Entry) (to at later : ℕ) → to ≡ entry.mode → at ≡ entry.time → later ≡ 0 → IsEntered p m time active ports entry values → IsBehindSwitch p m mode time active ports to at later values
-  one_taken entry to at later same_mode same_time same_next is = rw (same_mode, same_time, same_next) (record {
+  pub one_taken : (entry : Entry) (to at later : ℕ) (told : LastRecords) → told ≡ noted n (happening.Mode (name_of_mode p entry.mode) ∷ []) trace → to ≡ entry.mode → at ≡ entry.time → later ≡ 0 → IsEntered p m time active ports entry values → IsBehindSwitch p m mode time active ports to at later values n trace told
+  one_taken entry to at later told told_mode same_mode same_time same_next is = rw (same_mode, same_time, same_next) (record {
     new = is.target;
     there = is.there;
     quiet = λ m there t from before. absurd (omega (arith, before));
     short = omega (arith, is.begins, entry_within m is.target time active, (mode_fits_at p kept entry.mode is.target is.there).short);
     few = few_there entry is;
-    step = λ row rs. let more : List Record = record { tick = row.next_tick; happening = happening.Mode is.switch.target } ∷ rs in (
-      more,
-      ap (λ o. where_some (λ s. where_some (entered m s) (mode_named p s.target)) o (placed row (name_of_mode p mode) time active ports rs)) is.taken
-          ∙ ap (λ o. where_some (entered m is.switch) o (placed row (name_of_mode p mode) time active ports rs)) is.named
-          ∙ (λ k. placed row (sym (target_named entry is) k) (sym is.begins k) active (sym is.given k) more),
-    );
+    happened = happening.Mode is.switch.target ∷ [];
+    noted = told_mode ∙ ap (λ x. noted n (happening.Mode x ∷ []) trace) (target_named entry is);
+    step = λ row rs.
+        let more : List Record = record { tick = row.next_tick; happening = happening.Mode is.switch.target } ∷ rs in
+        ap (λ o. where_some (λ s. where_some (entered m s) (mode_named p s.target)) o (placed row (name_of_mode p mode) time active ports rs)) is.taken
+        ∙ ap (λ o. where_some (entered m is.switch) o (placed row (name_of_mode p mode) time active ports rs)) is.named
+        ∙ (λ k. placed row (sym (target_named entry is) k) (sym is.begins k) active (sym is.given k) more);
   })
 
 -- the entries of an instant: those of older instants are of other numbers

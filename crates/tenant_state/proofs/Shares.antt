@@ -27,12 +27,16 @@ use Rattle.tenant_slots.proofs.Numbered.{mode_here}
 use Rattle.tenant_state.proofs.DueTasks.{none_passes}
 use Rattle.tenant_state.proofs.GreatestOf.{greatest_more}
 use Rattle.tenant_state.proofs.TenantFacts.{body_of_task}
+use Rattle.tenant_trace.specs.Trace.{LastRecords}
+use Rattle.tenant_state.specs.inner.Standing.{IsSettled}
+use Rattle.tenant_state.specs.Row.{Row}
 use Rattle.tenant_grants.specs.Grants.{GrantRows}
 use Rattle.rig_config.specs.Roster.{no_budgets}
 use Rattle.tenant_state.specs.declared.tenants.Active.{Active}
+use Rattle.tenant_state.specs.declared.tenants.waiting.Waiting.{Waiting}
 use Rattle.tenant_state.specs.declared.tenants.State as code
 use Rattle.tenant_state.specs.declared.tenants.State.TheVariants.{Running}
-use Rattle.tenant_state.specs.Standing.{invoked_in, most_at, most_released}
+use Rattle.tenant_state.specs.Standing.{invoked_in, most_at, most_released, most_in_mode}
 use Rattle.tenant_state.specs.Tenants.{standing_of, state_of}
 use Rattle.tenant_state.specs.inner.Tenants.{IsShareOf, FitsProgram, FitsIts, IsTenant}
 
@@ -115,18 +119,23 @@ module _ (p : GiottoProgram) (m : ModeDeclaration) (time most : ℕ) (s : ModeSw
   stays due = ap (max most) (sym (entered_by false due))
 
 -- how many tasks a running tenant's next instant can release
-module _ (grants : GrantRows) (state : code.State) (program : Option GiottoProgram) (mode time next : ℕ) (active ended : List Active) (values : List ℤ) (shares : List (Option TaskBody)) (count places : ℕ) (p : GiottoProgram)
+module _ (grants : GrantRows) (waiting : Option Waiting) (trace : LastRecords) (state : code.State) (program : Option GiottoProgram) (mode time next : ℕ) (active ended : List Active) (values : List ℤ) (shares : List (Option TaskBody)) (count places : ℕ) (p : GiottoProgram)
     (known : IsTenant (state_of state) program mode time next active ended values shares count) (runs : state ≡ Running) (has : program ≡ Some p) (fits : ProgramFits p) where
   its : FitsProgram p mode time next active ended values shares count
   its = subst (λ o. FitsIts o mode time next active ended values shares count) has known.fits
 
-  pub most_due : (n : ℕ) → ((m : ModeDeclaration) → slice_get p.modes mode ≡ Some m → n ≡ most_at p m time) → n ≡ most_released (standing_of no_budgets grants state program mode time active ended places values shares count).row
-  most_due n counted = rw (runs, has) (⊎_elim
-      (λ found. counted found.0 found.2 ∙ ap (λ o. option_map_or (λ (m : ModeDeclaration). most_at p m time) o 0) (sym (mode_here p fits mode found.0 found.2)))
-      (λ past. absurd (omega (arith, past.0, its.mode_there))) (slice_get_cases p.modes mode).1)
+  abbrev its_row : Row
+  its_row = (standing_of no_budgets grants state program mode time active ended places values shares waiting trace count).row
 
-  pub none_due : time < next → 0 ≡ most_released (standing_of no_budgets grants state program mode time active ended places values shares count).row
-  none_due lt = most_due 0 (λ m at.
+  pub most_due : IsSettled its_row → (n : ℕ) → ((m : ModeDeclaration) → slice_get p.modes mode ≡ Some m → n ≡ most_at p m time) → n ≡ most_released its_row
+  most_due settled n counted =
+      let stays = rw (runs, has) at settled in
+      rw (runs, has) (⊎_elim
+      (λ found. counted found.0 found.2 ∙ ap (λ o. option_map_or (λ (m : ModeDeclaration). most_at p m time) o 0) (sym (mode_here p fits mode found.0 found.2)))
+      (λ past. absurd (omega (arith, past.0, its.mode_there))) (slice_get_cases p.modes mode).1 ∙ ap most_in_mode (sym (stays trace.records)))
+
+  pub none_due : IsSettled its_row → time < next → 0 ≡ most_released its_row
+  none_due settled lt = most_due settled 0 (λ m at.
       let quiet = its.quiet m at time (omega arith) lt in
       sym (ap (λ is. max (length is) (most_entered p m time m.switches)) (none_passes (λ (i : TaskInvocation). is_due_at time m i.frequency) m.invocations quiet.no_invocation)
       ∙ ap (λ ss. max 0 (most_invoked p ss)) (none_passes (λ (s : ModeSwitch). is_due_at time m s.frequency) m.switches quiet.no_switch)))

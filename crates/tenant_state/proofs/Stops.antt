@@ -1,5 +1,5 @@
 -- What a stop leaves, over what a tenant's code keeps.
-use Rattle.std.proofs.Common.{◌≡◌, ℕ, ℤ, List, [], Option, Some, None, refl, sym, ap, ◌∙◌}
+use Rattle.std.proofs.Common.{◌≡◌, ℕ, ℤ, List, [], ◌∷◌, take, Option, Some, None, refl, sym, ap, ◌∙◌}
 use Rattle.std.specs.Option.{option_map_or}
 use Rattle.giotto_tasks.specs.Names.{Valuation}
 use Rattle.giotto_text.specs.Program.{GiottoProgram}
@@ -7,13 +7,17 @@ use Rattle.rig_config.specs.Roster.{no_budgets}
 use Rattle.tenant_grants.specs.Grants.{GrantRows}
 use Rattle.tenant_slots.specs.Ports.{actuators_reset}
 use Rattle.tenant_state.specs.declared.tenants.Active.{Active}
+use Rattle.tenant_state.specs.declared.tenants.waiting.Waiting.{Waiting}
 use Rattle.tenant_state.specs.declared.tenants.Reason.{Reason}
 use Rattle.tenant_state.specs.declared.tenants.State as code
 use Rattle.tenant_state.specs.declared.tenants.State.TheVariants as states
 use Rattle.tenant_state.specs.FirstHalf.{happening_of, stopped_with}
 use Rattle.tenant_state.specs.Row.{StopReason, stopped, Row, recorded}
-use Rattle.tenant_state.specs.Standing.{without_records}
+use Rattle.tenant_state.specs.Standing.{with_last}
 use Rattle.tenant_state.specs.Tenants.{ports_in, reason_of, standing_of, tasks_in}
+use Rattle.tenant_state.proofs.Records.{last_noted}
+use Rattle.tenant_trace.specs.Trace.{LastRecords}
+use Rattle.tenant_trace.specs.inner.Noted.{noted}
 
 -- the ports behind a stop; as they are where there is no program
 abbrev pub reset_in : Option GiottoProgram → Valuation → Valuation
@@ -36,13 +40,13 @@ none_active None = refl
 none_active (Some p) = refl
 
 -- the row that a tenant's fields stand for
-abbrev pub row_of : GrantRows → code.State → Option GiottoProgram → ℕ → ℕ → List Active → List ℤ → ℕ → Row
-row_of grants state program mode time active values count = (standing_of no_budgets grants state program mode time active [] 0 values [] count).row
+abbrev pub row_of : GrantRows → code.State → Option GiottoProgram → ℕ → ℕ → List Active → List ℤ → Option Waiting → LastRecords → ℕ → Row
+row_of grants state program mode time active values waiting trace count = (standing_of no_budgets grants state program mode time active [] 0 values [] waiting trace count).row
 
-pub stands_stopped : (grants : GrantRows) (state : code.State) (program : Option GiottoProgram) (mode time : ℕ) (active : List Active) (values : List ℤ) (count : ℕ) (row : Row) (reason : Reason) (new : List ℤ)
-    → row_of grants state program mode time active values count ≡ without_records row → ports_in program new ≡ reset_in program (ports_in program values)
-    → row_of grants (states.Stopped reason) program mode time [] new count ≡ without_records (stopped_with (reason_of reason) row)
-stands_stopped grants state program mode time active values count row reason new stands reset =
+pub stands_stopped : (grants : GrantRows) (state : code.State) (program : Option GiottoProgram) (mode time : ℕ) (active : List Active) (values : List ℤ) (waiting : Option Waiting) (trace : LastRecords) (count most : ℕ) (row : Row) (reason : Reason) (new : List ℤ)
+    → trace.most ≡ most → row_of grants state program mode time active values waiting trace count ≡ with_last most row → ports_in program new ≡ reset_in program (ports_in program values)
+    → row_of grants (states.Stopped reason) program mode time [] new None (noted count (happening_of (reason_of reason) ∷ []) trace) count ≡ with_last most (stopped_with (reason_of reason) row)
+stands_stopped grants state program mode time active values waiting trace count most row reason new same stands reset =
     (λ k. record {
       state = stopped (reason_of reason);
       program = (stands k).program;
@@ -53,7 +57,8 @@ stands_stopped grants state program mode time active values count row reason new
       offers = (stands k).offers;
       binds = (stands k).binds;
       waiting = None;
-      records = [];
+      records = (last_noted most count (happening_of (reason_of reason) ∷ []) row.records trace same (ap (λ (r : Row). r.records) stands)
+          ∙ ap (λ (r : Row). take most (record { tick = r.next_tick; happening = happening_of (reason_of reason) } ∷ row.records)) stands) k;
       next_tick = (stands k).next_tick;
     })
-    ∙ ap without_records (sym (is_stopped (reason_of reason) row))
+    ∙ ap (with_last most) (sym (is_stopped (reason_of reason) row))

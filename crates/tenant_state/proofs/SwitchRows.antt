@@ -7,7 +7,7 @@ use Rattle.giotto_tasks.specs.declared.operators.BinaryOperator.TheVariants.{Gre
 use Rattle.giotto_text.specs.Parsing.{parsed}
 use Rattle.giotto_text.specs.Program.{from_line, GiottoProgram, TaskInvocation}
 use Rattle.giotto_rules.specs.Rules.{first_broken_rule}
-use Rattle.tenant_state.specs.declared.trace.Happening.TheVariants as happening
+use Rattle.tenant_trace.specs.declared.records.Happening.TheVariants as happening
 use Rattle.tenant_state.specs.Row.{ActiveTask, Row, running, empty_row}
 use Rattle.tenant_state.specs.SecondHalf.{second_half_of}
 

@@ -20,24 +20,27 @@ use Rattle.tenant_slots.specs.inner.Due.{IsQuietUntil}
 use Rattle.tenant_slots.specs.Places.{name_of_task}
 use Rattle.tenant_slots.proofs.Numbered.{mode_fits_at}
 use Rattle.tenant_state.specs.declared.tenants.Active.{Active}
+use Rattle.tenant_state.specs.declared.tenants.waiting.Waiting.{Waiting}
 use Rattle.tenant_state.specs.declared.tenants.State as code
-use Rattle.tenant_state.specs.declared.tenants.State.TheVariants.{Running}
 use Rattle.tenant_state.specs.Jobs.{job_in, released_at}
 use Rattle.tenant_state.specs.Row.{running, ActiveTask, Row}
 use Rattle.tenant_state.specs.SecondHalf.{released, all_released}
 use Rattle.tenant_state.specs.Standing.{is_another, all_different_releases, Standing, most_released}
+use Rattle.tenant_state.specs.inner.Invoked.{IsInvokedIn}
 use Rattle.tenant_state.specs.inner.Standing.{AreReleased}
 use Rattle.rig_config.specs.declared.Budgets.{Budgets}
 use Rattle.tenant_grants.specs.Grants.{GrantRows, no_rows}
 use Rattle.tenant_state.specs.Tenants.{active_of, tasks_in, standing_of, state_of}
 use Rattle.tenant_state.specs.inner.Tenants.{AreInvoked, IsActiveOf, IsActiveIn, FitsIts, IsTenant}
 use Rattle.tenant_state.proofs.AwaitedTasks.{all_drop, different_drop}
+use Rattle.tenant_trace.specs.Trace.{LastRecords}
 use Rattle.tenant_state.proofs.HalfStands.{released_by, new_releases}
+use Rattle.tenant_state.proofs.Invoked.{invoked_behind}
 use Rattle.tenant_state.proofs.SecondHalfSteps.{those_released}
-use Rattle.tenant_state.proofs.TenantFacts.{known_of}
+use Rattle.tenant_state.proofs.TenantFacts.{early_of}
 use Rattle.giotto_tasks.proofs.TestLemmas.{and_true, and_false, not_either}
 use Rattle.giotto_tasks.proofs.NameLemmas.{same_name_is, same_name_self}
-use Rattle.giotto_tasks.proofs.ListLemmas.{all_wider, all_map, all_that, find_passes}
+use Rattle.giotto_tasks.proofs.ListLemmas.{all_wider, all_map, all_that, find_passes, some_same}
 
 other_by_release : (a b : ActiveTask) → (a.release ≡ b.release → ⊥) → is_another a b ≡ true
 other_by_release a b apart = ap not (ap (λ same. same_name a.task b.task && same) (ne_eqb a.release b.release apart) ∙ and_false _)
@@ -93,21 +96,23 @@ module _ (p : GiottoProgram) (kept : ProgramFits p) (mode : ℕ) where
     -- an instant at which the mode's tasks are released, whatever mode stood before it
     pub tenant_behind : (from before time next since later period n : ℕ) (ports : Valuation) (old new gone : List Active) (values written : List ℤ) (shares : List (Option TaskBody)) → period ≡ m.period → IsTenant running (Some p) from before since old gone values shares n
         → AreInvoked p m time n ports old new written → ((o : ModeDeclaration) → slice_get p.modes mode ≡ Some o → IsQuietUntil o time next) → ((o : ModeDeclaration) → slice_get p.modes mode ≡ Some o → IsQuietUntil o time next → IsQuietUntil o ((time + 1) % period) later)
+        → AllByRecursion (IsInvokedIn p m) old
         → IsTenant running (Some p) mode ((time + 1) % period) later new gone written shares (n + 1)
-    tenant_behind from before time next since later period n ports old new gone values written shares lasts is ran now quiet =
+    tenant_behind from before time next since later period n ports old new gone values written shares lasts is ran now quiet invoked =
         let fits = mode_fits_at p kept mode m at in
         let below = mod_below (time + 1) period (omega (arith, lasts, fits.positive)) in
         record {
           short_time = omega (arith, below, lasts, fits.short);
           rests = λ e. absurd (false≢true (sym e));
           different = ap all_different_releases ran.tasks
-              ∙ other_joined n (map (active_of p) old) (all_released p m time n m.invocations ports) (known_of (no_rows (record { place = 0; roster = []; most_offers = 0; most_binds = 0 })) from before since old gone values shares n Running (Some p) is).early (new_releases p m time n m.invocations ports)
+              ∙ other_joined n (map (active_of p) old) (all_released p m time n m.invocations ports) (early_of (no_rows (record { place = 0; roster = []; most_offers = 0; most_binds = 0 })) from before since old gone values shares n (Some p) is.fits) (new_releases p m time n m.invocations ports)
               is.different (released_other p m time n m.invocations ports fits.tasks_once);
           fits = record {
             long = ran.long;
             mode_there = slice_get_within p.modes mode m at;
             quiet = λ o there. quiet o there (now o there);
             each = ran.each;
+            invoked = λ o there. subst (λ m. AllByRecursion (IsInvokedIn p m) new) (some_same m o (sym at ∙ there)) (invoked_behind p m time n ports old new written ran invoked);
             each_ended = is.fits.each_ended;
             share_each = is.fits.share_each;
           };
@@ -166,13 +171,13 @@ active_long (Some p) mode time next active gone values shares n fits = length-ma
 
 -- as the code has them
 pub are_new : {o q : Option GiottoProgram} {mode time next places n to at later room m : ℕ} {old items gone ended : List Active} {values written : List ℤ} {shares others : List (Option TaskBody)} {budgets budgets_behind : Budgets} {grants grants_behind : GrantRows}
-    (p : GiottoProgram) (tenant : ℕ) (before after : Standing) (s t : code.State)
-    → IsTenant (state_of s) o mode time next old gone values shares n → standing_of budgets grants s o mode time old gone places values shares n ≡ before
-    → IsTenant (state_of t) q to at later items ended written others m → standing_of budgets_behind grants_behind t q to at items ended room written others m ≡ after
+    (waiting later_waiting : Option Waiting) (trace told : LastRecords) (p : GiottoProgram) (tenant : ℕ) (before after : Standing) (s t : code.State)
+    → IsTenant (state_of s) o mode time next old gone values shares n → standing_of budgets grants s o mode time old gone places values shares waiting trace n ≡ before
+    → IsTenant (state_of t) q to at later items ended written others m → standing_of budgets_behind grants_behind t q to at items ended room written others later_waiting told m ≡ after
     → q ≡ Some p → AreReleased before.row after.row → (k : ℕ) (xs : List Active) → k ≡ length old → xs ≡ items → AreNew p tenant before.row after.row (take (length xs - k) (drop k xs))
-are_new {o} {q} {mode} {time} {next} {places} {n} {to} {at} {later} {room} {m} {old} {items} {gone} {ended} {values} {written} {shares} {others} {grants = grants} p tenant before after s t known view known_after view_after program released k xs long same =
+are_new {o} {q} {mode} {time} {next} {places} {n} {to} {at} {later} {room} {m} {old} {items} {gone} {ended} {values} {written} {shares} {others} {grants = grants} waiting later_waiting trace told p tenant before after s t known view known_after view_after program released k xs long same =
     let is : IsTenant (state_of t) (Some p) to at later items ended written others m = subst (λ o. IsTenant (state_of t) o to at later items ended written others m) program known_after in
-    let early = (known_of grants mode time next old gone values shares n s o known).early in
+    let early = early_of grants mode time next old gone values shares n o known.fits in
     let olds : length before.row.active ≡ k = ap (λ (b : Standing). length b.row.active) (sym view) ∙ active_long o mode time next old gone values shares n known.fits ∙ sym long in
     subst (λ news. AreNew p tenant before.row after.row news) (ap (λ i. drop i items) olds ∙ ap (drop k) (sym same) ∙ sym (take_rest xs k))
     (new_tasks p tenant m before.row after.row items released (subst (λ (b : Standing). AllByRecursion (λ (a : ActiveTask). a.release < b.row.next_tick) b.row.active) view early)

@@ -3,6 +3,7 @@ use Rattle.std.proofs.Common.{◌≡◌, ℕ, ℤ, List, [], ◌∷◌, map, Opt
 use Rattle.giotto_tasks.specs.Syntax.{TaskBody}
 use Rattle.giotto_text.specs.Program.{GiottoProgram, TaskDeclaration}
 use Rattle.tenant_state.specs.declared.tenants.Active.{Active}
+use Rattle.tenant_state.specs.declared.tenants.waiting.Waiting.{Waiting}
 use Rattle.tenant_state.specs.declared.tenants.State as code
 use Rattle.tenant_state.specs.Commands.{at_beginning}
 use Rattle.giotto_text.specs.declared.programs.Task.{Task}
@@ -13,16 +14,17 @@ use Rattle.tenant_grants.specs.Grants.{GrantRows}
 use Rattle.tenant_slots.specs.Places.{name_of_mode}
 use Rattle.tenant_slots.specs.Ports.{initial_ports}
 use Rattle.tenant_state.specs.Row.{Row}
-use Rattle.tenant_state.specs.Standing.{without_records}
+use Rattle.tenant_state.specs.Standing.{with_last}
 use Rattle.tenant_state.specs.Tenants.{state_of}
 use Rattle.tenant_state.proofs.Stops.{row_of}
+use Rattle.tenant_trace.specs.Trace.{LastRecords}
 use Rattle.tenant_state.specs.inner.Tenants.{IsShareOf}
 
 -- what stands after a program was put at its beginning
-pub stands_at_beginning : (grants : GrantRows) (state : code.State) (program : Option GiottoProgram) (mode time : ℕ) (active : List Active) (values : List ℤ) (count : ℕ) (row : Row) (next : code.State) (p : GiottoProgram) (start : ℕ) (new : List ℤ)
-    → row_of grants state program mode time active values count ≡ without_records row → name_of_mode p start ≡ p.start → valuation_of p new ≡ initial_ports p
-    → row_of grants next (Some p) start 0 [] new count ≡ without_records (at_beginning (state_of next) p row)
-stands_at_beginning grants state program mode time active values count row next p start new stands starts initial = λ k. record {
+pub stands_at_beginning : (grants : GrantRows) (state : code.State) (program : Option GiottoProgram) (mode time : ℕ) (active : List Active) (values : List ℤ) (waiting : Option Waiting) (trace : LastRecords) (count most : ℕ) (row : Row) (next : code.State) (p : GiottoProgram) (start : ℕ) (new : List ℤ)
+    → row_of grants state program mode time active values waiting trace count ≡ with_last most row → name_of_mode p start ≡ p.start → valuation_of p new ≡ initial_ports p
+    → row_of grants next (Some p) start 0 [] new None trace count ≡ with_last most (at_beginning (state_of next) p row)
+stands_at_beginning grants state program mode time active values waiting trace count most row next p start new stands starts initial = λ k. record {
   state = state_of next;
   program = Some p;
   mode = starts k;
@@ -32,7 +34,7 @@ stands_at_beginning grants state program mode time active values count row next 
   offers = (stands k).offers;
   binds = (stands k).binds;
   waiting = None;
-  records = [];
+  records = (stands k).records;
   next_tick = (stands k).next_tick;
 }
 

@@ -8,13 +8,15 @@ use Rattle.giotto_text.specs.Program.{GiottoProgram, body_of}
 use Rattle.giotto_text.specs.ProgramTrees as trees
 use Rattle.giotto_text.specs.declared.programs.Task.{Task}
 use Rattle.tenant_grants.specs.Grants.{GrantRows}
-use Rattle.rig_config.specs.Roster.{no_budgets}
+use Rattle.rig_config.specs.declared.Budgets.{Budgets}
+use Rattle.tenant_trace.specs.Trace.{LastRecords}
 use Rattle.tenant_state.specs.declared.tenants.Active.{Active}
+use Rattle.tenant_state.specs.declared.tenants.waiting.Waiting.{Waiting}
 use Rattle.tenant_state.specs.declared.tenants.State as code
 use Rattle.tenant_state.specs.Row.{ActiveTask}
 use Rattle.tenant_state.specs.Standing.{IsKnown}
 use Rattle.tenant_state.specs.Tenants.{state_of, active_of, tasks_in, standing_of}
-use Rattle.tenant_state.specs.inner.Tenants.{IsActiveIn, FitsIts, IsTenant}
+use Rattle.tenant_state.specs.inner.Tenants.{IsActiveIn, FitsIts, IsTenant, IsTraceOf}
 use Rattle.giotto_tasks.proofs.ListLemmas.{all_map, all_mapped}
 
 abbrev pub AreEarly : ℕ → List ActiveTask → Type 0
@@ -31,15 +33,15 @@ none_stand p [] e = refl
 none_stand p (a ∷ tasks) e = absurd (omega (arith, ap length e))
 
 module _ (grants : GrantRows) (mode time next : ℕ) (active ended : List Active) (values : List ℤ) (shares : List (Option TaskBody)) (count : ℕ) where
-  early_of : (o : Option GiottoProgram) → FitsIts o mode time next active ended values shares count → AreEarly count (tasks_in o active)
+  pub early_of : (o : Option GiottoProgram) → FitsIts o mode time next active ended values shares count → AreEarly count (tasks_in o active)
   early_of None fits = tt
   early_of (Some p) fits = all_mapped _ (active_of p) active (all_map (IsActiveIn p count) _ active (λ a is. is.early) fits.each)
 
   pub known_of : (state : code.State) (o : Option GiottoProgram) → IsTenant (state_of state) o mode time next active ended values shares count
-      → IsKnown (standing_of no_budgets grants state o mode time active ended 0 values shares count).row
-  known_of state o known = record {
-    no_records = refl;
-    none_waits = refl;
+      → (budgets : Budgets) (waiting : Option Waiting) (trace : LastRecords) → IsTraceOf budgets.trace trace
+      → IsKnown (record { owner = grants.owner; budgets = budgets }) (standing_of budgets grants state o mode time active ended 0 values shares waiting trace count).row
+  known_of state o known budgets waiting trace kept = record {
+    few_records = kept.few;
     tasks = λ e. ap (λ o. tasks_in o active) e;
     rests = λ e. ap (tasks_in o) (known.rests e) ∙ none_in o;
     early = early_of o known.fits;

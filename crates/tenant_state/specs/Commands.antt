@@ -1,21 +1,23 @@
 -- What a command does, and its reply. A refusal changes nothing; the first that applies is given.
-use Rattle.std.specs.Prelude.{ℕ, length, Bool, true, false, if◌then◌else◌, ℤ, [], map, Option, Some, None, is_some, Result, Ok, Err}
+use Rattle.std.specs.Prelude.{ℕ, length, reverse, take, Bool, true, false, nat_lt, if◌then◌else◌, ℤ, [], map, Option, Some, None, is_some, Result, Ok, Err}
 use Rattle.giotto_text.specs.Program.{GiottoProgram}
 use Rattle.rig_config.specs.declared.Budgets.{Budgets}
 use Rattle.tenant_exchange.specs.Commands.{GrantOutcome, grants_commanded}
 use Rattle.tenant_exchange.specs.Commands as grants
 use Rattle.tenant_grants.specs.Grants.{Owner, GrantRows}
 use Rattle.tenant_lines.specs.declared.commands.Command.{Command}
-use Rattle.tenant_lines.specs.declared.commands.Command.TheVariants.{Load, Start, Stop, ShowMode, ShowPort, ShowAll, Grants}
+use Rattle.tenant_lines.specs.declared.commands.Command.TheVariants.{Load, Replace, Start, Stop, ShowMode, ShowPort, ShowAll, Grants}
+use Rattle.tenant_lines.specs.declared.commands.Command.TheVariants as command
 use Rattle.tenant_lines.specs.declared.replies.Budget.{Budget}
 use Rattle.tenant_lines.specs.declared.replies.Refusal.{Refusal}
 use Rattle.tenant_lines.specs.declared.replies.Refusal.TheVariants.{Running, NotRunning, NotLoaded, NoPort, OverBudget}
 use Rattle.tenant_lines.specs.declared.replies.Reply.{Reply}
-use Rattle.tenant_lines.specs.declared.replies.Reply.TheVariants.{Loaded, Started, Stopped, Mode, Port, All, Refused}
+use Rattle.tenant_lines.specs.declared.replies.Reply.TheVariants.{Loaded, Replaced, Started, Stopped, Mode, Port, All, Refused}
+use Rattle.tenant_lines.specs.declared.replies.Reply.TheVariants as reply
 use Rattle.tenant_lines.specs.declared.replies.Status.{Status}
 use Rattle.tenant_lines.specs.declared.replies.Status.TheVariants as status
 use Rattle.tenant_lines.specs.declared.ports.PortName.{PortName}
-use Rattle.tenant_state.specs.declared.trace.Happening.TheVariants as happening
+use Rattle.tenant_trace.specs.declared.records.Happening.TheVariants as happening
 use Rattle.giotto_check.specs.Slots.{ports_of}
 use Rattle.tenant_state.specs.FirstHalf.{stopped_with}
 use Rattle.tenant_state.specs.Tenancy.{Tenancy}
@@ -50,6 +52,20 @@ load_kept budgets bytes p row = if is_running row then refused row Running else 
 abbrev pub load_read : Budgets → ℕ → Row → Result GiottoProgram Refusal → Outcome
 load_read budgets bytes row (Err r) = refused row r
 load_read budgets bytes row (Ok p) = load_kept budgets bytes p row
+
+-- `replace` by a running tenant of a well-formed program, by the first budget that the program is over: it waits, and one that waited before doesn't
+abbrev pub replace_within : GiottoProgram → Row → Option Budget → Outcome
+replace_within p row (Some b) = refused row (OverBudget b)
+replace_within p row None = record { row = record row { waiting = Some p }; reply = Replaced }
+
+-- `replace` of a well-formed program whose text has so many bytes: the tenant must be running
+abbrev pub replace_kept : Budgets → ℕ → GiottoProgram → Row → Outcome
+replace_kept budgets bytes p row = if is_running row then replace_within p row (broken_budget budgets bytes p) else refused row NotRunning
+
+-- `replace` of a text of so many bytes, by the well-formed program that it spells, or why there is none
+abbrev pub replace_read : Budgets → ℕ → Row → Result GiottoProgram Refusal → Outcome
+replace_read budgets bytes row (Err r) = refused row r
+replace_read budgets bytes row (Ok p) = replace_kept budgets bytes p row
 
 -- `start`: the tenant must have a program, which begins anew
 abbrev pub start_program : Row → Option GiottoProgram → Outcome
@@ -89,6 +105,10 @@ abbrev pub show_all : Row → Option GiottoProgram → Outcome
 show_all row None = refused row NotLoaded
 show_all row (Some p) = record { row = row; reply = All (map (port_with_value row.ports) (ports_of p)) }
 
+-- `trace`: as many of the last records as are kept, the oldest first
+abbrev pub show_trace : ℕ → Row → Outcome
+show_trace most row = record { row = row; reply = reply.Trace (reverse (take most row.records)) }
+
 -- the offers and binds of a row, as those of this owner
 abbrev pub grant_rows : Owner → Row → GrantRows
 grant_rows owner row = record { owner = owner; offers = row.offers; binds = row.binds }
@@ -97,23 +117,27 @@ grant_rows owner row = record { owner = owner; offers = row.offers; binds = row.
 abbrev pub with_grants : Row → GrantOutcome → Outcome
 with_grants row o = record { row = record row { offers = o.rows.offers; binds = o.rows.binds }; reply = o.reply }
 
--- whether a command takes memory, and so can be refused for want of it: `load` for its program; `show all` for the list of all values,
--- where the tenant has a program; and those about grants that do
+-- whether a command takes memory, and so can be refused for want of it: `load` and `replace` for their program; `show all` for the list of all values,
+-- where the tenant has a program; `trace` for the list of records, where there is one; and those about grants that do
 abbrev pub takes_memory : Owner → Command → Row → Bool
 takes_memory owner (Load text) row = true
+takes_memory owner (Replace text) row = true
 takes_memory owner Start row = false
 takes_memory owner Stop row = false
 takes_memory owner ShowMode row = false
 takes_memory owner (ShowPort x) row = false
 takes_memory owner ShowAll row = is_some row.program
+takes_memory owner command.Trace row = nat_lt 0 (length row.records)
 takes_memory owner (Grants c) row = grants.takes_memory c (grant_rows owner row)
 
 -- the step of a command: the row after it, and its reply
 abbrev pub commanded : Tenancy → Command → Row → Outcome
 commanded tenancy (Load text) row = load_read tenancy.budgets (length text) row (program_of text)
+commanded tenancy (Replace text) row = replace_read tenancy.budgets (length text) row (program_of text)
 commanded tenancy Start row = if is_running row then refused row Running else start_program row row.program
 commanded tenancy Stop row = stop_program row
 commanded tenancy ShowMode row = record { row = row; reply = Mode (status_of row) }
 commanded tenancy (ShowPort x) row = show_port x row row.program
 commanded tenancy ShowAll row = show_all row row.program
+commanded tenancy command.Trace row = show_trace tenancy.budgets.trace row
 commanded tenancy (Grants c) row = with_grants row (grants_commanded c (grant_rows tenancy.owner row))

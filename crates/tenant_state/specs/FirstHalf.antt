@@ -1,19 +1,21 @@
 -- The first half of an instant: the due tasks end, and the due actuators are updated; or the tenant is stopped, if a due task isn't completed.
-use Rattle.std.specs.Prelude.{ℕ, Bool, not, ◌&&◌, if◌then◌else◌, ℤ, List, [], ◌∷◌, ◌++◌, map, filter, None}
-use Rattle.std.specs.List.{flat_map, zip}
+use Rattle.std.specs.Prelude.{ℕ, Bool, not, ◌&&◌, if◌then◌else◌, List, [], ◌∷◌, ◌++◌, map, filter, None}
+use Rattle.std.specs.List.{flat_map}
 use Rattle.std.specs.Option.{option_map_or}
 use Rattle.giotto_tasks.specs.declared.names.Name.{Name}
 use Rattle.giotto_tasks.specs.Names.{Valuation, same_name, is_among}
-use Rattle.giotto_tasks.specs.Meaning.{value_of, outputs_of, states_of}
-use Rattle.giotto_text.specs.Program.{TaskDeclaration, ActuatorUpdate, TaskInvocation, ModeDeclaration, GiottoProgram, body_of, names_of}
-use Rattle.tenant_state.specs.declared.trace.Happening.{Happening}
-use Rattle.tenant_state.specs.declared.trace.Happening.TheVariants as happening
+use Rattle.giotto_tasks.specs.Meaning.{outputs_of, states_of}
+use Rattle.giotto_text.specs.Program.{TaskDeclaration, TaskInvocation, ModeDeclaration, GiottoProgram, body_of, names_of}
+use Rattle.tenant_trace.specs.declared.records.Happening.{Happening}
+use Rattle.tenant_trace.specs.declared.records.Happening.TheVariants as happening
 use Rattle.giotto_rules.specs.Declarations.{task_named, mode_named}
-use Rattle.tenant_state.specs.Row.{StopReason, asked, overrun, stopped, ActiveTask, Row, is_running, in_program, in_mode, recorded, with_happenings}
+use Rattle.tenant_state.specs.Row.{StopReason, asked, overrun, stopped, ActiveTask, Row, is_running, in_program, in_mode, recorded}
 use Rattle.giotto_text.specs.PortNames.{own_ports, with_values}
 use Rattle.tenant_slots.specs.Ports.{actuators_reset}
 use Rattle.tenant_slots.specs.Due.{is_due_at}
-use Rattle.tenant_slots.specs.Updates.{is_updated, updated, all_updated}
+use Rattle.tenant_slots.specs.Results.{outputs_happened}
+use Rattle.tenant_slots.specs.Updates.{all_updated, updates_happened}
+use Rattle.tenant_trace.specs.Trace.{with_happenings}
 
 -- those of these active tasks whose period in the mode divides this mode time, in the mode's text order
 abbrev pub due_among : List ActiveTask → ModeDeclaration → ℕ → List ActiveTask
@@ -50,10 +52,6 @@ stopped_with reason row =
     recorded (happening_of reason)
     (in_program (λ p row. record row { ports = actuators_reset p row.ports }) (record row { state = stopped reason; active = []; waiting = None }))
 
--- what a task writes when it ends: each output with the value of its computation on what it was given at its release
-abbrev pub written_outputs : ActiveTask → TaskDeclaration → List (Name × ℤ)
-written_outputs a t = zip t.outputs (outputs_of (body_of t) a.inputs a.states)
-
 -- a task ends: its outputs and its states have the values of its computation
 abbrev pub ended_with : ActiveTask → Valuation → TaskDeclaration → Valuation
 ended_with a ports t =
@@ -64,19 +62,18 @@ abbrev pub all_ended : GiottoProgram → List ActiveTask → Valuation → Valua
 all_ended p [] ports = ports
 all_ended p (a ∷ rest) ports = all_ended p rest (option_map_or (ended_with a ports) (task_named p a.task) ports)
 
--- each output that they write, in order
-abbrev pub outputs_happened : GiottoProgram → List ActiveTask → List Happening
-outputs_happened p ended = map (λ (o : Name × ℤ). happening.Out o.0 o.1) (flat_map (λ a. option_map_or (written_outputs a) (task_named p a.task) []) ended)
+-- each output that a task writes when it ends, with the value of its computation
+abbrev pub outputs_of_end : ActiveTask → TaskDeclaration → List Happening
+outputs_of_end a t = outputs_happened t.outputs (outputs_of (body_of t) a.inputs a.states)
+
+-- each output that these tasks write, in order
+abbrev pub ends_happened : GiottoProgram → List ActiveTask → List Happening
+ends_happened p [] = []
+ends_happened p (a ∷ rest) = option_map_or (outputs_of_end a) (task_named p a.task) [] ++ ends_happened p rest
 
 -- the active tasks that aren't among these
 abbrev pub still_active : List Name → List ActiveTask → List ActiveTask
 still_active ended active = filter (λ (a : ActiveTask). not (is_among ended a.task)) active
-
--- each update that happens
-abbrev pub updates_happened : ModeDeclaration → ℕ → List ActuatorUpdate → Valuation → List Happening
-updates_happened m time [] ports = []
-updates_happened m time (u ∷ us) ports =
-    (if is_updated m time u ports then happening.Act u.actuator (value_of u.value ports) ∷ [] else []) ++ updates_happened m time us (updated m time u ports)
 
 -- the due tasks end, then the due actuators are updated
 abbrev pub completed_in_mode : GiottoProgram → ModeDeclaration → Row → Row
@@ -85,7 +82,7 @@ completed_in_mode p m row =
     record row {
       ports = all_updated m row.mode_time m.updates written;
       active = still_active (names_due row) row.active;
-      records = with_happenings row.next_tick (outputs_happened p (due_tasks row) ++ updates_happened m row.mode_time m.updates written) row.records;
+      records = with_happenings row.next_tick (ends_happened p (due_tasks row) ++ updates_happened m row.mode_time m.updates written) row.records;
     }
 
 -- the first half, by the due tasks that were not completed, in the mode's text order: if there is one, the tenant is stopped, and the first is named; else the due tasks end and the due actuators are updated

@@ -5,8 +5,8 @@ use Rattle.giotto_tasks.specs.Names.{Valuation}
 use Rattle.giotto_text.specs.Program.{GiottoProgram, ModeDeclaration}
 use Rattle.tenant_grants.specs.declared.rows.Offer.{Offer}
 use Rattle.tenant_grants.specs.declared.rows.Bind.{Bind}
-use Rattle.tenant_state.specs.declared.trace.Record.{Record}
-use Rattle.tenant_state.specs.declared.trace.Happening.{Happening}
+use Rattle.tenant_trace.specs.declared.records.Record.{Record}
+use Rattle.tenant_trace.specs.declared.records.Happening.{Happening}
 use Rattle.giotto_rules.specs.Declarations.{mode_named}
 
 -- why a tenant was stopped
@@ -92,8 +92,3 @@ in_mode step row = in_program (λ p. where_some (step p) (mode_named p row.mode)
 -- one record more, of the next instant's number
 abbrev pub recorded : Happening → Row → Row
 recorded h row = record row { records = record { tick = row.next_tick; happening = h } ∷ row.records }
-
--- these happenings as records of instant n, in their order, behind the records before
-abbrev pub with_happenings : ℕ → List Happening → List Record → List Record
-with_happenings n [] records = records
-with_happenings n (h ∷ hs) records = with_happenings n hs (record { tick = n; happening = h } ∷ records)

@@ -1,29 +1,20 @@
 -- The second half of an instant: a waiting program is installed, sensors are read, a switch may be taken, tasks are invoked, and the mode time moves on.
-use Rattle.std.specs.Prelude.{ℕ, ◌+◌, ◌-◌, ◌%◌, ◌==◌, Bool, ◌&&◌, ◌||◌, if◌then◌else◌, ℤ, List, [], ◌∷◌, ◌++◌, map, Some, None, unwrap_or, option_to_list}
+use Rattle.std.specs.Prelude.{ℕ, ◌+◌, ◌-◌, ◌%◌, ◌==◌, Bool, ◌&&◌, if◌then◌else◌, ℤ, List, [], ◌∷◌, ◌++◌, map, Some, None, option_to_list}
 use Rattle.std.specs.List.{filter_map}
 use Rattle.std.specs.Option.{option_map, option_map_or}
-use Rattle.giotto_tasks.specs.declared.names.Name.{Name}
-use Rattle.giotto_tasks.specs.Names.{Valuation, value_at, values_of, is_among}
+use Rattle.giotto_tasks.specs.Names.{Valuation, values_of}
 use Rattle.giotto_tasks.specs.Meaning.{value_of}
 use Rattle.giotto_text.specs.Program.{TaskDeclaration, ModeSwitch, TaskInvocation, ModeDeclaration, GiottoProgram, names_of}
-use Rattle.tenant_state.specs.declared.trace.Happening.TheVariants as happening
-use Rattle.giotto_rules.specs.Declarations.{sensor_names, actuator_names, task_named, mode_named, period_of_task}
+use Rattle.tenant_trace.specs.declared.records.Happening.TheVariants as happening
+use Rattle.giotto_rules.specs.Declarations.{sensor_names, task_named, mode_named, period_of_task}
 use Rattle.tenant_state.specs.Row.{ActiveTask, Row, is_running, where_some, in_program, in_mode, recorded}
 use Rattle.giotto_text.specs.PortNames.{own_ports, with_values}
 use Rattle.tenant_slots.specs.CommonPeriods.{least_common_multiple}
-use Rattle.tenant_slots.specs.Ports.{initial_ports, holds}
+use Rattle.tenant_slots.specs.Ports.{holds}
 use Rattle.tenant_slots.specs.Due.{is_due_at}
 use Rattle.tenant_slots.specs.Readings.{Readings, reading_taken}
+use Rattle.tenant_slots.specs.Replacement.{carried_ports}
 use Rattle.tenant_slots.specs.Switches.{switch_taken, with_destinations}
-
--- a port of this name stands in both programs, among these names of each
-abbrev pub stands_in_both : (GiottoProgram → List Name) → GiottoProgram → GiottoProgram → Name → Bool
-stands_in_both names old new x = is_among (names old) x && is_among (names new) x
-
--- A sensor keeps the value of the old sensor of its name, and an actuator that of the old actuator; every other port is initial.
-abbrev pub carried_over : Valuation → GiottoProgram → GiottoProgram → Name → ℤ → ℤ
-carried_over ports old new x z =
-    if stands_in_both sensor_names old new x || stands_in_both actuator_names old new x then unwrap_or (value_at ports x) z else z
 
 -- installation: the new program in its start mode, with the values that are carried over
 abbrev pub installed : GiottoProgram → Row → Row
@@ -35,7 +26,7 @@ installed new row = in_program (λ old row.
       mode = new.start;
       mode_time = 0;
       active = [];
-      ports = map (λ (v : Name × ℤ). (v.0, carried_over row.ports old new v.0 v.1)) (initial_ports new);
+      ports = carried_ports row.ports old new;
     })) row
 
 -- a waiting program is installed when the mode's period ends

@@ -1,5 +1,5 @@
--- What a tenant's code stands for: all of its row but the records.
-use Rattle.std.specs.Prelude.{◌≡◌, ◌<◌, ◌&&◌, nat_eq, ℕ, Bool, true, false, not, if◌then◌else◌, List, [], ◌∷◌, map, filter, length, max, Option, None}
+-- What a tenant's code stands for: its row, of whose records it keeps the last.
+use Rattle.std.specs.Prelude.{◌≡◌, ◌<◌, ◌&&◌, nat_eq, ℕ, Bool, true, false, not, if◌then◌else◌, List, [], ◌∷◌, map, filter, length, max, take, Option, None}
 use Rattle.std.specs.List.{AllByRecursion, find, list_all}
 use Rattle.std.specs.Option.{option_and_then, option_map, option_map_or}
 use Rattle.giotto_tasks.specs.declared.names.Name.{Name}
@@ -15,10 +15,11 @@ use Rattle.tenant_slots.specs.Due.{is_due_at}
 use Rattle.tenant_jobs.specs.Finished.{TableEntry, has_result}
 use Rattle.tenant_jobs.specs.Jobs.{JobValue, same_job}
 use Rattle.tenant_state.specs.Jobs.{job_in, job_of}
+use Rattle.tenant_state.specs.SecondHalf.{replaced_if_due}
 use Rattle.tenant_state.specs.Tenancy.{Tenancy}
 use Rattle.tenant_state.specs.Row.{ActiveTask, Row, empty_row, is_running}
 
--- what a tenant's code keeps: whose it is and what it may use, and a row without records; and what it has ready for the next instant
+-- what a tenant's code keeps: whose it is and what it may use, and a row with the last records; and what it has ready for the next instant
 pub record Standing : Type 0 where
   pub tenancy : Tenancy
   pub row : Row
@@ -26,7 +27,7 @@ pub record Standing : Type 0 where
   pub ended : List ActiveTask
   -- how many more tasks there is room for
   pub room : ℕ
-  -- whether a share of each task's body is at hand
+  -- whether a share of each task's body is at hand, of the program's and of one that waits
   pub shared : Bool
 
 -- with nothing ready for the next instant
@@ -47,13 +48,13 @@ empty_standing budgets rows first_tick = record {
 abbrev pub no_tenant : Standing
 no_tenant = empty_standing no_budgets (no_rows (record { place = 0; roster = []; most_offers = 0; most_binds = 0 })) 0
 
--- the row but for its records, which the code doesn't keep
-abbrev pub without_records : Row → Row
-without_records row = record row { records = [] }
+-- the row with the last n of its records alone
+abbrev pub with_last : ℕ → Row → Row
+with_last n row = record row { records = take n row.records }
 
--- it stands for this row
+-- it stands for this row: it has all of it, and as many of the last records as its trace keeps
 abbrev pub StandsFor : Standing → Row → Type 0
-StandsFor standing row = standing.row ≡ without_records row
+StandsFor standing row = standing.row ≡ with_last standing.tenancy.budgets.trace row
 
 -- how many tasks the mode of this name invokes
 abbrev pub invoked_in : GiottoProgram → Name → ℕ
@@ -65,9 +66,13 @@ most_at p m time =
     max (length (filter (λ (i : TaskInvocation). is_due_at time m i.frequency) m.invocations))
     (greatest (map (λ (s : ModeSwitch). invoked_in p s.target) (filter (λ (s : ModeSwitch). is_due_at time m s.frequency) m.switches)))
 
--- the most tasks that the row's next instant can release
+-- the most tasks that can be released in the row's mode at its mode time
+abbrev pub most_in_mode : Row → ℕ
+most_in_mode row = option_map_or (λ p. option_map_or (λ m. most_at p m row.mode_time) (mode_named p row.mode) 0) row.program 0
+
+-- the most tasks that the row's next instant can release, in the program that waits if it is installed then
 abbrev pub most_released : Row → ℕ
-most_released row = if is_running row then option_map_or (λ p. option_map_or (λ m. most_at p m row.mode_time) (mode_named p row.mode) 0) row.program 0 else 0
+most_released row = if is_running row then most_in_mode (replaced_if_due row) else 0
 
 -- the outstanding tasks: active, and without a result in this table
 abbrev pub outstanding_tasks : Standing → List TableEntry → List ActiveTask
@@ -90,11 +95,10 @@ abbrev pub all_different_releases : List ActiveTask → Bool
 all_different_releases [] = true
 all_different_releases (a ∷ rest) = list_all (is_another a) rest && all_different_releases rest
 
--- what is known of every tenant's row: it has no records, and no program that waits; it has active tasks only while its
--- program runs, each released before the next instant, and no two of them are one release of one task
-pub record IsKnown (row : Row) : Type 0 where
-  pub no_records : row.records ≡ []
-  pub none_waits : row.waiting ≡ None
+-- what is known of every tenant's row: it has no more records than its trace keeps; it has active tasks only while its program runs, each
+-- released before the next instant, and no two of them are one release of one task
+pub record IsKnown (tenancy : Tenancy) (row : Row) : Type 0 where
+  pub few_records : take tenancy.budgets.trace row.records ≡ row.records
   pub tasks : row.program ≡ None → row.active ≡ []
   pub rests : is_running row ≡ false → row.active ≡ []
   pub early : AllByRecursion (λ (a : ActiveTask). a.release < row.next_tick) row.active

@@ -1,7 +1,7 @@
 -- How a tenant's code stands for its row, and what is known of it at any time.
-use Rattle.std.specs.Prelude.{ℕ, ℤ, List, [], map, Option, None, is_some}
+use Rattle.std.specs.Prelude.{ℕ, ℤ, Bool, true, ◌&&◌, List, [], map, Option, Some, None, is_some}
 use Rattle.std.specs.List.{list_all}
-use Rattle.std.specs.Option.{option_map_or}
+use Rattle.std.specs.Option.{option_map, option_map_or}
 use Rattle.giotto_tasks.specs.declared.names.Name.{Name}
 use Rattle.giotto_tasks.specs.Names.{Valuation}
 use Rattle.giotto_tasks.specs.Syntax.{TaskBody}
@@ -14,9 +14,11 @@ use Rattle.tenant_state.specs.declared.tenants.Active.{Active}
 use Rattle.tenant_state.specs.declared.tenants.Reason.{Reason}
 use Rattle.tenant_state.specs.declared.tenants.Reason.TheVariants.{Asked, Overrun}
 use Rattle.tenant_state.specs.declared.tenants.State as code
+use Rattle.tenant_state.specs.declared.tenants.waiting.Waiting.{Waiting}
 use Rattle.tenant_state.specs.declared.tenants.State.TheVariants as states
 use Rattle.tenant_state.specs.Row.{StopReason, asked, overrun, State, empty, loaded, running, stopped, ActiveTask}
 use Rattle.tenant_state.specs.Standing.{Standing}
+use Rattle.tenant_trace.specs.Trace.{LastRecords}
 
 -- why the code's tenant was stopped
 abbrev pub reason_of : Reason → StopReason
@@ -44,9 +46,14 @@ mode_in o mode = option_map_or (λ p. name_of_mode p mode) o []
 abbrev pub ports_in : Option GiottoProgram → List ℤ → Valuation
 ports_in o values = option_map_or (λ p. valuation_of p values) o []
 
+-- whether a share of each task's body of a program that waits is at hand
+abbrev pub is_shared : Option Waiting → Bool
+is_shared None = true
+is_shared (Some w) = list_all is_some w.beginning.shares.items
+
 -- what a tenant's fields stand for: `room` is that left for active tasks, and `shares` has the shares of bodies that are at hand
-abbrev pub standing_of : Budgets → GrantRows → code.State → Option GiottoProgram → ℕ → ℕ → List Active → List Active → ℕ → List ℤ → List (Option TaskBody) → ℕ → Standing
-standing_of budgets grants state program mode time active ended room values shares next_tick = record {
+abbrev pub standing_of : Budgets → GrantRows → code.State → Option GiottoProgram → ℕ → ℕ → List Active → List Active → ℕ → List ℤ → List (Option TaskBody) → Option Waiting → LastRecords → ℕ → Standing
+standing_of budgets grants state program mode time active ended room values shares waiting trace next_tick = record {
   tenancy = record { owner = grants.owner; budgets = budgets };
   row = record {
     state = state_of state;
@@ -57,11 +64,11 @@ standing_of budgets grants state program mode time active ended room values shar
     ports = ports_in program values;
     offers = grants.offers;
     binds = grants.binds;
-    waiting = None;
-    records = [];
+    waiting = option_map (λ (w : Waiting). w.program) waiting;
+    records = trace.records;
     next_tick = next_tick;
   };
   ended = tasks_in program ended;
   room = room;
-  shared = list_all is_some shares;
+  shared = list_all is_some shares && is_shared waiting;
 }

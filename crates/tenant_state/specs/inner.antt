@@ -1,5 +1,6 @@
 pub mod EntryTable
 pub mod Halves
+pub mod Invoked
 pub mod Releases
 pub mod Standing
 pub mod Tenants

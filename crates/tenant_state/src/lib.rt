@@ -12,7 +12,6 @@
 #![tactic(auto)]
 
 pub mod tenants;
-pub mod trace;
 
 pub use tenant_lines::command_lines::{LineFault, command_of};
 pub use tenant_lines::commands::Command;

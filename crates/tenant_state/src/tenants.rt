@@ -1,6 +1,6 @@
 //! A tenant: its program and what the program is at.
 
-ghost use Rattle.std.specs.Prelude.{◌≡◌, ◌≤◌, length};
+ghost use Rattle.std.specs.Prelude.{◌≡◌, ◌≤◌, length, IfOk};
 ghost use Rattle.tenant_state.specs.Standing.{empty_standing, IsKnown};
 
 pub mod active_tasks;
@@ -16,18 +16,21 @@ pub mod releases;
 pub mod shown;
 pub mod stops;
 pub mod switches;
+pub mod waiting;
 
 use crate::tenants::active_tasks::ActiveTasks;
+use crate::tenants::waiting::Waiting;
 use giotto_check::Checked;
 use giotto_tasks::bodies::Body;
 use giotto_tasks::names::Name;
 use giotto_tasks::values::Values;
 use rig_config::Budgets;
-use std::alloc::Global;
+use std::alloc::{AllocError, Global};
 use std::marker::Model;
 use std::sync::Arc;
 use tenant_grants::grants::Grants;
 use tenant_jobs::jobs::Key;
+use tenant_trace::traces::Trace;
 
 /// Why a tenant was stopped.
 #[derive(Drop)]
@@ -79,6 +82,9 @@ pub struct Tenant {
     pub(crate) values: Vec<i64>,
     /// For each task a share of its body, where one is at hand.
     pub(crate) shares: Vec<Option<Arc<Body, Global>>>,
+    /// A program that replaces the running one when its mode's period ends.
+    pub(crate) waiting: Option<Waiting>,
+    pub(crate) trace: Trace,
     /// The number of the next instant.
     pub(crate) next_tick: u64,
 }
@@ -89,7 +95,7 @@ impl Model for Tenant {
     ghost use Rattle.std.specs.Option.{option_map};
     ghost use Rattle.tenant_state.specs.Standing.{Standing};
     ghost use Rattle.tenant_state.specs.Tenants.{standing_of, state_of};
-    ghost use Rattle.tenant_state.specs.inner.Tenants.{IsTenant};
+    ghost use Rattle.tenant_state.specs.inner.Tenants.{FitsWaiting, IsTenant, IsTraceOf};
     ghost use Rattle.std.specs.Coded.{codes};
     ghost use Rattle.giotto_text.specs.inner.ProgramCodes.{program_code};
 
@@ -97,18 +103,27 @@ impl Model for Tenant {
 
     ghost coded = { Prim.hlevel (codes, program_code) };
 
-    ghost view = { λ t. standing_of t.budgets t.grants t.state t.program t.mode t.mode_time t.active.items t.active.ended t.active.room t.values.items (map (option_map arc_value) t.shares.items) t.next_tick };
+    ghost view = { λ t. standing_of t.budgets t.grants t.state t.program t.mode t.mode_time t.active.items t.active.ended t.active.room t.values.items (map (option_map arc_value) t.shares.items) t.waiting t.trace t.next_tick };
 
-    ghost invariant = { λ t. IsTenant (state_of t.state) t.program t.mode t.mode_time t.next_due t.active.items t.active.ended t.values.items (map (option_map arc_value) t.shares.items) t.next_tick };
+    ghost invariant = { λ t. IsTenant (state_of t.state) t.program t.mode t.mode_time t.next_due t.active.items t.active.ended t.values.items (map (option_map arc_value) t.shares.items) t.next_tick × IsTraceOf t.budgets.trace t.trace × FitsWaiting t.program t.waiting };
 }
 
 impl Tenant {
-    /// The tenant with these budgets, whose rows of grants these are, without a program. Its first instant has this number. Takes no
-    /// memory.
-    pub fn new(alloc: Global, budgets: Budgets, grants: Grants, first_tick: u64) -> Tenant
-        ensures { result ≡ empty_standing budgets grants first_tick }
+    /// The tenant with these budgets, whose rows of grants these are, without a program. Its first instant has this number. It has room
+    /// for as many records as its budget says.
+    ///
+    /// # Errors
+    /// Want of memory.
+    pub fn new(
+        alloc: Global,
+        budgets: Budgets,
+        grants: Grants,
+        first_tick: u64,
+    ) -> Result<Tenant, AllocError>
+        ensures { IfOk result (λ tenant. tenant ≡ empty_standing budgets grants first_tick) }
     {
-        Tenant {
+        let trace = Trace::new(alloc, budgets.trace)?;
+        Ok(Tenant {
             alloc,
             budgets,
             grants,
@@ -120,14 +135,16 @@ impl Tenant {
             active: ActiveTasks::new(alloc),
             values: Vec::new(alloc),
             shares: Vec::new(alloc),
+            waiting: None,
+            trace,
             next_tick: first_tick,
-        }
+        })
     }
 
     /// The number of the tenant's next instant. Each active task was released before it, and it has no more binds than it may have.
     pub fn next_tick(&self) -> u64
         ensures number { result ≡ self.now.row.next_tick }
-        ensures known { IsKnown self.now.row }
+        ensures known { IsKnown self.now.tenancy self.now.row }
         ensures binds { length self.now.row.binds ≤ self.now.tenancy.owner.most_binds }
     {
         let _own = self.grants.own();

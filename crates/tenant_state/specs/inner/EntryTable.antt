@@ -1,11 +1,16 @@
 -- The active entries, by the places of the tasks.
-use Rattle.std.specs.Prelude.{◌≡◌, ◌<◌, ◌≤◌, ◌-◌, ◌%◌, ◌==◌, ◌&&◌, ℕ, ℤ, nat_eq, Bool, not, List, map, filter, get_or, take, drop}
+use Rattle.std.specs.Prelude.{◌≡◌, ◌<◌, ◌≤◌, ◌-◌, ◌%◌, ◌==◌, ◌&&◌, ℕ, ℤ, nat_eq, Bool, not, List, [], ◌∷◌, map, filter, get_or, take, drop}
 use Rattle.std.specs.List.{list_any}
 use Rattle.giotto_check.specs.Slots.{valuation_of}
 use Rattle.giotto_check.specs.declared.timetables.SlotInvocation.{SlotInvocation}
 use Rattle.giotto_text.specs.Program.{GiottoProgram, ModeDeclaration}
 use Rattle.tenant_state.specs.declared.tenants.Active.{Active}
-use Rattle.tenant_state.specs.FirstHalf.{all_ended, due_among}
+use Rattle.tenant_state.specs.FirstHalf.{all_ended, due_among, outputs_of_end}
+use Rattle.tenant_state.specs.Row.{ActiveTask}
+use Rattle.giotto_rules.specs.Declarations.{task_named}
+use Rattle.std.specs.Option.{option_map_or}
+use Rattle.tenant_trace.specs.Trace.{LastRecords}
+use Rattle.tenant_trace.specs.inner.Noted.{noted}
 use Rattle.tenant_state.specs.Tenants.{active_of}
 
 -- the active entries of the task at this place
@@ -28,3 +33,12 @@ is_left_open time done active i = (time % i.interval == 0) && is_task_open done 
 -- the values in the slots before and behind the ends of those of these entries that are due in the mode at this mode time
 abbrev pub AreDueEnded : GiottoProgram → ModeDeclaration → ℕ → List Active → List ℤ → List ℤ → Type 0
 AreDueEnded p m time active before after = valuation_of p after ≡ all_ended p (due_among (map (active_of p) active) m time) (valuation_of p before)
+
+-- a trace behind the ends of these tasks at instant n
+abbrev pub ends_noted : GiottoProgram → ℕ → List ActiveTask → LastRecords → LastRecords
+ends_noted p n [] t = t
+ends_noted p n (a ∷ rest) t = ends_noted p n rest (noted n (option_map_or (outputs_of_end a) (task_named p a.task) []) t)
+
+-- the trace before and behind the ends of those of these entries that are due in the mode at this mode time
+abbrev pub AreEndsNoted : GiottoProgram → ModeDeclaration → ℕ → ℕ → List Active → LastRecords → LastRecords → Type 0
+AreEndsNoted p m time n active before after = after ≡ ends_noted p n (due_among (map (active_of p) active) m time) before

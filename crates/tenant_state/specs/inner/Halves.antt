@@ -1,5 +1,5 @@
 -- A tenant before and behind the two halves of an instant.
-use Rattle.std.specs.Prelude.{◌≡◌, ◌+◌, ℤ, List, Option, [], ℕ}
+use Rattle.std.specs.Prelude.{◌≡◌, ◌⊎◌, ◌+◌, ℤ, List, Option, [], ℕ}
 use Rattle.tenant_jobs.specs.Finished.{TableEntry, has_result}
 use Rattle.tenant_exchange.specs.Granted.{granted_along}
 use Rattle.tenant_slots.specs.Readings.{readings_within}
@@ -24,12 +24,12 @@ pub record IsFirstHalf (entries : List TableEntry) (before after : Standing) : T
   pub binds : after.row.binds ≡ before.row.binds
   pub ended : AreEnded before after
 
--- a tenant before and behind its second half: it reads the lines that it may read, and takes what is granted along its binds
+-- a tenant before and behind its second half, at which its program stays or it had no active task: it reads the lines that it may read, and takes what is granted along its binds
 pub record IsSecondHalf (frame : List ℤ) (granted : List (Option ℤ)) (before after : Standing) : Type 0 where
   pub step : (row : Row) → StandsFor before row → StandsFor after (second_half_of (readings_within before.tenancy.budgets.reads frame) (granted_along before.row.binds granted) row)
   pub next_tick : after.row.next_tick ≡ before.row.next_tick + 1
   pub tenancy : after.tenancy ≡ before.tenancy
-  pub program : after.row.program ≡ before.row.program
+  pub program : (after.row.program ≡ before.row.program) ⊎ (before.row.active ≡ [])
   pub offers : after.row.offers ≡ before.row.offers
   pub binds : after.row.binds ≡ before.row.binds
   pub ended : after.ended ≡ []

@@ -8,7 +8,9 @@ use Rattle.tenant_jobs.specs.declared.jobs.JobId.{JobId}
 use Rattle.tenant_jobs.specs.Finished.{TableEntry, result_in}
 use Rattle.tenant_jobs.specs.inner.Finished.{is_entered, result_of}
 use Rattle.tenant_state.specs.Jobs.{has_job, job_in, job_of}
+use Rattle.tenant_state.specs.SecondHalf.{replaced_if_due}
 use Rattle.tenant_state.specs.Standing.{Standing, StandsFor, most_released}
+use Rattle.tenant_trace.specs.declared.records.Record.{Record}
 use Rattle.tenant_lines.specs.declared.replies.Refusal.{Refusal}
 use Rattle.std.specs.List.{AllByRecursion}
 
@@ -48,6 +50,10 @@ AreEnded before after = (j : JobId) → has_job after.tenancy.owner.place after.
 -- room for the most tasks that the next instant can release
 abbrev pub HasRoom : Standing → Type 0
 HasRoom s = most_released s.row ≤ s.room
+
+-- no program is installed at the next instant, whatever was recorded
+abbrev pub IsSettled : Row → Type 0
+IsSettled row = (rs : List Record) → replaced_if_due (record row { records = rs }) ≡ record row { records = rs }
 
 -- a share of each body that the next instant can need
 abbrev pub HasShares : Standing → Type 0

@@ -1,5 +1,5 @@
 -- What is true of a tenant's fields at any time, and of the steps of an instant in them.
-use Rattle.std.specs.Prelude.{true, nat_eq, Bool, ◌&&◌, List, [], ◌≡◌, length, IsSomeAnd, slice_get, ◌<◌, ℕ, ◌+◌, ℤ, false, ◌++◌, map, Some, Option, None, IfSome, ◌^◌}
+use Rattle.std.specs.Prelude.{true, nat_eq, Bool, ◌&&◌, List, [], ◌∷◌, ◌≡◌, length, IsSomeAnd, slice_get, ◌<◌, ℕ, ◌+◌, ℤ, false, ◌++◌, map, Some, Option, None, IfSome, ◌^◌, take}
 use Rattle.tenant_jobs.specs.Finished.{TableEntry, result_in, has_result}
 use Rattle.tenant_jobs.specs.Jobs.{JobValue}
 use Rattle.tenant_jobs.specs.inner.Finished.{result_of}
@@ -8,7 +8,7 @@ use Rattle.tenant_state.specs.Standing.{all_different_releases}
 use Rattle.tenant_state.specs.declared.tenants.Active.{Active}
 use Rattle.giotto_tasks.specs.Names.{same_name, Valuation}
 use Rattle.giotto_text.specs.Program.{GiottoProgram, TaskDeclaration, body_of, ModeDeclaration, ModeSwitch}
-use Rattle.tenant_slots.specs.Places.{name_of_task}
+use Rattle.tenant_slots.specs.Places.{name_of_mode, name_of_task}
 use Rattle.tenant_slots.specs.inner.Places.{IsModeAt}
 use Rattle.tenant_jobs.specs.declared.jobs.JobId.{JobId}
 use Rattle.tenant_jobs.specs.declared.jobs.JobResult.{JobResult}
@@ -24,6 +24,16 @@ use Rattle.tenant_state.specs.declared.tenants.switches.Entry.{Entry}
 use Rattle.giotto_tasks.specs.Syntax.{TaskBody}
 use Rattle.giotto_check.specs.inner.Timetables.{AreEach}
 use Rattle.tenant_slots.specs.inner.Due.{IsQuietUntil}
+use Rattle.tenant_slots.specs.inner.Replacement.{IsCarryTable}
+use Rattle.tenant_slots.specs.Ports.{initial_ports}
+use Rattle.tenant_state.specs.declared.tenants.waiting.Beginning.{Beginning}
+use Rattle.tenant_state.specs.declared.tenants.waiting.Waiting.{Waiting}
+use Rattle.std.specs.Arc.{arc_value}
+use Rattle.std.specs.Option.{option_map}
+use Rattle.tenant_trace.specs.declared.records.Happening.{Happening}
+use Rattle.tenant_trace.specs.declared.records.Happening.TheVariants as happening
+use Rattle.tenant_trace.specs.Trace.{LastRecords}
+use Rattle.tenant_state.specs.inner.Invoked.{IsInvokedIn}
 
 -- whether it is the job's of this name: the job's task, of the job's release
 abbrev pub is_of_job : GiottoProgram → JobId → Active → Bool
@@ -85,17 +95,24 @@ abbrev pub IsSwitched : GiottoProgram → ModeDeclaration → ℕ → List Activ
 IsSwitched p m time active ports None values = (switch_taken m time ports ≡ None) × (valuation_of p values ≡ ports)
 IsSwitched p m time active ports (Some entry) values = IsEntered p m time active ports entry values
 
+-- what a trace records of it
+abbrev pub entry_happened : GiottoProgram → Option Entry → List Happening
+entry_happened p None = []
+entry_happened p (Some entry) = happening.Mode (name_of_mode p entry.mode) ∷ []
+
 -- a share of the body of this task, where one is at hand
 abbrev pub IsShareOf : TaskDeclaration → Option TaskBody → Type 0
 IsShareOf t share = IfSome share (λ b. b ≡ body_of t)
 
 -- a tenant with this program: its values are as many as the program has ports, its mode is one of the program's, in which nothing is
--- due before `next`, its active tasks and those that ended are tasks of it, and the shares are of its bodies, in their order
+-- due before `next`, its active tasks and those that ended are tasks of it, the active ones invoked by the mode, and the shares are of its
+-- bodies, in their order
 pub record FitsProgram (p : GiottoProgram) (mode time next : ℕ) (active ended : List Active) (values : List ℤ) (shares : List (Option TaskBody)) (next_tick : ℕ) : Type 0 where
   pub long : length values ≡ slots_of p
   pub mode_there : mode < length p.modes
   pub quiet : (m : ModeDeclaration) → IsModeAt p mode m → IsQuietUntil m time next
   pub each : AllByRecursion (IsActiveIn p next_tick) active
+  pub invoked : (m : ModeDeclaration) → IsModeAt p mode m → AllByRecursion (IsInvokedIn p m) active
   pub each_ended : AllByRecursion (IsActiveOf p) ended
   pub share_each : AreEach IsShareOf p.tasks shares
 
@@ -111,3 +128,23 @@ pub record IsTenant (state : State) (program : Option GiottoProgram) (mode time 
   pub rests : is_running_state state ≡ false → active ≡ []
   pub different : all_different_releases (tasks_in program active) ≡ true
   pub fits : FitsIts program mode time next active ended values shares next_tick
+
+-- what is known of a trace of the last records, of which so many are kept
+pub record IsTraceOf (most : ℕ) (trace : LastRecords) : Type 0 where
+  pub same_most : trace.most ≡ most
+  pub few : take most trace.records ≡ trace.records
+
+-- what a program begins with: each port initial, and a place for a share of each task's body
+pub record IsBeginning (p : GiottoProgram) (b : Beginning) : Type 0 where
+  pub long : length b.values.items ≡ slots_of p
+  pub initial : valuation_of p b.values.items ≡ initial_ports p
+  pub share_each : AreEach IsShareOf p.tasks (map (option_map arc_value) b.shares.items)
+
+-- a program waits to replace the one that stands: it has what it begins with, and the table of what it keeps
+pub record IsWaitingFor (o : Option GiottoProgram) (w : Waiting) : Type 0 where
+  pub begins : IsBeginning w.program w.beginning
+  pub keeps : IfSome o (λ p. IsCarryTable p w.program w.carried.items)
+
+-- what waits, if something does, waits to replace the program that stands
+abbrev pub FitsWaiting : Option GiottoProgram → Option Waiting → Type 0
+FitsWaiting o waiting = IfSome waiting (IsWaitingFor o)

@@ -1,45 +1,32 @@
 //! What a tenant's commands do.
 
-ghost use Rattle.std.specs.Prelude.{◌≡◌, ◌≢◌, ◌⊎◌, [], false, Err, None, IfOk, IfErr, OnOk, OnErr, length, map};
-ghost use Rattle.std.specs.Arc.{arc_value};
-ghost use Rattle.std.specs.Option.{option_map};
+ghost use Rattle.std.specs.Prelude.{◌≡◌, ◌≢◌, ◌⊎◌, [], false, Err, IfOk, IfErr, OnOk, OnErr, length};
 ghost use Rattle.tenant_lines.specs.declared.commands.Command.{Command};
 ghost use Rattle.tenant_lines.specs.declared.replies.Refusal.{Refusal};
 ghost use Rattle.tenant_lines.specs.declared.replies.Reply.{Reply};
-ghost use Rattle.giotto_check.specs.inner.Slots.{slots_of};
-ghost use Rattle.giotto_check.specs.Slots.{valuation_of};
-ghost use Rattle.tenant_slots.specs.Ports.{initial_ports};
 ghost use Rattle.tenant_state.specs.Commands.{at_beginning, commanded, takes_memory, load_kept};
 ghost use Rattle.tenant_state.specs.Row.{Row, is_running, loaded};
 ghost use Rattle.tenant_state.specs.Tenancy.{Tenancy};
+ghost use Rattle.tenant_state.specs.inner.Tenants.{IsBeginning};
 ghost use Rattle.tenant_state.specs.inner.Standing.{AreEnded, AreTasksKept, HoldsOfRow, IsAnswered, IsBehind, IsOutcome, IsRefused};
-ghost use Rattle.tenant_state.specs.Standing.{without_records};
+ghost use Rattle.tenant_state.specs.Standing.{StandsFor};
 
+use crate::tenants::waiting::{Beginning, beginning_of};
 use crate::tenants::{Reason, State, Tenant};
 use giotto_check::Checked;
-use giotto_tasks::bodies::Body;
-use giotto_text::programs::Task;
-use std::alloc::{AllocError, Global};
-use std::sync::Arc;
 use tenant_exchange::commands::carry_out;
 use tenant_lines::commands::Command;
 use tenant_lines::ports::PortValue;
 use tenant_lines::replies::{Refusal, Reply};
 use tenant_programs::admission::read_program;
 use tenant_programs::budgets::broken_budget;
-use tenant_slots::beginning::{initial_values, no_shares, reset_ports};
-use tenant_slots::names::start_place;
-
-/// What a loaded program begins with: the value of each port, by its slot, and a place for a share of each task's body.
-#[derive(Drop)]
-pub(crate) struct Beginning {
-    pub(crate) values: Vec<i64>,
-    pub(crate) shares: Vec<Option<Arc<Body, Global>>>,
-}
+use tenant_slots::beginning::reset_ports;
+use tenant_slots::names::{mode_name, start_place};
+use tenant_trace::records::Happening;
 
 impl Tenant {
-    /// Carries out a command. A refusal changes nothing, want of memory included. Only `load`, `show all` of a tenant with a
-    /// program, `offer`, `bind`, and `rows` where there is one, take memory; no other command is refused for it.
+    /// Carries out a command. A refusal changes nothing, want of memory included. Only `load`, `replace`, `show all` of a tenant with a
+    /// program, `trace` where there is a record, `offer`, `bind`, and `rows` where there is one, take memory; no other command is refused for it.
     pub fn command(&mut self, command: Command) -> Reply
         requires rest { self.old.ended ≡ [] }
         ensures memory { result ≡ Reply.Refused Refusal.Memory → self.new ≡ self.old }
@@ -53,6 +40,10 @@ impl Tenant {
         match command {
             Command::Load(text) => match self.load(text.as_str()) {
                 Ok(()) => Reply::Loaded,
+                Err(refusal) => Reply::Refused(refusal),
+            },
+            Command::Replace(text) => match self.replace(text.as_str()) {
+                Ok(()) => Reply::Replaced,
                 Err(refusal) => Reply::Refused(refusal),
             },
             Command::Start => match self.start() {
@@ -72,11 +63,15 @@ impl Tenant {
                 Ok(all) => Reply::All(all),
                 Err(refusal) => Reply::Refused(refusal),
             },
+            Command::Trace => match self.trace.list(self.alloc) {
+                Ok(records) => Reply::Trace(records),
+                Err(_) => Reply::Refused(Refusal::Memory),
+            },
             Command::Grants(command) => carry_out(self.alloc, &mut self.grants, command),
         }
     }
 
-    fn is_running(&self) -> bool
+    pub(crate) fn is_running(&self) -> bool
         ensures { result ≡ is_running self.now.row }
     {
         matches!(self.state, State::Running)
@@ -107,12 +102,10 @@ impl Tenant {
     // What a program that may be loaded begins with, whose text has so many bytes.
     fn beginning(&self, bytes: usize, program: &Checked) -> Result<Beginning, Refusal>
         ensures refused { IfErr result (λ r. r ≢ Refusal.Memory → IsRefused self.now (load_kept self.now.tenancy.budgets bytes program.now) r) }
-        ensures loaded { OnOk result ((row : Row) → self.now.row ≡ without_records row
+        ensures loaded { OnOk result ((row : Row) → StandsFor self.now row
             → load_kept self.now.tenancy.budgets bytes program.now row ≡ record { row = at_beginning loaded program.now row; reply = Reply.Loaded }) }
         ensures rests { OnOk result (self.now.row.active ≡ []) }
-        ensures long { IfOk result (λ b. length b.values.items ≡ slots_of program.now) }
-        ensures ports { IfOk result (λ b. valuation_of program.now b.values.items ≡ initial_ports program.now) }
-        ensures shares { IfOk result (λ b. map (option_map arc_value) b.shares.items ≡ map (λ t. None) program.now.tasks) }
+        ensures begins { IfOk result (IsBeginning program.now) }
     {
         if self.is_running() {
             return Err(Refusal::Running);
@@ -120,20 +113,12 @@ impl Tenant {
         if let Some(budget) = broken_budget(&self.budgets, bytes, program) {
             return Err(Refusal::OverBudget(budget));
         }
-        let Ok(values) = initial_values(self.alloc, program) else {
-            return Err(Refusal::Memory);
-        };
-        let Ok(shares) = no_shares(self.alloc, program.program().tasks()) else {
-            return Err(Refusal::Memory);
-        };
-        Ok(Beginning { values, shares })
+        beginning_of(self.alloc, program)
     }
 
     // Puts a program in place, at its beginning.
     fn install(&mut self, program: Checked, beginning: Beginning)
-        requires long { length beginning.values.items ≡ slots_of program }
-        requires ports { valuation_of program beginning.values.items ≡ initial_ports program }
-        requires shares { map (option_map arc_value) beginning.shares.items ≡ map (λ t. None) program.tasks }
+        requires begins { IsBeginning program beginning }
         ensures tenancy { self.new.tenancy ≡ self.old.tenancy }
         ensures next_tick { self.new.row.next_tick ≡ self.old.row.next_tick }
         ensures step { IsBehind self.old (at_beginning loaded program) self.new }
@@ -148,6 +133,7 @@ impl Tenant {
         self.active.forget_ended();
         self.values = beginning.values;
         self.shares = beginning.shares;
+        self.waiting = None;
         drop(self.program.replace(program));
     }
 
@@ -168,7 +154,11 @@ impl Tenant {
             return Err(Refusal::NotLoaded);
         };
         reset_ports(program, self.values.as_mut_slice());
-        self.mode = start_place(program);
+        let mode = start_place(program);
+        let name = mode_name(program, mode);
+        self.trace.note(self.next_tick, Happening::Start(name));
+        self.mode = mode;
+        self.waiting = None;
         self.state = State::Running;
         self.mode_time = 0;
         self.next_due = 0;

@@ -12,7 +12,7 @@ ghost use Rattle.tenant_jobs.specs.inner.Finished.{is_entered};
 ghost use Rattle.tenant_state.specs.declared.tenants.Active.{Active};
 ghost use Rattle.tenant_state.specs.Jobs.{job_of};
 ghost use Rattle.tenant_slots.specs.inner.Due.{is_among_due};
-ghost use Rattle.tenant_state.specs.inner.EntryTable.{IsTableOf, AreDueEnded, entries_at, is_left_open, is_task_open};
+ghost use Rattle.tenant_state.specs.inner.EntryTable.{IsTableOf, AreDueEnded, AreEndsNoted, ends_noted, entries_at, is_left_open, is_task_open};
 ghost use Rattle.tenant_state.specs.FirstHalf.{all_ended};
 ghost use Rattle.tenant_state.specs.inner.Halves.{IsFirstHalf};
 ghost use Rattle.tenant_state.specs.Standing.{most_released};
@@ -31,17 +31,18 @@ use tenant_slots::actuators::update_due;
 use tenant_slots::due::{Due, due_marks, is_task_due};
 use tenant_slots::names::task_name;
 use tenant_slots::tasks::write_results;
+use tenant_trace::traces::Trace;
 
 impl Tenant {
     /// The first half of an instant. The due tasks write their results, which are in this table, and the due actuators are updated; or
-    /// the tenant is stopped where a due task has no result. Takes no memory.
+    /// the tenant is stopped where a due task has no result. Its trace records what happens. Takes no memory.
     pub fn phase_one(&mut self, finished: &Finished)
         requires rest { self.old.ended ≡ [] }
         requires entries { HasItsEntries self.old finished.now.entries }
         requires results { HasItsResults self.old finished.now.entries }
         ensures half { IsFirstHalf finished.now.entries self.old self.new }
         ensures room { self.old.room ≤ self.new.room }
-        ensures shared { self.new.shared ≡ self.old.shared }
+        ensures shared { self.old.shared ≡ true → self.new.shared ≡ true }
         ensures fewer { most_released self.new.row ≤ most_released self.old.row }
     {
         let State::Running = &self.state else {
@@ -73,7 +74,9 @@ impl Tenant {
             self.stop_with(Reason::Overrun(name));
             return;
         }
+        let tick = self.next_tick;
         let values = self.values.as_mut_slice();
+        let trace = &mut self.trace;
         end_due(
             checked,
             tenant,
@@ -82,10 +85,12 @@ impl Tenant {
             time,
             active,
             &table,
+            tick,
             values,
+            trace,
         );
         drop_due(invocations, time, &mut self.active);
-        update_due(checked, self.mode, time, values);
+        update_due(checked, self.mode, time, tick, values, trace);
     }
 }
 
@@ -182,7 +187,9 @@ fn end_due(
     time: u64,
     active: &[Active],
     table: &Option<[u8; 64]>,
+    tick: u64,
     values: &mut [i64],
+    trace: &mut Trace,
 )
     requires values { length values.old ≡ slots_of checked.now }
     requires active { AllByRecursion (IsActiveOf checked.now) active.now }
@@ -191,8 +198,10 @@ fn end_due(
     requires table { IfSome table.now (IsTableOf (length active.now) active.now) }
     requires right { AllByRecursion (IsResultRight finished.now.entries tenant checked.now) active.now }
     requires done { find (is_left_open time (is_done finished.now.entries tenant checked.now) active.now) invocations.now ≡ None }
-    ensures { (m : ModeDeclaration) → AreEach (IsInvocation checked.now m) m.invocations invocations.now
+    ensures ended { (m : ModeDeclaration) → AreEach (IsInvocation checked.now m) m.invocations invocations.now
         → AreDueEnded checked.now m time active.now values.old values.new }
+    ensures noted { (m : ModeDeclaration) → AreEach (IsInvocation checked.now m) m.invocations invocations.now
+        → AreEndsNoted checked.now m time tick active.now trace.old trace.new }
 {
     let _program = checked.program();
     let mut due = Due::at(time);
@@ -200,7 +209,9 @@ fn end_due(
         if due.is_due(invocation.interval) {
             let task = invocation.task;
             let entries = entries_of(active, table, task);
-            end_each(checked, tenant, finished, entries, task, values);
+            end_each(
+                checked, tenant, finished, entries, task, tick, values, trace,
+            );
         }
     }
 }
@@ -212,19 +223,22 @@ fn end_each(
     finished: &Finished,
     active: &[Active],
     task: usize,
+    tick: u64,
     values: &mut [i64],
+    trace: &mut Trace,
 )
     requires there { task < length checked.now.tasks }
     requires values { length values.old ≡ slots_of checked.now }
     requires active { AllByRecursion (IsActiveOf checked.now) active.now }
     requires right { AllByRecursion (IsResultRight finished.now.entries tenant checked.now) active.now }
     requires done { is_task_open (is_done finished.now.entries tenant checked.now) active.now task ≡ false }
-    ensures { valuation_of checked.now values.new
+    ensures ended { valuation_of checked.now values.new
         ≡ all_ended checked.now (map (active_of checked.now) (entries_at task active.now)) (valuation_of checked.now values.old) }
+    ensures noted { trace.new ≡ ends_noted checked.now tick (map (active_of checked.now) (entries_at task active.now)) trace.old }
 {
     for a in active {
         if a.task == task {
-            end(checked, tenant, finished, a, values);
+            end(checked, tenant, finished, a, tick, values, trace);
         }
     }
 }
@@ -235,13 +249,16 @@ fn end(
     tenant: TenantId,
     finished: &Finished,
     active: &Active,
+    tick: u64,
     values: &mut [i64],
+    trace: &mut Trace,
 )
     requires values { length values.old ≡ slots_of checked.now }
     requires active { IsActiveOf checked.now active.now }
     requires right { IsResultRight finished.now.entries tenant checked.now active.now }
     requires done { is_done finished.now.entries tenant checked.now active.now ≡ true }
-    ensures { valuation_of checked.now values.new ≡ all_ended checked.now (active_of checked.now active.now ∷ []) (valuation_of checked.now values.old) }
+    ensures ended { valuation_of checked.now values.new ≡ all_ended checked.now (active_of checked.now active.now ∷ []) (valuation_of checked.now values.old) }
+    ensures noted { trace.new ≡ ends_noted checked.now tick (active_of checked.now active.now ∷ []) trace.old }
 {
     let _program = checked.program();
     let Some(result) = result_of(checked, tenant, finished, active) else {
@@ -252,7 +269,9 @@ fn end(
         active.task,
         &result.outputs,
         &result.states,
+        tick,
         values,
+        trace,
     );
 }
 

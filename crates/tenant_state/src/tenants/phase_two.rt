@@ -10,10 +10,12 @@ ghost use Rattle.giotto_text.specs.Program.{ModeDeclaration};
 ghost use Rattle.tenant_slots.specs.inner.Due.{IsQuietUntil};
 ghost use Rattle.tenant_slots.specs.Places.{name_of_task};
 ghost use Rattle.tenant_slots.specs.inner.Places.{IsModeAt};
+ghost use Rattle.tenant_state.specs.FirstHalf.{due_tasks};
 ghost use Rattle.tenant_state.specs.inner.Halves.{IsSecondHalf};
 ghost use Rattle.tenant_jobs.specs.inner.Jobs.{IsComputable};
 ghost use Rattle.tenant_state.specs.Jobs.{body_in, job_in, released_at};
-ghost use Rattle.tenant_state.specs.inner.Standing.{AreReleased, HasRoom, HasShares};
+ghost use Rattle.tenant_state.specs.inner.Standing.{AreReleased, HasRoom, HasShares, IsSettled};
+ghost use Rattle.tenant_state.specs.Row.{is_running};
 ghost use Rattle.tenant_state.specs.Standing.{most_released};
 ghost use Rattle.tenant_state.specs.Tenants.{active_of};
 ghost use Rattle.tenant_state.specs.inner.Tenants.{IsActiveOf, IsShareOf};
@@ -32,11 +34,12 @@ use tenant_jobs::jobs::{Job, JobId, Jobs};
 use tenant_slots::due::due_behind;
 
 impl Tenant {
-    /// The second half of an instant whose number is below the greatest. `frame` has the input value of each line, and `granted` what is
-    /// granted through each bind, if something is, by the bind's place. The jobs of the tasks that are released are added to `jobs`, which
-    /// has room for them. Takes no memory.
+    /// The second half of an instant whose number is below the greatest. Each due task ended in the first half. `frame` has the input
+    /// value of each line, and `granted` what is granted through each bind, if something is, by the bind's place. The jobs of the tasks
+    /// that are released are added to `jobs`, which has room for them. Takes no memory.
     pub fn phase_two(&mut self, frame: &[i64], granted: &[Option<i64>], jobs: &mut Jobs)
         requires rest { self.old.ended ≡ [] }
+        requires ended_due { due_tasks self.old.row ≡ [] }
         requires next_tick { self.old.row.next_tick < 2 ^ 64 - 1 }
         requires room { HasRoom self.old }
         requires shares { HasShares self.old }
@@ -68,7 +71,27 @@ impl Tenant {
         requires rest { self.old.ended ≡ [] }
         requires next_tick { self.old.row.next_tick < 2 ^ 64 - 1 }
         requires room { HasRoom self.old }
+        requires ended_due { due_tasks self.old.row ≡ [] }
         ensures half { IsSecondHalf frame.now granted.now self.old self.new }
+        ensures released { AreReleased self.old.row self.new.row }
+        ensures shared { self.old.shared ≡ true → self.new.shared ≡ true }
+    {
+        if self.is_running() && self.mode_time == 0 {
+            self.install_waiting();
+        }
+        self.go_on(frame, granted);
+    }
+
+    // The second half where no program is installed.
+    #[inline(always)]
+    fn go_on(&mut self, frame: &[i64], granted: &[Option<i64>])
+        requires rest { self.old.ended ≡ [] }
+        requires next_tick { self.old.row.next_tick < 2 ^ 64 - 1 }
+        requires room { HasRoom self.old }
+        requires ended_due { due_tasks self.old.row ≡ [] }
+        requires settled { is_running self.old.row ≡ true → IsSettled self.old.row }
+        ensures half { IsSecondHalf frame.now granted.now self.old self.new }
+        ensures program { self.new.row.program ≡ self.old.row.program }
         ensures released { AreReleased self.old.row self.new.row }
         ensures shared { self.new.shared ≡ self.old.shared }
     {
@@ -86,7 +109,8 @@ impl Tenant {
         let mut time = self.mode_time;
         let mut next = self.next_due;
         let active = self.active.as_slice();
-        if let Some(entry) = switch(checked, mode, time, next, active, values) {
+        let trace = &mut self.trace;
+        if let Some(entry) = switch(checked, mode, time, next, active, release, values, trace) {
             mode = entry.mode;
             time = entry.time;
             next = 0;

@@ -1,17 +1,18 @@
 //! What an instant needs, made before it begins.
 
-ghost use Rattle.std.specs.Prelude.{◌≡◌, map, is_some, true, IsOk, IfOk, OnOk};
+ghost use Rattle.std.specs.Prelude.{◌≡◌, map, is_some, true, Some, IsOk, IfNone, IfOk, IfSome, OnOk};
 ghost use Rattle.std.specs.Arc.{arc_value};
 ghost use Rattle.std.specs.List.{list_all};
 ghost use Rattle.std.specs.Option.{option_map};
 ghost use Rattle.giotto_check.specs.inner.Timetables.{AreEach};
 ghost use Rattle.giotto_text.specs.Program.{ModeDeclaration};
 ghost use Rattle.giotto_text.specs.ProgramTrees.{task_of};
-ghost use Rattle.tenant_state.specs.inner.Standing.{HasRoom, HasShares};
+ghost use Rattle.tenant_state.specs.inner.Standing.{HasRoom, HasShares, IsSettled};
 ghost use Rattle.tenant_state.specs.Standing.{most_at, most_released};
 ghost use Rattle.tenant_state.specs.inner.Tenants.{IsShareOf};
 ghost use Rattle.tenant_slots.specs.inner.Places.{IsModeAt};
 
+use crate::tenants::waiting::Waiting;
 use crate::tenants::{State, Tenant};
 use giotto_check::Checked;
 use giotto_tasks::bodies::Body;
@@ -19,6 +20,7 @@ use giotto_text::programs::Task;
 use std::alloc::{AllocError, Global};
 use std::sync::Arc;
 use tenant_slots::due::Due;
+use tenant_slots::names::start_place;
 
 impl Tenant {
     /// Makes what the next instant needs: places for the tasks that become active, and shares of their bodies. How many jobs
@@ -35,23 +37,66 @@ impl Tenant {
         ensures row { self.new.row ≡ self.old.row }
         ensures ended { self.new.ended ≡ self.old.ended }
     {
-        let State::Running = &self.state else {
-            return Ok(0);
-        };
-        let Some(checked) = &self.program else {
-            return Ok(0);
-        };
-        let program = checked.program();
-        if self.mode_time < self.next_due {
-            return Ok(0);
-        }
-        let most = most_at(checked, self.mode, self.mode_time);
+        let most = self.most_released();
         if most == 0 {
             return Ok(0);
         }
         self.active.reserve(most)?;
-        share_bodies(program.tasks(), self.shares.as_mut_slice())?;
+        self.share_all()?;
         Ok(most)
+    }
+
+    // The most tasks that the next instant can release.
+    fn most_released(&self) -> usize
+        ensures { result ≡ most_released self.now.row }
+    {
+        let State::Running = &self.state else {
+            return 0;
+        };
+        let Some(checked) = &self.program else {
+            return 0;
+        };
+        let _program = checked.program();
+        if let Some(waiting) = self.installs() {
+            let program = &waiting.program;
+            let _new = program.program();
+            return most_at(program, start_place(program), 0);
+        }
+        if self.mode_time < self.next_due {
+            return 0;
+        }
+        most_at(checked, self.mode, self.mode_time)
+    }
+
+    // The program that the next instant installs.
+    fn installs(&self) -> Option<&Waiting>
+        ensures due { IfSome result (λ w. (self.now.row.mode_time ≡ 0) × (self.now.row.waiting ≡ Some w.now.program)) }
+        ensures none { IfNone result (IsSettled self.now.row) }
+    {
+        if self.mode_time == 0 {
+            self.waiting.as_ref()
+        } else {
+            None
+        }
+    }
+
+    // Makes each share that isn't at hand, of the program's bodies and of those of one that waits.
+    fn share_all(&mut self) -> Result<(), AllocError>
+        ensures shared { OnOk result (is_some self.old.row.program ≡ true → self.new.shared ≡ true) }
+        ensures tenancy { self.new.tenancy ≡ self.old.tenancy }
+        ensures row { self.new.row ≡ self.old.row }
+        ensures ended { self.new.ended ≡ self.old.ended }
+        ensures room { self.new.room ≡ self.old.room }
+    {
+        let Some(checked) = &self.program else {
+            return Ok(());
+        };
+        share_bodies(checked.program().tasks(), self.shares.as_mut_slice())?;
+        if let Some(waiting) = &mut self.waiting {
+            waiting.share()?;
+            return Ok(());
+        }
+        Ok(())
     }
 }
 
@@ -77,7 +122,10 @@ fn most_at(checked: &Checked, mode: usize, time: u64) -> usize
 }
 
 // Makes each share that isn't at hand.
-fn share_bodies(tasks: &[Task], shares: &mut [Option<Arc<Body, Global>>]) -> Result<(), AllocError>
+pub(crate) fn share_bodies(
+    tasks: &[Task],
+    shares: &mut [Option<Arc<Body, Global>>],
+) -> Result<(), AllocError>
     requires { AreEach IsShareOf (map task_of tasks.now) (map (option_map arc_value) shares.old) }
     ensures shared { OnOk result (list_all is_some shares.new ≡ true) }
     ensures shares { AreEach IsShareOf (map task_of tasks.now) (map (option_map arc_value) shares.new) }

@@ -6,7 +6,7 @@ ghost use Rattle.tenant_lines.specs.declared.replies.Reply.{Reply};
 ghost use Rattle.tenant_state.specs.Commands.{show_all, show_port, status_of};
 ghost use Rattle.tenant_state.specs.Row.{Row};
 ghost use Rattle.tenant_state.specs.inner.Standing.{IsRefused};
-ghost use Rattle.tenant_state.specs.Standing.{without_records};
+ghost use Rattle.tenant_state.specs.Standing.{StandsFor};
 
 use crate::tenants::{Reason, State, Tenant};
 use giotto_tasks::lists::List;
@@ -19,7 +19,7 @@ use tenant_slots::names::port_value;
 impl Tenant {
     // What it is doing.
     pub(crate) fn status(&self) -> Status
-        ensures { (row : Row) → self.now.row ≡ without_records row → result ≡ status_of row }
+        ensures { (row : Row) → StandsFor self.now row → result ≡ status_of row }
     {
         let mode = match &self.program {
             Some(checked) => checked.program().modes()[self.mode].name.copy(),
@@ -38,7 +38,7 @@ impl Tenant {
     pub(crate) fn port_value(&self, port: &PortName) -> Result<i64, Refusal>
         ensures room { result ≢ Err Refusal.Memory }
         ensures refused { IfErr result (λ r. IsRefused self.now (λ row. show_port port.now row row.program) r) }
-        ensures shown { IfOk result (λ z. (row : Row) → self.now.row ≡ without_records row
+        ensures shown { IfOk result (λ z. (row : Row) → StandsFor self.now row
             → show_port port.now row row.program ≡ record { row = row; reply = Reply.Port (record { port = port.now; value = z }) }) }
     {
         let Some(checked) = &self.program else {
@@ -59,7 +59,7 @@ impl Tenant {
     pub(crate) fn all_values(&self) -> Result<List<PortValue>, Refusal>
         ensures room { is_some self.now.row.program ≡ false → result ≢ Err Refusal.Memory }
         ensures refused { IfErr result (λ r. r ≢ Refusal.Memory → IsRefused self.now (λ row. show_all row row.program) r) }
-        ensures shown { IfOk result (λ all. (row : Row) → self.now.row ≡ without_records row → show_all row row.program ≡ record { row = row; reply = Reply.All all }) }
+        ensures shown { IfOk result (λ all. (row : Row) → StandsFor self.now row → show_all row row.program ≡ record { row = row; reply = Reply.All all }) }
     {
         let Some(checked) = &self.program else {
             return Err(Refusal::NotLoaded);

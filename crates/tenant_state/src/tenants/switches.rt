@@ -12,12 +12,16 @@ ghost use Rattle.tenant_slots.specs.inner.Places.{IsModeAt};
 ghost use Rattle.tenant_state.specs.Row.{ActiveTask};
 ghost use Rattle.tenant_state.specs.SecondHalf.{entry_time};
 ghost use Rattle.tenant_state.specs.Tenants.{active_of};
-ghost use Rattle.tenant_state.specs.inner.Tenants.{IsActiveOf, IsSwitched};
+ghost use Rattle.tenant_state.specs.inner.Tenants.{IsActiveOf, IsSwitched, entry_happened};
+ghost use Rattle.tenant_trace.specs.inner.Noted.{noted};
 
 use crate::tenants::Active;
 use giotto_check::Checked;
+use tenant_slots::names::mode_name;
 use tenant_slots::periods::{common_multiple, period_of};
 use tenant_slots::switches::take_switch;
+use tenant_trace::records::Happening;
+use tenant_trace::traces::Trace;
 
 /// Where a switch leads.
 #[derive(Drop)]
@@ -28,21 +32,24 @@ pub(crate) struct Entry {
     pub(crate) time: u64,
 }
 
-// Takes the first switch of the mode at this place that is due and whose guard holds, and says where it leads. None is due before
-// mode time `next`.
+// Takes the first switch of the mode at this place that is due and whose guard holds, and says where it leads; the trace records it.
+// None is due before mode time `next`.
 pub(crate) fn switch(
     checked: &Checked,
     mode: usize,
     time: u64,
     next: u64,
     active: &[Active],
+    tick: u64,
     values: &mut [i64],
+    trace: &mut Trace,
 ) -> Option<Entry>
     requires quiet { (m : ModeDeclaration) → IsModeAt checked.now mode m → IsQuietUntil m time next }
     requires values { length values.old ≡ slots_of checked.now }
     requires active { AllByRecursion (IsActiveOf checked.now) active.now }
-    ensures { (m : ModeDeclaration) → IsModeAt checked.now mode m
+    ensures switched { (m : ModeDeclaration) → IsModeAt checked.now mode m
         → IsSwitched checked.now m time (map (active_of checked.now) active.now) (valuation_of checked.now values.old) result values.new }
+    ensures noted { trace.new ≡ noted tick (entry_happened checked.now result) trace.old }
 {
     if time < next {
         return None;
@@ -50,6 +57,7 @@ pub(crate) fn switch(
     // It is well-formed, and the mode is one of it.
     let _mode = checked.program().modes().get(mode)?;
     let target = take_switch(checked, mode, time, values)?;
+    trace.note(tick, Happening::Mode(mode_name(checked, target)));
     Some(Entry {
         mode: target,
         time: entry_time(checked, mode, target, time, active),

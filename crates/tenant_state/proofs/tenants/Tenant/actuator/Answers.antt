@@ -10,7 +10,7 @@ returns-in_err-place c =
 
 pub overflow_add-slot : goal.overflow_add-slot
 overflow_add-slot c =
-    let known = rw c.in-Some.is at c.self.invariant in
+    let known = rw c.in-Some.is at c.self.invariant.0 in
     let are = rw c.program-program.ensures.tree at c.actuators.ensures in
     let sensors = rw c.program-program.ensures.tree at c.sensors.ensures in
     let within = slot_there c.in-Some.checked c.args.name.now c.actuators.result.now are c.sensors.result.now sensors c.in_ok-place.place c.in_ok-place.ensures in

@@ -11,7 +11,7 @@ returns-in_default-place_of c =
 
 pub declared-requires : goal.declared-requires
 declared-requires c =
-    let known = rw c.in-Some.is at c.self.invariant in
+    let known = rw c.in-Some.is at c.self.invariant.0 in
     let within = rw c.as_slice.ensures at c.in-Some-place_of.ensures.within in
     (so_there _ _ _ within (rw c.as_slice-2.ensures at c.index-as_slice-place.is) _ known.fits.each).declared
 

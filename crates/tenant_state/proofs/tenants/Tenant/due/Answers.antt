@@ -13,7 +13,7 @@ pub returns-in_default-active_place : goal.returns-in_default-active_place
 returns-in_default-active_place c =
     let s = c.self.inside in
     let p = c.in-Some.checked in
-    let known = rw c.in-Some.is at c.self.invariant in
+    let known = rw c.in-Some.is at c.self.invariant.0 in
     let m = its_mode p s.mode known.fits.mode_there in
     let none = map_none (λ (a : Active). a.task) _ (rw c.as_slice.ensures at c.in_default-active_place.ensures) in
     rw (← c.self.view_is, c.in-Some.is, c.in-Running.is) (not_due p c.program-program.ensures.fits m.0 s.mode s.mode_time s.active.items m.1 c.args.task.now s.grants none)
@@ -26,7 +26,7 @@ pub returns : goal.returns
 returns c =
     let s = c.self.inside in
     let p = c.in-Some.checked in
-    let known = rw c.in-Some.is at c.self.invariant in
+    let known = rw c.in-Some.is at c.self.invariant.0 in
     let m = its_mode p s.mode known.fits.mode_there in
     let some = map_some (λ (a : Active). a.task) _ c.in-Some-active_place.place (rw c.as_slice.ensures at c.in-Some-active_place.ensures) in
     let here = ap (λ k. list_any (λ (e : SlotInvocation). nat_eq k e.task && (s.mode_time % e.interval == 0)) c.invocations.result.now) (sym some.2) in

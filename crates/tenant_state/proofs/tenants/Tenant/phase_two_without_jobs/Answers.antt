@@ -1,159 +1,39 @@
-use Rattle.std.proofs.Common.{rules, ◌≡◌, ◌<◌, [], Some, map, length, slice_get, slice_index_or, sym, subst, ap, ◌∙◌, arith}
-use Rattle.std.specs.Arc.{arc_value}
-use Rattle.std.specs.List.{AllByRecursion}
-use Rattle.std.specs.Option.{option_map}
-use Rattle.std.specs.Vec.{vec_items, with_items}
-use Rattle.std.proofs.lemmas.List.{length-map}
-use Rattle.std.proofs.lemmas.Option.{slice_get_within}
-use Rattle.giotto_tasks.proofs.ListLemmas.{all_map, whole_slice, some_same}
-use Rattle.giotto_text.specs.declared.programs.Mode.{Mode}
-use Rattle.giotto_text.specs.Program.{ModeDeclaration, GiottoProgram}
-use Rattle.giotto_text.specs.ProgramTrees.{mode_of}
-use Rattle.giotto_check.specs.Slots.{valuation_of}
-use Rattle.giotto_tasks.specs.Names.{Valuation}
-use Rattle.tenant_exchange.specs.Granted.{granted_along}
-use Rattle.tenant_slots.specs.Readings.{Readings, readings_within}
-use Rattle.tenant_slots.proofs.Numbered.{mode_fits_at}
-use Rattle.tenant_state.specs.Tenants.{active_of}
-use Rattle.tenant_state.specs.inner.Tenants.{AreInvoked, IsActiveIn, IsActiveOf, IsSwitched}
-use Rattle.tenant_state.proofs.EndedTasks.{its_mode}
-use Rattle.tenant_state.proofs.HalfStands.{sensed_ports, room_due, half_stands, half_released}
-use Rattle.tenant_state.proofs.SecondHalfSteps.{IsBehindSwitch, none_taken, one_taken}
-use Rattle.tenant_state.proofs.TenantBehind.{active_later, mode_read, tenant_behind}
-use Rattle.tenant_state.proofs.TenantFacts.{none_stand}
+use Rattle.std.proofs.Common.{sym, ap, subst, ◌∙◌}
+use Rattle.tenant_state.specs.FirstHalf.{due_tasks}
+use Rattle.tenant_state.specs.SecondHalf.{replaced_if_due}
+use Rattle.tenant_state.specs.Standing.{Standing, most_released}
+use Rattle.tenant_state.specs.inner.Halves.{IsSecondHalf}
+use Rattle.tenant_state.specs.inner.Standing.{AreReleased, IsBehind}
+use Rattle.tenant_state.proofs.Installed.{half_behind, nothing_due, released_then}
 use Rattle.tenant_state.proofs.tenants.Tenant.phase_two_without_jobs.Goals as goal
-use Rattle.tenant_state.proofs.tenants.Tenant.phase_two_without_jobs.Goals.{in-Some-switch, in_default-switch, After-modes}
+use Rattle.tenant_state.proofs.tenants.Tenant.phase_two_without_jobs.Goals.{then-is_running+then-self-eq0, else-is_running}
 
-pub switch-requires : goal.switch-requires
-switch-requires c =
-    let p = c.in-Some.checked in
-    let is = rw c.in-Some.is at c.self.invariant in
-    record {
-      quiet = is.fits.quiet;
-      values = omega (arith, c.read_sensors.auto.values, ap length c.as_mut_slice-values.ensures.value, is.fits.long);
-      active = subst (λ xs. AllByRecursion (IsActiveOf p) xs) (sym c.as_slice-active.ensures) (all_map (IsActiveIn p c.self.inside.next_tick) (IsActiveOf p) c.self.inside.active.items (λ a is. is.declared) is.fits.each);
-    }
-
-module _ (c : After-modes) where
-  abbrev readings : Readings
-  readings = readings_within c.self.inside.budgets.reads c.args.frame.now
-
-  abbrev granted : Valuation
-  granted = granted_along c.self.inside.grants.binds c.args.granted.now
-
-  -- the mode before the switch
-  its : (m : ModeDeclaration) × (slice_get c.in-Some.checked.modes c.self.inside.mode ≡ Some m)
-  its = let is = rw c.in-Some.is at c.self.invariant in its_mode c.in-Some.checked c.self.inside.mode is.fits.mode_there
-
-  behind : IsBehindSwitch c.in-Some.checked its.0 c.self.inside.mode c.self.inside.mode_time (map (active_of c.in-Some.checked) c.self.inside.active.items)
-      (sensed_ports c.in-Some.checked c.self.inside.values.items readings granted) c.match-switch.mode c.match-switch.time c.match-switch.next c.switch.new.values
-  behind =
-      let p = c.in-Some.checked in
-      let s = c.self.inside in
-      let is = rw c.in-Some.is at c.self.invariant in
-      let sensed = c.read_sensors.ensures ∙ ap (λ zs. sensed_ports p zs readings granted) c.as_mut_slice-values.ensures.value in
-      let active = subst (λ xs. IsSwitched p its.0 s.mode_time (map (active_of p) xs) (valuation_of p c.read_sensors.new.values) c.switch.result c.switch.new.values) c.as_slice-active.ensures (c.switch.ensures its.0 its.1) in
-      let switched = subst (λ ports. IsSwitched p its.0 s.mode_time (map (active_of p) s.active.items) ports c.switch.result c.switch.new.values) sensed active in
-      elim c.match-switch.branch [
-        | in-Some-switch w ↦
-            let taken = subst (λ o. IsSwitched p its.0 s.mode_time (map (active_of p) s.active.items) (sensed_ports p s.values.items readings granted) o c.switch.new.values) w.in-Some-switch.is switched in
-            one_taken p c.program.ensures.fits its.0 s.mode s.mode_time s.next_due _ _ _ w.in-Some-switch.entry _ _ _ w.mode-is w.time-is w.next-is taken
-        | in_default-switch w ↦
-            let none = subst (λ o. IsSwitched p its.0 s.mode_time (map (active_of p) s.active.items) (sensed_ports p s.values.items readings granted) o c.switch.new.values) w.in_default-switch.is switched in
-            none_taken p c.program.ensures.fits its.0 s.mode s.mode_time s.next_due _ _ _ _ _ _ w.mode-is w.time-is w.next-is its.1 is.fits.quiet is.short_time none
-      ]
-
-pub invoke_due-requires : goal.invoke_due-requires
-invoke_due-requires c =
-    let s = c.self.inside in
-    let p = c.in-Some.checked in
-    let is = rw c.in-Some.is at c.self.invariant in
-    let room = rw (← c.self.view_is, c.in-Running.is, c.in-Some.is) at c.requires.room in
-    let read = (goal.at.invoke_due-requires c).After-modes in
-    let new = behind read in
-    record {
-      quiet = new.quiet;
-      values = omega (arith, c.switch.auto.values, c.read_sensors.auto.values, ap length c.as_mut_slice-values.ensures.value, is.fits.long);
-      room = room_due s.budgets s.grants p c.program.ensures.fits (its read).0 s.mode s.mode_time 0 s.active.room s.active.items s.active.ended s.values.items [] (its read).1 c.match-switch.mode c.match-switch.time c.match-switch.next (readings read) (granted read) c.switch.new.values new room;
-      each = active_later p s.next_tick s.active.items is.fits.each;
-      rest = none_stand p s.active.ended (rw (← c.self.view_is, c.in-Some.is) at c.requires.rest);
-    }
-
-pub overflow_add-behind : goal.overflow_add-behind
-overflow_add-behind c = let new = behind (goal.at.overflow_add-behind c).After-modes in omega (arith, new.short)
-
--- the mode is there where the code reads it
-within : (c : After-modes) → c.match-switch.mode < length c.modes.result.now
-within c =
-    let p = c.in-Some.checked in
-    let new = behind c in
-    omega (arith, slice_get_within p.modes c.match-switch.mode new.new new.there, ap length (c.modes.ensures ∙ ap (λ (p : GiottoProgram). p.modes) c.program.ensures.tree), length-map c.modes.result.now mode_of)
-
-pub offset_bounds-modes-mode : goal.offset_bounds-modes-mode
-offset_bounds-modes-mode c = let lt : c.match-switch.mode < length c.modes.result.now = within (goal.at.offset_bounds-modes-mode c).After-modes in search rules
-
-pub bounds-modes-mode : goal.bounds-modes-mode
-bounds-modes-mode c = within (goal.at.bounds-modes-mode c).After-modes
-
-pub bounds-modes-mode-after-switch : goal.bounds-modes-mode-after-switch
-bounds-modes-mode-after-switch c = within (goal.at.bounds-modes-mode-after-switch c).After-modes
-
--- the period that the code reads is that of the mode there
-lasts : (c : After-modes) (d : Mode) → (slice_index_or c.modes.result.now c.match-switch.mode d).period ≡ (behind c).new.period
-lasts c d =
-    let p = c.in-Some.checked in
-    let new = behind c in
-    let read = mode_read p c.program.ensures.fits c.match-switch.mode c.modes.result.now d (c.modes.ensures ∙ ap (λ (p : GiottoProgram). p.modes) c.program.ensures.tree) (slice_get_within p.modes c.match-switch.mode new.new new.there) in
-    ap (λ (m : ModeDeclaration). m.period) (some_same (mode_of (slice_index_or c.modes.result.now c.match-switch.mode d)) new.new (sym read ∙ new.there))
-
-pub nonzero_rem-behind : goal.nonzero_rem-behind
-nonzero_rem-behind c =
-    let read = (goal.at.nonzero_rem-behind c).After-modes in
-    let new = behind read in
-    omega (arith, lasts read c.index-modes-mode.result, (mode_fits_at c.in-Some.checked c.program.ensures.fits c.match-switch.mode new.new new.there).positive)
-
-module _ (c : goal.After-self-6-1) where
-  abbrev read : After-modes
-  read = (goal.at.invariant_of-self-2 c).After-modes
-
-  happened : AreInvoked c.in-Some.checked (behind read).new c.match-switch.time c.self.inside.next_tick (valuation_of c.in-Some.checked c.switch.new.values)
-      c.self.inside.active.items c.invoke_due.new.active.items (vec_items (with_items c.self.inside.values c.invoke_due.new.values))
-  happened =
-      let whole : vec_items (with_items c.self.inside.values c.invoke_due.new.values) ≡ c.invoke_due.new.values =
-      whole_slice c.self.inside.values.len c.invoke_due.new.values c.self.inside.values.items
-      (omega (arith, c.invoke_due.auto.values, c.switch.auto.values, c.read_sensors.auto.values, ap length c.as_mut_slice-values.ensures.value, c.self.inside.values.ok.0)) in
-      rw whole (c.invoke_due.ensures.invoked (behind read).new (behind read).there)
-
-pub invariant_of-self-2 : goal.invariant_of-self-2
-invariant_of-self-2 c =
-    let s = c.self.inside in
-    let p = c.in-Some.checked in
-    let is = rw (c.in-Some.is, c.in-Running.is) at c.self.invariant in
-    let new = behind (read c) in
-    let none = none_stand p s.active.ended (rw (← c.self.view_is, c.in-Some.is) at c.requires.rest) in
-    rw (c.in-Some.is, c.in-Running.is, c.invoke_due.ensures.rest, ← none) (tenant_behind p c.program.ensures.fits c.match-switch.mode new.new new.there s.mode s.mode_time c.match-switch.time c.match-switch.next s.next_due _ _ s.next_tick _ _ _ _ _ _ _ (lasts (read c) c.index-modes-mode.result) is (happened c) new.quiet c.due_behind-self-inside.ensures)
+pub go_on-requires-clause-ended_due : goal.go_on-requires-clause-ended_due
+go_on-requires-clause-ended_due c = elim c.if-is_running.branch [
+  | then-is_running+then-self-eq0 w ↦
+      ap (λ (s : Standing). due_tasks s.row) w.self-is ∙ nothing_due w.install_waiting.new.self.row (w.install_waiting.ensures.active ∙ w.install_waiting.ensures.none_active)
+  | else-is_running w ↦ ap (λ (s : Standing). due_tasks s.row) w.self-is ∙ c.requires.ended_due
+]
 
 pub returns-clause-half : goal.returns-clause-half
-returns-clause-half c = record {
-  step = let s = c.self.inside in
-      let p = c.in-Some.checked in
-      let new = behind (read c) in
-      rw (← c.self.view_is, c.in-Running.is, c.in-Some.is)
-      (half_stands s.budgets s.grants p c.program.ensures.fits (its (read c)).0 s.mode s.mode_time s.next_tick s.active.room s.active.items s.active.ended s.values.items (map (option_map arc_value) s.shares.items) (its (read c)).1
-      c.match-switch.mode c.match-switch.time c.match-switch.next (readings (read c)) (granted (read c)) c.switch.new.values new _ c.invoke_due.new.active.room (lasts (read c) c.index-modes-mode.result) _ _ (happened c));
-  next_tick = search rules;
-  tenancy = search rules;
-  program = search rules;
-  offers = search rules;
-  binds = search rules;
-  ended = search rules;
-}
+returns-clause-half c =
+    let after = c.go_on.new.self in
+    elim c.if-is_running.branch [
+      | then-is_running+then-self-eq0 w ↦
+          let done = w.install_waiting.ensures in
+          half_behind c.args.self.now c.if-is_running.self after (ap (λ (s : Standing). s.tenancy) w.self-is ∙ done.tenancy) (ap (λ (s : Standing). s.row.next_tick) w.self-is ∙ done.next_tick) c.args.frame.now c.args.granted.now
+          (sym c.is_running.ensures ∙ w.if-is_running.true) (subst (IsBehind c.args.self.now replaced_if_due) (sym w.self-is) done.step) done.none_active
+          (ap (λ (s : Standing). s.row.offers) w.self-is ∙ done.offers) (ap (λ (s : Standing). s.row.binds) w.self-is ∙ done.binds) c.go_on.ensures.half
+      | else-is_running w ↦ subst (λ s. IsSecondHalf c.args.frame.now c.args.granted.now s after) w.self-is c.go_on.ensures.half
+    ]
 
 pub returns-clause-released : goal.returns-clause-released
 returns-clause-released c =
-    let s = c.self.inside in
-    let p = c.in-Some.checked in
-    let new = behind (read c) in
-    rw (← c.self.view_is, c.in-Running.is, c.in-Some.is)
-    (half_released s.budgets s.grants p c.program.ensures.fits (its (read c)).0 s.mode s.mode_time s.next_tick 0 s.active.items s.active.ended s.values.items [] (its (read c)).1
-    c.match-switch.mode c.match-switch.time c.match-switch.next (readings (read c)) (granted (read c)) c.switch.new.values new _ 0 (lasts (read c) c.index-modes-mode.result) _ _ (happened c))
+    let after = c.go_on.new.self in
+    elim c.if-is_running.branch [
+      | then-is_running+then-self-eq0 w ↦
+          let done = w.install_waiting.ensures in
+          released_then c.args.self.now c.if-is_running.self after (ap (λ (s : Standing). s.tenancy) w.self-is ∙ done.tenancy) (ap (λ (s : Standing). s.row.next_tick) w.self-is ∙ done.next_tick)
+          (ap (λ (s : Standing). s.row.active) w.self-is ∙ done.active) (ap (λ (s : Standing). most_released s.row) w.self-is ∙ done.most) c.go_on.ensures.released
+      | else-is_running w ↦ subst (λ (s : Standing). AreReleased s.row after.row) w.self-is c.go_on.ensures.released
+    ]

@@ -1,4 +1,4 @@
-use Rattle.std.proofs.Common.{◌≡◌, ap, sym, subst, ◌∙◌}
+use Rattle.std.proofs.Common.{◌≡◌, [], ap, sym, subst, ◌∙◌}
 use Rattle.std.specs.Prelude.{IfSome, option_copied, slice_get}
 use Rattle.std.specs.Option.{option_map_or}
 use Rattle.giotto_check.specs.Slots.{valuation_of}
@@ -6,7 +6,9 @@ use Rattle.giotto_text.specs.PortNames.{own_ports, with_values}
 use Rattle.giotto_text.specs.Program.{names_of}
 use Rattle.tenant_jobs.specs.inner.Finished.{result_of}
 use Rattle.tenant_slots.proofs.Numbered.{task_here}
-use Rattle.tenant_state.specs.FirstHalf.{ended_with}
+use Rattle.tenant_state.specs.FirstHalf.{ended_with, outputs_of_end}
+use Rattle.tenant_slots.specs.Results.{outputs_happened}
+use Rattle.tenant_trace.specs.inner.Noted.{noted}
 use Rattle.tenant_state.specs.Jobs.{job_in}
 use Rattle.tenant_state.specs.Tenants.{active_of}
 use Rattle.tenant_state.proofs.EndedTasks.{result_here, some_of}
@@ -30,6 +32,11 @@ returns c =
     let there = some_of (slice_get p.tasks a.task) c.requires.active in
     let t = there.0 in
     let is = result_here p c.program-program.ensures.fits c.args.tenant a t there.1 c.in-Some.result.now (right (goal.at.returns c).In-Some) in
-    c.write_results.ensures t there.1
-    ∙ (λ k. with_values (with_values ports t.outputs (is.0 k)) (own_ports t.name (names_of t.states)) (is.1 k))
-    ∙ sym (ap (λ o. option_map_or (ended_with (active_of p a) ports) o ports) (task_here p c.program-program.ensures.fits a.task t there.1))
+    record {
+      ended = c.write_results.ensures.written t there.1
+          ∙ (λ k. with_values (with_values ports t.outputs (is.0 k)) (own_ports t.name (names_of t.states)) (is.1 k))
+          ∙ sym (ap (λ o. option_map_or (ended_with (active_of p a) ports) o ports) (task_here p c.program-program.ensures.fits a.task t there.1));
+      noted = c.write_results.ensures.noted t there.1
+          ∙ ap (λ zs. noted c.args.tick (outputs_happened t.outputs zs) c.args.trace.now) is.0
+          ∙ sym (ap (λ o. noted c.args.tick (option_map_or (outputs_of_end (active_of p a)) o []) c.args.trace.now) (task_here p c.program-program.ensures.fits a.task t there.1));
+    }

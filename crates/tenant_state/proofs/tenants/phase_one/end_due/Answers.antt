@@ -1,8 +1,9 @@
-use Rattle.std.proofs.Common.{◌≡◌, ℕ, ◌+◌, ◌<◌, ◌%◌, ◌==◌, ◌&&◌, true, [], drop, map, length, ap, sym, subst, ◌∙◌, arith}
+use Rattle.std.proofs.Common.{refl, ◌≡◌, ℕ, ◌+◌, ◌<◌, ◌%◌, ◌==◌, ◌&&◌, true, [], drop, map, length, ap, sym, subst, ◌∙◌, arith}
 use Rattle.std.specs.List.{flat_map, AllByRecursion}
 use Rattle.std.proofs.lemmas.List.{drop_all, drop_more}
 use Rattle.giotto_check.specs.Slots.{valuation_of}
-use Rattle.giotto_check.specs.inner.Timetables.{IsInvocation}
+use Rattle.giotto_check.specs.inner.Timetables.{AreEach, IsInvocation}
+use Rattle.giotto_text.specs.Program.{ModeDeclaration}
 use Rattle.giotto_check.specs.declared.timetables.SlotInvocation.{SlotInvocation}
 use Rattle.giotto_check.proofs.EachLemmas.{each_long}
 use Rattle.tenant_slots.proofs.Updates.{each_item}
@@ -10,8 +11,8 @@ use Rattle.tenant_state.specs.FirstHalf.{all_ended}
 use Rattle.tenant_state.specs.Tenants.{active_of}
 use Rattle.tenant_state.specs.inner.Tenants.{IsActiveOf, IsResultRight, is_done}
 use Rattle.tenant_state.proofs.DueTasks.{group}
-use Rattle.tenant_state.proofs.EndedTasks.{end_due, end_none, left_none, not_here}
-use Rattle.tenant_state.specs.inner.EntryTable.{is_left_open, is_task_open}
+use Rattle.tenant_state.proofs.EndedTasks.{end_due, end_none, ended_one_by_one, left_none, not_here, noted_one_by_one}
+use Rattle.tenant_state.specs.inner.EntryTable.{ends_noted, is_left_open, is_task_open}
 use Rattle.tenant_state.proofs.EntryTables.{each_found, same_entries, same_open}
 use Rattle.tenant_state.proofs.tenants.phase_one.end_due.Goals as goal
 use Rattle.tenant_state.proofs.tenants.phase_one.end_due.Goals.{then-is_due, else-is_due}
@@ -35,10 +36,19 @@ loop-invocation-preserved c =
       value = λ m each.
           let item = each_item (IsInvocation p m) m.invocations es k e each c.loop-invocation-test.true c.invocation-item.is in
           elim c.if-is_due.branch [
-            | then-is_due w ↦ end_due p c.program-program.ensures.fits m c.args.time items c.requires.active m.invocations item.0 e k item.1 item.2 (now ∙ w.if-is_due.true) _ _ _
-                (ap (valuation_of p) w.values-is ∙ w.end_each.ensures ∙ ap (λ xs. all_ended p (map (active_of p) xs) (valuation_of p c.loop-invocation.values)) (same_entries e.task items w.entries_of-entries.result.now w.entries_of-entries.ensures)) (before.value m each)
+            | then-is_due w ↦ end_due p c.program-program.ensures.fits m c.args.time items c.requires.active m.invocations item.0 e k item.1 item.2 (all_ended p) (ended_one_by_one p) (now ∙ w.if-is_due.true) _ _ _
+                (ap (valuation_of p) w.values-is ∙ w.end_each.ensures.ended ∙ ap (λ xs. all_ended p (map (active_of p) xs) (valuation_of p c.loop-invocation.values)) (same_entries e.task items w.entries_of-entries.result.now w.entries_of-entries.ensures)) (before.value m each)
             | else-is_due w ↦ ap (λ vs. all_ended p (flat_map (group m c.args.time (map (active_of p) items)) (drop (k + 1) m.invocations)) (valuation_of p vs)) w.values-is
-                ∙ end_none p c.program-program.ensures.fits m c.args.time items c.requires.active m.invocations item.0 e k item.1 item.2 (now ∙ w.if-is_due.false) _ _ (before.value m each)
+                ∙ end_none p c.program-program.ensures.fits m c.args.time items c.requires.active m.invocations item.0 e k item.1 item.2 (all_ended p) (ended_one_by_one p) (now ∙ w.if-is_due.false) (λ s. refl) _ _ (before.value m each)
+          ];
+      told = λ m each.
+          let item = each_item (IsInvocation p m) m.invocations es k e each c.loop-invocation-test.true c.invocation-item.is in
+          let noted = ends_noted p c.args.tick in
+          elim c.if-is_due.branch [
+            | then-is_due w ↦ end_due p c.program-program.ensures.fits m c.args.time items c.requires.active m.invocations item.0 e k item.1 item.2 noted (noted_one_by_one p c.args.tick) (now ∙ w.if-is_due.true) _ _ _
+                (w.trace-is ∙ w.end_each.ensures.noted ∙ ap (λ xs. noted (map (active_of p) xs) c.loop-invocation.trace) (same_entries e.task items w.entries_of-entries.result.now w.entries_of-entries.ensures)) (before.told m each)
+            | else-is_due w ↦ ap (λ t. noted (flat_map (group m c.args.time (map (active_of p) items)) (drop (k + 1) m.invocations)) t) w.trace-is
+                ∙ end_none p c.program-program.ensures.fits m c.args.time items c.requires.active m.invocations item.0 e k item.1 item.2 noted (noted_one_by_one p c.args.tick) (now ∙ w.if-is_due.false) (λ s. refl) _ _ (before.told m each)
           ];
     }
 
@@ -60,8 +70,12 @@ end_each-requires-clause-done c =
     ∙ not_here (is_left_open c.args.time done items) c.args.invocations.now c.loop-invocation.invocation-index e c.loop-invocation-test.true c.invocation-item.is before.done
 
 pub returns : goal.returns
-returns c = λ m each.
+returns c =
     let p = c.args.checked.now in
-    let none : drop c.loop-invocation.invocation-index m.invocations ≡ [] =
+    let active = map (active_of p) c.args.active.now in
+    let none : (m : ModeDeclaration) → AreEach (IsInvocation p m) m.invocations c.args.invocations.now → drop c.loop-invocation.invocation-index m.invocations ≡ [] = λ m each.
     drop_all c.loop-invocation.invocation-index m.invocations (omega (arith, each_long (IsInvocation p m) m.invocations c.args.invocations.now each, c.loop-invocation-test.false)) in
-    sym (ap (λ is. all_ended p (flat_map (group m c.args.time (map (active_of p) c.args.active.now)) is) (valuation_of p c.loop-invocation.values)) none) ∙ c.loop-invocation.invariant.value m each
+    record {
+      ended = λ m each. sym (ap (λ is. all_ended p (flat_map (group m c.args.time active) is) (valuation_of p c.loop-invocation.values)) (none m each)) ∙ c.loop-invocation.invariant.value m each;
+      noted = λ m each. sym (ap (λ is. ends_noted p c.args.tick (flat_map (group m c.args.time active) is) c.loop-invocation.trace) (none m each)) ∙ c.loop-invocation.invariant.told m each;
+    }

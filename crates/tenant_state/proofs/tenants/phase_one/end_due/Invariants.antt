@@ -8,7 +8,7 @@ use Rattle.giotto_text.specs.Program.{ModeDeclaration}
 use Rattle.tenant_state.specs.FirstHalf.{all_ended}
 use Rattle.tenant_state.specs.Tenants.{active_of}
 use Rattle.tenant_state.proofs.DueTasks.{group}
-use Rattle.tenant_state.specs.inner.EntryTable.{is_left_open}
+use Rattle.tenant_state.specs.inner.EntryTable.{ends_noted, is_left_open}
 use Rattle.tenant_state.specs.inner.Tenants.{is_done}
 use Rattle.tenant_state.proofs.tenants.phase_one.end_due.Given as goal
 
@@ -25,4 +25,6 @@ invariant-loop-invocation l =
       done : find (is_left_open l.time (is_done l.finished.entries l.tenant p) l.active) left ≡ None;
       value : (m : ModeDeclaration) → AreEach (IsInvocation p m) m.invocations l.invocations
           → all_ended p (flat_map (group m l.time active) (drop l.invocation-index m.invocations)) (valuation_of p l.values) ≡ all_ended p (flat_map (group m l.time active) m.invocations) (valuation_of p l.initial.values);
+      told : (m : ModeDeclaration) → AreEach (IsInvocation p m) m.invocations l.invocations
+          → ends_noted p l.tick (flat_map (group m l.time active) (drop l.invocation-index m.invocations)) l.trace ≡ ends_noted p l.tick (flat_map (group m l.time active) m.invocations) l.initial.trace;
     }

@@ -4,7 +4,7 @@ use Rattle.giotto_check.specs.inner.Slots.{slots_of}
 use Rattle.giotto_check.specs.Slots.{valuation_of}
 use Rattle.tenant_state.specs.FirstHalf.{all_ended}
 use Rattle.tenant_state.specs.Tenants.{active_of}
-use Rattle.tenant_state.specs.inner.EntryTable.{entries_at, is_task_open}
+use Rattle.tenant_state.specs.inner.EntryTable.{ends_noted, entries_at, is_task_open}
 use Rattle.tenant_state.specs.inner.Tenants.{IsActiveOf, IsResultRight, is_done}
 use Rattle.tenant_state.proofs.tenants.phase_one.end_each.Given as goal
 
@@ -19,4 +19,5 @@ invariant-loop-a l =
       done : is_task_open (is_done l.finished.entries l.tenant p) left l.task ≡ false;
       value : all_ended p (map (active_of p) (entries_at l.task left)) (valuation_of p l.values)
           ≡ all_ended p (map (active_of p) (entries_at l.task l.active)) (valuation_of p l.initial.values);
+      told : ends_noted p l.tick (map (active_of p) (entries_at l.task left)) l.trace ≡ ends_noted p l.tick (map (active_of p) (entries_at l.task l.active)) l.initial.trace;
     }

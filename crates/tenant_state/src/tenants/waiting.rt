@@ -1,0 +1,224 @@
+//! A program that replaces the running one when its mode's period ends.
+
+ghost use Rattle.std.specs.Prelude.{◌≡◌, ◌≢◌, [], true, None, Some, is_some, IfErr, IfOk, OnErr, OnOk, IfSome, map};
+ghost use Rattle.std.specs.Arc.{arc_value};
+ghost use Rattle.std.specs.List.{list_all};
+ghost use Rattle.std.specs.Option.{option_map};
+ghost use Rattle.giotto_check.specs.inner.Timetables.{AreEach};
+ghost use Rattle.tenant_lines.specs.declared.commands.Command.{Command};
+ghost use Rattle.tenant_lines.specs.declared.replies.Refusal.{Refusal};
+ghost use Rattle.tenant_lines.specs.declared.replies.Reply.{Reply};
+ghost use Rattle.tenant_state.specs.Commands.{commanded, replace_kept};
+ghost use Rattle.tenant_state.specs.FirstHalf.{due_tasks};
+ghost use Rattle.tenant_state.specs.Row.{Row, is_running};
+ghost use Rattle.tenant_state.specs.SecondHalf.{installed, replaced_if_due};
+ghost use Rattle.tenant_state.specs.Standing.{StandsFor, most_released};
+ghost use Rattle.tenant_state.specs.inner.Standing.{AreTasksKept, IsAnswered, IsBehind, IsRefused, IsSettled};
+ghost use Rattle.tenant_state.specs.inner.Tenants.{IsBeginning, IsShareOf, IsWaitingFor};
+ghost use Rattle.tenant_slots.specs.inner.Replacement.{IsCarryTable};
+
+use crate::tenants::Tenant;
+use crate::tenants::readiness::share_bodies;
+use giotto_check::Checked;
+use giotto_tasks::bodies::Body;
+use std::alloc::{AllocError, Global};
+use std::sync::Arc;
+use tenant_lines::replies::Refusal;
+use tenant_programs::admission::read_program;
+use tenant_programs::budgets::broken_budget;
+use tenant_slots::beginning::{initial_values, no_shares};
+use tenant_slots::names::{mode_name, start_place};
+use tenant_slots::replacement::{Carried, carried_slots, carry_over};
+use tenant_trace::records::Happening;
+
+/// What a program begins with: the value of each port, by its slot, and a place for a share of each task's body.
+#[derive(Drop)]
+pub(crate) struct Beginning {
+    pub(crate) values: Vec<i64>,
+    pub(crate) shares: Vec<Option<Arc<Body, Global>>>,
+}
+
+/// A program that waits, with all that its installation needs.
+#[derive(Drop)]
+pub(crate) struct Waiting {
+    pub(crate) program: Checked,
+    pub(crate) beginning: Beginning,
+    /// The ports that keep their values, from the running program's slots to its own.
+    pub(crate) carried: Vec<Carried>,
+}
+
+impl Tenant {
+    // Keeps the program that the text spells until it is installed, in place of one that waited. All that takes memory, then and at
+    // the installation, is made before the first change.
+    pub(crate) fn replace(&mut self, text: &str) -> Result<(), Refusal>
+        ensures unchanged { OnErr result (self.new ≡ self.old) }
+        ensures tenancy { self.new.tenancy ≡ self.old.tenancy }
+        ensures next_tick { self.new.row.next_tick ≡ self.old.row.next_tick }
+        ensures refused { IfErr result (λ r. r ≢ Refusal.Memory → IsRefused self.old (commanded self.old.tenancy (Command.Replace text.now)) r) }
+        ensures replaced { OnOk result (IsAnswered self.old (commanded self.old.tenancy (Command.Replace text.now)) Reply.Replaced self.new) }
+        ensures tasks { AreTasksKept self.old self.new }
+        ensures ended { self.new.ended ≡ self.old.ended }
+    {
+        let program = read_program(self.alloc, text)?;
+        match self.needs(text.len(), &program) {
+            Ok((beginning, carried)) => {
+                self.wait(Waiting {
+                    program,
+                    beginning,
+                    carried,
+                });
+                Ok(())
+            }
+            Err(refusal) => {
+                drop(program);
+                Err(refusal)
+            }
+        }
+    }
+
+    // What a program needs that may replace the running one, and whose text has so many bytes.
+    fn needs(&self, bytes: usize, program: &Checked) -> Result<(Beginning, Vec<Carried>), Refusal>
+        ensures refused { IfErr result (λ r. r ≢ Refusal.Memory → IsRefused self.now (replace_kept self.now.tenancy.budgets bytes program.now) r) }
+        ensures kept { OnOk result ((row : Row) → StandsFor self.now row
+            → replace_kept self.now.tenancy.budgets bytes program.now row ≡ record { row = record row { waiting = Some program.now }; reply = Reply.Replaced }) }
+        ensures begins { IfOk result (λ n. IsBeginning program.now n.0) }
+        ensures keeps { IfOk result (λ n. IfSome self.now.row.program (λ p. IsCarryTable p program.now n.1.items)) }
+    {
+        if !self.is_running() {
+            return Err(Refusal::NotRunning);
+        }
+        if let Some(budget) = broken_budget(&self.budgets, bytes, program) {
+            return Err(Refusal::OverBudget(budget));
+        }
+        let beginning = beginning_of(self.alloc, program)?;
+        let carried = self.carried_to(program)?;
+        Ok((beginning, carried))
+    }
+
+    // The ports of a program that keep the values of the running one.
+    fn carried_to(&self, program: &Checked) -> Result<Vec<Carried>, Refusal>
+        ensures refused { IfErr result (λ r. r ≡ Refusal.Memory) }
+        ensures keeps { IfOk result (λ table. IfSome self.now.row.program (λ p. IsCarryTable p program.now table.items)) }
+    {
+        match &self.program {
+            Some(running) => {
+                carried_slots(self.alloc, running, program).map_err(|_| Refusal::Memory)
+            }
+            None => Ok(Vec::new(self.alloc)),
+        }
+    }
+
+    // A program waits from now on, and no other.
+    fn wait(&mut self, waiting: Waiting)
+        requires fits { IsWaitingFor self.old.row.program waiting }
+        ensures step { IsBehind self.old (λ row. record row { waiting = Some waiting.program }) self.new }
+        ensures tenancy { self.new.tenancy ≡ self.old.tenancy }
+        ensures next_tick { self.new.row.next_tick ≡ self.old.row.next_tick }
+        ensures tasks { AreTasksKept self.old self.new }
+        ensures ended { self.new.ended ≡ self.old.ended }
+    {
+        drop(self.waiting.replace(waiting));
+    }
+
+    // Installs the program that waits, if one does, where the mode's period has ended. Takes no memory.
+    pub(crate) fn install_waiting(&mut self)
+        requires begins { self.old.row.mode_time ≡ 0 }
+        requires running { is_running self.old.row ≡ true }
+        requires rest { self.old.ended ≡ [] }
+        requires ended_due { due_tasks self.old.row ≡ [] }
+        ensures step { IsBehind self.old replaced_if_due self.new }
+        ensures active { self.new.row.active ≡ self.old.row.active }
+        ensures none_active { self.old.row.active ≡ [] }
+        ensures ended { self.new.ended ≡ [] }
+        ensures room { self.new.room ≡ self.old.room }
+        ensures shared { self.old.shared ≡ true → self.new.shared ≡ true }
+        ensures tenancy { self.new.tenancy ≡ self.old.tenancy }
+        ensures offers { self.new.row.offers ≡ self.old.row.offers }
+        ensures binds { self.new.row.binds ≡ self.old.row.binds }
+        ensures next_tick { self.new.row.next_tick ≡ self.old.row.next_tick }
+        ensures running { is_running self.new.row ≡ true }
+        ensures settled { IsSettled self.new.row }
+        ensures most { most_released self.new.row ≡ most_released self.old.row }
+    {
+        let Some(old) = &self.program else {
+            return;
+        };
+        // Its frequencies are positive.
+        let _program = old.program();
+        let Some(waiting) = self.waiting.take() else {
+            return;
+        };
+        self.put_in_place(waiting);
+    }
+
+    // A program that waited is the tenant's, at its beginning.
+    fn put_in_place(&mut self, waiting: Waiting)
+        requires fits { IsWaitingFor self.old.row.program waiting }
+        requires loaded { is_some self.old.row.program ≡ true }
+        requires waits { self.old.row.waiting ≡ None }
+        requires none_active { self.old.row.active ≡ [] }
+        requires running { is_running self.old.row ≡ true }
+        requires rest { self.old.ended ≡ [] }
+        ensures step { IsBehind self.old (installed waiting.program) self.new }
+        ensures active { self.new.row.active ≡ [] }
+        ensures ended { self.new.ended ≡ [] }
+        ensures room { self.new.room ≡ self.old.room }
+        ensures shared { list_all is_some waiting.beginning.shares.items ≡ true → self.new.shared ≡ true }
+        ensures tenancy { self.new.tenancy ≡ self.old.tenancy }
+        ensures offers { self.new.row.offers ≡ self.old.row.offers }
+        ensures binds { self.new.row.binds ≡ self.old.row.binds }
+        ensures next_tick { self.new.row.next_tick ≡ self.old.row.next_tick }
+        ensures running { is_running self.new.row ≡ true }
+        ensures none_waits { self.new.row.waiting ≡ None }
+    {
+        let Waiting {
+            program,
+            beginning,
+            carried,
+        } = waiting;
+        let Beginning { mut values, shares } = beginning;
+        carry_over(
+            carried.as_slice(),
+            self.values.as_slice(),
+            values.as_mut_slice(),
+        );
+        let mode = start_place(&program);
+        let name = mode_name(&program, mode);
+        self.trace.note(self.next_tick, Happening::Replaced(name));
+        self.mode = mode;
+        self.mode_time = 0;
+        self.next_due = 0;
+        self.values = values;
+        self.shares = shares;
+        drop(self.program.replace(program));
+    }
+}
+
+impl Waiting {
+    // Makes each share that isn't at hand.
+    pub(crate) fn share(&mut self) -> Result<(), AllocError>
+        requires { AreEach IsShareOf self.old.program.tasks (map (option_map arc_value) self.old.beginning.shares.items) }
+        ensures shared { OnOk result (list_all is_some self.new.beginning.shares.items ≡ true) }
+        ensures shares { AreEach IsShareOf self.new.program.tasks (map (option_map arc_value) self.new.beginning.shares.items) }
+        ensures program { self.new.program ≡ self.old.program }
+        ensures values { self.new.beginning.values ≡ self.old.beginning.values }
+        ensures carried { self.new.carried ≡ self.old.carried }
+    {
+        let tasks = self.program.program().tasks();
+        share_bodies(tasks, self.beginning.shares.as_mut_slice())
+    }
+}
+
+// What a program begins with.
+pub(crate) fn beginning_of(alloc: Global, program: &Checked) -> Result<Beginning, Refusal>
+    ensures refused { IfErr result (λ r. r ≡ Refusal.Memory) }
+    ensures begins { IfOk result (IsBeginning program.now) }
+{
+    let Ok(values) = initial_values(alloc, program) else {
+        return Err(Refusal::Memory);
+    };
+    let Ok(shares) = no_shares(alloc, program.program().tasks()) else {
+        return Err(Refusal::Memory);
+    };
+    Ok(Beginning { values, shares })
+}
