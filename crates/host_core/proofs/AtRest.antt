@@ -14,12 +14,12 @@ use Rattle.instant_engine.specs.inner.Tables.{IsTaskTable}
 use Rattle.instant_engine.specs.Tenants.{ArePlaced, most_of, tenant_at}
 use Rattle.host_core.specs.HostStanding.{HostStanding, Stands, awaited_in, outstanding_from, outstanding_of}
 use Rattle.host_core.specs.inner.HostStanding.{IsAt, IsWhole}
-use Rattle.host_core.specs.HostState.{HostState}
+use Rattle.host_core.specs.HostState.{HostState, row_at}
 use Rattle.host_core.specs.declared.hosts.Host.TheInside.{Inside}
 use Rattle.host_core.specs.Setting.{Setting}
 use Rattle.tenant_jobs.specs.Finished.{TableEntry}
 use Rattle.tenant_state.specs.Jobs.{has_job, job_of}
-use Rattle.tenant_state.specs.Standing.{Standing, IsKnown, at_rest, no_tenant, most_released, outstanding_tasks, awaited_job}
+use Rattle.tenant_state.specs.Standing.{Standing, with_last, IsKnown, at_rest, no_tenant, most_released, outstanding_tasks, awaited_job}
 use Rattle.tenant_state.specs.inner.Standing.{HasItsResults}
 use Rattle.rig_config.specs.Roster.{Rig}
 
@@ -40,7 +40,7 @@ rest_twice (x ∷ xs) = ap (λ ys. at_rest x ∷ ys) (rest_twice xs)
 is_at_rest : (n : ℕ) (x y : Standing) → at_rest y ≡ at_rest x → IsAt n x → IsAt n y
 is_at_rest n x y e is = (
   ap (λ (s : Standing). s.row.next_tick) e ∙ is.0,
-  record { known = subst (λ (s : Standing). IsKnown s.row) (sym e) is.1.known; binds = subst (λ (s : Standing). length s.row.binds ≤ s.tenancy.owner.most_binds) (sym e) is.1.binds; rest = ap (λ (s : Standing). s.ended) e ∙ is.1.rest },
+  record { known = subst (λ (s : Standing). IsKnown s.tenancy s.row) (sym e) is.1.known; binds = subst (λ (s : Standing). length s.row.binds ≤ s.tenancy.owner.most_binds) (sym e) is.1.binds; rest = ap (λ (s : Standing). s.ended) e ∙ is.1.rest },
 )
 
 all_at_rest : (n : ℕ) (xs ys : List Standing) → map at_rest ys ≡ map at_rest xs → All (IsAt n) xs → All (IsAt n) ys
@@ -74,7 +74,8 @@ stands_at_rest setting host state ys same stands = record {
   as_many = same_length host.tenants ys same ∙ stands.as_many;
   all_rows = stands.all_rows;
   placed = placed_at_rest host.tenants ys same stands.placed;
-  each = λ t lt. ap (λ (s : Standing). s.row) (same_at_rest host.tenants ys t no_tenant same) ∙ stands.each t lt;
+  each = λ t lt. ap (λ (s : Standing). s.row) (same_at_rest host.tenants ys t no_tenant same) ∙ stands.each t lt
+      ∙ ap (λ (s : Standing). with_last s.tenancy.budgets.trace (row_at state t)) (sym (same_at_rest host.tenants ys t no_tenant same));
   counts = stands.counts;
   results = stands.results;
 }

@@ -239,7 +239,7 @@ pub outstanding_are : (s : Standing) (entries : List TableEntry) (t : ℕ) (row 
 outstanding_are s entries t row counted stands place results = λ k. filter (λ a. not (results (job_of (place k) a) k)) (stands k).active
 
 -- the job of a name that is released has this name
-pub released_is : (s : Standing) (j : JobId) → IsKnown s.row → is_some (released_job s j) ≡ has_job s.tenancy.owner.place s.row.active j
+pub released_is : (s : Standing) (j : JobId) → IsKnown s.tenancy s.row → is_some (released_job s j) ≡ has_job s.tenancy.owner.place s.row.active j
 released_is s j known = program s.row.program refl
   where
     program : (o : Option GiottoProgram) → s.row.program ≡ o → is_some (released_job s j) ≡ has_job s.tenancy.owner.place s.row.active j
@@ -250,7 +250,7 @@ released_is s j known = program s.row.program refl
         ap (λ o. is_some (option_and_then (λ p. option_map (job_in p s.tenancy.owner.place) (find (λ a. same_job (job_of s.tenancy.owner.place a) j) s.row.active)) o)) e
         ∙ (is_some-option_map (job_in p s.tenancy.owner.place) (find (λ a. same_job (job_of s.tenancy.owner.place a) j) s.row.active) ∙ find_is_any (λ a. same_job (job_of s.tenancy.owner.place a) j) s.row.active)
 
-pub awaited_is : (s : Standing) (entries : List TableEntry) (j : JobId) → IsKnown s.row → is_some (awaited_job s entries j) ≡ (has_job s.tenancy.owner.place s.row.active j && not (has_result entries j))
+pub awaited_is : (s : Standing) (entries : List TableEntry) (j : JobId) → IsKnown s.tenancy s.row → is_some (awaited_job s entries j) ≡ (has_job s.tenancy.owner.place s.row.active j && not (has_result entries j))
 awaited_is s entries j known = by (has_result entries j)
   where
     by : (b : Bool) → is_some (cond b None (released_job s j)) ≡ (has_job s.tenancy.owner.place s.row.active j && not b)
@@ -260,7 +260,7 @@ awaited_is s entries j known = by (has_result entries j)
 module _ (setting : Setting) where
   -- the host awaits a job exactly where the definitions do
   pub awaits_here : (host : HostStanding) (state : HostState) (j : JobId) → j.tenant < length setting.config.tenants → Stands setting host state → ArePlaced host.tenants
-      → IsKnown (tenant_at host.tenants j.tenant).row → awaits state j ≡ is_some (awaited_in host j)
+      → IsKnown (tenant_at host.tenants j.tenant).tenancy (tenant_at host.tenants j.tenant).row → awaits state j ≡ is_some (awaited_in host j)
   awaits_here host state j lt stands placed known =
       ap (λ b. b && not (is_counted state j)) (active_alike (length setting.config.tenants) host.tenants state.rows state.clock stands.as_many stands.all_rows placed stands.each j)
       ∙ ap (λ b. is_active_among host.tenants j && not b) (sym (stands.results j))

@@ -54,7 +54,7 @@ either_way false b which = ⊎_elim (λ e. e) (λ e. e) which
 
 -- a command: the tenant at place u was x, and is y behind it, whose ended tasks leave the table
 module _ (tenants : List Standing) (before after : List TableEntry) (u : ℕ) (x y : Standing) {config : Rig} {clock : ℕ} (whole : IsWhole config clock tenants before)
-    (within : u < length tenants) (here : x ≡ tenant_at tenants u) (tenancy : y.tenancy ≡ x.tenancy) (count : y.row.next_tick ≡ x.row.next_tick) (known : IsKnown y.row)
+    (within : u < length tenants) (here : x ≡ tenant_at tenants u) (tenancy : y.tenancy ≡ x.tenancy) (count : y.row.next_tick ≡ x.row.next_tick) (known : IsKnown y.tenancy y.row)
     (binds : length y.row.binds ≤ y.tenancy.owner.most_binds) (ended : AreEnded x y) (active : (y.row.active ≡ []) ⊎ AreTasksKept x y)
     (left : (j : JobId) → entry_in after j ≡ cond (has_job y.tenancy.owner.place y.ended j) None (entry_in before j)) where
   abbrev s : Standing

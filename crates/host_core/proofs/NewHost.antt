@@ -6,6 +6,7 @@ use Rattle.std.proofs.lemmas.List.FromFn.{length-enumerate_from, get_or-enumerat
 use Rattle.rig_config.specs.declared.TenantConfig.{TenantConfig}
 use Rattle.host_core.specs.Base.{new_base}
 use Rattle.instant_engine.specs.Tenants.{tenant_at}
+use Rattle.std.proofs.lemmas.List.{take_all}
 use Rattle.host_core.specs.HostState.{row_at}
 use Rattle.host_core.specs.HostStanding.{Stands, new_host, new_tenant}
 use Rattle.host_core.specs.Setting.{Setting}
@@ -43,7 +44,7 @@ module _ (setting : Setting) (n : ℕ) where
   row_empty t lt = get_or-map (λ (x : TenantConfig). empty_row n) setting.config.tenants t nobody (empty_row n) lt
 
   stands_empty : (t : ℕ) → StandsFor (at_rest (begun setting.config n (its t))) (empty_row n)
-  stands_empty t = refl
+  stands_empty t = λ k. record (empty_row n) { records = sym (take_all (at_rest (begun setting.config n (its t))).tenancy.budgets.trace [] (omega arith)) k }
 
   pub new_stands : Stands setting (new_host setting.config n) (new_base setting.config n)
   new_stands = record {

@@ -55,8 +55,7 @@ module _ (n : ℕ) (config : Rig) where
       refl,
       record {
         known = record {
-          no_records = refl;
-          none_waits = refl;
+          few_records = take_all _ [] (omega arith);
           tasks = λ none. refl;
           rests = λ none. refl;
           early = tt;

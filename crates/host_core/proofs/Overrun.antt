@@ -3,8 +3,8 @@ use Rattle.std.proofs.Common.{◌≡◌, ℕ, pos, List, [], ◌∷◌, ◌++◌
 use Rattle.std.specs.Prelude.{codes}
 use Rattle.std.specs.Fmt.{digits}
 use Rattle.host_core.specs.declared.events.Event.{Event}
-use Rattle.tenant_state.specs.declared.trace.Record.{Record}
-use Rattle.tenant_state.specs.declared.trace.Happening.TheVariants as happening
+use Rattle.tenant_trace.specs.declared.records.Record.{Record}
+use Rattle.tenant_trace.specs.declared.records.Happening.TheVariants as happening
 use Rattle.host_core.specs.Answers.{answers_of}
 use Rattle.host_core.specs.Legal.{is_legal, counts}
 use Rattle.host_core.specs.Views.{row_of}

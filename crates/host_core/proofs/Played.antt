@@ -207,7 +207,7 @@ module _ (setting : Setting) (base : IsBase setting.config setting.base) where
       ap (λ (row : Row). is_active row j) (stands.each t lt) ∙ ap (λ row. is_active row j) (same_rows setting base past t legal (is_within t lt))
 
   released_tick : (past : List Event) (frame : List ℤ) (host : HostStanding) (j : JobId) → is_legal setting (Tick frame ∷ past) ≡ true → Stands setting host (host_after setting (Tick frame ∷ past))
-      → All (λ (s : Standing). IsKnown s.row) host.tenants
+      → All (λ (s : Standing). IsKnown s.tenancy s.row) host.tenants
       → (was_released setting past j || list_any (is_it j) (released_from (next_tick setting past) 0 host.tenants)) ≡ was_released setting (Tick frame ∷ past) j
   released_tick past frame host j legal stands has =
       same_answers (before || among) (active || before)
@@ -260,7 +260,7 @@ module _ (setting : Setting) (base : IsBase setting.config setting.base) where
   }
 
   pub step_tick : (past : List Event) (frame : List ℤ) (host host_new : HostStanding) (texts : List (List ℕ)) (released released_new : List JobId) (jobs : List JobValue)
-      → may_follow setting past (Tick frame) ≡ true → Stands setting host_new (host_after setting (Tick frame ∷ past)) → All (λ (s : Standing). IsKnown s.row) host_new.tenants
+      → may_follow setting past (Tick frame) ≡ true → Stands setting host_new (host_after setting (Tick frame ∷ past)) → All (λ (s : Standing). IsKnown s.tenancy s.row) host_new.tenants
       → jobs ≡ released_from host.clock 0 host_new.tenants → ((j : JobId) → list_any (λ r. same_job r j) released_new ≡ (list_any (λ r. same_job r j) released || list_any (is_it j) jobs))
       → IsPlayed setting past host texts released → IsPlayed setting (Tick frame ∷ past) host_new texts released_new
   step_tick past frame host host_new texts released released_new jobs may stands has are more played =

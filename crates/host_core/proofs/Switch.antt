@@ -5,7 +5,7 @@ use Rattle.std.specs.Fmt.{digits}
 use Rattle.host_core.specs.declared.events.Event.{Event}
 use Rattle.host_core.specs.declared.events.Event.TheVariants.{Own}
 use Rattle.tenant_lines.specs.declared.commands.Command.TheVariants.{Load, Start, Stop, ShowMode, ShowAll}
-use Rattle.tenant_state.specs.declared.trace.Happening.TheVariants as happening
+use Rattle.tenant_trace.specs.declared.records.Happening.TheVariants as happening
 use Rattle.host_core.specs.Answers.{answers_of}
 use Rattle.host_core.specs.Views.{row_of}
 use Rattle.tenant_state.specs.FirstHalf.{first_half_of}

@@ -141,7 +141,7 @@ impl Host {
         ensures bad_frame { result ≡ Err TickFault.BadFrame ↔ length frame.now ≢ self.old.config.lines }
         ensures clock_ended { result ≡ Err TickFault.ClockEnded ↔ ((length frame.now ≡ self.old.config.lines) × (self.old.clock ≡ 2 ^ 64 - 1)) }
         ensures room { most_of self.old.tenants ≡ 0 → result ≢ Err TickFault.Memory }
-        ensures known { OnOk result (All (λ (s : Standing). IsKnown s.row) self.new.tenants) }
+        ensures known { OnOk result (All (λ (s : Standing). IsKnown s.tenancy s.row) self.new.tenants) }
     {
         self.check(frame)?;
         let Some(most) = all_ready(self.tenants.as_mut_slice(), &mut self.finished) else {

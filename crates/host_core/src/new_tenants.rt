@@ -29,7 +29,7 @@ pub(crate) fn new_tenant(
 {
     let budgets = config.tenants()[place].budgets.copy(alloc)?;
     let grants = Grants::new(alloc, place, roster(config), budgets.offers, budgets.binds)?;
-    Ok(Tenant::new(alloc, budgets, grants, first_tick))
+    Tenant::new(alloc, budgets, grants, first_tick)
 }
 
 // The names of all tenants, by their places.

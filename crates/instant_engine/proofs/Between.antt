@@ -21,12 +21,12 @@ use Rattle.std.specs.Option.{option_map}
 use Rattle.tenant_exchange.specs.Granted.{granted_along}
 use Rattle.tenant_grants.specs.Grants.{granted_value, name_in, offer_of, place_in}
 use Rattle.tenant_grants.specs.declared.rows.Bind.{Bind}
-use Rattle.tenant_state.specs.FirstHalf.{first_half_of, unfinished_tasks}
+use Rattle.tenant_state.specs.FirstHalf.{due_tasks, first_half_of, unfinished_tasks}
 use Rattle.tenant_state.specs.Instants.{LocalInstant, after_instant}
 use Rattle.tenant_state.specs.Readers.{actuator_value}
 use Rattle.tenant_state.specs.Jobs.{job_of, job_in, has_job}
 use Rattle.tenant_state.specs.Row.{ActiveTask, Row}
-use Rattle.tenant_state.specs.Standing.{Standing, StandsFor, no_tenant, most_released, without_records}
+use Rattle.tenant_state.specs.Standing.{Standing, StandsFor, no_tenant, most_released, with_last}
 use Rattle.tenant_state.specs.Tenancy.{Tenancy}
 use Rattle.tenant_state.specs.inner.Standing.{HasItsEntries, HasItsResults, AreReleased}
 use Rattle.tenant_state.specs.inner.Halves.{IsFirstHalf, first_half_by}
@@ -39,8 +39,9 @@ use Rattle.instant_engine.specs.inner.Tenants.{HaveRoster, binds_of, granted_at,
 use Rattle.instant_engine.specs.inner.Halves.{AreEarly, AreGranted, AreReleasedJobs, AreSecondHalves, AreToldEnded, IsReady, IsSecondHalfAndKnown, is_ended_among, is_released_among, without_ended}
 use Rattle.giotto_tasks.proofs.ListLemmas.{all_map, all_with, find_passes}
 use Rattle.tenant_jobs.proofs.JobNames.{same_job_is, same_job_self}
-use Rattle.tenant_state.proofs.ActiveTasks.{keeps_first_half, kept_by_instant}
+use Rattle.tenant_state.proofs.ActiveTasks.{keeps_first_half, kept_by_instant, kept_by_second_half}
 use Rattle.tenant_state.proofs.JobNames.{own_jobs_active}
+use Rattle.tenant_state.proofs.NoneDue.{none_due_behind}
 use Rattle.instant_engine.proofs.Entered.{none_outside}
 use Rattle.instant_engine.proofs.Loops.{placed_behind}
 use Rattle.instant_engine.proofs.Named.{holds_of_job}
@@ -82,6 +83,7 @@ placed_kept tenants placed t lt = ap (λ (s : Standing). s.tenancy.owner.place) 
 pub record AreHalfway (before kept : List Standing) : Type 0 where
   pub as_many : length kept ≡ length before
   pub rest : All (λ (s : Standing). s.ended ≡ []) kept
+  pub ended_due : All (λ (s : Standing). due_tasks s.row ≡ []) kept
   pub placed : ArePlaced kept
   pub early : AreEarly kept
   pub ready : All IsReady kept
@@ -139,9 +141,19 @@ module _ {before : List Standing} {entries : List TableEntry} (placed : ArePlace
     kept_by_half P t lt all =
         let s : Standing = tenant_at before t in
         let half = first.each t lt in
-        let own : StandsFor s s.row = λ k. record s.row { records = (between t no_tenant lt).known.no_records k } in
+        let own : StandsFor s s.row = λ k. record s.row { records = sym (between t no_tenant lt).known.few_records k } in
         subst (AllByRecursion P) (sym (ap (λ (r : Row). r.active) (half.step s.row own)))
         (keeps_first_half P s.row.next_tick (unfinished_tasks (λ a. has_result entries (job_of s.tenancy.owner.place a)) s.row) s.row (record { each = all; at = refl })).each
+
+    -- each due task ended
+    ended_middle : All (λ (s : Standing). due_tasks s.row ≡ []) middle
+    ended_middle =
+        all_at (λ s. due_tasks s.row ≡ []) middle
+        (λ t lt.
+        let within : t < length before = omega (arith, lt, first.as_many) in
+        let s : Standing = tenant_at before t in
+        let own : StandsFor s s.row = λ k. record s.row { records = sym (between t no_tenant within).known.few_records k } in
+        ap due_tasks ((first.each t within).step s.row own) ∙ none_due_behind (unfinished_tasks (λ a. has_result entries (job_of s.tenancy.owner.place a)) s.row) s.row)
 
     early_middle : AreEarly middle
     early_middle =
@@ -187,6 +199,7 @@ module _ {before : List Standing} {entries : List TableEntry} (placed : ArePlace
     halfway kept same ready fewer = rw (same) (record {
       as_many = length-map middle without_ended ∙ first.as_many;
       rest = all_at (λ s. s.ended ≡ []) (map without_ended middle) (λ t lt. ap (λ (s : Standing). s.ended) (at_kept middle t));
+      ended_due = let Ended : Standing → Type 0 = λ s. due_tasks s.row ≡ [] in all_kept Ended Ended middle (λ s e. e) ended_middle;
       placed = placed_kept middle placed_middle;
       early = let Early : Standing → Type 0 = λ s. AllByRecursion (λ (a : ActiveTask). a.release < s.row.next_tick) s.row.active in all_kept Early Early middle (λ s e. e) early_middle;
       ready = all_kept IsReady IsReady middle (λ s r. record { room = r.room; shares = r.shares }) ready;
@@ -233,10 +246,10 @@ module _ {before : List Standing} {entries : List TableEntry} (placed : ArePlace
         abbrev halves : ℕ → Row
         halves u = first_half_of (unfinished_tasks (λ a. has_result entries (job_of u a)) (rows u)) (rows u)
 
-        kept_row : (u : ℕ) → u < length before → rows_of (map without_ended middle) u ≡ without_records (halves u)
+        kept_row : (u : ℕ) → u < length before → rows_of (map without_ended middle) u ≡ with_last (tenant_at middle u).tenancy.budgets.trace (halves u)
         kept_row u lt =
             ap (λ (s : Standing). s.row) (at_kept middle u) ∙ (first.each u lt).step (rows u) (stand u lt)
-            ∙ ap (λ k. without_records (first_half_by entries k (rows u))) (placed u lt)
+            ∙ ap (λ k. with_last (tenant_at middle u).tenancy.budgets.trace (first_half_by entries k (rows u))) (placed u lt)
 
         same_offers : (u : ℕ) → u < length before → (rows_of (map without_ended middle) u).offers ≡ (rows u).offers
         same_offers u lt = ap (λ (s : Standing). s.row.offers) (at_kept middle u) ∙ (first.each u lt).offers ∙ ap (λ (r : Row). r.offers) (stand u lt)
@@ -267,7 +280,7 @@ module _ {before : List Standing} {entries : List TableEntry} (placed : ArePlace
             let half = first.each t lt in
             let own : StandsFor (without_ended (tenant_at middle t)) (halves t) = ap (λ (s : Standing). s.row) (sym (at_kept middle t)) ∙ kept_row t lt in
             (its_half t lt).half.step (halves t) own
-            ∙ (λ k. without_records (second_half_of (readings_within (half.tenancy k).budgets.reads frame) (same_granted_to t lt k) (halves t)))
+            ∙ (λ k. with_last (tenant_at after t).tenancy.budgets.trace (second_half_of (readings_within (half.tenancy k).budgets.reads frame) (same_granted_to t lt k) (halves t)))
 
       pub instants : AreInstants frame entries before after
       instants = record {
@@ -368,7 +381,7 @@ module _ {before : List Standing} {entries : List TableEntry} (placed : ArePlace
             let s : Standing = tenant_at before t in
             let a : Standing = tenant_at after t in
             let one = instants.moved.each t lt in
-            let own : StandForRows before (rows_of before) = λ u below k. record (rows_of before u) { records = (between u no_tenant below).known.no_records k } in
+            let own : StandForRows before (rows_of before) = λ u below k. record (rows_of before u) { records = sym (between u no_tenant below).known.few_records k } in
             let i : LocalInstant = instant_by before frame entries (rows_of before) t in
             let Right : ActiveTask → Type 0 = λ x. IfSome (result_in entries (job_of s.tenancy.owner.place x)) (λ r. r ≡ result_of (job_in p s.tenancy.owner.place x)) in
             let fresh : (x : ActiveTask) → x.release ≡ s.row.next_tick → Right x = λ x at.
@@ -377,8 +390,16 @@ module _ {before : List Standing} {entries : List TableEntry} (placed : ArePlace
             (table.entered (job_of s.tenancy.owner.place x) ∙ not_active (job_of s.tenancy.owner.place x) (omega (arith, lt, placed t lt)) (at ∙ ap (λ k. (tenant_at before k).row.next_tick) (sym (placed t lt)))))) tt in
             let all : AllByRecursion Right a.row.active =
             subst (AllByRecursion Right) (sym (ap (λ (r : Row). r.active) (instants.step (rows_of before) own t lt)))
-            (kept_by_instant Right s.row.next_tick fresh i s.row
-            (record { each = table.results t no_tenant lt p (sym ((its_half t lt).half.program ∙ (first.each t lt).program) ∙ is); at = refl })).0 in
+            (⊎_elim
+            (λ same. (kept_by_instant Right s.row.next_tick fresh i s.row (record { each = table.results t no_tenant lt p (sym (same ∙ (first.each t lt).program) ∙ is); at = refl })).0)
+            (λ none.
+            let kept = kept_row (rows_of before) own t lt in
+            kept_by_second_half Right s.row.next_tick fresh i.readings i.granted (halves (rows_of before) own t)
+            (record {
+              each = subst (AllByRecursion Right) (sym (sym (ap (λ (r : Row). r.active) kept) ∙ ap (λ (x : Standing). x.row.active) (at_kept middle t) ∙ none)) tt;
+              at = sym (ap (λ (r : Row). r.next_tick) kept) ∙ ap (λ (x : Standing). x.row.next_tick) (at_kept middle t) ∙ (first.each t lt).next_tick;
+            }))
+            (its_half t lt).half.program) in
             all_with Right (λ x. is_active_among after (job_of a.tenancy.owner.place x) ≡ true) (λ x. IfSome (result_in new (job_of a.tenancy.owner.place x)) (λ r. r ≡ result_of (job_in p a.tenancy.owner.place x)))
             (λ x right active.
             subst (λ o. IfSome o (λ r. r ≡ result_of (job_in p a.tenancy.owner.place x)))

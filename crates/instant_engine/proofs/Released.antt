@@ -15,6 +15,7 @@ use Rattle.tenant_jobs.specs.Jobs.{JobValue, same_job}
 use Rattle.tenant_jobs.specs.inner.Finished.{is_job_of, JobsDiffer}
 use Rattle.tenant_state.specs.Jobs.{job_of, has_job, job_in, released_at}
 use Rattle.tenant_state.specs.Row.{ActiveTask, Row}
+use Rattle.tenant_state.specs.Tenancy.{Tenancy}
 use Rattle.tenant_state.specs.Standing.{Standing, no_tenant, IsKnown, is_another, all_different_releases, most_released}
 use Rattle.tenant_state.specs.inner.Standing.{AreReleased}
 use Rattle.instant_engine.specs.Tenants.{tenant_at, most_of}
@@ -34,7 +35,7 @@ record AreJobsOf (t : ℕ) (tasks : List ActiveTask) (jobs : List JobValue) : Ty
 pub older_and_newer : (before after : Row) → AreReleased before after → after.active ≡ before.active ++ drop (length before.active) after.active
 older_and_newer before after released = sym (take-append-drop (length before.active) after.active) ∙ ap (λ xs. xs ++ drop (length before.active) after.active) released.older
 
-jobs_of_released : (t n : ℕ) (before after : Row) → before.next_tick ≡ n → AllByRecursion (λ (a : ActiveTask). a.release < n) before.active → AreReleased before after → IsKnown after
+jobs_of_released : {tenancy : Tenancy} (t n : ℕ) (before after : Row) → before.next_tick ≡ n → AllByRecursion (λ (a : ActiveTask). a.release < n) before.active → AreReleased before after → IsKnown tenancy after
     → AreJobsOf t (drop (length before.active) after.active) (released_at t n after)
 jobs_of_released t n before after count early released known = by after.program refl
   where
@@ -106,7 +107,7 @@ released_none tenants jobs none = rw (none) (record {
 })
 
 pub released_more : (i : ℕ) (before now : List Standing) (x s : Standing) (jobs next : List JobValue) → i < length now → x ≡ tenant_at before i → x.tenancy.owner.place ≡ i → s.tenancy.owner.place ≡ x.tenancy.owner.place
-    → most_of (drop i before) ≡ most_released x.row + most_of (drop (i + 1) before) → AllByRecursion (λ (a : ActiveTask). a.release < x.row.next_tick) x.row.active → AreReleased x.row s.row → IsKnown s.row
+    → most_of (drop i before) ≡ most_released x.row + most_of (drop (i + 1) before) → AllByRecursion (λ (a : ActiveTask). a.release < x.row.next_tick) x.row.active → AreReleased x.row s.row → IsKnown s.tenancy s.row
     → next ≡ jobs ++ released_at x.tenancy.owner.place x.row.next_tick s.row → AreReleasedTo i before now jobs → AreReleasedTo (i + 1) before (set now i s) next
 released_more i before now x s jobs next within here own same_place most early released known more so_far = record {
   names = λ j lt. ⊎_elim

@@ -9,6 +9,7 @@ ghost use Rattle.instant_engine.specs.inner.Halves.{AreEarly, AreReleasedJobs, A
 ghost use Rattle.tenant_jobs.specs.Finished.{entry_in, result_in};
 ghost use Rattle.tenant_jobs.specs.inner.Finished.{entry_put, is_entered};
 ghost use Rattle.tenant_jobs.specs.declared.jobs.JobId.{JobId};
+ghost use Rattle.tenant_state.specs.FirstHalf.{due_tasks};
 ghost use Rattle.tenant_state.specs.inner.Halves.{IsFirstHalf};
 ghost use Rattle.tenant_state.specs.Standing.{Standing, at_rest};
 ghost use Rattle.tenant_state.specs.inner.Standing.{HasItsEntries, HasItsResults};
@@ -128,6 +129,7 @@ fn first_halves(tenants: &mut [Tenant], finished: &Finished)
 // The second half of each tenant, with what is granted through its binds.
 fn second_halves(tenants: &mut [Tenant], frame: &[i64], granted: &[Option<i64>], jobs: &mut Jobs)
     requires rest { All (λ (s : Standing). s.ended ≡ []) tenants.old }
+    requires ended_due { All (λ (s : Standing). due_tasks s.row ≡ []) tenants.old }
     requires counts { All (λ (s : Standing). s.row.next_tick < 2 ^ 64 - 1) tenants.old }
     requires places { binds_of tenants.old ≤ length granted.now }
     requires placed { ArePlaced tenants.old }
@@ -157,6 +159,7 @@ fn second_halves_without_jobs(
     finished: &mut Finished,
 )
     requires rest { All (λ (s : Standing). s.ended ≡ []) tenants.old }
+    requires ended_due { All (λ (s : Standing). due_tasks s.row ≡ []) tenants.old }
     requires counts { All (λ (s : Standing). s.row.next_tick < 2 ^ 64 - 1) tenants.old }
     requires places { binds_of tenants.old ≤ length granted.now }
     requires placed { ArePlaced tenants.old }

@@ -36,7 +36,7 @@ AreToldEnded tenants entries = (j : JobId) → is_ended_among tenants j ≡ (is_
 pub record IsSecondHalfAndKnown (frame : List ℤ) (granted : List (Option ℤ)) (before after : Standing) : Type 0 where
   pub half : IsSecondHalf frame granted before after
   pub released : AreReleased before.row after.row
-  pub known : IsKnown after.row
+  pub known : IsKnown after.tenancy after.row
   pub binds : length after.row.binds ≤ after.tenancy.owner.most_binds
 
 -- the second half of all tenants, with what is granted through the binds of each

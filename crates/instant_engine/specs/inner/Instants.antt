@@ -15,7 +15,7 @@ instant_by tenants frame entries rows t = local_instant (roster_among tenants) (
 -- a tenant between two instants: what is known of it, it has no more binds than it may have, and no task that ended has its entry in the
 -- table of active tasks still
 pub record IsBetween (s : Standing) : Type 0 where
-  pub known : IsKnown s.row
+  pub known : IsKnown s.tenancy s.row
   pub binds : length s.row.binds ≤ s.tenancy.owner.most_binds
   pub rest : s.ended ≡ []
 

@@ -5,7 +5,7 @@ use Rattle.std.proofs.lemmas.List.{get_or_default}
 use Rattle.instant_engine.specs.Grants.{granted_by}
 use Rattle.instant_engine.specs.Tenants.{tenant_at}
 use Rattle.instant_engine.specs.inner.Tenants.{roster_among, rows_of}
-use Rattle.tenant_grants.specs.Grants.{bind_at, offers}
+use Rattle.tenant_grants.specs.Grants.{bind_at}
 use Rattle.tenant_state.specs.Readers.{actuator_value}
 use Rattle.tenant_state.specs.Standing.{Standing, no_tenant}
 use Rattle.instant_engine.proofs.Granting.{bound_within, granted_there}

@@ -29,7 +29,7 @@ loop-i-preserved c =
       ready = λ all.
           let before : IsReady (get_or c.loop-i.tenants c.loop-i.i d) = c.loop-i.invariant.ready all c.loop-i.i d within in
           All-set IsReady c.loop-i.tenants c.loop-i.i half
-          (record { room = omega (arith, c.phase_one.ensures.fewer, c.phase_one.ensures.room, before.room); shares = λ some. c.phase_one.ensures.shared ∙ before.shares (omega (arith, some, c.phase_one.ensures.fewer)) })
+          (record { room = omega (arith, c.phase_one.ensures.fewer, c.phase_one.ensures.room, before.room); shares = λ some. c.phase_one.ensures.shared (before.shares (omega (arith, some, c.phase_one.ensures.fewer))) })
           (c.loop-i.invariant.ready all);
       fewer =
           omega (

@@ -27,6 +27,7 @@ second_halves_without_jobs-requires c =
     halfway c.requires.placed c.requires.between c.requires.table c.first_halves.ensures.halves c.keep.new.tenants c.keep.ensures.tenants (c.first_halves.ensures.ready c.requires.ready) c.first_halves.ensures.fewer in
     record {
       rest = half.rest;
+      ended_due = half.ended_due;
       counts = counts_halfway c.requires.placed c.requires.between c.requires.table c.first_halves.ensures.halves (λ n. n < 2 ^ 64 - 1) c.keep.new.tenants c.keep.ensures.tenants c.requires.counts;
       places = omega (arith, c.grant.auto.granted, ap binds_of c.keep.ensures.tenants, binds_kept c.first_halves.new.tenants, c.first_halves.ensures.binds, c.requires.places);
       placed = half.placed;

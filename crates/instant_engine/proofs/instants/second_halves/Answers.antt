@@ -1,5 +1,6 @@
 use Rattle.std.proofs.Common.{◌≡◌, ◌+◌, ◌-◌, ◌<◌, drop, take, length, get_or, refl, ap, sym, subst, ◌∙◌, arith}
 use Rattle.std.specs.List.{AllByRecursion}
+use Rattle.tenant_state.specs.FirstHalf.{due_tasks}
 use Rattle.tenant_state.specs.Row.{ActiveTask}
 use Rattle.tenant_state.specs.Standing.{Standing, no_tenant}
 use Rattle.tenant_state.specs.Tenancy.{Tenancy}
@@ -29,6 +30,7 @@ phase_two-requires c =
     let ready : IsReady (tenant_at c.args.tenants.now c.loop-i.i) = c.requires.ready c.loop-i.i no_tenant inside in
     record {
       rest = ap (λ (s : Standing). s.ended) here ∙ c.requires.rest c.loop-i.i no_tenant inside;
+      ended_due = ap (λ (s : Standing). due_tasks s.row) here ∙ c.requires.ended_due c.loop-i.i no_tenant inside;
       next_tick = omega (arith, ap (λ (s : Standing). s.row.next_tick) here, c.requires.counts c.loop-i.i no_tenant inside);
       room = subst HasRoom (sym here) ready.room;
       shares = subst HasShares (sym here) ready.shares;

@@ -3,6 +3,7 @@ use Rattle.std.specs.List.{AllByRecursion}
 use Rattle.tenant_jobs.specs.Finished.{entry_in}
 use Rattle.tenant_jobs.specs.inner.Finished.{is_entered}
 use Rattle.tenant_state.specs.Jobs.{has_job, job_of}
+use Rattle.tenant_state.specs.FirstHalf.{due_tasks}
 use Rattle.tenant_state.specs.Row.{ActiveTask}
 use Rattle.tenant_state.specs.Standing.{IsKnown, Standing, no_tenant}
 use Rattle.tenant_state.specs.Tenancy.{Tenancy}
@@ -23,6 +24,7 @@ phase_two_without_jobs-requires c =
     let here = unstepped _ c.loop-i.i c.args.tenants.now c.loop-i.tenants c.index-tenants-i.result inside c.loop-i.invariant.halves in
     record {
       rest = ap (λ (s : Standing). s.ended) here ∙ c.requires.rest c.loop-i.i no_tenant inside;
+      ended_due = ap (λ (s : Standing). due_tasks s.row) here ∙ c.requires.ended_due c.loop-i.i no_tenant inside;
       next_tick = omega (arith, ap (λ (s : Standing). s.row.next_tick) here, c.requires.counts c.loop-i.i no_tenant inside);
       room = subst HasRoom (sym here) (c.requires.ready c.loop-i.i no_tenant inside).room;
     }
@@ -68,7 +70,7 @@ loop-i-preserved c =
     let inside : c.loop-i.i < length c.args.tenants.now = omega (arith, c.loop-i-test.true) in
     let within : c.loop-i.i < length c.loop-i.tenants = omega (arith, inside, c.loop-i.invariant.halves.as_many) in
     let here : x ≡ tenant_at c.args.tenants.now c.loop-i.i = unstepped _ c.loop-i.i c.args.tenants.now c.loop-i.tenants d inside c.loop-i.invariant.halves in
-    let known : IsKnown s.row = subst (λ (y : Standing). IsKnown y.row) c.enter.ensures.same c.next_tick.ensures.known in
+    let known : IsKnown s.tenancy s.row = subst (λ (y : Standing). IsKnown y.tenancy y.row) c.enter.ensures.same c.next_tick.ensures.known in
     let its_grants : take (c.loop-i.first + c.bind_count.result - c.loop-i.first) (drop c.loop-i.first c.args.granted.now) ≡ granted_at c.args.tenants.now c.loop-i.i c.args.granted.now =
     let many : c.loop-i.first + c.bind_count.result - c.loop-i.first ≡ length (tenant_at c.args.tenants.now c.loop-i.i).row.binds = omega (arith, c.bind_count.ensures, ap (λ (y : Standing). length y.row.binds) here) in
     λ k. take (many k) (drop (c.loop-i.invariant.first k) c.args.granted.now) in

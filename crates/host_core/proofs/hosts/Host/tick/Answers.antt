@@ -1,5 +1,7 @@
 use Rattle.std.proofs.Common.{◌≡◌, ◌-◌, ◌<◌, ◌^◌, length, map, refl, ap, sym, subst, ◌∙◌, arith}
 use Rattle.std.proofs.lemmas.List.Elements.{All-map}
+use Rattle.std.specs.List.{All}
+use Rattle.instant_engine.specs.inner.Halves.{IsReady}
 use Rattle.instant_engine.specs.Tenants.{released_from}
 use Rattle.host_core.specs.HostStanding.{HostStanding, Stands}
 use Rattle.tenant_state.specs.Standing.{Standing, at_rest, IsKnown}
@@ -87,4 +89,9 @@ returns-clause-known c =
     let whole = whole_behind c.self.inside.config c.self.inside.clock c.self.inside.tenants.len c.self.inside.tenants.items c.as_mut_slice.result.now c.all_ready.new.tenants c.self.inside.finished.entries c.all_ready.new.finished.entries
     c.as_mut_slice.ensures.value c.as_mut_slice.ensures.len c.all_ready.ensures.rest c.all_ready.ensures.entries c.self.invariant.whole c.as_mut_slice-tenants.result.now c.as_mut_slice-tenants.ensures.value
     c.args.frame.now c.instant.new.tenants c.instant.new.finished.entries c.instant.ensures.instants c.instant.ensures.table in
-    All-map (λ (s : Standing). IsKnown s.row) at_rest _ (λ k d lt. (whole.known k d lt).1.known)
+    All-map (λ (s : Standing). IsKnown s.tenancy s.row) at_rest _ (λ k d lt. (whole.known k d lt).1.known)
+
+pub instant-requires-clause-ready : goal.instant-requires-clause-ready
+instant-requires-clause-ready c =
+    let whole = written_over c.self.inside.tenants.len c.self.inside.tenants.items c.all_ready.new.tenants (c.all_ready.auto.tenants ∙ c.as_mut_slice.ensures.len) in
+    subst (All IsReady) (sym (c.as_mut_slice-tenants.ensures.value ∙ whole)) c.in-Some.ensures.ready
