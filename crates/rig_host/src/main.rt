@@ -4,17 +4,20 @@
 ghost use Rattle.std.specs.Prelude.{◌≡◌};
 ghost use Rattle.std.specs.Process.{exit_status};
 ghost use Rattle.clap.specs.declared.error.Error.{Error as ArgumentError};
-ghost use Rattle.rig_host.specs.declared.Failure.TheVariants.{Configuration, Fault};
+ghost use Rattle.rig_host.specs.declared.Failure.TheVariants.{Configuration, Fault, Picture};
 ghost use Rattle.rig_host.specs.declared.configuration.ConfigurationFault.{ConfigurationFault as AnyConfigurationFault};
+ghost use Rattle.rig_host.specs.declared.pictures.PictureFault.{PictureFault as AnyPictureFault};
 ghost use Rattle.rig_script.specs.declared.faults.ScriptFault.{ScriptFault as AnyFault};
 ghost use Rattle.rig_script.specs.declared.faults.ScriptFault.TheVariants.{Memory};
 
 mod configuration;
+mod pictures;
 
 use clap::error::ErrorKind;
 use clap::{Arg, ArgAction, ArgMatches, Command};
 use configuration::{ConfigurationFault, read_configuration};
-use rig_config::Config;
+use pictures::{PictureFault, write_dump, write_timeline};
+use rig_config::{Config, TenantId};
 use rig_script::faults::ScriptFault;
 use rig_script::script;
 use std::alloc::{AllocError, Global};
@@ -63,7 +66,24 @@ enum Request<'a> {
     Script {
         /// The path of the configuration; `None` for the built-in one.
         config: Option<&'a str>,
+        /// The path of the value change dump, where one is wanted.
+        dump: Option<&'a str>,
     },
+    /// The timeline of one tenant in a script of a file.
+    Timeline(TimelineRequest<'a>),
+}
+
+/// Which timeline is drawn, and where.
+#[derive(Clone, Copy)]
+pub struct TimelineRequest<'a> {
+    /// The path of the configuration; `None` for the built-in one.
+    pub config: Option<&'a str>,
+    /// The path of the script.
+    pub script: &'a str,
+    /// The name of the tenant; `None` for the first that loads a program.
+    pub tenant: Option<&'a str>,
+    /// The path of the picture.
+    pub picture: &'a str,
 }
 
 /// Why the program ends with another status than 0. Its `Display` is for standard error.
@@ -75,6 +95,8 @@ enum Failure {
     Configuration(ConfigurationFault),
     /// Reading, writing or want of memory, of the script or before it.
     Fault(ScriptFault),
+    /// A file of a picture.
+    Picture(PictureFault),
 }
 
 impl Failure {
@@ -83,11 +105,12 @@ impl Failure {
         ensures arguments { (error : ArgumentError) → self.now ≡ Failure.Arguments error → exit_status result ≡ 2 }
         ensures configuration { (fault : AnyConfigurationFault) → self.now ≡ Failure.Configuration fault → exit_status result ≡ 1 }
         ensures fault { (fault : AnyFault) → self.now ≡ Failure.Fault fault → exit_status result ≡ 3 }
+        ensures picture { (fault : AnyPictureFault) → self.now ≡ Failure.Picture fault → exit_status result ≡ 3 }
     {
         match self {
             Failure::Arguments(_) => ExitCode::from(2),
             Failure::Configuration(_) => ExitCode::from(1),
-            Failure::Fault(_) => ExitCode::from(3),
+            Failure::Fault(_) | Failure::Picture(_) => ExitCode::from(3),
         }
     }
 }
@@ -98,6 +121,7 @@ impl fmt::Display for Failure {
             Failure::Arguments(error) => write!(f, "{error}"),
             Failure::Configuration(fault) => writeln!(f, "{fault}"),
             Failure::Fault(fault) => writeln!(f, "{}", fault.as_str()),
+            Failure::Picture(fault) => writeln!(f, "{}", fault.as_str()),
         }
     }
 }
@@ -118,6 +142,14 @@ impl From<ScriptFault> for Failure {
     }
 }
 
+impl From<PictureFault> for Failure {
+    ghost from_gives = { λ fault failure. failure ≡ Picture fault };
+
+    fn from(fault: PictureFault) -> Failure {
+        Failure::Picture(fault)
+    }
+}
+
 impl From<AllocError> for Failure {
     ghost from_gives = { λ _ failure. failure ≡ Fault Memory };
 
@@ -134,10 +166,36 @@ fn run(rt: &HostRuntime) -> Result<(), Failure> {
             Ok(()) => Ok(()),
             Err(_) => Err(Failure::Fault(ScriptFault::Write)),
         },
-        Request::Script { config } => {
+        Request::Script { config, dump } => {
             let config = read_configuration(rt, config)?;
-            Ok(run_script(rt, &config)?)
+            match dump {
+                Some(path) => write_dump(rt, &config, path),
+                None => Ok(run_script(rt, &config)?),
+            }
         }
+        Request::Timeline(request) => {
+            let config = read_configuration(rt, request.config)?;
+            let tenant = tenant_of(rt.alloc(), &config, request.tenant)?;
+            write_timeline(rt, &config, request.script, tenant, request.picture)
+        }
+    }
+}
+
+// The place of the tenant that is asked for, if one is.
+fn tenant_of(
+    alloc: Global,
+    config: &Config,
+    name: Option<&str>,
+) -> Result<Option<TenantId>, Failure> {
+    let Some(name) = name else {
+        return Ok(None);
+    };
+    match config.place_of(name) {
+        Some(tenant) => Ok(Some(tenant)),
+        None => Err(Failure::Arguments(timeline_arguments(alloc)?.error(
+            ErrorKind::ValueValidation,
+            "the configuration has no tenant of the name behind '--tenant'",
+        )?)),
     }
 }
 
@@ -152,40 +210,100 @@ fn read_words(rt: &HostRuntime) -> Result<Vec<String>, Failure> {
 // What the words ask for.
 fn read_arguments<'a>(alloc: Global, words: &'a [String]) -> Result<Request<'a>, Failure> {
     match arguments(alloc)?.try_get_matches_from(words) {
-        Ok(matches) => Ok(Request::Script {
-            config: config_of(&matches),
-        }),
+        Ok(matches) => match timeline_of(&matches) {
+            Some(request) => Ok(Request::Timeline(request)),
+            None => Ok(Request::Script {
+                config: word_of_script(&matches, "config"),
+                dump: word_of_script(&matches, "vcd"),
+            }),
+        },
         Err(error) => without_matches(error),
     }
 }
 
-// The path behind `--config`, where it is given.
-fn config_of<'a>(matches: &ArgMatches<'a>) -> Option<&'a str> {
-    matches.subcommand_matches("script")?.get_str("config")
+// The word behind this argument of `script`, where it is given.
+fn word_of_script<'a>(matches: &ArgMatches<'a>, argument: &str) -> Option<&'a str> {
+    matches.subcommand_matches("script")?.get_str(argument)
+}
+
+// Which timeline is asked for, if one is.
+fn timeline_of<'a>(matches: &ArgMatches<'a>) -> Option<TimelineRequest<'a>> {
+    let words = matches.subcommand_matches("timeline")?;
+    Some(TimelineRequest {
+        config: words.get_str("config"),
+        script: words.get_str("script")?,
+        tenant: words.get_str("tenant"),
+        picture: words.get_str("output")?,
+    })
 }
 
 // The words that the program takes, with their help.
 fn arguments<'a>(alloc: Global) -> Result<Command<'a>, AllocError> {
-    let config = Arg::new(alloc, "config")
-        .long("config")
-        .value_name("FILE")
-        .action(ArgAction::Set)
-        .help(
-            "The configuration of the rig, in TOML; without it the built-in one: one line, and the tenants alpha and beta",
-        );
-    let script = Command::new(alloc, "script")
-        .about(
-            "Reads lines from standard input and answers each on standard output before it reads the next: `TENANT COMMAND`, `op tick V ..`, `op work` or `op lines`",
-        )
-        .after_help(SCRIPT_EXAMPLES)
-        .arg(config)?;
     Command::new(alloc, "rig_host")
         .about(
             "A host for shared test rigs: tenants load, run and inspect Giotto programs, and an operator gives the instants",
         )
         .after_help("Example: rig_host script < examples/first/first.script")
         .subcommand_required(true)
-        .subcommand(script)
+        .subcommand(script_arguments(alloc)?)?
+        .subcommand(timeline_arguments(alloc)?)
+}
+
+// The words of `script`.
+fn script_arguments<'a>(alloc: Global) -> Result<Command<'a>, AllocError> {
+    let dump = Arg::new(alloc, "vcd")
+        .long("vcd")
+        .value_name("FILE")
+        .action(ArgAction::Set)
+        .help("Writes the run into FILE as well, as a value change dump for a viewer of waveforms");
+    Command::new(alloc, "script")
+        .about(
+            "Reads lines from standard input and answers each on standard output before it reads the next: `TENANT COMMAND`, `op tick V ..`, `op work` or `op lines`",
+        )
+        .after_help(SCRIPT_EXAMPLES)
+        .arg(config_argument(alloc))?
+        .arg(dump)
+}
+
+// The words of `timeline`.
+fn timeline_arguments<'a>(alloc: Global) -> Result<Command<'a>, AllocError> {
+    let script = Arg::new(alloc, "script")
+        .value_name("SCRIPT")
+        .required(true)
+        .action(ArgAction::Set)
+        .help("The file with the lines of the script");
+    let tenant = Arg::new(alloc, "tenant")
+        .long("tenant")
+        .value_name("TENANT")
+        .action(ArgAction::Set)
+        .help("Whose run is drawn; without it that of the first tenant that loads a program");
+    let output = Arg::new(alloc, "output")
+        .short('o')
+        .long("output")
+        .value_name("FILE")
+        .required(true)
+        .action(ArgAction::Set)
+        .help("Where the picture is written, as SVG");
+    Command::new(alloc, "timeline")
+        .about(
+            "Draws the run of one tenant in a script: its modes, tasks, sensors and actuators over the ticks",
+        )
+        .after_help("Example: rig_host timeline examples/first/first.script -o first.svg")
+        .arg(script)?
+        .arg(config_argument(alloc))?
+        .arg(tenant)?
+        .arg(output)
+}
+
+// The word `--config FILE`.
+fn config_argument<'a>(alloc: Global) -> Arg<'a> {
+    Arg::new(alloc, "config")
+        .long("config")
+        .value_name("FILE")
+        .action(ArgAction::Set)
+        .help(
+            "The configuration of the rig, in TOML; without it the built-in one: one line, and the tenants alpha and beta",
+        )
 }
 
 // Why the arguments can't be read: one isn't UTF-8, or there is want of memory.

@@ -1,0 +1,71 @@
+//! The value change dump of a script.
+
+ghost use Rattle.std.specs.Prelude.{OnOk};
+ghost use Rattle.std.specs.Io.KnownBytes.{Appends};
+ghost use Rattle.rig_script.specs.Script.{ForNewHostReading, script_text_of};
+
+use crate::watching::{Scene, Watch, watched_script};
+use rig_config::Config;
+use rig_script::faults::ScriptFault;
+use std::alloc::{AllocError, Global};
+use std::io::{Read, Write};
+use tenant_dumps::dumps::Dump;
+use tenant_dumps::views::View;
+
+/// Answers the lines of a reader as `rig_script::script` does. The value change dump of the run: a stamp for each instant, with what
+/// stands behind it, and one for what the script leaves.
+///
+/// # Errors
+/// As `script`; `Memory` also where there was want of memory for the dump, and then all lines were answered.
+pub fn script_with_dump<R: Read, W: Write>(
+    alloc: Global,
+    reader: &mut R,
+    writer: &mut W,
+    config: &Config,
+) -> Result<String, ScriptFault>
+    ensures { OnOk result (ForNewHostReading config.now (R.remaining reader.old) (λ setting bytes.
+        Appends (W.contents writer.old) (W.contents writer.new) (script_text_of setting bytes))) }
+{
+    let Ok(watcher) = DumpWatcher::new(alloc, config) else {
+        return Err(ScriptFault::Memory);
+    };
+    let watcher = watched_script(alloc, reader, writer, config, watcher)?;
+    match watcher.dump.text(alloc) {
+        Ok(text) => Ok(text),
+        Err(_) => Err(ScriptFault::Memory),
+    }
+}
+
+// Writes a dump of what it sees.
+#[derive(Drop)]
+struct DumpWatcher {
+    dump: Dump,
+    // How many instants it saw.
+    instants: u64,
+}
+
+impl DumpWatcher {
+    // That has seen nothing.
+    fn new(alloc: Global, config: &Config) -> Result<DumpWatcher, AllocError> {
+        let mut dump = Dump::new(alloc);
+        for tenant in config.tenants() {
+            dump.add_tenant(alloc, &tenant.name)?;
+        }
+        Ok(DumpWatcher { dump, instants: 0 })
+    }
+}
+
+impl Watch for DumpWatcher {
+    fn see(&mut self, alloc: Global, scene: &Scene<'_>) -> Result<(), AllocError> {
+        let clock = scene.host.clock();
+        if clock <= self.instants {
+            return Ok(());
+        }
+        self.instants = clock;
+        self.dump.stamp(alloc, scene.views)
+    }
+
+    fn end(&mut self, alloc: Global, views: &[View]) -> Result<(), AllocError> {
+        self.dump.stamp(alloc, views)
+    }
+}

@@ -1,0 +1,63 @@
+//! What tenants are asked between two lines of a script: questions, which change nothing.
+
+ghost use Rattle.std.specs.Prelude.{◌≡◌, ◌<◌, length};
+ghost use Rattle.rig_pictures.specs.inner.Questions.{IsQuestion, StaysBehind};
+
+use giotto_tasks::lists::List;
+use host_core::hosts::Host;
+use rig_config::TenantId;
+use std::alloc::{AllocError, Global};
+use tenant_dumps::views::View;
+use tenant_lines::commands::Command;
+use tenant_lines::ports::PortValue;
+use tenant_lines::replies::Reply;
+
+/// What all tenants show, in the order of the roster.
+///
+/// # Errors
+/// Want of memory.
+pub fn views_of(alloc: Global, host: &mut Host) -> Result<Vec<View>, AllocError>
+    ensures { StaysBehind host.old host.new }
+{
+    let mut views = Vec::new(alloc);
+    for tenant in 0..host.config().tenants().len() {
+        let view = view_of(alloc, host, tenant)?;
+        views.push(view)?;
+    }
+    Ok(views)
+}
+
+// What the tenant at this place shows.
+fn view_of(alloc: Global, host: &mut Host, tenant: TenantId) -> Result<View, AllocError>
+    requires { tenant < length host.old.config.tenants }
+    ensures stays { StaysBehind host.old host.new }
+    ensures config { host.new.config ≡ host.old.config }
+{
+    let ports = ports_of(alloc, ask(host, tenant, Command::ShowAll)?);
+    match ask(host, tenant, Command::ShowMode)? {
+        Reply::Mode(status) => Ok(View { status, ports }),
+        _ => Err(AllocError),
+    }
+}
+
+// The ports of a reply to `show all`; none where there is no program.
+fn ports_of(alloc: Global, reply: Reply) -> List<PortValue> {
+    match reply {
+        Reply::All(ports) => ports,
+        _ => List::from_vec(Vec::new(alloc)),
+    }
+}
+
+// The reply to a question.
+fn ask(host: &mut Host, tenant: TenantId, question: Command) -> Result<Reply, AllocError>
+    requires tenant { tenant < length host.old.config.tenants }
+    requires question { IsQuestion question }
+    ensures stays { StaysBehind host.old host.new }
+    ensures config { host.new.config ≡ host.old.config }
+{
+    let reply = host.command(tenant, question);
+    if reply.is_memory() {
+        return Err(AllocError);
+    }
+    Ok(reply)
+}

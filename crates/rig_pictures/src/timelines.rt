@@ -1,0 +1,40 @@
+//! The timeline of one tenant in a script.
+
+use crate::runs::Run;
+use crate::watching::watched_script;
+use rig_config::{Config, TenantId};
+use rig_script::faults::ScriptFault;
+use std::alloc::{AllocError, Global};
+use std::io;
+use std::io::Read;
+use tenant_timelines::draw;
+
+/// The timeline of a tenant's run in the script of this reader, in SVG: that of this tenant, or of the first that loads a program, or of
+/// the first of the roster where none does.
+///
+/// # Errors
+/// As `rig_script::script`.
+pub fn timeline<R: Read>(
+    alloc: Global,
+    reader: &mut R,
+    config: &Config,
+    tenant: Option<TenantId>,
+) -> Result<String, ScriptFault> {
+    let Ok(run) = Run::new(alloc, tenant) else {
+        return Err(ScriptFault::Memory);
+    };
+    let run = watched_script(alloc, reader, &mut io::sink(), config, run)?;
+    match picture(alloc, config, &run) {
+        Ok(picture) => Ok(picture),
+        Err(_) => Err(ScriptFault::Memory),
+    }
+}
+
+// The picture of a run.
+fn picture(alloc: Global, config: &Config, run: &Run) -> Result<String, AllocError> {
+    let name = match config.tenants().get(run.tenant().unwrap_or(0)) {
+        Some(tenant) => tenant.name.as_str(),
+        None => "",
+    };
+    draw(alloc, name, run.timeline())
+}

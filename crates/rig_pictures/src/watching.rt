@@ -1,0 +1,147 @@
+//! A script that is watched: who answers it is asked, behind each line, what stands there.
+
+ghost use Rattle.std.specs.Prelude.{OnOk};
+ghost use Rattle.std.specs.Io.KnownBytes.{Appends};
+ghost use Rattle.rig_pictures.specs.inner.Questions.{StaysBehind};
+ghost use Rattle.rig_script.specs.Script.{ForNewHostReading, script_text_of};
+
+use crate::questions::views_of;
+use host_core::hosts::Host;
+use rig_config::{Config, TenantId};
+use rig_script::answers::{Answers, answer_lines};
+use rig_script::faults::ScriptFault;
+use rig_script::lines::Lines;
+use rig_script::speakers::{Speaker, who_speaks};
+use std::alloc::{AllocError, Global};
+use std::io::{Read, Write};
+use tenant_dumps::views::View;
+use tenant_lines::words;
+
+/// What stands behind a line of a script.
+#[derive(Drop)]
+pub struct Scene<'a> {
+    /// The host, behind the line.
+    pub host: &'a Host,
+    pub line: &'a str,
+    /// What the line was answered, with LF; no byte where it has no reply.
+    pub reply: &'a str,
+    /// What each tenant shows, in the order of the roster.
+    pub views: &'a [View],
+}
+
+impl<'a> Scene<'a> {
+    /// The tenant that this command, `load` or `replace`, gave a program in this line, and the program's text.
+    pub fn given(&self, command: &str) -> Option<(TenantId, &'a str)> {
+        let Speaker::Tenant(tenant) = who_speaks(self.host.config(), self.line) else {
+            return None;
+        };
+        let rest = words::behind_first_word(self.line);
+        let told = words::behind_first_word(self.reply);
+        if words::first_word(rest) != command || words::first_word(told) != "ok" {
+            return None;
+        }
+        Some((tenant, words::behind_first_word(rest)))
+    }
+}
+
+/// Who watches a script.
+pub trait Watch {
+    /// Takes what stands behind a line.
+    ///
+    /// # Errors
+    /// Want of memory. Nothing is shown from then on.
+    fn see(&mut self, alloc: Global, scene: &Scene<'_>) -> Result<(), AllocError>;
+
+    /// Takes what stands at the end of the script.
+    ///
+    /// # Errors
+    /// Want of memory.
+    fn end(&mut self, alloc: Global, views: &[View]) -> Result<(), AllocError>;
+}
+
+/// A host that answers, and who watches it.
+#[derive(Drop)]
+struct Watched<W> {
+    host: Host,
+    watcher: W,
+    // Whether everything could be shown so far.
+    is_whole: bool,
+}
+
+impl<W: Watch> Watched<W> {
+    // Shows what stands behind a line.
+    fn show(&mut self, alloc: Global, line: &str, reply: &str) -> Result<(), AllocError>
+        ensures { StaysBehind self.old.host self.new.host }
+    {
+        let views = views_of(alloc, &mut self.host)?;
+        let scene = Scene {
+            host: &self.host,
+            line,
+            reply,
+            views: views.as_slice(),
+        };
+        self.watcher.see(alloc, &scene)
+    }
+
+    // Shows what stands at the end.
+    fn end(&mut self, alloc: Global) -> Result<(), AllocError> {
+        if !self.is_whole {
+            return Err(AllocError);
+        }
+        let views = views_of(alloc, &mut self.host)?;
+        self.watcher.end(alloc, views.as_slice())
+    }
+}
+
+impl<W: Watch> Answers for Watched<W> {
+    ghost use Rattle.rig_script.specs.inner.HostAnswers.{IsHostAfter};
+
+    ghost stands = { λ watched setting past. IsHostAfter setting watched.host past };
+
+    fn speaker(&self, line: &str) -> Speaker {
+        self.host.speaker(line)
+    }
+
+    fn answer(&mut self, alloc: Global, line: &str) -> Result<String, AllocError> {
+        let reply = self.host.answer(alloc, line)?;
+        if self.is_whole && self.show(alloc, line, reply.as_str()).is_err() {
+            self.is_whole = false;
+        }
+        Ok(reply)
+    }
+}
+
+/// Answers the lines of a reader as `rig_script::script` does, and shows the watcher what stands behind each, and at the end.
+///
+/// # Errors
+/// As `script`; `Memory` also where there was want of memory for what is shown, and then all lines were answered.
+pub fn watched_script<R: Read, W: Write, P: Watch + Drop>(
+    alloc: Global,
+    reader: &mut R,
+    writer: &mut W,
+    config: &Config,
+    watcher: P,
+) -> Result<P, ScriptFault>
+    ensures { OnOk result (ForNewHostReading config.now (R.remaining reader.old) (λ setting bytes.
+        Appends (W.contents writer.old) (W.contents writer.new) (script_text_of setting bytes))) }
+{
+    let Ok(host) = Host::new(alloc, config, 0) else {
+        return Err(ScriptFault::Memory);
+    };
+    let mut lines = Lines::new(alloc);
+    let mut watched = Watched {
+        host,
+        watcher,
+        is_whole: true,
+    };
+    answer_lines(alloc, &mut lines, reader, writer, &mut watched)?;
+    let Ok(()) = watched.end(alloc) else {
+        return Err(ScriptFault::Memory);
+    };
+    let Watched {
+        host: _,
+        watcher,
+        is_whole: _,
+    } = watched;
+    Ok(watcher)
+}

@@ -1,0 +1,127 @@
+//! The jobs of a task: each from its release to its end.
+
+use crate::places::Place;
+use giotto_tasks::names::Name;
+use std::alloc::{AllocError, Global};
+
+/// A task, and its jobs in the order of their release.
+#[derive(Drop)]
+pub struct TaskLane {
+    pub name: Name,
+    /// Those that ended.
+    pub jobs: Vec<JobBar>,
+    /// The one that has no end yet.
+    pub open: Option<JobBar>,
+}
+
+impl TaskLane {
+    /// A task without jobs.
+    pub fn new(alloc: Global, name: &Name) -> TaskLane {
+        TaskLane {
+            name: name.copy(),
+            jobs: Vec::new(alloc),
+            open: None,
+        }
+    }
+
+    /// Whether it has a job.
+    pub(crate) fn has_jobs(&self) -> bool {
+        !self.jobs.is_empty() || self.open.is_some()
+    }
+}
+
+/// A job: from its release to its end.
+#[derive(Drop)]
+pub struct JobBar {
+    /// The number of the instant that released it.
+    pub tick: u64,
+    /// The number of the instant at which its task ends.
+    pub deadline: u64,
+    /// The inputs with their values at the release.
+    pub inputs: PortTexts,
+    /// The names of the task's outputs.
+    pub outputs: Vec<Name>,
+    /// Where it was worked, if it was.
+    pub worked: Option<Place>,
+    pub end: Option<End>,
+}
+
+/// How a job ends, and where.
+#[derive(Drop)]
+pub struct End {
+    pub place: Place,
+    pub outcome: Outcome,
+}
+
+/// What comes of a job.
+#[derive(Drop)]
+pub enum Outcome {
+    /// Its task ends at its deadline. The outputs with their values behind that instant.
+    Written(PortTexts),
+    /// It wasn't completed when its task was due.
+    Missed,
+    /// It is dropped where the tenant is stopped.
+    Dropped,
+}
+
+/// Some ports with their values, as text.
+#[derive(Drop)]
+pub struct PortTexts {
+    /// `i=5 j=7`
+    pub named: String,
+    /// `5 7`
+    pub bare: String,
+}
+
+impl PortTexts {
+    /// Of no port.
+    pub fn new(alloc: Global) -> PortTexts {
+        PortTexts {
+            named: String::new(alloc),
+            bare: String::new(alloc),
+        }
+    }
+
+    /// Adds a port, where it has a value.
+    ///
+    /// # Errors
+    /// Want of memory.
+    pub fn add(&mut self, name: &Name, value: Option<i64>) -> Result<(), AllocError> {
+        let Some(value) = value else {
+            return Ok(());
+        };
+        if !self.bare.is_empty() {
+            self.named.push_str(" ")?;
+            self.bare.push_str(" ")?;
+        }
+        let name = name.as_str();
+        write!(self.named, "{name}={value}")?;
+        write!(self.bare, "{value}")
+    }
+}
+
+impl JobBar {
+    /// What comes of it: its outputs with their values, `late`, `dropped`, or nothing yet.
+    pub(crate) fn result(&self) -> &str {
+        match &self.end {
+            None => "",
+            Some(end) => match &end.outcome {
+                Outcome::Written(outputs) => outputs.named.as_str(),
+                Outcome::Missed => "late",
+                Outcome::Dropped => "dropped",
+            },
+        }
+    }
+
+    /// The same with the values alone.
+    pub(crate) fn bare_result(&self) -> &str {
+        match &self.end {
+            None => "",
+            Some(end) => match &end.outcome {
+                Outcome::Written(outputs) => outputs.bare.as_str(),
+                Outcome::Missed => "late",
+                Outcome::Dropped => "",
+            },
+        }
+    }
+}

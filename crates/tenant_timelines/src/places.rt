@@ -1,0 +1,49 @@
+//! Places of a run: each instant, and between any two what commands do there.
+
+ghost use Rattle.std.specs.Prelude.{◌≡◌, ◌+◌, ◌*◌, ◌-◌, ◌^◌, min};
+
+use std::marker::Model;
+
+/// A place of a run, in half ticks: instant N is at `2 N + 1`, and what commands do before it is half a tick earlier.
+#[derive(Clone, Copy, Debug, PartialEq, Eq)]
+pub struct Place(u64);
+
+impl Model for Place {
+    ghost use Rattle.std.specs.Prelude.{ℕ};
+
+    ghost Value = { ℕ };
+
+    ghost view = { λ p. p.0 };
+
+    ghost inverse = { λ n. record { 0 = n } };
+}
+
+impl Place {
+    /// Where a run begins: before instant 0.
+    pub fn begin() -> Place
+        ensures { result ≡ 0 }
+    {
+        Place(0)
+    }
+
+    /// That of the instant of this number.
+    pub fn of_instant(number: u64) -> Place
+        ensures { result ≡ min (min (2 * number) (2 ^ 64 - 1) + 1) (2 ^ 64 - 1) }
+    {
+        Place(number.saturating_mul(2).saturating_add(1))
+    }
+
+    /// That of the commands before the instant of this number.
+    pub fn before_instant(number: u64) -> Place
+        ensures { result ≡ min (2 * number) (2 ^ 64 - 1) }
+    {
+        Place(number.saturating_mul(2))
+    }
+
+    /// How many half ticks it is behind the begin.
+    pub(crate) fn half_ticks(self) -> u64
+        ensures { result ≡ self }
+    {
+        self.0
+    }
+}

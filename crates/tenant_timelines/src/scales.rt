@@ -1,0 +1,68 @@
+//! How places and texts are measured, in pixels of a picture that is 1000 wide.
+
+use crate::places::Place;
+
+/// How wide a picture is.
+pub const WIDTH: u64 = 1000;
+
+// Where the plot ends.
+const RIGHT: u64 = 984;
+
+/// Where the places of a run lie in the picture.
+#[derive(Clone, Copy)]
+pub struct Scale {
+    // Where the plot begins.
+    left: u64,
+    // How many half ticks it has.
+    span: u64,
+}
+
+impl Scale {
+    /// For a run of this many instants, behind names that are this wide.
+    pub fn new(instants: u64, names: u64) -> Scale {
+        Scale {
+            left: names.saturating_add(36).min(400),
+            span: instants.saturating_mul(2).saturating_add(1),
+        }
+    }
+
+    /// Where the plot begins.
+    pub fn left(self) -> u64 {
+        self.left
+    }
+
+    /// Where it ends.
+    pub fn right(self) -> u64 {
+        RIGHT
+    }
+
+    /// Where a place lies; one behind the end lies there.
+    pub fn x(self, place: Place) -> u64 {
+        let width = RIGHT.saturating_sub(self.left);
+        let half_ticks = place.half_ticks().min(self.span);
+        let within = part(half_ticks.saturating_mul(width), self.span);
+        self.left.saturating_add(within)
+    }
+
+    /// How wide a hundred ticks are.
+    pub fn hundred_ticks(self) -> u64 {
+        part(
+            RIGHT.saturating_sub(self.left).saturating_mul(200),
+            self.span,
+        )
+    }
+}
+
+/// How wide a text is, in the font of names and values.
+pub fn width_of(text: &str) -> u64 {
+    let letters = u64::try_from(text.len()).unwrap_or(u64::MAX);
+    part(letters.saturating_mul(73), 10)
+}
+
+/// The whole part of a quotient; 0 where the divisor is 0.
+pub fn part(number: u64, divisor: u64) -> u64 {
+    match number.checked_div(divisor) {
+        Some(part) => part,
+        None => 0,
+    }
+}

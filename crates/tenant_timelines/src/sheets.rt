@@ -1,0 +1,212 @@
+//! Sheets: pictures in SVG as they are written, element by element.
+//!
+//! What is written are numbers, words of this crate, and names of tenants, modes, tasks and ports, which have letters, digits and `_`
+//! alone: nothing of it means anything in SVG.
+
+use crate::scales::WIDTH;
+use std::alloc::{AllocError, Global};
+
+// How each class of elements looks.
+const STYLE: &str = "\
+<style>
+text{font:12px ui-monospace,Menlo,Consolas,'DejaVu Sans Mono',monospace;fill:#1f2937}
+.title{font:600 16px system-ui,'Segoe UI','Helvetica Neue',Arial,sans-serif}
+.head{font:600 11px system-ui,'Segoe UI','Helvetica Neue',Arial,sans-serif;fill:#6b7280;letter-spacing:.04em}
+.note{font:12px system-ui,'Segoe UI','Helvetica Neue',Arial,sans-serif;fill:#4b5563}
+.name,.written{text-anchor:end}
+.tick{text-anchor:middle;fill:#4b5563}
+.value{fill:#111827}
+.read{fill:#4b5563}
+.range{font-size:10px;fill:#6b7280}
+.grid{stroke:#e5e7eb}
+.minor{stroke:#f3f4f6}
+.rule{stroke:#d1d5db}
+.round{stroke:#6b7280;stroke-width:1.5}
+.m0{fill:#dbeafe;stroke:#93c5fd}
+.m1{fill:#dcfce7;stroke:#86efac}
+.m2{fill:#fef3c7;stroke:#fcd34d}
+.m3{fill:#fce7f3;stroke:#f9a8d4}
+.m4{fill:#ede9fe;stroke:#c4b5fd}
+.m5{fill:#ffedd5;stroke:#fdba74}
+.m6{fill:#cffafe;stroke:#67e8f9}
+.m7{fill:#ecfccb;stroke:#bef264}
+.idle{fill:#f9fafb;stroke:#e5e7eb}
+.stopped{fill:#e5e7eb;stroke:#9ca3af}
+.late{fill:#fee2e2;stroke:#ef4444}
+.job{fill:#eff6ff;stroke:#3b82f6}
+.open{fill:#eff6ff;stroke:#3b82f6;stroke-dasharray:4 3}
+.dropped{fill:#f3f4f6;stroke:#9ca3af;stroke-dasharray:4 3}
+.worked{fill:#1d4ed8;stroke:#fff}
+.sensor,.actuator{fill:none;stroke-width:1.8}
+.sensor{stroke:#0f766e}
+.actuator{stroke:#b45309}
+.start{fill:#16a34a}
+.switch{fill:#4f46e5}
+.replaced{fill:#9333ea}
+.stop{fill:#4b5563}
+.overrun{fill:#dc2626}
+.at-start,.at-switch,.at-replaced,.at-stop,.at-overrun{stroke-width:1;stroke-dasharray:2 3}
+.at-start{stroke:#16a34a}
+.at-switch{stroke:#4f46e5}
+.at-replaced{stroke:#9333ea}
+.at-stop{stroke:#4b5563}
+.at-overrun{stroke:#dc2626}
+</style>
+";
+
+/// A box of a picture: its left upper corner, its width and its height.
+#[derive(Clone, Copy)]
+pub struct Area {
+    pub x: u64,
+    pub y: u64,
+    pub width: u64,
+    pub height: u64,
+}
+
+/// What is written of a picture.
+#[derive(Drop)]
+pub struct Sheet {
+    text: String,
+}
+
+impl Sheet {
+    /// With nothing on it.
+    pub fn new(alloc: Global) -> Sheet {
+        Sheet {
+            text: String::new(alloc),
+        }
+    }
+
+    /// The begin of a picture that is this high.
+    ///
+    /// # Errors
+    /// Want of memory.
+    pub fn begin(&mut self, height: u64) -> Result<(), AllocError> {
+        writeln!(
+            self.text,
+            "<svg xmlns=\"http://www.w3.org/2000/svg\" width=\"{WIDTH}\" height=\"{height}\" viewBox=\"0 0 {} {}\">",
+            WIDTH, height
+        )?;
+        self.text.push_str(STYLE)?;
+        self.text
+            .push_str("<rect width=\"100%\" height=\"100%\" fill=\"#fff\"/>\n")
+    }
+
+    /// The end of a picture.
+    ///
+    /// # Errors
+    /// Want of memory.
+    pub fn end(&mut self) -> Result<(), AllocError> {
+        self.text.push_str("</svg>\n")
+    }
+
+    /// What is on the other sheet.
+    ///
+    /// # Errors
+    /// Want of memory.
+    pub fn add(&mut self, other: &Sheet) -> Result<(), AllocError> {
+        self.text.push_str(other.text.as_str())
+    }
+
+    /// A box, with a text that is shown where one points at it.
+    ///
+    /// # Errors
+    /// Want of memory.
+    pub fn area(&mut self, class: &str, area: Area, title: &str) -> Result<(), AllocError> {
+        let Area {
+            x,
+            y,
+            width,
+            height,
+        } = area;
+        write!(
+            self.text,
+            "<rect class=\"{class}\" x=\"{x}\" y=\"{y}\" width=\"{width}\" height=\"{height}\" rx=\"3\">"
+        )?;
+        writeln!(self.text, "<title>{title}</title></rect>")
+    }
+
+    /// Words.
+    ///
+    /// # Errors
+    /// Want of memory.
+    pub fn words(&mut self, class: &str, x: u64, y: u64, words: &str) -> Result<(), AllocError> {
+        writeln!(
+            self.text,
+            "<text class=\"{class}\" x=\"{x}\" y=\"{y}\">{words}</text>"
+        )
+    }
+
+    /// A line from top to bottom.
+    ///
+    /// # Errors
+    /// Want of memory.
+    pub fn upright(
+        &mut self,
+        class: &str,
+        x: u64,
+        top: u64,
+        bottom: u64,
+    ) -> Result<(), AllocError> {
+        writeln!(
+            self.text,
+            "<path class=\"{class}\" d=\"M{x} {top}V{bottom}\"/>"
+        )
+    }
+
+    /// A line from left to right.
+    ///
+    /// # Errors
+    /// Want of memory.
+    pub fn level(&mut self, class: &str, y: u64, left: u64, right: u64) -> Result<(), AllocError> {
+        writeln!(
+            self.text,
+            "<path class=\"{class}\" d=\"M{left} {y}H{right}\"/>"
+        )
+    }
+
+    /// A line by the commands of its path, and nothing where there are none.
+    ///
+    /// # Errors
+    /// Want of memory.
+    pub fn line(&mut self, class: &str, commands: &str) -> Result<(), AllocError> {
+        if commands.is_empty() {
+            return Ok(());
+        }
+        writeln!(self.text, "<path class=\"{class}\" d=\"{commands}\"/>")
+    }
+
+    /// A figure round this point, by the commands of its path behind the first.
+    ///
+    /// # Errors
+    /// Want of memory.
+    pub fn figure(
+        &mut self,
+        class: &str,
+        x: u64,
+        y: u64,
+        commands: &str,
+    ) -> Result<(), AllocError> {
+        writeln!(
+            self.text,
+            "<path class=\"{class}\" d=\"M{x} {y}{commands}\"/>"
+        )
+    }
+
+    /// A point.
+    ///
+    /// # Errors
+    /// Want of memory.
+    pub fn point(&mut self, class: &str, x: u64, y: u64, title: &str) -> Result<(), AllocError> {
+        writeln!(
+            self.text,
+            "<circle class=\"{class}\" cx=\"{x}\" cy=\"{y}\" r=\"3.5\"><title>{title}</title></circle>"
+        )
+    }
+
+    /// The picture.
+    pub fn into_text(self) -> String {
+        let Sheet { text } = self;
+        text
+    }
+}
