@@ -15,3 +15,5 @@ mod grants;
 mod plays;
 #[cfg(test)]
 mod readers;
+#[cfg(test)]
+mod traces;

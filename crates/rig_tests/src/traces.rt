@@ -1,0 +1,91 @@
+//! Traces with ample memory: one that keeps the last of its records, and that of a tenant.
+
+use arrayvec::ArrayVec;
+use giotto_tasks::names::Name;
+use host_core::hosts::Host;
+use rig_config::{TenantId, built_in};
+use std::alloc::Global;
+use tenant_grants::grants::Grants;
+use tenant_lines::commands::Command;
+use tenant_lines::replies::Reply;
+use tenant_lines::texts::Text;
+use tenant_state::tenants::Tenant;
+use tenant_trace::records::{Happening, Record};
+use tenant_trace::traces::Trace;
+
+const ALPHA: TenantId = 0;
+
+// A trace of two records, to which three were given.
+fn last_two_of_three(alloc: Global) -> Option<Trace> {
+    let mut trace = Trace::new(alloc, 2).ok()?;
+    trace.push(Record {
+        tick: 0,
+        happening: Happening::Start(Name::new("m")?),
+    });
+    trace.note(2, Happening::Out(Name::new("o")?, 6));
+    trace.note(4, Happening::Asked);
+    Some(trace)
+}
+
+// Whether these are the record of an output and that of a stop, in this order.
+fn are_an_output_and_a_stop(records: &[Record]) -> bool {
+    match records {
+        [first, second] => {
+            let is_output = matches!(&first.happening, Happening::Out(o, 6) if o.as_str() == "o");
+            let is_stop = matches!(&second.happening, Happening::Asked);
+            is_output && first.tick == 2 && is_stop && second.tick == 4
+        }
+        _ => false,
+    }
+}
+
+fn lists_the_last_two(alloc: Global) -> Option<bool> {
+    let records = last_two_of_three(alloc)?.list(alloc).ok()?;
+    Some(are_an_output_and_a_stop(records.as_slice()))
+}
+
+// The built-in configuration's first tenant, alone.
+fn new_tenant(alloc: Global) -> Option<Tenant> {
+    let config = built_in(alloc).ok()?;
+    let budgets = config.tenants().first()?.budgets.copy(alloc).ok()?;
+    let mut roster = ArrayVec::new();
+    roster.push(Name::new("alpha")?);
+    let grants = Grants::new(alloc, ALPHA, roster, budgets.offers, budgets.binds).ok()?;
+    Tenant::new(alloc, budgets, grants, 0).ok()
+}
+
+// What alpha is answered to this command, if it is one of the host's.
+fn answered(host: &mut Host, command: Command) -> Option<Reply> {
+    if ALPHA >= host.config().tenants().len() {
+        return None;
+    }
+    Some(host.command(ALPHA, command))
+}
+
+// How many records alpha is told behind its start.
+fn records_behind_a_start(alloc: Global) -> Option<usize> {
+    let config = built_in(alloc).ok()?;
+    let mut host = Host::new(alloc, &config, 0).ok()?;
+    let text = Text::from_str(alloc, "mode m period 1 { } start m;").ok()?;
+    let _ = answered(&mut host, Command::Load(text))?;
+    let _ = answered(&mut host, Command::Start)?;
+    match answered(&mut host, Command::Trace)? {
+        Reply::Trace(records) => Some(records.as_slice().len()),
+        _ => None,
+    }
+}
+
+#[test]
+fn full_trace_keeps_the_last_records(rt: HostRuntime) {
+    assert!(rt; lists_the_last_two(rt.alloc()) == Some(true));
+}
+
+#[test]
+fn makes_a_tenant(rt: HostRuntime) {
+    assert!(rt; new_tenant(rt.alloc()).is_some());
+}
+
+#[test]
+fn trace_of_a_tenant_is_told(rt: HostRuntime) {
+    assert!(rt; records_behind_a_start(rt.alloc()) == Some(1));
+}
