@@ -1,7 +1,7 @@
 """A Giotto machine of one tenant, which steps over the tenant's own view and knows nothing else.
 
 A view is a list of entries, oldest first: a command of the tenant, as a tuple of its word and its parts, or an `Instant`. The
-program of a load is a `Program`.
+program of a load or a replace is a `Program`, or a text that is `Refused`.
 """
 
 import math
@@ -13,8 +13,23 @@ from giotto import block_text, run, text_of, value
 # granted through each of its binds, by the bind's sensor; a bind through which nothing is granted has none.
 Instant = namedtuple("Instant", "readings unfinished granted")
 
-# What a tenant knows of the rig: its name, the names of all tenants, and how many offers and binds it may have.
-Tenancy = namedtuple("Tenancy", "own roster offers binds")
+# What a tenant knows of the rig: its name, the names of all tenants, how many offers and binds it may have, and how many records
+# its trace keeps.
+Tenancy = namedtuple("Tenancy", "own roster offers binds trace")
+
+
+class Refused:
+    """A text that is no program for any tenant. A fault of the text itself is told before all else; that it is over a budget is
+    told only to a tenant that may load or replace now."""
+
+    def __init__(self, words, reply):
+        self.words, self.reply = words, reply
+
+    def text(self):
+        return self.words
+
+    def is_over_budget(self):
+        return self.reply.startswith("err budget")
 
 
 class Task:
@@ -68,6 +83,12 @@ class Program:
     def drivers_ports(self):
         return dict([(s, z) for s, z, _ in self.sensors] + self.actuators + self.outputs)
 
+    def sensor_names(self):
+        return [s for s, _, _ in self.sensors]
+
+    def actuator_names(self):
+        return [a for a, _ in self.actuators]
+
     def keeps_tasks(self):
         """A switch finds each task ended, or goes to a mode that invokes it with the same period."""
         return all(
@@ -89,8 +110,8 @@ class Machine:
     """One tenant. It begins empty, before the first instant."""
 
     def __init__(self, tenancy):
-        self.tenancy, self.offers, self.binds, self.ticks = tenancy, [], [], 0
-        self.program, self.state, self.active = None, "empty", []
+        self.tenancy, self.offers, self.binds, self.ticks, self.records = tenancy, [], [], 0, []
+        self.program, self.waiting, self.state, self.active = None, None, "empty", []
 
     def answers_to(self, view):
         """The replies to the commands of a view."""
@@ -103,6 +124,10 @@ class Machine:
                 replies.append(self.answer(*entry))
         return replies
 
+    def note(self, happening):
+        """A record. Its number is that of the running instant; of the next one where no instant runs."""
+        self.records.append("%d:%s" % (self.ticks, happening))
+
     def begin(self, state):
         p = self.program
         self.state, self.mode, self.time, self.active = state, p.modes[p.start], 0, []
@@ -111,8 +136,9 @@ class Machine:
         self.states = {t.name: dict(t.states) for t in p.tasks.values()}
 
     def halt(self, reason):
-        self.state, self.active = "stopped " + reason, []
+        self.state, self.active, self.waiting = "stopped " + reason, [], None
         self.ports.update(self.program.actuators)
+        self.note("stop:" + reason.replace(" ", ":"))
 
     def holds(self, guard):
         return guard is None or value(guard, self.ports) != 0
@@ -128,7 +154,7 @@ class Machine:
 
     def actuator(self, name):
         """The value of an actuator, or None where the tenant has no such actuator."""
-        return self.ports[name] if self.program is not None and name in dict(self.program.actuators) else None
+        return self.ports[name] if self.program is not None and name in self.program.actuator_names() else None
 
     def first_half(self, unfinished):
         if self.state != "running":
@@ -140,15 +166,29 @@ class Machine:
             return
         for a in ending:
             result = a.result()
-            self.ports.update({o: result[o] for o in a.task.outputs})
             self.states[a.task.name] = {s: result[s] for s, _ in a.task.states}
+            for o in a.task.outputs:
+                self.ports[o] = result[o]
+                self.note("out:%s:%d" % (o, result[o]))
         self.active = [a for a in self.active if a not in ending]
         for w, guard, actuator, e in self.mode.updates:
             if self.due(w) and self.holds(guard):
                 self.ports[actuator] = value(e, self.ports)
+                self.note("act:%s:%d" % (actuator, self.ports[actuator]))
+
+    def install(self):
+        """The waiting program takes the place of the running one. No task is active: at mode time 0 each has ended."""
+        old, kept = self.program, self.ports
+        self.program, self.waiting = self.waiting, None
+        self.begin("running")
+        for of_old, of_new in [(old.sensor_names(), self.program.sensor_names()), (old.actuator_names(), self.program.actuator_names())]:
+            self.ports.update({name: kept[name] for name in of_new if name in of_old})
+        self.note("replaced:" + self.mode.name)
 
     def second_half(self, readings, granted):
         if self.state == "running":
+            if self.waiting is not None and self.time == 0:
+                self.install()
             for s, initial, line in self.program.sensors:
                 self.ports[s] = granted.get(s, initial) if line is None else readings[line]
             self.take_switch()
@@ -164,6 +204,7 @@ class Machine:
                 common = math.lcm(*[self.mode.period_of(a.task.name) for a in self.active])
                 self.time = target.period - (common - self.time % common) if self.active else 0
                 self.mode = target
+                self.note("mode:" + target.name)
                 return
 
     def invoke(self):
@@ -176,12 +217,26 @@ class Machine:
     def answer(self, word, *parts):
         return getattr(self, word)(*parts)
 
+    def refused(self, program, misplaced):
+        """Why a text is refused, if so; `misplaced` is why no program may come now, if so."""
+        if isinstance(program, Refused) and not (misplaced and program.is_over_budget()):
+            return program.reply
+        return misplaced
+
     def load(self, program):
-        if self.state == "running":
-            return "err running"
+        wrong = self.refused(program, "err running" if self.state == "running" else None)
+        if wrong:
+            return wrong
         self.program = program
         self.begin("loaded")
         return "ok load"
+
+    def replace(self, program):
+        wrong = self.refused(program, "err not-running" if self.state != "running" else None)
+        if wrong:
+            return wrong
+        self.waiting = program
+        return "ok replace"
 
     def start(self):
         if self.state == "running":
@@ -189,6 +244,7 @@ class Machine:
         if self.state == "empty":
             return "err not-loaded"
         self.begin("running")
+        self.note("start:" + self.mode.name)
         return "ok start"
 
     def stop(self):
@@ -218,6 +274,10 @@ class Machine:
         if self.state == "empty":
             return "err not-loaded"
         return "ok all" + "".join(" %s=%d" % it for it in self.all_ports().items())
+
+    def trace(self):
+        """The last records, as many as the tenant may keep, oldest first."""
+        return "ok trace" + "".join(" " + it for it in self.records[-self.tenancy.trace:])
 
     def stranger(self, tenant):
         """Why no row can be about this tenant, if so."""
