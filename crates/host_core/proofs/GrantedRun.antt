@@ -12,7 +12,7 @@ use Rattle.host_core.proofs.FirstRun.{answered, tick, completed, shown}
 use Rattle.host_core.proofs.Rig.{rig}
 
 -- a sensor that nothing but a grant can change
-abbrev consumer_text : List ℕ
+abbrev pub consumer_text : List ℕ
 consumer_text = codes "sensor g := -1 grant; mode n period 1 { } start n;"
 
 -- adds this to what is granted, and drives an actuator with the sum of the tick before
@@ -22,7 +22,7 @@ adding_text n = codes "sensor g := -1 grant; actuator a := 0; output o := 0; tas
 abbrev offered_to : ℕ → List ℕ → Event
 offered_to t tenant = Own t (Grants (Offer (codes "a") tenant))
 
-abbrev bound_to : ℕ → List ℕ → Event
+abbrev pub bound_to : ℕ → List ℕ → Event
 bound_to t tenant = Own t (Grants (Bind (codes "g") tenant (codes "a")))
 
 -- alpha runs the adder, and beta is bound to its actuator; behind two instants the sum of the first is written at the third
@@ -31,7 +31,7 @@ along =
     Own 0 Start ∷ Own 1 Start ∷ tick 5 ∷ tick 7 ∷ completed 0 0 ∷ tick 9 ∷ shown 1 (codes "g")
     ∷ Own 0 (Grants (Unoffer (codes "a") (codes "beta"))) ∷ tick 11 ∷ shown 1 (codes "g") ∷ []
 
-abbrev granted_run : List Event
+abbrev pub granted_run : List Event
 granted_run = Own 0 (Load adder_text) ∷ offered_to 0 (codes "beta") ∷ Own 1 (Load consumer_text) ∷ bound_to 1 (codes "alpha") ∷ along
 
 pub consumer_sees_the_sum : answers_of rig (reverse granted_run) 1 ≡ answered (codes "ok load" ∷ codes "ok bind" ∷ codes "ok start" ∷ codes "ok port g 6" ∷ codes "ok port g -1" ∷ [])

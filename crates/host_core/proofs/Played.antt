@@ -1,8 +1,10 @@
 -- One event more that is played: the texts, and the names of the jobs that were released.
-use Rattle.std.proofs.Common.{◌≡◌, ℕ, zero, suc, ◌+◌, ◌<◌, ◌≤◌, ◌≢◌, ◌⊎◌, inl, inr, ⊎_elim, Bool, true, false, cond, ◌&&◌, ◌||◌, eqb, ℤ, List, [], ◌∷◌, ◌++◌, length, map, filter, get_or, set, Option, Some, None, refl, sym, ap, ◌∙◌, subst, length-set, zero-add, arith}
+use Rattle.std.proofs.Common.{◌≡◌, ℕ, zero, suc, ◌+◌, ◌<◌, ◌≤◌, ◌≢◌, ◌⊎◌, inl, inr, ⊎_elim, Bool, true, false, cond, ◌&&◌, ◌||◌, eqb, ℤ, List, [], ◌∷◌, ◌++◌, length, take, reverse, map, filter, get_or, set, Option, Some, None, Result, Err, refl, sym, ap, ◌∙◌, subst, length-set, zero-add, arith}
 use Rattle.std.specs.Prelude.{nat_lt, ◌-◌, ◌^◌}
 use Rattle.std.specs.List.{list_any, All, AllByRecursion}
 use Rattle.std.specs.Option.{option_map_or}
+use Rattle.std.specs.Result.{IsErr, IsErrAnd}
+use Rattle.std.proofs.lemmas.Result.{err_from_is_err_and}
 use Rattle.std.proofs.lemmas.Bool.{cases_eq, cases_lt, and_from, and_parts, eq-eqb}
 use Rattle.std.proofs.lemmas.Bool.Decides.{nat_tests}
 use Rattle.std.proofs.lemmas.List.{get_or-set_same, get_or-set_other}
@@ -22,8 +24,9 @@ use Rattle.host_core.specs.HostStanding.{HostStanding, new_host, Stands}
 use Rattle.instant_engine.specs.Tenants.{tenant_at, released_from}
 use Rattle.host_core.specs.Legal.{next_tick, was_released, may_follow, is_legal}
 use Rattle.host_core.specs.inner.Playing.{IsPlayed}
-use Rattle.host_core.specs.Plays.{IsSettingOf}
+use Rattle.host_core.specs.Plays.{IsLeastIllegal, IsSettingOf}
 use Rattle.host_core.specs.Setting.{Setting}
+use Rattle.host_core.specs.declared.plays.PlayFault.{PlayFault}
 use Rattle.host_core.specs.Tenancies.{tenancy_at}
 use Rattle.host_core.specs.Views.{after_command, run_of, view_of, row_of}
 use Rattle.rig_config.specs.Roster.{Rig, budgets_at, is_tenant}
@@ -42,7 +45,7 @@ use Rattle.host_core.proofs.LaterBase.{new_is_base, new_row}
 use Rattle.host_core.proofs.NewHost.{new_stands}
 use Rattle.tenant_jobs.proofs.JobNames.{same_job_is}
 use Rattle.giotto_tasks.proofs.TestLemmas.{absorbed, either, or_true, same_answers}
-use Rattle.giotto_tasks.proofs.ListLemmas.{all_if_any, any_if_all}
+use Rattle.giotto_tasks.proofs.ListLemmas.{all_if_any, any_if_all, reverse_more}
 
 -- the jobs of one name among those that an instant released
 module _ (j : JobId) where
@@ -147,7 +150,7 @@ module _ (setting : Setting) (base : IsBase setting.config setting.base) where
   is_within u lt = grind (arith, nat_tests)
 
   -- no event reaches a place that isn't in the roster
-  row_outside : (past : List Event) (t : ℕ) → is_legal setting past ≡ true → length setting.config.tenants ≤ t → row_of setting past t ≡ empty_row (next_tick setting past)
+  pub row_outside : (past : List Event) (t : ℕ) → is_legal setting past ≡ true → length setting.config.tenants ≤ t → row_of setting past t ≡ empty_row (next_tick setting past)
   row_outside [] t legal le = get_or-eq_default setting.base.rows (empty_row setting.base.clock) (omega (arith, base.as_many))
   row_outside (Own u c ∷ past) t legal le =
       let parts = and_parts (is_tenant setting.config u) (is_legal setting past) legal in
@@ -178,10 +181,10 @@ module _ (setting : Setting) (base : IsBase setting.config setting.base) where
       before : AllByRecursion WasReleased (row_of setting past j.tenant).active
       before = all_if_any (λ (a : ActiveTask). same_job (job_of j.tenant a) j) (was_released setting past j ≡ true) (row_of setting past j.tenant).active (released_if_active past j)
 
-  released_own : (past : List Event) (u : ℕ) (c : Command) (j : JobId) → was_released setting (Own u c ∷ past) j ≡ was_released setting past j
+  pub released_own : (past : List Event) (u : ℕ) (c : Command) (j : JobId) → was_released setting (Own u c ∷ past) j ≡ was_released setting past j
   released_own past u c j = absorbed (is_active (row_of setting (Own u c ∷ past) j.tenant) j) (was_released setting past j) (active_before past u c j)
 
-  released_done : (past : List Event) (i j : JobId) → was_released setting (Done i ∷ past) j ≡ was_released setting past j
+  pub released_done : (past : List Event) (i j : JobId) → was_released setting (Done i ∷ past) j ≡ was_released setting past j
   released_done past i j = absorbed (is_active (row_of setting (Done i ∷ past) j.tenant) j) (was_released setting past j) (released_if_active past j)
 
   -- an instant releases under its own number
@@ -335,3 +338,22 @@ nothing_played setting config host texts is new as_many blank = record {
   each = λ t lt. blank t [] (omega (arith, as_many, ap (λ (k : Rig). length k.tenants) is.same_config));
   names = λ j. sym (ap (λ (host : HostState). is_active (row_at host j.tenant) j) is.new ∙ ap (λ row. is_active row j) (new_row config 0 j.tenant));
 }
+
+-- the first event that can't come
+pub least_illegal : (setting : Setting) (events : List Event) (i k : ℕ) (e : Event) → i < length events → e ≡ get_or events i e → is_legal setting (reverse (take i events)) ≡ true
+    → may_follow setting (reverse (take i events)) e ≡ false → k ≡ i → IsLeastIllegal setting events k
+least_illegal setting events i k e lt is legal may same = subst (IsLeastIllegal setting events) (sym same) (record {
+  within = lt;
+  legal_before = legal;
+  illegal_with =
+      ap (is_legal setting) (reverse_more events i e lt ∙ ap (λ x. x ∷ reverse (take i events)) (sym is))
+      ∙ ap (λ b. b && is_legal setting (reverse (take i events))) may;
+})
+
+-- a fault that is passed on by `?`
+pub passed_on : {T : Type 0} (f g : PlayFault) (r : Result T PlayFault) → IsErr r × IsErrAnd r (λ h. h ≡ f) → r ≡ Err g → f ≡ g
+passed_on f g r passed e =
+    let p = err_from_is_err_and r passed.1 in
+    let both : Err p.0 ≡ Err g = sym p.1 ∙ e in
+    let same : p.0 ≡ g = cc in
+    sym p.2 ∙ same

@@ -8,6 +8,8 @@ pub mod Legal
 pub mod Lines
 pub mod Plays
 pub mod Setting
+pub mod Sources
 pub mod Tenancies
+pub mod Trials
 pub mod Views
 pub mod inner

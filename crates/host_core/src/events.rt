@@ -1,7 +1,10 @@
 //! What happens to a host.
 
+ghost use Rattle.std.specs.Prelude.{◌≡◌, IfOk};
+
 use giotto_tasks::lists::List;
 use rig_config::TenantId;
+use std::alloc::{AllocError, Global};
 use tenant_jobs::jobs::JobId;
 use tenant_lines::commands::Command;
 
@@ -14,4 +17,23 @@ pub enum Event {
     Tick(List<i64>),
     /// The completion of a job.
     Done(JobId),
+}
+
+impl Event {
+    /// An equal event, in memory of its own.
+    ///
+    /// # Errors
+    /// Want of memory for a command's text or an instant's values.
+    pub fn copy(&self, alloc: Global) -> Result<Event, AllocError>
+        ensures { IfOk result (λ event. event ≡ self.now) }
+    {
+        Ok(match self {
+            Event::Own(tenant, command) => Event::Own(*tenant, command.copy(alloc)?),
+            Event::Tick(frame) => Event::Tick(List::from_vec(Vec::from_slice(
+                alloc,
+                frame.as_slice(),
+            )?)),
+            Event::Done(id) => Event::Done(id.copy()),
+        })
+    }
 }

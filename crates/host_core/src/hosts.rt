@@ -9,10 +9,12 @@ ghost use Rattle.instant_engine.specs.inner.Halves.{IsReady};
 ghost use Rattle.host_core.specs.HostState.{row_at, awaits};
 ghost use Rattle.host_core.specs.HostStanding.{ForEachState, IsOwn, TakesCompletions, TakesEvent, new_host, awaited_in, line_of, outstanding_count, outstanding_from, outstanding_jobs, outstanding_of};
 ghost use Rattle.host_core.specs.Lines.{value_of_line, writer_of};
+ghost use Rattle.host_core.specs.Tenancies.{roster_of};
 ghost use Rattle.host_core.specs.Views.{after_command};
 ghost use Rattle.host_core.specs.declared.events.Event.{Event};
 ghost use Rattle.host_core.specs.declared.hosts.Counted.{Counted};
 ghost use Rattle.host_core.specs.declared.hosts.TickFault.{TickFault};
+ghost use Rattle.tenant_grants.specs.Grants.{bind_at};
 ghost use Rattle.tenant_jobs.specs.Finished.{has_result};
 ghost use Rattle.tenant_jobs.specs.inner.Finished.{is_entered};
 ghost use Rattle.tenant_jobs.specs.declared.jobs.JobId.{JobId};
@@ -22,6 +24,7 @@ ghost use Rattle.tenant_state.specs.Commands.{takes_memory};
 ghost use Rattle.tenant_state.specs.Standing.{IsKnown, Standing, at_rest};
 
 use crate::new_tenants::{new_tenant, places};
+use giotto_tasks::names::Name;
 use instant_engine::instants::{instant, instant_without_jobs, ready};
 use instant_engine::{Done, Finished, Job, JobId, Jobs, run_job};
 use rig_config::{Config, TenantId};
@@ -272,6 +275,26 @@ impl Host {
             return 0;
         };
         self.tenants[tenant].line(line).unwrap_or(0)
+    }
+
+    /// How many binds the tenant at this place has. Takes no memory.
+    pub fn bind_count(&self, tenant: TenantId) -> usize
+        requires { tenant < length self.now.config.tenants }
+        ensures count { result ≡ length (tenant_at self.now.tenants tenant).row.binds }
+        ensures rows { ForEachState self.now (λ setting state. result ≡ length (row_at state tenant).binds) }
+    {
+        self.tenants[tenant].bind_count()
+    }
+
+    /// A bind of the tenant at this place, by its place among the tenant's binds, from 0: its sensor, the place of the tenant that it is
+    /// bound to, and that tenant's actuator. None where the tenant has fewer binds. Takes no memory.
+    pub fn bind_at(&self, tenant: TenantId, i: usize) -> Option<(Name, TenantId, Name)>
+        requires { tenant < length self.now.config.tenants }
+        ensures bind { result ≡ bind_at (roster_of self.now.config) (tenant_at self.now.tenants tenant).row.binds i }
+        ensures found { IsSome result ↔ (i < length (tenant_at self.now.tenants tenant).row.binds) }
+        ensures rows { ForEachState self.now (λ setting state. result ≡ bind_at (roster_of setting.config) (row_at state tenant).binds i) }
+    {
+        self.tenants[tenant].bind_at(i)
     }
 
     /// How many jobs are outstanding: their tasks are active, and not completed. Takes no memory.

@@ -1,13 +1,14 @@
 //! Laws of the definitions, each a function without a body that carries it.
 
-ghost use Rattle.std.specs.Prelude.{◌≡◌, ℕ, List, true};
+ghost use Rattle.std.specs.Prelude.{◌≡◌, ◌++◌, ℕ, List, [], true, false};
 ghost use Rattle.tenant_jobs.specs.declared.jobs.JobId.{JobId};
 ghost use Rattle.rig_config.specs.Roster.{is_tenant};
 ghost use Rattle.rig_config.specs.Roster.{Rig};
 ghost use Rattle.host_core.specs.Base.{IsBase, new_base};
 ghost use Rattle.host_core.specs.Host.{host_after};
 ghost use Rattle.host_core.specs.HostState.{row_at, awaits};
-ghost use Rattle.host_core.specs.Legal.{IsHistory, next_tick, counts};
+ghost use Rattle.host_core.specs.Legal.{IsHistory, next_tick, counts, is_legal};
+ghost use Rattle.host_core.specs.Sources.{is_source, without_tenant, sources_of, kept_of};
 ghost use Rattle.host_core.specs.declared.events.Event.{Event};
 ghost use Rattle.host_core.specs.Answers.{answers_of};
 ghost use Rattle.host_core.specs.Setting.{Setting};
@@ -38,4 +39,36 @@ pub fn new_host_is_a_base()
 /// What stands behind a legal list of events, the newest first, that begins with a base is a base again.
 pub fn later_host_is_a_base()
     ensures { (setting : Setting) (past : List Event) → IsHistory setting past → IsBase setting.config (host_after setting past) }
+{}
+
+/// What is kept for a tenant of a legal list of events, the newest first, that begins with a base is legal too.
+pub fn kept_list_is_legal()
+    ensures { (setting : Setting) (past : List Event) (t : ℕ) → IsHistory setting past → is_legal setting (kept_of setting past t) ≡ true }
+{}
+
+/// What is kept of a list of events, the newest first, for a tenant gives it the answers of the whole list.
+pub fn kept_list_gives_equal_answers()
+    ensures { (setting : Setting) (past : List Event) (t : ℕ) → answers_of setting (kept_of setting past t) t ≡ answers_of setting past t }
+{}
+
+/// Two lists of events, the newest first, of which the same is kept for a tenant give it equal answers, whatever values are
+/// granted in either.
+pub fn equal_kept_lists_give_equal_answers()
+    ensures { (setting : Setting) (past others : List Event) (t : ℕ) →
+        kept_of setting past t ≡ kept_of setting others t → answers_of setting past t ≡ answers_of setting others t }
+{}
+
+/// A tenant that is a source of another at one place of a list is one at each earlier place.
+pub fn sources_stay_sources()
+    ensures { (setting : Setting) (t u : ℕ) (later more past : List Event) →
+        is_source (sources_of setting t later (more ++ past)) u ≡ true → is_source (sources_of setting t (later ++ more) past) u ≡ true }
+{}
+
+/// Where a tenant is no source of another one anywhere in a list, the other one's answers stay as they are, whatever commands
+/// and completions of that tenant are left out, put in or changed.
+pub fn no_source_changes_no_answer()
+    ensures kept { (setting : Setting) (past others : List Event) (t u : ℕ) → is_source (sources_of setting t past []) u ≡ false
+        → without_tenant u past ≡ without_tenant u others → kept_of setting past t ≡ kept_of setting others t }
+    ensures answers { (setting : Setting) (past others : List Event) (t u : ℕ) → is_source (sources_of setting t past []) u ≡ false
+        → without_tenant u past ≡ without_tenant u others → answers_of setting past t ≡ answers_of setting others t }
 {}

@@ -1,6 +1,6 @@
 //! Playing a list of events on a new host.
 
-ghost use Rattle.std.specs.Prelude.{◌≡◌, ◌≢◌, ◌<◌, ◌++◌, ◌∷◌, ◌||◌, ℕ, List, [], length, reverse, IfOk, OnOk, IsOk, IsTrue, Err, None};
+ghost use Rattle.std.specs.Prelude.{◌≡◌, ◌≢◌, ◌<◌, ◌++◌, ◌∷◌, ◌||◌, ℕ, false, List, [], length, reverse, slice_index_or, IfOk, OnOk, IsOk, IsTrue, Err, None};
 ghost use Rattle.std.specs.List.{All, list_any};
 ghost use Rattle.host_core.specs.Legal.{may_follow};
 ghost use Rattle.host_core.specs.HostStanding.{awaited_in};
@@ -29,6 +29,9 @@ use thiserror::Error;
 /// Why a list of events isn't played to its end.
 #[derive(Clone, Copy, Debug, PartialEq, Eq, Error)]
 pub enum PlayFault {
+    /// No tenant has this place.
+    #[error("no tenant has this place")]
+    NoTenant,
     /// The event at this place, counted from 0, can't come there. It is the first such.
     #[error("the event at place {0}, counted from 0, can't come there")]
     Illegal(usize),
@@ -39,7 +42,7 @@ pub enum PlayFault {
 
 // A host, what each tenant has been answered, and the names of all jobs that were released.
 #[derive(Drop)]
-struct Stage {
+pub(crate) struct Stage {
     host: Host,
     texts: Vec<Text>,
     released: BTreeSet<JobId>,
@@ -54,6 +57,7 @@ struct Stage {
 pub fn play(alloc: Global, config: &Config, events: &[Event]) -> Result<Vec<Text>, PlayFault>
     ensures answers { (setting : Setting) → IsSettingOf config.now setting → IfOk result (λ texts. AreAnswers setting events.now texts.items) }
     ensures illegal { (setting : Setting) → IsSettingOf config.now setting → (i : ℕ) → result ≡ Err (PlayFault.Illegal i) → IsLeastIllegal setting events.now i }
+    ensures tenant { result ≢ Err PlayFault.NoTenant }
 {
     let Ok(mut stage) = Stage::new(alloc, config) else {
         return Err(PlayFault::Memory);
@@ -69,7 +73,7 @@ pub fn play(alloc: Global, config: &Config, events: &[Event]) -> Result<Vec<Text
 
 impl Stage {
     // Before any event.
-    fn new(alloc: Global, config: &Config) -> Result<Stage, AllocError>
+    pub(crate) fn new(alloc: Global, config: &Config) -> Result<Stage, AllocError>
         ensures { IfOk result (λ stage. (setting : Setting) → IsSettingOf config.now setting → IsStage setting [] stage) }
     {
         let texts = blank_texts(alloc, config.tenants().len())?;
@@ -81,20 +85,53 @@ impl Stage {
     }
 
     // Plays these events, the oldest first, where none was played before.
-    fn play_all(&mut self, alloc: Global, events: &[Event]) -> Result<(), PlayFault>
+    pub(crate) fn play_all(&mut self, alloc: Global, events: &[Event]) -> Result<(), PlayFault>
         ensures played { OnOk result ((setting : Setting) → IsStage setting [] self.old → IsStage setting (reverse events.now) self.new) }
         ensures illegal { (setting : Setting) → IsStage setting [] self.old → (i : ℕ) → result ≡ Err (PlayFault.Illegal i) → IsLeastIllegal setting events.now i }
+        ensures tenant { result ≢ Err PlayFault.NoTenant }
     {
         for i in 0..events.len() {
             let event = &events[i];
-            if !self.may_follow(event) {
-                return Err(PlayFault::Illegal(i));
-            }
-            let Ok(()) = self.play(alloc, event) else {
-                return Err(PlayFault::Memory);
-            };
+            self.play_next(alloc, i, event)?;
         }
         Ok(())
+    }
+
+    // Plays one event more, which stands at this place of the list, where it may come.
+    pub(crate) fn play_next(
+        &mut self,
+        alloc: Global,
+        place: usize,
+        event: &Event,
+    ) -> Result<(), PlayFault>
+        ensures played { OnOk result ((setting : Setting) (past : List Event) → IsStage setting past self.old → IsStage setting (event.now ∷ past) self.new) }
+        ensures illegal { (setting : Setting) (past : List Event) → IsStage setting past self.old → (i : ℕ) → result ≡ Err (PlayFault.Illegal i)
+            → (i ≡ place) × (may_follow setting past event.now ≡ false) }
+        ensures tenant { result ≢ Err PlayFault.NoTenant }
+    {
+        if !self.may_follow(event) {
+            return Err(PlayFault::Illegal(place));
+        }
+        let Ok(()) = self.play(alloc, event) else {
+            return Err(PlayFault::Memory);
+        };
+        Ok(())
+    }
+
+    // The host.
+    pub(crate) fn host(&self) -> &Host
+        ensures { result.now ≡ self.now.host }
+    {
+        &self.host
+    }
+
+    // What a tenant has been answered.
+    pub(crate) fn answer(self, tenant: TenantId) -> Text
+        requires { tenant < length self.texts.items }
+        ensures { result ≡ slice_index_or self.texts.items tenant [] }
+    {
+        let mut texts = self.texts;
+        texts.swap_remove(tenant)
     }
 
     // Whether the event may come next.

@@ -1,0 +1,20 @@
+-- The binds of a host's tenants: by its fields, by its value, and by the state that it stands for.
+use Rattle.std.proofs.Common.{◌≡◌, ◌<◌, ℕ, length, map, get_or, ap, sym, subst}
+use Rattle.rig_config.specs.Roster.{Rig}
+use Rattle.instant_engine.specs.Tenants.{tenant_at}
+use Rattle.tenant_state.specs.Row.{Row}
+use Rattle.tenant_state.specs.Standing.{Standing, at_rest}
+use Rattle.host_core.specs.HostStanding.{HostStanding, Stands}
+use Rattle.host_core.specs.HostState.{HostState, row_at}
+use Rattle.host_core.specs.Setting.{Setting}
+use Rattle.host_core.proofs.AtRest.{here_at_rest}
+
+-- a tenant's binds, as the host's value has them
+pub here_binds : (host view : HostStanding) (t : ℕ) (x : Standing) → record host { tenants = map at_rest host.tenants } ≡ view → t < length host.tenants → x ≡ get_or host.tenants t x
+    → x.row.binds ≡ (tenant_at view.tenants t).row.binds
+here_binds host view t x is lt here = sym (ap (λ (s : Standing). s.row.binds) (here_at_rest host view t x is lt here))
+
+-- and the state that it stands for
+pub same_binds : (setting : Setting) (host : HostStanding) (state : HostState) → Stands setting host state → (t : ℕ) → t < length host.config.tenants
+    → (tenant_at host.tenants t).row.binds ≡ (row_at state t).binds
+same_binds setting host state stands t lt = ap (λ (row : Row). row.binds) (stands.each t (subst (λ (k : Rig). t < length k.tenants) stands.same_config lt))
