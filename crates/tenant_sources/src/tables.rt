@@ -1,0 +1,251 @@
+//! The sources of all tenants, taken forward tick by tick.
+
+ghost use Rattle.std.specs.Prelude.{◌≡◌, ◌<◌, ◌==◌, ◌||◌, ℕ, ℤ, true, if◌then◌else◌, is_some, None, Some, [], ◌∷◌, List, length, replicate, IfOk, IfSome, OnOk, IsOk};
+ghost use Rattle.std.specs.List.{All, list_any};
+ghost use Rattle.host_core.specs.HostStanding.{ForEachState};
+ghost use Rattle.host_core.specs.HostState.{row_at};
+ghost use Rattle.host_core.specs.Legal.{is_legal, next_tick};
+ghost use Rattle.tenant_sources.specs.Links.{AreAdded, IsChain, IsLinkTable, IsPlaceOf, first_link, has_source, is_source_of, link_in, with_link, with_links};
+ghost use Rattle.host_core.specs.Setting.{Setting};
+ghost use Rattle.host_core.specs.Sources.{suppliers_of};
+ghost use Rattle.host_core.specs.Views.{row_of};
+ghost use Rattle.host_core.specs.declared.events.Event.{Event};
+ghost use Rattle.tenant_sources.specs.declared.tables.Addition.{Addition};
+ghost use Rattle.tenant_sources.specs.inner.Links.{Adds, next_link};
+ghost use Rattle.rig_config.specs.Roster.{is_tenant};
+
+use giotto_tasks::names::Name;
+use host_core::hosts::Host;
+use rig_config::TenantId;
+use std::alloc::{AllocError, Global};
+use std::marker::Model;
+
+/// A bind through which a tenant came to have a source.
+#[derive(Drop)]
+pub struct Link {
+    /// The number of the instant just before which it stood.
+    pub tick: u64,
+    pub sensor: Name,
+    pub supplier: TenantId,
+    pub actuator: Name,
+}
+
+impl Link {
+    /// An equal link. Takes no memory.
+    pub fn copy(&self) -> Link
+        ensures { result ≡ self.now }
+    {
+        Link {
+            tick: self.tick,
+            sensor: self.sensor.copy(),
+            supplier: self.supplier,
+            actuator: self.actuator.copy(),
+        }
+    }
+}
+
+/// A source that a tenant comes to have, and through which bind.
+#[derive(Drop)]
+pub struct Addition {
+    tenant: TenantId,
+    source: TenantId,
+    link: Link,
+}
+
+/// For each tenant the first link to each other one that is its source. Contracts see it as a table of links.
+#[derive(Drop)]
+pub struct SourceTable {
+    rows: Vec<Vec<Option<Link>>>,
+}
+
+impl Model for SourceTable {
+    ghost use Rattle.std.specs.Prelude.{List, Option, Vec, map};
+    ghost use Rattle.tenant_sources.specs.declared.tables.Link.{Link};
+    ghost use Rattle.tenant_sources.specs.inner.Links.{IsSquare};
+    ghost use Rattle.std.specs.declared.alloc.Global.{Global};
+
+    ghost Value = { List (List (Option Link)) };
+
+    ghost view = { λ t. map (λ (row : Vec (Option Link) Global). row.items) t.rows.items };
+
+    ghost invariant = { λ t. IsSquare (map (λ (row : Vec (Option Link) Global). row.items) t.rows.items) };
+}
+
+impl SourceTable {
+    /// That of this many tenants before any instant: each is its own source alone.
+    ///
+    /// # Errors
+    /// Want of memory.
+    pub fn new(alloc: Global, tenants: usize) -> Result<SourceTable, AllocError>
+        ensures { IfOk result (λ table. (setting : Setting) → length setting.config.tenants ≡ tenants → IsLinkTable setting [] table) }
+    {
+        let mut rows = Vec::new(alloc);
+        for _tenant in 0..tenants {
+            rows.push(no_links(alloc, tenants)?)?;
+        }
+        Ok(SourceTable { rows })
+    }
+
+    /// What the instant that comes next adds, by the host just before it.
+    ///
+    /// # Errors
+    /// Want of memory.
+    pub fn additions(&self, alloc: Global, host: &Host) -> Result<Vec<Addition>, AllocError>
+        ensures added { IfOk result (λ added. AreAdded self.now host.now added.items) }
+        ensures places { IfOk result (λ added. All (IsPlaceOf self.now) added.items) }
+    {
+        let mut added = Vec::new(alloc);
+        let tenants = self.rows.len().min(host.config().tenants().len());
+        for tenant in 0..tenants {
+            if host.bind_count(tenant) == 0 {
+                continue;
+            }
+            self.add_of(host, tenant, &mut added)?;
+        }
+        Ok(added)
+    }
+
+    // Adds what the next instant adds to a tenant's sources.
+    fn add_of(
+        &self,
+        host: &Host,
+        tenant: TenantId,
+        added: &mut Vec<Addition>,
+    ) -> Result<(), AllocError>
+        requires roster { tenant < length host.now.config.tenants }
+        requires row { tenant < length self.now }
+        requires places { All (IsPlaceOf self.now) added.old.items }
+        ensures places { OnOk result (All (IsPlaceOf self.now) added.new.items) }
+        ensures added { OnOk result (ForEachState host.now (λ setting state.
+            Adds self.now added.old.items added.new.items (λ t u. if t == tenant then next_link setting self.now state.clock (row_at state t) t u else None))) }
+    {
+        for source in 0..self.rows.len() {
+            let Some(link) = self.next_link(host, tenant, source) else {
+                continue;
+            };
+            added.push(Addition {
+                tenant,
+                source,
+                link,
+            })?;
+        }
+        Ok(())
+    }
+
+    // The link that the next instant adds from a tenant to a source, if it adds one: the first of its binds whose supplier has the source.
+    fn next_link(&self, host: &Host, tenant: TenantId, source: TenantId) -> Option<Link>
+        requires { tenant < length host.now.config.tenants }
+        ensures { ForEachState host.now (λ setting state. result ≡ next_link setting self.now state.clock (row_at state tenant) tenant source) }
+    {
+        if self.is_source(tenant, source) {
+            return None;
+        }
+        for i in 0..host.bind_count(tenant) {
+            let Some((sensor, supplier, actuator)) = host.bind_at(tenant, i) else {
+                unreachable!()
+            };
+            if self.is_source(supplier, source) {
+                return Some(Link {
+                    tick: host.clock(),
+                    sensor,
+                    supplier,
+                    actuator,
+                });
+            }
+        }
+        None
+    }
+
+    /// Adds these, in their order, each where no link stands. Takes no memory.
+    pub fn add(&mut self, added: &[Addition])
+        requires { All (IsPlaceOf self.old) added.now }
+        ensures { self.new ≡ with_links self.old added.now }
+    {
+        for addition in added {
+            self.put(addition);
+        }
+    }
+
+    // Adds one where no link stands.
+    fn put(&mut self, addition: &Addition)
+        requires { IsPlaceOf self.old addition.now }
+        ensures put { self.new ≡ with_link self.old addition.now }
+        ensures size { length self.new ≡ length self.old }
+    {
+        if self.link(addition.tenant, addition.source).is_some() {
+            return;
+        }
+        let row = &mut self.rows[addition.tenant];
+        row[addition.source] = Some(addition.link.copy());
+    }
+
+    // The link from a tenant to a source, if one stands.
+    fn link(&self, tenant: TenantId, source: TenantId) -> Option<&Link>
+        ensures some { IfSome result (λ link. link_in self.now tenant source ≡ Some link.now) }
+        ensures none { result ≡ None → link_in self.now tenant source ≡ None }
+    {
+        self.rows.get(tenant)?.get(source)?.as_ref()
+    }
+
+    /// Whether `source` is a source of `tenant`; each is its own. Takes no memory.
+    pub fn is_source(&self, tenant: TenantId, source: TenantId) -> bool
+        ensures links { result ≡ has_source self.now tenant source }
+        ensures sources { (setting : Setting) (past : List Event) → IsLinkTable setting past self.now → is_tenant setting.config tenant ≡ true → is_tenant setting.config source ≡ true
+            → result ≡ is_source_of setting past tenant source }
+    {
+        if tenant == source {
+            return true;
+        }
+        self.link(tenant, source).is_some()
+    }
+
+    /// The links that lead from `tenant` to `source`, the tenant's own first, each at an earlier tick than the one in front of it. None where
+    /// it is no source, or the tenant itself.
+    ///
+    /// # Errors
+    /// Want of memory, only where there is a link.
+    pub fn chain(
+        &self,
+        alloc: Global,
+        tenant: TenantId,
+        source: TenantId,
+    ) -> Result<Vec<Link>, AllocError>
+        ensures chain { IfOk result (λ links. (setting : Setting) (past : List Event) → is_legal setting past ≡ true → IsLinkTable setting past self.now
+            → is_tenant setting.config tenant ≡ true → is_tenant setting.config source ≡ true → is_source_of setting past tenant source ≡ true
+            → IsChain setting past (next_tick setting past) tenant source links.items) }
+        ensures none { link_in self.now tenant source ≡ None → IfOk result (λ links. links.items ≡ []) }
+        ensures never_refused { link_in self.now tenant source ≡ None → IsOk result }
+    {
+        let mut links = Vec::new(alloc);
+        let mut at = tenant;
+        let mut before = u64::MAX;
+        while let Some(link) = self.link(at, source) {
+            if link.tick >= before {
+                return Ok(links);
+            }
+            before = link.tick;
+            at = link.supplier;
+            links.push(link.copy())?;
+        }
+        Ok(links)
+    }
+}
+
+// A row without a link.
+fn no_links(alloc: Global, tenants: usize) -> Result<Vec<Option<Link>>, AllocError>
+    ensures { IfOk result (λ row. row.items ≡ replicate tenants None) }
+{
+    let mut row = Vec::new(alloc);
+    for _source in 0..tenants {
+        row.push(None)?;
+    }
+    Ok(row)
+}
+
+/// A tenant's sources are itself and those to which it has a link. Behind an instant they are those before it, and those that its
+/// suppliers had. For each tenant, and list of events, the newest first.
+pub fn links_lead_to_sources()
+    ensures linked { (setting : Setting) (past : List Event) (t u : ℕ) → is_source_of setting past t u ≡ (t == u || is_some (first_link setting past t u)) }
+    ensures forward { (setting : Setting) (past : List Event) (frame : List ℤ) (t u : ℕ) → is_source_of setting (Event.Tick frame ∷ past) t u
+        ≡ (is_source_of setting past t u || list_any (λ v. is_source_of setting past v u) (suppliers_of setting (row_of setting past t))) }
+{}
