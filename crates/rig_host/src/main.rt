@@ -10,13 +10,17 @@ ghost use Rattle.rig_host.specs.declared.pictures.PictureFault.{PictureFault as 
 ghost use Rattle.rig_script.specs.declared.faults.ScriptFault.{ScriptFault as AnyFault};
 ghost use Rattle.rig_script.specs.declared.faults.ScriptFault.TheVariants.{Memory};
 
+mod command_line;
 mod configuration;
 mod pictures;
+mod retests;
 
+use clap::ArgMatches;
 use clap::error::ErrorKind;
-use clap::{Arg, ArgAction, ArgMatches, Command};
+use command_line::{arguments, timeline_arguments, trial_arguments};
 use configuration::{ConfigurationFault, read_configuration};
 use pictures::{PictureFault, write_dump, write_timeline};
+use retests::{print_retests, print_trial};
 use rig_config::{Config, TenantId};
 use rig_script::faults::ScriptFault;
 use rig_script::script;
@@ -24,27 +28,6 @@ use std::alloc::{AllocError, Global};
 use std::io::BufWriter;
 use std::process::ExitCode;
 use std::{env, fmt, io};
-
-// What stands below the help of `script`.
-const SCRIPT_EXAMPLES: &str = "\
-Example: echo 'op tick 5' | rig_host script
-
-A configuration, one [[tenant]] for each tenant (docs/HOST.md tells the fields):
-  version = 1
-  lines = 8                # lines 0 to 7
-  [[tenant]]
-  name = \"pump\"
-  key = \"kp\"
-  reads = [0, 2]           # lines that its sensors may read
-  writes = [4, 7]          # lines that its actuators may drive
-  bytes = 4096             # the budgets of its programs
-  ports = 64
-  tasks = 16
-  modes = 16
-  steps = 10000
-  trace = 8
-  offers = 4
-  binds = 4";
 
 fn main(rt: HostRuntime) -> ExitCode {
     match run(&rt) {
@@ -71,6 +54,20 @@ enum Request<'a> {
     },
     /// The timeline of one tenant in a script of a file.
     Timeline(TimelineRequest<'a>),
+    /// Whose change calls for whose retest in the script on standard input.
+    Retest {
+        /// The path of the configuration; `None` for the built-in one.
+        config: Option<&'a str>,
+        /// The path of the graph, where one is wanted.
+        graph: Option<&'a str>,
+    },
+    /// The trial of one tenant in the script on standard input.
+    Trial {
+        /// The path of the configuration; `None` for the built-in one.
+        config: Option<&'a str>,
+        /// The name of the tenant.
+        tenant: &'a str,
+    },
 }
 
 /// Which timeline is drawn, and where.
@@ -178,6 +175,15 @@ fn run(rt: &HostRuntime) -> Result<(), Failure> {
             let tenant = tenant_of(rt.alloc(), &config, request.tenant)?;
             write_timeline(rt, &config, request.script, tenant, request.picture)
         }
+        Request::Retest { config, graph } => {
+            let config = read_configuration(rt, config)?;
+            print_retests(rt, &config, graph)
+        }
+        Request::Trial { config, tenant } => {
+            let config = read_configuration(rt, config)?;
+            let tenant = tenant_of_trial(rt.alloc(), &config, tenant)?;
+            print_trial(rt, &config, tenant)
+        }
     }
 }
 
@@ -199,6 +205,17 @@ fn tenant_of(
     }
 }
 
+// The place of the tenant of a trial.
+fn tenant_of_trial(alloc: Global, config: &Config, name: &str) -> Result<TenantId, Failure> {
+    match config.place_of(name) {
+        Some(tenant) => Ok(tenant),
+        None => Err(Failure::Arguments(trial_arguments(alloc)?.error(
+            ErrorKind::ValueValidation,
+            "the configuration has no tenant of the name TENANT",
+        )?)),
+    }
+}
+
 // The words of the arguments, the program's own first.
 fn read_words(rt: &HostRuntime) -> Result<Vec<String>, Failure> {
     match env::args(rt) {
@@ -210,20 +227,43 @@ fn read_words(rt: &HostRuntime) -> Result<Vec<String>, Failure> {
 // What the words ask for.
 fn read_arguments<'a>(alloc: Global, words: &'a [String]) -> Result<Request<'a>, Failure> {
     match arguments(alloc)?.try_get_matches_from(words) {
-        Ok(matches) => match timeline_of(&matches) {
-            Some(request) => Ok(Request::Timeline(request)),
-            None => Ok(Request::Script {
-                config: word_of_script(&matches, "config"),
-                dump: word_of_script(&matches, "vcd"),
-            }),
-        },
+        Ok(matches) => Ok(request_of(&matches)),
         Err(error) => without_matches(error),
+    }
+}
+
+// What the arguments ask for, by their subcommand.
+fn request_of<'a>(matches: &ArgMatches<'a>) -> Request<'a> {
+    if let Some(request) = timeline_of(matches) {
+        return Request::Timeline(request);
+    }
+    if let Some(words) = matches.subcommand_matches("retest") {
+        return Request::Retest {
+            config: words.get_str("config"),
+            graph: words.get_str("dot"),
+        };
+    }
+    if let Some(request) = trial_of(matches) {
+        return request;
+    }
+    Request::Script {
+        config: word_of_script(matches, "config"),
+        dump: word_of_script(matches, "vcd"),
     }
 }
 
 // The word behind this argument of `script`, where it is given.
 fn word_of_script<'a>(matches: &ArgMatches<'a>, argument: &str) -> Option<&'a str> {
     matches.subcommand_matches("script")?.get_str(argument)
+}
+
+// Which trial is asked for, if one is.
+fn trial_of<'a>(matches: &ArgMatches<'a>) -> Option<Request<'a>> {
+    let words = matches.subcommand_matches("trial")?;
+    Some(Request::Trial {
+        config: words.get_str("config"),
+        tenant: words.get_str("tenant")?,
+    })
 }
 
 // Which timeline is asked for, if one is.
@@ -235,75 +275,6 @@ fn timeline_of<'a>(matches: &ArgMatches<'a>) -> Option<TimelineRequest<'a>> {
         tenant: words.get_str("tenant"),
         picture: words.get_str("output")?,
     })
-}
-
-// The words that the program takes, with their help.
-fn arguments<'a>(alloc: Global) -> Result<Command<'a>, AllocError> {
-    Command::new(alloc, "rig_host")
-        .about(
-            "A host for shared test rigs: tenants load, run and inspect Giotto programs, and an operator gives the instants",
-        )
-        .after_help("Example: rig_host script < examples/first/first.script")
-        .subcommand_required(true)
-        .subcommand(script_arguments(alloc)?)?
-        .subcommand(timeline_arguments(alloc)?)
-}
-
-// The words of `script`.
-fn script_arguments<'a>(alloc: Global) -> Result<Command<'a>, AllocError> {
-    let dump = Arg::new(alloc, "vcd")
-        .long("vcd")
-        .value_name("FILE")
-        .action(ArgAction::Set)
-        .help("Writes the run into FILE as well, as a value change dump for a viewer of waveforms");
-    Command::new(alloc, "script")
-        .about(
-            "Reads lines from standard input and answers each on standard output before it reads the next: `TENANT COMMAND`, `op tick V ..`, `op work` or `op lines`",
-        )
-        .after_help(SCRIPT_EXAMPLES)
-        .arg(config_argument(alloc))?
-        .arg(dump)
-}
-
-// The words of `timeline`.
-fn timeline_arguments<'a>(alloc: Global) -> Result<Command<'a>, AllocError> {
-    let script = Arg::new(alloc, "script")
-        .value_name("SCRIPT")
-        .required(true)
-        .action(ArgAction::Set)
-        .help("The file with the lines of the script");
-    let tenant = Arg::new(alloc, "tenant")
-        .long("tenant")
-        .value_name("TENANT")
-        .action(ArgAction::Set)
-        .help("Whose run is drawn; without it that of the first tenant that loads a program");
-    let output = Arg::new(alloc, "output")
-        .short('o')
-        .long("output")
-        .value_name("FILE")
-        .required(true)
-        .action(ArgAction::Set)
-        .help("Where the picture is written, as SVG");
-    Command::new(alloc, "timeline")
-        .about(
-            "Draws the run of one tenant in a script: its modes, tasks, sensors and actuators over the ticks",
-        )
-        .after_help("Example: rig_host timeline examples/first/first.script -o first.svg")
-        .arg(script)?
-        .arg(config_argument(alloc))?
-        .arg(tenant)?
-        .arg(output)
-}
-
-// The word `--config FILE`.
-fn config_argument<'a>(alloc: Global) -> Arg<'a> {
-    Arg::new(alloc, "config")
-        .long("config")
-        .value_name("FILE")
-        .action(ArgAction::Set)
-        .help(
-            "The configuration of the rig, in TOML; without it the built-in one: one line, and the tenants alpha and beta",
-        )
 }
 
 // Why the arguments can't be read: one isn't UTF-8, or there is want of memory.

@@ -1,4 +1,4 @@
-//! The files of pictures: a value change dump of a script, and a timeline of one tenant.
+//! The files of pictures: a value change dump of a script, and a timeline of one tenant; and what is said where one can't be read or written.
 
 ghost use Rattle.std.specs.Prelude.{◌≡◌};
 ghost use Rattle.rig_host.specs.inner.Faults.{text_of_fault};
@@ -19,6 +19,8 @@ pub enum PictureFault {
     Script,
     /// The timeline can't be written.
     Timeline,
+    /// The graph of retests can't be written.
+    Graph,
 }
 
 impl PictureFault {
@@ -30,6 +32,7 @@ impl PictureFault {
             PictureFault::Dump => "vcd: unwritable",
             PictureFault::Script => "script: unreadable",
             PictureFault::Timeline => "timeline: unwritable",
+            PictureFault::Graph => "dot: unwritable",
         }
     }
 }

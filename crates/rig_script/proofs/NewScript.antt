@@ -44,7 +44,7 @@ many_bytes new None left none many = tt
 many_bytes new (Some bytes) left none many = let all = many bytes (left bytes) in omega (arith, none, all)
 
 module _ (host : HostStanding) (config : Rig) (is : host ≡ new_host config 0) where
-  starts : (setting : Setting) → IsSettingOf config setting → IsHostAfter setting host []
+  pub starts : (setting : Setting) → IsSettingOf config setting → IsHostAfter setting host []
   starts setting of = record {
     base = subst (IsBase setting.config) (sym of.new) (subst (λ (c : Rig). IsBase c (new_base config 0)) (sym of.same_config) (new_is_base config 0));
     legal = refl;

@@ -1,0 +1,146 @@
+//! The words that the program takes, and their help.
+
+use clap::{Arg, ArgAction, Command};
+use std::alloc::{AllocError, Global};
+
+// What stands below the help of `script`.
+const SCRIPT_EXAMPLES: &str = "\
+Example: echo 'op tick 5' | rig_host script
+
+A configuration, one [[tenant]] for each tenant (docs/HOST.md tells the fields):
+  version = 1
+  lines = 8                # lines 0 to 7
+  [[tenant]]
+  name = \"pump\"
+  key = \"kp\"
+  reads = [0, 2]           # lines that its sensors may read
+  writes = [4, 7]          # lines that its actuators may drive
+  bytes = 4096             # the budgets of its programs
+  ports = 64
+  tasks = 16
+  modes = 16
+  steps = 10000
+  trace = 8
+  offers = 4
+  binds = 4";
+
+// What stands below the help of `retest`.
+const RETEST_EXAMPLE: &str = "\
+Example: rig_host retest --config examples/whose_retest/rig.toml --dot retests.dot < examples/whose_retest/rig.script
+         dot -Tsvg retests.dot -o retests.svg";
+
+// What stands below the help of `trial`.
+const TRIAL_EXAMPLE: &str = "\
+Example: rig_host trial --config examples/whose_retest/rig.toml lamp < examples/whose_retest/rig.script";
+
+/// The words that the program takes, with their help.
+///
+/// # Errors
+/// Want of memory.
+pub fn arguments<'a>(alloc: Global) -> Result<Command<'a>, AllocError> {
+    Command::new(alloc, "rig_host")
+        .about(
+            "A host for shared test rigs: tenants load, run and inspect Giotto programs, and an operator gives the instants",
+        )
+        .after_help("Example: rig_host script < examples/first/first.script")
+        .subcommand_required(true)
+        .subcommand(script_arguments(alloc)?)?
+        .subcommand(timeline_arguments(alloc)?)?
+        .subcommand(retest_arguments(alloc)?)?
+        .subcommand(trial_arguments(alloc)?)
+}
+
+// The words of `script`.
+fn script_arguments<'a>(alloc: Global) -> Result<Command<'a>, AllocError> {
+    let dump = Arg::new(alloc, "vcd")
+        .long("vcd")
+        .value_name("FILE")
+        .action(ArgAction::Set)
+        .help("Writes the run into FILE as well, as a value change dump for a viewer of waveforms");
+    Command::new(alloc, "script")
+        .about(
+            "Reads lines from standard input and answers each on standard output before it reads the next: `TENANT COMMAND`, `op tick V ..`, `op work` or `op lines`",
+        )
+        .after_help(SCRIPT_EXAMPLES)
+        .arg(config_argument(alloc))?
+        .arg(dump)
+}
+
+/// The words of `timeline`.
+///
+/// # Errors
+/// Want of memory.
+pub fn timeline_arguments<'a>(alloc: Global) -> Result<Command<'a>, AllocError> {
+    let script = Arg::new(alloc, "script")
+        .value_name("SCRIPT")
+        .required(true)
+        .action(ArgAction::Set)
+        .help("The file with the lines of the script");
+    let tenant = Arg::new(alloc, "tenant")
+        .long("tenant")
+        .value_name("TENANT")
+        .action(ArgAction::Set)
+        .help("Whose run is drawn; without it that of the first tenant that loads a program");
+    let output = Arg::new(alloc, "output")
+        .short('o')
+        .long("output")
+        .value_name("FILE")
+        .required(true)
+        .action(ArgAction::Set)
+        .help("Where the picture is written, as SVG");
+    Command::new(alloc, "timeline")
+        .about(
+            "Draws the run of one tenant in a script: its modes, tasks, sensors and actuators over the ticks",
+        )
+        .after_help("Example: rig_host timeline examples/first/first.script -o first.svg")
+        .arg(script)?
+        .arg(config_argument(alloc))?
+        .arg(tenant)?
+        .arg(output)
+}
+
+// The words of `retest`.
+fn retest_arguments<'a>(alloc: Global) -> Result<Command<'a>, AllocError> {
+    let graph = Arg::new(alloc, "dot")
+        .long("dot")
+        .value_name("FILE")
+        .action(ArgAction::Set)
+        .help("Writes the table into FILE as well, as a graph for graphviz");
+    Command::new(alloc, "retest")
+        .about(
+            "Reads a script from standard input, and prints whose change calls for whose retest in it, through which binds, and from which line on",
+        )
+        .after_help(RETEST_EXAMPLE)
+        .arg(config_argument(alloc))?
+        .arg(graph)
+}
+
+/// The words of `trial`.
+///
+/// # Errors
+/// Want of memory.
+pub fn trial_arguments<'a>(alloc: Global) -> Result<Command<'a>, AllocError> {
+    let tenant = Arg::new(alloc, "tenant")
+        .value_name("TENANT")
+        .required(true)
+        .action(ArgAction::Set)
+        .help("Whose answers are compared");
+    Command::new(alloc, "trial")
+        .about(
+            "Reads a script from standard input, runs it twice, in whole and without what can't reach one tenant, and prints that tenant's answers of both runs side by side",
+        )
+        .after_help(TRIAL_EXAMPLE)
+        .arg(config_argument(alloc))?
+        .arg(tenant)
+}
+
+// The word `--config FILE`.
+fn config_argument<'a>(alloc: Global) -> Arg<'a> {
+    Arg::new(alloc, "config")
+        .long("config")
+        .value_name("FILE")
+        .action(ArgAction::Set)
+        .help(
+            "The configuration of the rig, in TOML; without it the built-in one: one line, and the tenants alpha and beta",
+        )
+}

@@ -1,0 +1,36 @@
+use Rattle.std.proofs.Common.{sym, subst, ◌∙◌}
+use Rattle.host_core.specs.HostStanding.{HostStanding}
+use Rattle.tenant_sources.specs.Links.{IsLinkTable, Links}
+use Rattle.rig_script.specs.inner.HostAnswers.{IsHostAfter}
+use Rattle.rig_script.specs.Script.{past_behind}
+use Rattle.rig_retests.proofs.Following.{kept}
+use Rattle.rig_retests.proofs.Ticking.{table_goes_on, table_stays}
+use Rattle.rig_retests.proofs.tables.WatchedAnswers.answer.Goals as goal
+
+pub returns-then-clock : goal.returns-then-clock
+returns-then-clock c = λ setting past w.
+    let done = c.in_ok-reply.ensures setting past w.0 in (
+      done.0,
+      (
+        done.1,
+        λ whole.
+            table_stays setting past c.args.line.now c.args.self.now.host c.answer.new.self w.0 done.1 c.args.self.now.table (w.1 whole)
+            (sym c.clock.ensures ∙ (c.if-clock.true ∙ c.clock-clock.ensures)),
+      ),
+    )
+
+pub returns : goal.returns
+returns c = λ setting past w.
+    let done = c.in_ok-reply.ensures setting past w.0 in (
+      done.0,
+      (
+        subst (λ (h : HostStanding). IsHostAfter setting h (past_behind setting past c.args.line.now)) (sym c.keep.ensures.host) done.1,
+        λ whole.
+            let is = c.keep.ensures.table whole in
+            kept c.additions-added.result c.args.self.now.host c.args.self.now.table c.keep.new.self.table (λ (ls : Links). IsLinkTable setting (past_behind setting past c.args.line.now) ls)
+            c.additions-added.ensures.added is.1
+            (λ list adds.
+            table_goes_on setting past c.args.line.now c.args.self.now.host c.answer.new.self w.0 done.1 c.args.self.now.table (w.1 is.0) list adds
+            (λ e. c.if-clock.false (c.clock.ensures ∙ (e ∙ sym c.clock-clock.ensures)))),
+      ),
+    )

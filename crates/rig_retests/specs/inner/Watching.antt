@@ -1,0 +1,19 @@
+-- A host that answers a script, and the links between its tenants behind the lines so far.
+use Rattle.std.specs.Prelude.{◌≡◌, Bool, true, List, Result, Ok, Err, Vec}
+use Rattle.std.specs.declared.alloc.AllocError.{AllocError}
+use Rattle.std.specs.declared.alloc.Global.{Global}
+use Rattle.host_core.specs.HostStanding.{HostStanding}
+use Rattle.tenant_sources.specs.Links.{IsLinkTable, Links, with_links}
+use Rattle.host_core.specs.Setting.{Setting}
+use Rattle.host_core.specs.declared.events.Event.{Event}
+use Rattle.tenant_sources.specs.declared.tables.Addition.{Addition}
+use Rattle.rig_script.specs.inner.HostAnswers.{IsHostAfter}
+
+-- the host stands behind these events, and the table is theirs where it is whole
+abbrev pub IsWatching : Setting → HostStanding → Links → Bool → List Event → Type 0
+IsWatching setting host links whole past = IsHostAfter setting host past × (whole ≡ true → IsLinkTable setting past links)
+
+-- the table has these links more, where there was memory for them
+abbrev pub IsAddedTo : Result (Vec Addition Global) AllocError → Links → Links → Type 0
+IsAddedTo (Ok added) before after = after ≡ with_links before added.items
+IsAddedTo (Err e) before after = ⊥

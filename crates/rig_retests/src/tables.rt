@@ -1,0 +1,175 @@
+//! The sources of all tenants in a script.
+
+ghost use Rattle.std.specs.Prelude.{◌≡◌, ◌≢◌, true, false, [], None, List, ℕ, IfOk, IsOk};
+ghost use Rattle.std.specs.List.{All};
+ghost use Rattle.host_core.specs.Legal.{is_legal, next_tick};
+ghost use Rattle.tenant_sources.specs.Links.{IsChain, IsLinkTable, IsPlaceOf, is_source_of, link_in};
+ghost use Rattle.host_core.specs.Setting.{Setting};
+ghost use Rattle.host_core.specs.declared.events.Event.{Event};
+ghost use Rattle.rig_config.specs.Roster.{is_tenant};
+ghost use Rattle.rig_retests.specs.inner.Watching.{IsAddedTo};
+ghost use Rattle.rig_script.specs.Lines.{cut};
+ghost use Rattle.rig_script.specs.Script.{ForNewHostReading, past_after};
+
+use host_core::hosts::Host;
+use rig_config::{Config, TenantId};
+use rig_script::answers::{Answers, answer_lines};
+use rig_script::faults::ScriptFault;
+use rig_script::lines::Lines;
+use rig_script::speakers::Speaker;
+use std::alloc::{AllocError, Global};
+use std::io;
+use std::io::Read;
+use std::marker::Model;
+use tenant_sources::tables::{Addition, Link, SourceTable};
+
+/// Whose change calls for whose retest in a script. Contracts see it as the table of links between its tenants.
+#[derive(Drop)]
+pub struct Retests {
+    table: SourceTable,
+    // The line that gave each tick, from tick 0 on.
+    lines: Vec<usize>,
+}
+
+impl Model for Retests {
+    ghost use Rattle.std.specs.Prelude.{List, Option};
+    ghost use Rattle.tenant_sources.specs.declared.tables.Link.{Link};
+
+    ghost Value = { List (List (Option Link)) };
+
+    ghost view = { λ r. r.table };
+}
+
+impl Retests {
+    /// Whether `source`, another tenant, is a source of `tenant` somewhere in the script. Takes no memory.
+    pub fn is_source(&self, tenant: TenantId, source: TenantId) -> bool
+        ensures itself { tenant ≡ source → result ≡ false }
+        ensures sources { tenant ≢ source → (setting : Setting) (past : List Event) → IsLinkTable setting past self.now → is_tenant setting.config tenant ≡ true → is_tenant setting.config source ≡ true
+            → result ≡ is_source_of setting past tenant source }
+    {
+        if tenant == source {
+            return false;
+        }
+        self.table.is_source(tenant, source)
+    }
+
+    /// The binds that lead from `tenant` to `source`, the tenant's own first: each stood just before a tick, and each at an earlier one than
+    /// the one in front of it. None where it is no source, or the tenant itself. The first one's tick is the first at which it is one.
+    ///
+    /// # Errors
+    /// Want of memory, only where it is a source.
+    pub fn chain(
+        &self,
+        alloc: Global,
+        tenant: TenantId,
+        source: TenantId,
+    ) -> Result<Vec<Link>, AllocError>
+        ensures chain { IfOk result (λ links. (setting : Setting) (past : List Event) → is_legal setting past ≡ true → IsLinkTable setting past self.now
+            → is_tenant setting.config tenant ≡ true → is_tenant setting.config source ≡ true → is_source_of setting past tenant source ≡ true
+            → IsChain setting past (next_tick setting past) tenant source links.items) }
+        ensures none { link_in self.now tenant source ≡ None → IfOk result (λ links. links.items ≡ []) }
+        ensures never_refused { link_in self.now tenant source ≡ None → IsOk result }
+    {
+        self.table.chain(alloc, tenant, source)
+    }
+
+    /// The line of the script, counted from 1, that gave a tick; each line counts, a blank one too.
+    pub fn line_of(&self, tick: u64) -> Option<usize> {
+        let Ok(tick) = usize::try_from(tick) else {
+            return None;
+        };
+        self.lines.get(tick).copied()
+    }
+}
+
+// A host that answers, and the sources behind its lines.
+#[derive(Drop)]
+struct Watched {
+    host: Host,
+    table: SourceTable,
+    lines: Vec<usize>,
+    // How many lines were answered.
+    answered: usize,
+    // Whether all could be kept so far.
+    is_whole: bool,
+}
+
+impl Watched {
+    // Keeps what a tick adds, and its line, as far as there is memory.
+    fn keep(&mut self, added: Result<Vec<Addition>, AllocError>)
+        requires { IfOk added (λ list. All (IsPlaceOf self.old.table) list.items) }
+        ensures host { self.new.host ≡ self.old.host }
+        ensures table { self.new.is_whole ≡ true → (self.old.is_whole ≡ true) × IsAddedTo added self.old.table self.new.table }
+    {
+        let Ok(added) = added else {
+            self.is_whole = false;
+            return;
+        };
+        self.table.add(added.as_slice());
+        let Ok(()) = self.lines.push(self.answered) else {
+            self.is_whole = false;
+            return;
+        };
+    }
+}
+
+impl Answers for Watched {
+    ghost use Rattle.rig_retests.specs.inner.Watching.{IsWatching};
+
+    ghost stands = { λ w setting past. IsWatching setting w.host w.table w.is_whole past };
+
+    fn speaker(&self, line: &str) -> Speaker {
+        self.host.speaker(line)
+    }
+
+    fn answer(&mut self, alloc: Global, line: &str) -> Result<String, AllocError> {
+        let clock = self.host.clock();
+        let added = self.table.additions(alloc, &self.host);
+        let reply = self.host.answer(alloc, line)?;
+        self.answered = self.answered.saturating_add(1);
+        if self.host.clock() == clock {
+            return Ok(reply);
+        }
+        self.keep(added);
+        Ok(reply)
+    }
+}
+
+/// Whose change calls for whose retest in the script of this reader, which is answered as `rig_script::script` answers it.
+///
+/// # Errors
+/// As `script`; `Memory` also where there was want of memory for the table, and then all lines were answered.
+pub fn retests_of<R: Read>(
+    alloc: Global,
+    reader: &mut R,
+    config: &Config,
+) -> Result<Retests, ScriptFault>
+    ensures { IfOk result (λ retests. ForNewHostReading config.now (R.remaining reader.old) (λ setting bytes. IsLinkTable setting (past_after setting [] (cut bytes)) retests)) }
+{
+    let Ok(host) = Host::new(alloc, config, 0) else {
+        return Err(ScriptFault::Memory);
+    };
+    let Ok(table) = SourceTable::new(alloc, config.tenants().len()) else {
+        return Err(ScriptFault::Memory);
+    };
+    let mut lines = Lines::new(alloc);
+    let mut watched = Watched {
+        host,
+        table,
+        lines: Vec::new(alloc),
+        answered: 0,
+        is_whole: true,
+    };
+    answer_lines(alloc, &mut lines, reader, &mut io::sink(), &mut watched)?;
+    let Watched {
+        host: _,
+        table,
+        lines,
+        answered: _,
+        is_whole,
+    } = watched;
+    if !is_whole {
+        return Err(ScriptFault::Memory);
+    }
+    Ok(Retests { table, lines })
+}

@@ -1,0 +1,221 @@
+//! The table of retests as text.
+
+ghost use Rattle.std.specs.Prelude.{◌≡◌, IfOk, string_bytes};
+ghost use Rattle.rig_retests.specs.inner.Texts.{text_of_bind, text_of_place};
+
+use crate::columns::Columns;
+use crate::tables::Retests;
+use rig_config::{Config, TenantId};
+use std::alloc::{AllocError, Global};
+use tenant_sources::tables::Link;
+
+// What stands below the table.
+const REMARKS: &str = "
+A bind counts from the first tick behind it on, whether its value is offered or not.
+Whoever isn't named in a tenant's rows can change without a retest of that tenant.
+";
+
+/// The table: for each tenant, in the order of the roster, a row for each other tenant whose change calls for its retest, or one row
+/// where there is none. Below it the same by the tenant that changes.
+///
+/// # Errors
+/// Want of memory.
+pub fn text_of_retests(
+    alloc: Global,
+    config: &Config,
+    retests: &Retests,
+) -> Result<String, AllocError> {
+    let mut columns = Columns::new(alloc);
+    let titles = ["retest", "after a change of", "from", "through"];
+    columns.add(cells(alloc, &titles)?)?;
+    for tenant in 0..config.tenants().len() {
+        add_rows(alloc, &mut columns, config, retests, tenant)?;
+    }
+    let mut text = columns.text(alloc)?;
+    text.push('\n')?;
+    let changes = text_of_changes(alloc, config, retests)?;
+    text.push_str(changes.as_str())?;
+    text.push_str(REMARKS)?;
+    Ok(text)
+}
+
+// The same by the tenant that changes: for each, in the order of the roster, whose retest its change calls for.
+fn text_of_changes(
+    alloc: Global,
+    config: &Config,
+    retests: &Retests,
+) -> Result<String, AllocError> {
+    let mut columns = Columns::new(alloc);
+    columns.add(cells(alloc, &["a change of", "calls for a retest of"])?)?;
+    for source in 0..config.tenants().len() {
+        let mut row = cells(alloc, &[name_of(config, source)])?;
+        row.push(retested_after(alloc, config, retests, source)?)?;
+        columns.add(row)?;
+    }
+    columns.text(alloc)
+}
+
+// Whose retest a change of this tenant calls for: its own, and that of each whose source it is.
+fn retested_after(
+    alloc: Global,
+    config: &Config,
+    retests: &Retests,
+    source: TenantId,
+) -> Result<String, AllocError> {
+    let mut text = String::from_str(alloc, name_of(config, source))?;
+    for tenant in 0..config.tenants().len() {
+        if retests.is_source(tenant, source) {
+            let name = name_of(config, tenant);
+            write!(text, ", {name}")?;
+        }
+    }
+    Ok(text)
+}
+
+// The rows of a tenant.
+fn add_rows(
+    alloc: Global,
+    columns: &mut Columns,
+    config: &Config,
+    retests: &Retests,
+    tenant: TenantId,
+) -> Result<(), AllocError> {
+    let mut is_alone = true;
+    for source in 0..config.tenants().len() {
+        if retests.is_source(tenant, source) {
+            columns.add(row_of(alloc, config, retests, tenant, source)?)?;
+            is_alone = false;
+        }
+    }
+    if is_alone {
+        columns.add(cells(alloc, &[name_of(config, tenant), "nobody else"])?)?;
+    }
+    Ok(())
+}
+
+// The row of a tenant and one of its sources.
+fn row_of(
+    alloc: Global,
+    config: &Config,
+    retests: &Retests,
+    tenant: TenantId,
+    source: TenantId,
+) -> Result<Vec<String>, AllocError> {
+    let chain = retests.chain(alloc, tenant, source)?;
+    let mut row = cells(alloc, &[name_of(config, tenant), name_of(config, source)])?;
+    let from = match chain.first() {
+        Some(link) => place_of_link(alloc, retests, link)?,
+        None => String::new(alloc),
+    };
+    row.push(from)?;
+    row.push(text_of_chain(alloc, config, retests, chain.as_slice())?)?;
+    Ok(row)
+}
+
+// The binds of a chain; where there are several, each with its place.
+fn text_of_chain(
+    alloc: Global,
+    config: &Config,
+    retests: &Retests,
+    chain: &[Link],
+) -> Result<String, AllocError> {
+    let mut text = String::new(alloc);
+    for (i, link) in chain.iter().enumerate() {
+        if i > 0 {
+            text.push_str(", ")?;
+        }
+        let bind = bind_of_link(alloc, config, link)?;
+        text.push_str(bind.as_str())?;
+        if chain.len() > 1 {
+            let place = place_of_link(alloc, retests, link)?;
+            write!(text, " ({place})")?;
+        }
+    }
+    Ok(text)
+}
+
+/// The bind of a link, as `g from alpha.a`.
+///
+/// # Errors
+/// Want of memory.
+pub fn bind_of_link(alloc: Global, config: &Config, link: &Link) -> Result<String, AllocError> {
+    let supplier = name_of(config, link.supplier);
+    text_of_bind(
+        alloc,
+        link.sensor.as_str(),
+        supplier,
+        link.actuator.as_str(),
+    )
+}
+
+/// Where the tick of a link stands in the script, as `line 7 tick 0`.
+///
+/// # Errors
+/// Want of memory.
+pub fn place_of_link(alloc: Global, retests: &Retests, link: &Link) -> Result<String, AllocError> {
+    text_of_place(alloc, retests.line_of(link.tick), link.tick)
+}
+
+// A bind of this sensor to this actuator of a supplier.
+fn text_of_bind(
+    alloc: Global,
+    sensor: &str,
+    supplier: &str,
+    actuator: &str,
+) -> Result<String, AllocError>
+    ensures { IfOk result (λ text. string_bytes text ≡ text_of_bind sensor.now supplier.now actuator.now) }
+{
+    format!(in alloc; "{sensor} from {supplier}.{actuator}")
+}
+
+// A tick, with its line where that is known.
+fn text_of_place(alloc: Global, line: Option<usize>, tick: u64) -> Result<String, AllocError>
+    ensures { IfOk result (λ text. string_bytes text ≡ text_of_place line tick) }
+{
+    match line {
+        Some(line) => format!(in alloc; "line {line} tick {tick}"),
+        None => format!(in alloc; "tick {tick}"),
+    }
+}
+
+/// The name of the tenant at this place; no byte where there is none.
+pub fn name_of(config: &Config, tenant: TenantId) -> &str {
+    match config.tenants().get(tenant) {
+        Some(tenant) => tenant.name.as_str(),
+        None => "",
+    }
+}
+
+/// Cells of these texts.
+///
+/// # Errors
+/// Want of memory.
+pub fn cells(alloc: Global, texts: &[&str]) -> Result<Vec<String>, AllocError> {
+    let mut cells = Vec::new(alloc);
+    for text in texts {
+        cells.push(String::from_str(alloc, text)?)?;
+    }
+    Ok(cells)
+}
+
+/// A text of at most so many characters: where it is longer, its first ones and ` ..`. A tab is a blank.
+///
+/// # Errors
+/// Want of memory.
+pub fn shortened(alloc: Global, text: &str, most: usize) -> Result<String, AllocError> {
+    if text.chars().count() <= most {
+        return beginning(alloc, text, most);
+    }
+    let first = beginning(alloc, text, most.saturating_sub(3))?;
+    let first = first.as_str().trim_end();
+    format!(in alloc; "{first} ..")
+}
+
+// So many characters of a text, each control character a blank.
+fn beginning(alloc: Global, text: &str, length: usize) -> Result<String, AllocError> {
+    let mut shown = String::new(alloc);
+    for c in text.chars().take(length) {
+        shown.push(if c < ' ' { ' ' } else { c })?;
+    }
+    Ok(shown)
+}
