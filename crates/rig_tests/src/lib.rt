@@ -17,3 +17,5 @@ mod plays;
 mod readers;
 #[cfg(test)]
 mod traces;
+#[cfg(test)]
+mod trials;

@@ -1,0 +1,252 @@
+//! What a tenant is answered for a list of events and for what is kept of it: worked out by hand from the definitions.
+
+use giotto_tasks::lists::List;
+use giotto_tasks::names::Name;
+use host_core::events::Event;
+use host_core::plays::PlayFault;
+use host_core::trials::{TrialOutcome, trial};
+use rig_config::{TenantId, built_in};
+use std::alloc::{AllocError, Global};
+use tenant_jobs::jobs::JobId;
+use tenant_lines::command_lines::command_of;
+
+const ALPHA: TenantId = 0;
+
+const BETA: TenantId = 1;
+
+// Reads a sensor, adds 1, and drives an actuator with the sum, with a period of 2 ticks.
+const ADDER: &str =
+    "load sensor s := 0 line 0; actuator a := 0; output o := 0; task T(i) output o { o := i + 1; } mode m period 2 { actfreq 1 do a := o; taskfreq 1 do T(s); } start m;";
+
+const CONSUMER: &str = "load sensor g := -1 grant; mode n period 1 { } start n;";
+
+// An event as it is written here.
+#[derive(Clone, Copy)]
+enum Step<'a> {
+    // A tenant's line.
+    Line(TenantId, &'a str),
+    // An instant at which the line has this value.
+    Tick(i64),
+    // The completion of a tenant's job of T that was released at this tick.
+    Done(TenantId, u64),
+}
+
+fn add_event(alloc: Global, events: &mut Vec<Event>, step: &Step) -> Result<(), AllocError> {
+    match step {
+        Step::Line(tenant, line) => {
+            if let Ok(command) = command_of(alloc, line) {
+                events.push(Event::Own(*tenant, command))?;
+            }
+        }
+        Step::Tick(reading) => {
+            let frame = List::from_vec(Vec::from_slice(alloc, &[*reading])?);
+            events.push(Event::Tick(frame))?;
+        }
+        Step::Done(tenant, tick) => {
+            let id = JobId {
+                tenant: *tenant,
+                tick: *tick,
+                task: Name::new("T").unwrap_or_default(),
+            };
+            events.push(Event::Done(id))?;
+        }
+    }
+    Ok(())
+}
+
+fn events_of(alloc: Global, steps: &[Step]) -> Result<Vec<Event>, AllocError> {
+    let mut events = Vec::new(alloc);
+    for step in steps {
+        add_event(alloc, &mut events, step)?;
+    }
+    Ok(events)
+}
+
+// The trial of a list for a tenant of the built-in configuration; none where there is want of memory for the list.
+fn tried(
+    alloc: Global,
+    steps: &[Step],
+    tenant: TenantId,
+) -> Option<Result<TrialOutcome, PlayFault>> {
+    let config = built_in(alloc).ok()?;
+    let events = events_of(alloc, steps).ok()?;
+    Some(trial(alloc, &config, events.as_slice(), tenant))
+}
+
+// The places that are left out.
+fn left_out(alloc: Global, stays: &[bool]) -> Result<Vec<usize>, AllocError> {
+    let mut places = Vec::new(alloc);
+    for i in 0..stays.len() {
+        if !stays[i] {
+            places.push(i)?;
+        }
+    }
+    Ok(places)
+}
+
+// Whether the tenant is answered this for both lists, and the events at these places are left out.
+fn gives(alloc: Global, steps: &[Step], tenant: TenantId, text: &str, places: &[usize]) -> bool {
+    match tried(alloc, steps, tenant) {
+        Some(Ok(outcome)) => match left_out(alloc, outcome.stays.as_slice()) {
+            Ok(out) => {
+                let is_answered = outcome.whole.as_str() == text && outcome.kept.as_str() == text;
+                is_answered && outcome.stays.len() == steps.len() && out.as_slice() == places
+            }
+            Err(_) => false,
+        },
+        _ => false,
+    }
+}
+
+fn refuses(alloc: Global, steps: &[Step], tenant: TenantId, why: PlayFault) -> bool {
+    match tried(alloc, steps, tenant) {
+        Some(Err(fault)) => fault == why,
+        _ => false,
+    }
+}
+
+// A supplier whose sum is granted, until it takes its offer back.
+fn granted_run<'a>() -> [Step<'a>; 14] {
+    [
+        Step::Line(ALPHA, ADDER),
+        Step::Line(ALPHA, "offer a to beta"),
+        Step::Line(BETA, CONSUMER),
+        Step::Line(BETA, "bind g from alpha.a"),
+        Step::Line(ALPHA, "start"),
+        Step::Line(BETA, "start"),
+        Step::Tick(5),
+        Step::Tick(7),
+        Step::Done(ALPHA, 0),
+        Step::Tick(9),
+        Step::Line(BETA, "show port g"),
+        Step::Line(ALPHA, "unoffer a to beta"),
+        Step::Tick(11),
+        Step::Line(BETA, "show port g"),
+    ]
+}
+
+#[test]
+fn consumer_keeps_its_supplier_and_the_supplier_keeps_itself(rt: HostRuntime) {
+    let consumer = "ok load\nok bind\nok start\nok port g 6\nok port g -1\n";
+    assert!(rt; gives(rt.alloc(), &granted_run(), BETA, consumer, &[]));
+    let supplier = "ok load\nok offer\nok start\nok unoffer\n";
+    assert!(rt;
+        gives(
+            rt.alloc(),
+            &granted_run(),
+            ALPHA,
+            supplier,
+            &[2, 3, 5, 10, 13]
+        )
+    );
+}
+
+// The bind stands at the first instant alone, and the supplier starts behind that one.
+fn bind_at_the_first_instant<'a>() -> [Step<'a>; 9] {
+    [
+        Step::Line(ALPHA, ADDER),
+        Step::Line(BETA, CONSUMER),
+        Step::Line(BETA, "bind g from alpha.a"),
+        Step::Line(BETA, "start"),
+        Step::Tick(5),
+        Step::Line(BETA, "unbind g"),
+        Step::Line(ALPHA, "start"),
+        Step::Tick(5),
+        Step::Line(BETA, "show port g"),
+    ]
+}
+
+#[test]
+fn bind_counts_without_an_offer_and_only_before_its_last_instant(rt: HostRuntime) {
+    let consumer = "ok load\nok bind\nok start\nok unbind\nok port g -1\n";
+    assert!(rt;
+        gives(
+            rt.alloc(),
+            &bind_at_the_first_instant(),
+            BETA,
+            consumer,
+            &[6]
+        )
+    );
+}
+
+// The bind is undone before any instant.
+fn bind_undone<'a>() -> [Step<'a>; 7] {
+    [
+        Step::Line(ALPHA, ADDER),
+        Step::Line(BETA, CONSUMER),
+        Step::Line(BETA, "bind g from alpha.a"),
+        Step::Line(BETA, "start"),
+        Step::Line(BETA, "unbind g"),
+        Step::Tick(5),
+        Step::Line(BETA, "show port g"),
+    ]
+}
+
+#[test]
+fn bind_that_is_undone_before_an_instant_gives_no_source(rt: HostRuntime) {
+    let consumer = "ok load\nok bind\nok start\nok unbind\nok port g -1\n";
+    assert!(rt; gives(rt.alloc(), &bind_undone(), BETA, consumer, &[0]));
+}
+
+// Both run the adder, and are bound to nobody.
+fn strangers<'a>() -> [Step<'a>; 10] {
+    [
+        Step::Line(ALPHA, ADDER),
+        Step::Line(BETA, ADDER),
+        Step::Line(ALPHA, "start"),
+        Step::Line(BETA, "start"),
+        Step::Tick(5),
+        Step::Done(ALPHA, 0),
+        Step::Done(BETA, 0),
+        Step::Tick(7),
+        Step::Tick(9),
+        Step::Line(BETA, "show port a"),
+    ]
+}
+
+#[test]
+fn own_completions_stay_and_those_of_others_go(rt: HostRuntime) {
+    let beta = "ok load\nok start\nok port a 6\n";
+    assert!(rt; gives(rt.alloc(), &strangers(), BETA, beta, &[0, 2, 5]));
+}
+
+// The supplier overruns at the third instant, and its completion comes behind that one.
+fn late_supplier<'a>() -> [Step<'a>; 12] {
+    [
+        Step::Line(ALPHA, ADDER),
+        Step::Line(ALPHA, "offer a to beta"),
+        Step::Line(BETA, CONSUMER),
+        Step::Line(BETA, "bind g from alpha.a"),
+        Step::Line(ALPHA, "start"),
+        Step::Line(BETA, "start"),
+        Step::Tick(5),
+        Step::Tick(7),
+        Step::Tick(9),
+        Step::Done(ALPHA, 0),
+        Step::Tick(11),
+        Step::Line(BETA, "show port g"),
+    ]
+}
+
+#[test]
+fn late_completion_of_a_source_stays(rt: HostRuntime) {
+    let consumer = "ok load\nok bind\nok start\nok port g 0\n";
+    assert!(rt; gives(rt.alloc(), &late_supplier(), BETA, consumer, &[]));
+}
+
+// The job that is completed was never released.
+fn illegal<'a>() -> [Step<'a>; 3] {
+    [
+        Step::Line(ALPHA, ADDER),
+        Step::Done(ALPHA, 0),
+        Step::Line(2, "start"),
+    ]
+}
+
+#[test]
+fn no_tenant_is_told_before_the_list_is_looked_at(rt: HostRuntime) {
+    assert!(rt; refuses(rt.alloc(), &granted_run(), 2, PlayFault::NoTenant));
+    assert!(rt; refuses(rt.alloc(), &illegal(), 2, PlayFault::NoTenant));
+    assert!(rt; refuses(rt.alloc(), &illegal(), ALPHA, PlayFault::Illegal(1)));
+}
