@@ -1,3 +1,3 @@
-pub mod Costs
 pub mod Slots
+pub mod cited
 pub mod inner

@@ -1,4 +1,1 @@
 pub mod Checked
-pub mod Facts
-pub mod Slots
-pub mod Timetables

@@ -11,7 +11,7 @@ use Rattle.std.proofs.lemmas.Option.{get_or_from_slice_get, slice_get_past, slic
 use Rattle.std.proofs.Math.Dec.{ltb, eqb-suc-zero}
 use Rattle.giotto_tasks.specs.declared.names.Name.{Name}
 use Rattle.giotto_tasks.specs.Names.{same_name, is_among}
-use Rattle.giotto_tasks.proofs.NameLemmas.{same_name_is}
+use Rattle.giotto_tasks.proofs.cited.NameLemmas.{same_name_is}
 use Rattle.giotto_tasks.specs.Sound.{all_different}
 use Rattle.giotto_tasks.specs.Syntax.{Expression}
 use Rattle.giotto_text.specs.declared.programs.Task.{Task}
@@ -21,10 +21,10 @@ use Rattle.giotto_rules.specs.Declarations.{task_names, mode_names, task_named, 
 use Rattle.giotto_rules.specs.Drivers.{ports_of_target}
 use Rattle.giotto_rules.specs.Names.{are_among}
 use Rattle.giotto_rules.specs.Rules.{tasks_share_no_output}
-use Rattle.giotto_tasks.specs.inner.Places.{place_from}
+use Rattle.giotto_tasks.specs.cited.Places.{place_from}
 use Rattle.giotto_rules.specs.Switches.{is_period, goes_on_with}
 use Rattle.giotto_rules.specs.inner.Periods.{periods_in, period_at}
-use Rattle.giotto_tasks.proofs.IndexLemmas.{is_some-place_from}
+use Rattle.giotto_tasks.proofs.cited.IndexLemmas.{is_some-place_from}
 
 -- the element at a place, if there is a place
 abbrev pub element_at : {X : Type 0} → List X → Option ℕ → Option X

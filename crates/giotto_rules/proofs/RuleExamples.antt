@@ -1,8 +1,8 @@
 -- The rules of well-formedness on the example programs.
 use Rattle.std.proofs.Common.{◌≡◌, refl, Some, None}
 use Rattle.giotto_rules.specs.Rules.{first_broken_rule}
-use Rattle.giotto_text.proofs.Adder.{adder}
-use Rattle.giotto_rules.proofs.ExamplePrograms.{switcher, two_constants, broken_switcher}
+use Rattle.giotto_text.proofs.cited.Adder.{adder}
+use Rattle.giotto_rules.proofs.cited.ExamplePrograms.{switcher, two_constants, broken_switcher}
 
 pub adder_is_well_formed : first_broken_rule adder ≡ None
 adder_is_well_formed = refl

@@ -1,3 +1,2 @@
-pub mod KeepsRules
 pub mod Periods
 pub mod Scopes

@@ -3,7 +3,7 @@
 ghost use Rattle.std.specs.Prelude.{◌≡◌, map, Some, None, IfOk, IfSome};
 ghost use Rattle.giotto_text.specs.ProgramTrees.{mode_of, task_of};
 ghost use Rattle.giotto_rules.specs.Declarations as declared;
-ghost use Rattle.giotto_tasks.specs.inner.Places.{place_from};
+ghost use Rattle.giotto_tasks.specs.cited.Places.{place_from};
 
 use crate::declarations;
 use giotto_tasks::index::Index;
@@ -23,7 +23,7 @@ pub(crate) struct Indexed<'a> {
 impl<'a> Model for Indexed<'a> {
     ghost use Rattle.std.specs.Prelude.{◌≡◌};
     ghost use Rattle.giotto_text.specs.Program.{GiottoProgram};
-    ghost use Rattle.giotto_text.specs.inner.ProgramCodes.{program_code};
+    ghost use Rattle.giotto_text.specs.cited.ProgramCodes.{program_code};
     ghost use Rattle.giotto_rules.specs.Declarations.{task_names, mode_names};
 
     ghost Value = { GiottoProgram };

@@ -4,7 +4,7 @@
 
 ghost use Rattle.std.specs.Prelude.{◌≡◌, ◌↔◌, None};
 ghost use Rattle.giotto_text.specs.Program.{GiottoProgram};
-ghost use Rattle.giotto_rules.specs.inner.KeepsRules.{KeepsRules};
+ghost use Rattle.giotto_rules.specs.cited.KeepsRules.{KeepsRules};
 ghost use Rattle.giotto_rules.specs.Rules.{first_broken_rule};
 
 /// A program breaks no rule where it keeps each, and only there.

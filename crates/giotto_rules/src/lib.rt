@@ -1,4 +1,4 @@
-//! When a Giotto program is well-formed.
+//! When a Giotto program is well-formed, and what is counted of it: its ports and its costs.
 //!
 //! [`first_broken`] names the first of the eleven rules that a program breaks:
 //!
@@ -11,6 +11,8 @@
 //!
 //! The rules stand in `specs/Rules.antt`, over what a program declares (`specs/Declarations.antt`), and the code that tests
 //! them in `src/rules.rt`; `proofs/RuleExamples.antt` computes them on examples. [`laws`] says what follows from the rules.
+//! `specs/Ports.antt` has the ports of a program in their order, and `specs/Costs.antt` what it costs at most; the crate
+//! `giotto_check` computes both.
 #![tactic(auto)]
 
 pub mod declarations;

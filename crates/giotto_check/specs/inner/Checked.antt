@@ -1,10 +1,10 @@
 -- What is known of a checked program, and of what is kept with it.
 use Rattle.std.specs.Prelude.{◌≡◌, ℕ, ◌-◌, ◌^◌, min}
 use Rattle.giotto_text.specs.Program.{GiottoProgram}
-use Rattle.giotto_rules.specs.inner.KeepsRules.{KeepsRules}
-use Rattle.giotto_check.specs.Costs.{greatest_cost_of}
-use Rattle.giotto_check.specs.inner.Facts.{ProgramFits}
-use Rattle.giotto_check.specs.inner.Timetables.{IsNumbering}
+use Rattle.giotto_rules.specs.cited.KeepsRules.{KeepsRules}
+use Rattle.giotto_rules.specs.Costs.{greatest_cost_of}
+use Rattle.giotto_check.specs.cited.Facts.{ProgramFits}
+use Rattle.giotto_check.specs.cited.Timetables.{IsNumbering}
 use Rattle.giotto_check.specs.declared.numbering.Numbering.{Numbering}
 
 -- a well-formed program with its greatest cost and its numbering

@@ -5,7 +5,7 @@ use Rattle.giotto_tasks.specs.declared.names.Name.{Name}
 use Rattle.giotto_text.specs.Program.{TaskInvocation, ModeDeclaration, GiottoProgram}
 use Rattle.giotto_rules.specs.declared.rules.switches.Repetition.{Repetition}
 use Rattle.giotto_rules.specs.Declarations.{mode_named, task_names, period_of_task}
-use Rattle.giotto_tasks.specs.inner.Places.{place_from}
+use Rattle.giotto_tasks.specs.cited.Places.{place_from}
 
 -- how many ticks lie between two invocations of each task in the mode, if it invokes the task; tasks in text order
 abbrev pub periods_in : GiottoProgram → ModeDeclaration → List (Option ℕ)

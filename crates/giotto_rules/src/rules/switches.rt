@@ -4,7 +4,7 @@ ghost use Rattle.std.specs.Prelude.{◌≡◌, ◌/◌, ◌%◌, ◌==◌, map, 
 ghost use Rattle.std.specs.Option.{option_copied};
 ghost use Rattle.giotto_text.specs.ProgramTrees.{mode_of, switch_of, invocation_of};
 ghost use Rattle.giotto_rules.specs.Declarations as declared;
-ghost use Rattle.giotto_tasks.specs.inner.Places.{place_from};
+ghost use Rattle.giotto_tasks.specs.cited.Places.{place_from};
 ghost use Rattle.giotto_rules.specs.Rules as rules;
 ghost use Rattle.giotto_rules.specs.Switches as spec;
 ghost use Rattle.giotto_rules.specs.inner.Periods as by_place;

@@ -1,4 +1,4 @@
-use Rattle.giotto_rules.proofs.RulesKept.{rules_kept, none_broken}
+use Rattle.giotto_rules.proofs.cited.RulesKept.{rules_kept, none_broken}
 use Rattle.giotto_rules.proofs.laws.rules_kept.Goals as goal
 
 pub returns : goal.returns

@@ -2,7 +2,7 @@ use Rattle.std.proofs.Common.{◌∙◌, None, sym, ap}
 use Rattle.std.specs.Option.{option_map, option_copied}
 use Rattle.giotto_text.specs.ProgramTrees.{task_of}
 use Rattle.giotto_rules.specs.Declarations as declared
-use Rattle.giotto_tasks.specs.inner.Places.{place_from}
+use Rattle.giotto_tasks.specs.cited.Places.{place_from}
 use Rattle.giotto_rules.proofs.FindLemmas.{task_at_place, task_found, found_in, copied_at}
 use Rattle.giotto_rules.proofs.indexed.Indexed.task.Goals as goal
 

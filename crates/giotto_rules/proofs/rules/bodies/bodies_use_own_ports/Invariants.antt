@@ -1,7 +1,7 @@
 use Rattle.std.proofs.Common.{◌≡◌, drop, map}
 use Rattle.giotto_text.specs.ProgramTrees.{task_of}
 use Rattle.giotto_rules.specs.Rules.{bodies_use_own_ports}
-use Rattle.giotto_rules.proofs.ProgramParts.{with_tasks}
+use Rattle.giotto_rules.proofs.cited.ProgramParts.{with_tasks}
 use Rattle.giotto_rules.proofs.rules.bodies.bodies_use_own_ports.Given as goal
 
 abbrev pub invariant-loop-task : goal.invariant-loop-task

@@ -1,4 +1,4 @@
-use Rattle.giotto_rules.proofs.ProgramParts.{names_of_states}
+use Rattle.giotto_rules.proofs.cited.ProgramParts.{names_of_states}
 use Rattle.giotto_rules.proofs.rules.bodies.task_uses_own_ports.Goals as goal
 
 pub returns : goal.returns

@@ -1,4 +1,4 @@
-use Rattle.giotto_rules.proofs.ProgramParts.{names_of_states}
+use Rattle.giotto_rules.proofs.cited.ProgramParts.{names_of_states}
 use Rattle.giotto_rules.proofs.rules.declared_once.task_declares_own.Goals as goal
 
 pub returns : goal.returns

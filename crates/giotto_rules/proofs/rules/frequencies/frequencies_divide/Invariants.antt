@@ -1,7 +1,7 @@
 use Rattle.std.proofs.Common.{◌≡◌, drop, map}
 use Rattle.giotto_text.specs.ProgramTrees.{mode_of}
 use Rattle.giotto_rules.specs.Rules.{frequencies_divide}
-use Rattle.giotto_rules.proofs.ProgramParts.{with_modes}
+use Rattle.giotto_rules.proofs.cited.ProgramParts.{with_modes}
 use Rattle.giotto_rules.proofs.rules.frequencies.frequencies_divide.Given as goal
 
 abbrev pub invariant-loop-mode : goal.invariant-loop-mode

@@ -2,9 +2,9 @@
 use Rattle.std.proofs.Common.{◌≡◌, ℕ, ◌+◌, ◌-◌, Bool, true, false, cond, List, [], ◌∷◌, Option, Some, None, refl, subst}
 use Rattle.std.specs.List.{AllByRecursion, slice_get}
 use Rattle.std.proofs.lemmas.Option.{get_or_from_slice_get, slice_get_within}
-use Rattle.giotto_tasks.proofs.ListLemmas.{all_at}
+use Rattle.giotto_tasks.proofs.cited.ListLemmas.{all_at}
 use Rattle.giotto_text.specs.Program.{GiottoProgram}
-use Rattle.giotto_rules.specs.inner.KeepsRules.{KeepsRules}
+use Rattle.giotto_rules.specs.cited.KeepsRules.{KeepsRules}
 use Rattle.giotto_rules.specs.Rules.{rules, first_broken, first_broken_rule}
 
 abbrev Passes : GiottoProgram → List (GiottoProgram → Bool) → Type 0

@@ -10,7 +10,7 @@ use Rattle.giotto_rules.specs.Declarations.{actuator_names, output_names, driver
 use Rattle.giotto_rules.specs.Drivers.{readable_ports}
 use Rattle.giotto_rules.specs.Names.{are_among, all_different_numbers}
 use Rattle.giotto_rules.specs.Reads.{names_in_update, names_in_switch, names_in_invocation}
-use Rattle.giotto_check.specs.inner.Slots.{PortNamesDiffer}
+use Rattle.giotto_check.specs.cited.Slots.{PortNamesDiffer}
 
 -- a frequency that divides the mode's period into intervals of a tick at least
 pub record IsFrequencyOf (m : ModeDeclaration) (w : ℕ) : Type 0 where

@@ -2,15 +2,16 @@
 use Rattle.std.specs.Prelude.{◌≡◌, ℕ, ◌/◌, ℤ, List, [], ◌∷◌, map, length, Option, Some, None, IsSomeAnd}
 use Rattle.std.specs.List.{position_from, range_with_len}
 use Rattle.giotto_tasks.specs.declared.names.Name.{Name}
-use Rattle.giotto_tasks.specs.inner.DriverCode.{driver_value}
+use Rattle.giotto_tasks.specs.cited.DriverCode.{driver_value}
 use Rattle.giotto_tasks.specs.Meaning.{value_of}
 use Rattle.giotto_tasks.specs.Names.{same_name}
 use Rattle.giotto_tasks.specs.Syntax.{Expression}
 use Rattle.giotto_text.specs.Program.{TaskDeclaration, ActuatorUpdate, ModeSwitch, TaskInvocation, ModeDeclaration, GiottoProgram, names_of}
 use Rattle.giotto_rules.specs.Declarations.{driver_ports, task_named}
-use Rattle.giotto_check.specs.inner.Facts.{ProgramFits}
-use Rattle.giotto_check.specs.Slots.{slot_of, valuation_of}
-use Rattle.giotto_check.specs.inner.Slots.{slots_of}
+use Rattle.giotto_check.specs.cited.Facts.{ProgramFits}
+use Rattle.giotto_rules.specs.Ports.{slot_of}
+use Rattle.giotto_check.specs.Slots.{valuation_of}
+use Rattle.giotto_check.specs.cited.Slots.{slots_of}
 use Rattle.giotto_check.specs.declared.timetables.SlotExpr.{SlotExpr}
 use Rattle.giotto_check.specs.declared.timetables.SlotUpdate.{SlotUpdate}
 use Rattle.giotto_check.specs.declared.timetables.SlotDestination.{SlotDestination}

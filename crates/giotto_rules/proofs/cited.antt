@@ -1,0 +1,3 @@
+pub mod ExamplePrograms
+pub mod ProgramParts
+pub mod RulesKept

@@ -1,0 +1,25 @@
+-- What the tenants of a rig are given when they are made, and keep.
+use Rattle.rig_config.specs.declared.Budgets.{Budgets}
+use Rattle.tenant_grants.specs.Grants.{Owner}
+use Rattle.std.specs.Prelude.{ℕ, List, map}
+use Rattle.giotto_tasks.specs.declared.names.Name.{Name}
+use Rattle.rig_config.specs.Roster.{Rig, budgets_at}
+use Rattle.rig_config.specs.declared.TenantConfig.{TenantConfig}
+
+pub record Tenancy : Type 0 where
+  -- its place in the roster, the roster, and how many offers and binds it may have
+  pub owner : Owner
+  -- what it may use
+  pub budgets : Budgets
+
+-- the names of all tenants, by their places
+abbrev pub roster_of : Rig → List Name
+roster_of config = map (λ (tenant : TenantConfig). tenant.name) config.tenants
+
+-- the tenant at place t, as the owner of its offers and binds
+abbrev pub owner_at : Rig → ℕ → Owner
+owner_at config t = record { place = t; roster = roster_of config; most_offers = (budgets_at config t).offers; most_binds = (budgets_at config t).binds }
+
+-- what the tenant at place t is given
+abbrev pub tenancy_at : Rig → ℕ → Tenancy
+tenancy_at config t = record { owner = owner_at config t; budgets = budgets_at config t }

@@ -1,0 +1,20 @@
+-- How bytes are cut into lines.
+use Rattle.std.specs.Prelude.{ℕ, nat_le, ◌&&◌, ◌==◌, if◌then◌else◌, List, [], ◌∷◌, length, Option, Some, None}
+use Rattle.std.specs.Str.{is_utf8}
+use Rattle.rig_model.specs.declared.limits.TheConstants.{MAX_LINE}
+use Rattle.tenant_lines.specs.Words.{joined_to_first}
+
+-- the bytes up to each LF; what follows the last LF is a line too, unless it is empty
+abbrev pub cut : List ℕ → List (List ℕ)
+cut [] = []
+cut (c ∷ cs) = if c == 10 then [] ∷ cut cs else joined_to_first c (cut cs)
+
+-- one CR at the end taken off
+abbrev pub without_last_cr : List ℕ → List ℕ
+without_last_cr [] = []
+without_last_cr (c ∷ []) = if c == 13 then [] else c ∷ []
+without_last_cr (c ∷ d ∷ cs) = c ∷ without_last_cr (d ∷ cs)
+
+-- the text of a line of at most so many bytes in UTF-8, and of no other
+abbrev pub text_of_line : List ℕ → Option (List ℕ)
+text_of_line line = if nat_le (length line) MAX_LINE && is_utf8 line then Some (without_last_cr line) else None
