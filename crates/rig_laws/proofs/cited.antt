@@ -1,0 +1,9 @@
+pub mod ActiveTasks
+pub mod AloneAlong
+pub mod AnsweredLines
+pub mod Histories
+pub mod LaterBase
+pub mod Places
+pub mod Releases
+pub mod SourceSets
+pub mod TwoWorlds

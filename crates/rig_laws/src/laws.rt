@@ -1,0 +1,81 @@
+//! Laws of the definitions, each a function without a body that carries it.
+
+ghost use Rattle.std.specs.Prelude.{◌≡◌, ◌++◌, ℕ, List, [], true, false};
+ghost use Rattle.rig_model.specs.declared.jobs.JobId.{JobId};
+ghost use Rattle.rig_config.specs.Roster.{is_tenant, Rig};
+ghost use Rattle.rig_model.specs.Base.{IsBase, new_base, Setting};
+ghost use Rattle.rig_model.specs.Host.{host_after};
+ghost use Rattle.rig_model.specs.HostState.{row_at, is_awaited};
+ghost use Rattle.rig_model.specs.Legal.{IsHistory, next_tick, counts, is_legal};
+ghost use Rattle.rig_model.specs.Sources.{is_source, without_tenant, sources_of, kept_of};
+ghost use Rattle.rig_model.specs.declared.events.Event.{Event};
+ghost use Rattle.rig_model.specs.Answers.{answers_of};
+ghost use Rattle.rig_model.specs.Views.{row_of, view_of};
+ghost use Rattle.rig_model.specs.Script.{past_after};
+ghost use Rattle.rig_model.specs.TenantReplies.{own_replies};
+
+/// Two lists of events, the newest first, that give a tenant equal views give it equal answers.
+pub fn equal_views_give_equal_answers()
+    ensures { (setting : Setting) (past others : List Event) (t : ℕ) →
+        view_of setting past t ≡ view_of setting others t → answers_of setting past t ≡ answers_of setting others t }
+{}
+
+/// After every legal list of events, the newest first, that begins with a base, each tenant's row in the whole host is that of
+/// the one-tenant machine over the tenant's own view, and the host awaits just the completions that count. Its clock is the
+/// number of the next instant.
+pub fn whole_host()
+    ensures rows { (setting : Setting) (past : List Event) (t : ℕ) → IsHistory setting past
+        → is_tenant setting.config t ≡ true → row_at (host_after setting past) t ≡ row_of setting past t }
+    ensures completions { (setting : Setting) (past : List Event) (j : JobId) → IsHistory setting past
+        → is_tenant setting.config j.tenant ≡ true → is_awaited (host_after setting past) j ≡ counts setting past j }
+    ensures clock { (setting : Setting) (past : List Event) → (host_after setting past).clock ≡ next_tick setting past }
+{}
+
+/// A new host is a base: a history can begin with it.
+pub fn new_host_is_a_base()
+    ensures { (config : Rig) (first_tick : ℕ) → IsBase config (new_base config first_tick) }
+{}
+
+/// What stands behind a legal list of events, the newest first, that begins with a base is a base again.
+pub fn later_host_is_a_base()
+    ensures { (setting : Setting) (past : List Event) → IsHistory setting past → IsBase setting.config (host_after setting past) }
+{}
+
+/// What is kept for a tenant of a legal list of events, the newest first, that begins with a base is legal too.
+pub fn kept_list_is_legal()
+    ensures { (setting : Setting) (past : List Event) (t : ℕ) → IsHistory setting past → is_legal setting (kept_of setting past t) ≡ true }
+{}
+
+/// What is kept of a list of events, the newest first, for a tenant gives it the answers of the whole list.
+pub fn kept_list_gives_equal_answers()
+    ensures { (setting : Setting) (past : List Event) (t : ℕ) → answers_of setting (kept_of setting past t) t ≡ answers_of setting past t }
+{}
+
+/// Two lists of events, the newest first, of which the same is kept for a tenant give it equal answers, whatever values are
+/// granted in either.
+pub fn equal_kept_lists_give_equal_answers()
+    ensures { (setting : Setting) (past others : List Event) (t : ℕ) →
+        kept_of setting past t ≡ kept_of setting others t → answers_of setting past t ≡ answers_of setting others t }
+{}
+
+/// A tenant that is a source of another at one place of a list is one at each earlier place.
+pub fn sources_stay_sources()
+    ensures { (setting : Setting) (t u : ℕ) (later more past : List Event) →
+        is_source (sources_of setting t later (more ++ past)) u ≡ true → is_source (sources_of setting t (later ++ more) past) u ≡ true }
+{}
+
+/// Where a tenant is no source of another one anywhere in a list, the other one's answers stay as they are, whatever commands
+/// and completions of that tenant are left out, put in or changed.
+pub fn no_source_changes_no_answer()
+    ensures kept { (setting : Setting) (past others : List Event) (t u : ℕ) → is_source (sources_of setting t past []) u ≡ false
+        → without_tenant u past ≡ without_tenant u others → kept_of setting past t ≡ kept_of setting others t }
+    ensures answers { (setting : Setting) (past others : List Event) (t u : ℕ) → is_source (sources_of setting t past []) u ≡ false
+        → without_tenant u past ≡ without_tenant u others → answers_of setting past t ≡ answers_of setting others t }
+{}
+
+/// What a script's text replies to a tenant's commands are that tenant's answers by the model, over its view of the events that
+/// the lines spell: for each tenant, lines, and events before them.
+pub fn own_replies_are_answers()
+    ensures { (setting : Setting) (t : ℕ) (past : List Event) (lines : List (List ℕ)) →
+        answers_of setting (past_after setting past lines) t ≡ answers_of setting past t ++ own_replies setting t past lines }
+{}
