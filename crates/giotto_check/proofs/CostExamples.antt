@@ -3,9 +3,9 @@ use Rattle.std.proofs.Common.{◌≡◌, pos, [], ◌∷◌, map, Some, codes, r
 use Rattle.giotto_tasks.specs.Syntax.{number, port, binary, repeat, finished, step, Expression}
 use Rattle.giotto_tasks.specs.declared.operators.BinaryOperator.TheVariants.{Add, Greater}
 use Rattle.giotto_text.specs.Program.{TaskDeclaration, ModeDeclaration, GiottoProgram}
-use Rattle.giotto_text.proofs.Adder.{adder}
-use Rattle.giotto_rules.proofs.ExamplePrograms.{switcher, two_constants}
-use Rattle.giotto_check.specs.Costs.{greatest_cost_of}
+use Rattle.giotto_text.proofs.cited.Adder.{adder}
+use Rattle.giotto_rules.proofs.cited.ExamplePrograms.{switcher, two_constants}
+use Rattle.giotto_rules.specs.Costs.{greatest_cost_of}
 
 -- the body o := i + 1 is the dearest
 pub adder_costs : greatest_cost_of adder ≡ 2

@@ -3,12 +3,12 @@ use Rattle.std.proofs.Common.{◌≡◌, true, List, ◌++◌, sym, ◌∙◌}
 use Rattle.std.specs.List.{list_all}
 use Rattle.giotto_tasks.specs.declared.names.Name.{Name}
 use Rattle.giotto_tasks.specs.Names.{is_among}
-use Rattle.giotto_tasks.proofs.NameLemmas.{among_first, among_passes, among_second, is_among-append, weaker_all}
-use Rattle.giotto_tasks.proofs.TestLemmas.{either}
+use Rattle.giotto_tasks.proofs.cited.NameLemmas.{among_first, among_passes, among_second, is_among-append, weaker_all}
+use Rattle.giotto_tasks.proofs.cited.TestLemmas.{either}
 use Rattle.giotto_text.specs.Program.{ModeDeclaration, GiottoProgram}
 use Rattle.giotto_rules.specs.Declarations.{sensor_names, actuator_names, output_names, driver_ports, mode_ports}
 use Rattle.giotto_rules.specs.Drivers.{readable_ports}
-use Rattle.giotto_check.specs.inner.Facts.{ModeFits}
+use Rattle.giotto_check.specs.cited.Facts.{ModeFits}
 
 pub actuator_is_port : (p : GiottoProgram) (x : Name) → is_among (actuator_names p) x ≡ true → is_among (driver_ports p) x ≡ true
 actuator_is_port p x h = among_second (sensor_names p) (actuator_names p ++ output_names p) x (among_first (actuator_names p) (output_names p) x h)

@@ -6,7 +6,7 @@ use Rattle.giotto_text.specs.declared.faults.ReadFault.{ReadFault}
 use Rattle.giotto_text.specs.Parsing.{parsed}
 use Rattle.giotto_text.specs.Program.{TaskDeclaration, GiottoProgram, body_of}
 use Rattle.giotto_rules.specs.Rules.{first_broken_rule}
-use Rattle.giotto_check.specs.Costs.{greatest_cost_of}
+use Rattle.giotto_rules.specs.Costs.{greatest_cost_of}
 
 abbrev every_construct_text : List ℕ
 every_construct_text =

@@ -1,15 +1,10 @@
 pub mod CostExamples
 pub mod DriverReads
-pub mod EachLemmas
-pub mod EntryLemmas
 pub mod EveryConstruct
 pub mod ExpressionLemmas
-pub mod PlaceLemmas
-pub mod PortsOnce
 pub mod ProgramFacts
 pub mod SlotExamples
-pub mod SlotLemmas
 pub mod SmallTasks
 pub mod SoundNames
 pub mod TestLists
-pub mod Valuations
+pub mod cited

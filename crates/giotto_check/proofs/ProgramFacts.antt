@@ -8,8 +8,8 @@ use Rattle.std.proofs.lemmas.List.Folds.{list_all-append}
 use Rattle.giotto_tasks.specs.declared.names.Name.{Name}
 use Rattle.giotto_tasks.specs.Names.{same_name, is_among}
 use Rattle.giotto_tasks.specs.Sound.{all_different, block_reads_only, block_assigns_only, is_small}
-use Rattle.giotto_tasks.proofs.ListLemmas.{all_zip, all_pass, all_with, found_passes}
-use Rattle.giotto_tasks.proofs.NameLemmas.{among_first, among_second, among_turned, apart_from, weaker_all, different_joined}
+use Rattle.giotto_tasks.proofs.cited.ListLemmas.{all_zip, all_pass, all_with, found_passes}
+use Rattle.giotto_tasks.proofs.cited.NameLemmas.{among_first, among_second, among_turned, apart_from, weaker_all, different_joined}
 use Rattle.giotto_text.specs.Depth.{is_shallow_update, is_shallow_switch, is_shallow_invocation, is_shallow_mode, is_shallow_task, is_shallow_program}
 use Rattle.giotto_text.specs.Program.{TaskDeclaration, ModeSwitch, TaskInvocation, ModeDeclaration, GiottoProgram, body_of, names_of}
 use Rattle.giotto_text.specs.Sound.{IsPrintable}
@@ -17,14 +17,14 @@ use Rattle.giotto_rules.specs.Declarations.{sensor_names, actuator_names, output
 use Rattle.giotto_rules.specs.Drivers.{readable_ports, ports_of_target, switch_fits, drivers_fit}
 use Rattle.giotto_rules.specs.Frequencies.{divides, frequencies_divide_in}
 use Rattle.giotto_rules.specs.Invocations.{has_arguments_for, argument_for_each_input}
-use Rattle.giotto_rules.specs.inner.KeepsRules.{KeepsRules}
+use Rattle.giotto_rules.specs.cited.KeepsRules.{KeepsRules}
 use Rattle.giotto_rules.specs.Kinds.{kinds_of, task_uses, switch_uses, mode_uses}
 use Rattle.giotto_rules.specs.Names.{are_among}
 use Rattle.giotto_rules.specs.Rules.{declares_once, uses_right_kinds, bodies_use_own_ports, frequencies_divide, invokes_once, tasks_share_no_output, updates_once, arguments_fit, drivers_read_mode_ports, starts_in_a_mode}
 use Rattle.giotto_rules.specs.TaskPorts.{declares_own, uses_own_ports}
-use Rattle.giotto_rules.proofs.RulesKept.{rule_kept}
-use Rattle.giotto_check.specs.inner.Facts.{IsFrequencyOf, UpdateFits, SwitchFits, InvocationFits, ModeFits, TaskFits, ProgramFits}
-use Rattle.giotto_check.proofs.PortsOnce.{ports_different}
+use Rattle.giotto_rules.proofs.cited.RulesKept.{rule_kept}
+use Rattle.giotto_check.specs.cited.Facts.{IsFrequencyOf, UpdateFits, SwitchFits, InvocationFits, ModeFits, TaskFits, ProgramFits}
+use Rattle.giotto_check.proofs.cited.PortsOnce.{ports_different}
 use Rattle.giotto_check.proofs.SmallTasks.{small_if_printable}
 use Rattle.giotto_check.proofs.SoundNames.{names_have_no_dots}
 

@@ -3,14 +3,15 @@ use Rattle.std.proofs.Common.{◌≡◌, ℕ, pos, List, [], ◌∷◌, Some, No
 use Rattle.std.specs.Prelude.{codes, Ok}
 use Rattle.giotto_tasks.specs.Syntax.{number, port, binary, assign, finished, step}
 use Rattle.giotto_tasks.specs.declared.operators.BinaryOperator.TheVariants.{Add, Greater}
-use Rattle.giotto_tasks.proofs.ListLemmas.{some_same}
+use Rattle.giotto_tasks.proofs.cited.ListLemmas.{some_same}
 use Rattle.giotto_text.specs.Parsing.{parsed}
 use Rattle.giotto_text.specs.Program.{from_line, TaskDeclaration, ActuatorUpdate, ModeSwitch, TaskInvocation, ModeDeclaration, GiottoProgram}
-use Rattle.giotto_text.proofs.Adder.{adder}
+use Rattle.giotto_text.proofs.cited.Adder.{adder}
 use Rattle.giotto_rules.specs.Rules.{first_broken_rule}
-use Rattle.giotto_check.specs.Slots.{port_names, slot_of, valuation_of}
-use Rattle.giotto_check.specs.inner.Slots.{slots_of}
-use Rattle.giotto_check.specs.inner.Timetables.{HaveSlotsFrom, IsExit, IsInvocation, IsUpdate}
+use Rattle.giotto_check.specs.Slots.{port_names, valuation_of}
+use Rattle.giotto_rules.specs.Ports.{slot_of}
+use Rattle.giotto_check.specs.cited.Slots.{slots_of}
+use Rattle.giotto_check.specs.cited.Timetables.{HaveSlotsFrom, IsExit, IsInvocation, IsUpdate}
 use Rattle.giotto_check.specs.declared.timetables.SlotExit.{SlotExit}
 use Rattle.giotto_check.specs.declared.timetables.SlotInvocation.{SlotInvocation}
 use Rattle.giotto_check.specs.declared.timetables.SlotUpdate.{SlotUpdate}

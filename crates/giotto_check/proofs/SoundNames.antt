@@ -4,7 +4,7 @@ use Rattle.std.specs.List.{list_all, flat_map}
 use Rattle.std.proofs.lemmas.Bool.{and_parts, and_from, false≢true, eqb-true}
 use Rattle.std.proofs.lemmas.List.Folds.{list_all-append}
 use Rattle.giotto_tasks.specs.declared.names.Name.{Name}
-use Rattle.giotto_tasks.proofs.ListLemmas.{all_wider}
+use Rattle.giotto_tasks.proofs.cited.ListLemmas.{all_wider}
 use Rattle.giotto_text.specs.declared.tokens.Token.{Token}
 use Rattle.giotto_text.specs.Bytes.{is_letter, is_name_byte}
 use Rattle.giotto_text.specs.Canonical.{sensor_tokens, actuator_tokens, output_tokens, task_tokens}

@@ -2,7 +2,7 @@
 
 ghost use Rattle.std.specs.Prelude.{◌≡◌, ◌-◌, ◌^◌, min};
 ghost use Rattle.giotto_text.specs.ProgramTrees.{mode_of, update_of, switch_of, invocation_of, guard_of};
-ghost use Rattle.giotto_check.specs.Costs as costs;
+ghost use Rattle.giotto_rules.specs.Costs as costs;
 
 use giotto_tasks::bodies::{Body, Expr};
 use giotto_tasks::{cost, driver_cost};

@@ -4,13 +4,14 @@
 
 ghost use Rattle.std.specs.Prelude.{◌≡◌, ◌+◌, ℕ, ℤ, List, length, Some, slice_get, slice_range, slice_set};
 ghost use Rattle.giotto_tasks.specs.declared.names.Name.{Name};
-ghost use Rattle.giotto_tasks.specs.inner.Sources.{names_in};
+ghost use Rattle.giotto_tasks.specs.cited.Sources.{names_in};
 ghost use Rattle.giotto_tasks.specs.Names.{value_at, with_value};
 ghost use Rattle.giotto_text.specs.PortNames.{with_values};
 ghost use Rattle.giotto_text.specs.Program.{GiottoProgram};
-ghost use Rattle.giotto_check.specs.inner.Slots.{AreValuesOf, HasSlot, HaveSlots, PortNamesDiffer, own_values, slots_of, with_own_values, with_range, with_slots};
-ghost use Rattle.giotto_check.specs.Slots.{ProgramPort, port_names, ports_of, shown_name, valuation_of};
-ghost use Rattle.giotto_check.specs.inner.Timetables.{AreInRow, HaveSlotsFrom};
+ghost use Rattle.giotto_check.specs.cited.Slots.{AreValuesOf, HasSlot, HaveSlots, PortNamesDiffer, own_values, slots_of, with_own_values, with_range, with_slots};
+ghost use Rattle.giotto_rules.specs.Ports.{ProgramPort, ports_of, shown_name};
+ghost use Rattle.giotto_check.specs.Slots.{port_names, valuation_of};
+ghost use Rattle.giotto_check.specs.cited.Timetables.{AreInRow, HaveSlotsFrom};
 
 /// Ports are numbered in their order, and their names are those of the map.
 pub fn in_order()

@@ -11,21 +11,22 @@
 //! ```
 //!
 //! A [`Checked`] program has its greatest cost, and its ports, tasks and modes by number: [`timetables`] has what an instant
-//! needs of it. The rules are those of the crate `giotto_rules`; `specs/Facts.antt` says what follows from them, `Slots.antt`
-//! how ports are numbered, and `Timetables.antt` what the entries stand for.
+//! needs of it. The rules, the ports in their order and the costs are those of the crate `giotto_rules`; `specs/Slots.antt` says
+//! for which map a list of values stands, and in `specs/cited/` `Facts.antt` what follows from the rules, `Slots.antt` at which
+//! slots values are, and `Timetables.antt` what the entries stand for.
 #![tactic(auto)]
 
-ghost use Rattle.std.specs.Prelude.{◌≡◌, ◌≤◌, ℕ, ◌-◌, ◌^◌, min, [], Some, None, IsOk, IfOk, IfErr, IsSomeAnd, length};
+ghost use Rattle.std.specs.Prelude.{◌≡◌, ◌<◌, ◌≤◌, ℕ, ◌-◌, ◌^◌, min, [], Some, None, IsOk, IfOk, IfErr, IsSomeAnd, length};
 ghost use Rattle.std.specs.List.{slice_get};
 ghost use Rattle.std.specs.Option.{option_map};
 ghost use Rattle.giotto_text.specs.Program.{ModeDeclaration};
-ghost use Rattle.giotto_rules.specs.inner.KeepsRules.{KeepsRules};
+ghost use Rattle.giotto_rules.specs.cited.KeepsRules.{KeepsRules};
 ghost use Rattle.giotto_rules.specs.Rules.{first_broken_rule};
-ghost use Rattle.giotto_check.specs.Costs.{greatest_cost_of};
-ghost use Rattle.giotto_check.specs.inner.Facts.{ProgramFits};
-ghost use Rattle.giotto_check.specs.Slots.{slot_of};
-ghost use Rattle.giotto_check.specs.inner.Slots.{slots_of};
-ghost use Rattle.giotto_check.specs.inner.Timetables.{AreEach, AreExits, AreInvocations, AreTaskSlots, AreUpdates, IsTimetable};
+ghost use Rattle.giotto_rules.specs.Costs.{greatest_cost_of};
+ghost use Rattle.giotto_check.specs.cited.Facts.{ProgramFits};
+ghost use Rattle.giotto_rules.specs.Ports.{slot_of};
+ghost use Rattle.giotto_check.specs.cited.Slots.{slots_of};
+ghost use Rattle.giotto_check.specs.cited.Timetables.{AreEach, AreExits, AreInvocations, AreTaskSlots, AreUpdates, IsTimetable};
 ghost use Rattle.giotto_check.specs.declared.CheckFault.{CheckFault};
 
 mod greatest_cost;
@@ -54,7 +55,7 @@ struct Contents {
 
 impl Model for Contents {
     ghost use Rattle.giotto_text.specs.Program.{GiottoProgram};
-    ghost use Rattle.giotto_text.specs.inner.ProgramCodes.{program_code};
+    ghost use Rattle.giotto_text.specs.cited.ProgramCodes.{program_code};
     ghost use Rattle.giotto_check.specs.inner.Checked.{IsChecked};
 
     ghost Value = { GiottoProgram };
@@ -85,7 +86,7 @@ pub struct Checked {
 impl Model for Checked {
     ghost use Rattle.std.specs.Arc.{arc_value};
     ghost use Rattle.giotto_text.specs.Program.{GiottoProgram};
-    ghost use Rattle.giotto_text.specs.inner.ProgramCodes.{program_code};
+    ghost use Rattle.giotto_text.specs.cited.ProgramCodes.{program_code};
 
     ghost Value = { GiottoProgram };
 
@@ -114,6 +115,17 @@ impl Checked {
     {
         let contents: &Contents = &self.contents;
         &contents.program
+    }
+
+    /// Opens what is known of the type, for a proof; does nothing.
+    #[inline(always)]
+    pub fn known(&self)
+        ensures rules { KeepsRules self.now }
+        ensures fits { ProgramFits self.now }
+        ensures countable { slots_of self.now < 2 ^ 64 }
+    {
+        let _program = self.program();
+        let _slots = self.slots();
     }
 
     /// A share of the same program.
@@ -150,7 +162,7 @@ impl Checked {
         ensures { result ≡ slot_of self.now (option_map (λ t. t.now) task.entry) name.now }
     {
         // They can be counted, so no sum below is too large.
-        let _slots = self.slots();
+        self.known();
         slots::slot(self.program(), task, name)
     }
 
@@ -205,7 +217,7 @@ fn fits(program: &Program)
     ensures rules { KeepsRules program.now }
     ensures fits { ProgramFits program.now }
 {
-    let _parts = program.parts();
+    program.known();
     giotto_text::laws::shallow();
 }
 

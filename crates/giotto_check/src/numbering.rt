@@ -1,8 +1,8 @@
 //! The numbers of a program's ports, tasks and modes, and its lines read through them.
 
 ghost use Rattle.std.specs.Prelude.{IfOk};
-ghost use Rattle.giotto_check.specs.inner.Facts.{ProgramFits};
-ghost use Rattle.giotto_check.specs.inner.Timetables.{IsNumbering};
+ghost use Rattle.giotto_check.specs.cited.Facts.{ProgramFits};
+ghost use Rattle.giotto_check.specs.cited.Timetables.{IsNumbering};
 
 mod exits;
 mod invocations;

@@ -6,8 +6,8 @@ ghost use Rattle.std.specs.Option.{option_map};
 ghost use Rattle.giotto_tasks.specs.Names.{same_name};
 ghost use Rattle.giotto_text.specs.ProgramTrees.{task_of};
 ghost use Rattle.giotto_rules.specs.Declarations.{driver_ports};
-ghost use Rattle.giotto_check.specs.Slots.{is_port, ports_of_task, slot_of};
-ghost use Rattle.giotto_check.specs.inner.Slots.{slots_of};
+ghost use Rattle.giotto_rules.specs.Ports.{is_port, ports_of_task, slot_of};
+ghost use Rattle.giotto_check.specs.cited.Slots.{slots_of};
 
 use giotto_tasks::bodies::Body;
 use giotto_tasks::names::Name;

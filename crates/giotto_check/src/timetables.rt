@@ -1,7 +1,7 @@
 //! What an instant needs of a program, over the numbers of its ports: no name is looked up.
 
 ghost use Rattle.std.specs.Prelude.{◌≡◌};
-ghost use Rattle.giotto_check.specs.inner.Timetables.{value_over};
+ghost use Rattle.giotto_check.specs.cited.Timetables.{value_over};
 
 use giotto_tasks::code::driver::DriverCode;
 

@@ -15,7 +15,7 @@ use Rattle.giotto_read.specs.inner.Doing.{ComesNext, left, Does}
 use Rattle.giotto_text.specs.Parsing.{end_mark, this, Outcome, got, stopped, Parser, done, behind, ◌>>=◌, ◌>>◌, next_of, taken, read_one, read_token, pick, if_next, up_to, many, same_token, read_list, read_parentheses}
 use Rattle.giotto_read.proofs.DoingSteps.{comes_next}
 use Rattle.giotto_read.proofs.NextToken.{next_token}
-use Rattle.giotto_text.proofs.SameToken.{same_token_self, is_this}
+use Rattle.giotto_text.proofs.cited.SameToken.{same_token_self, is_this}
 use Rattle.giotto_read.proofs.Shrinking.{Shrinks, Progresses, one_progresses, progresses_bind}
 
 -- these values, and then those

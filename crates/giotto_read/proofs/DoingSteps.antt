@@ -15,7 +15,7 @@ use Rattle.giotto_text.specs.declared.tokens.Symbol.{Symbol}
 use Rattle.giotto_read.specs.inner.Doing.{left, with_end, offset_at, ComesNext}
 use Rattle.giotto_text.specs.Parsing.{end_mark, Outcome, got, stopped, reading, read_all, read_program, taken, read_one, next_of, same_token, this, name_in, is_name, number_in, unary_in, binary_in}
 use Rattle.giotto_read.proofs.NextToken.{next_token}
-use Rattle.giotto_text.proofs.SameToken.{same_token_self, is_this}
+use Rattle.giotto_text.proofs.cited.SameToken.{same_token_self, is_this}
 
 -- the next token is the first that is left
 next_left : (ts : List PlacedToken) (i : ℕ) (t : Token) → slice_get (with_end ts) i ≡ Some t → next_of (drop i ts) ≡ t

@@ -3,7 +3,7 @@ use Rattle.std.proofs.Common.{◌≡◌, false, ◌++◌, take, ap, sym, ◌∙�
 use Rattle.std.proofs.lemmas.List.{map-append, take-append-drop}
 use Rattle.giotto_text.specs.Nesting.{nests_too_deep}
 use Rattle.giotto_text.specs.Tokens.{bare}
-use Rattle.giotto_text.proofs.CanonicalNesting.{open_after, deep_parts, deep_less}
+use Rattle.giotto_text.proofs.cited.CanonicalNesting.{open_after, deep_parts, deep_less}
 use Rattle.giotto_read.specs.inner.Doing.{left}
 use Rattle.giotto_read.specs.declared.reader.Reader.{Reader}
 

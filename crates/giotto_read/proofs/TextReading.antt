@@ -3,7 +3,7 @@ use Rattle.std.proofs.Common.{◌≡◌, ◌≢◌, List, ℕ, Err, length, refl
 use Rattle.giotto_text.specs.declared.faults.ReadFault.{ReadFault}
 use Rattle.giotto_text.specs.declared.faults.ReadFault.TheVariants.{Syntax, TooDeep, TooMany, Memory}
 use Rattle.giotto_text.specs.Parsing.{parsed, parsed_tokens}
-use Rattle.giotto_text.specs.inner.Reading.{IsLexicalFault}
+use Rattle.giotto_text.specs.cited.Reading.{IsLexicalFault}
 
 pub parsed_at_fault : (text : List ℕ) (f : ReadFault) → IsLexicalFault text f → f ≢ Memory → parsed text ≡ Err f
 parsed_at_fault text (Syntax offset) e other = ap (parsed_tokens (length text)) e

@@ -10,8 +10,8 @@
 //! ```
 //!
 //! The definitions stand in the crate `giotto_text`. The private module `reader` has one function for each line of the
-//! grammar, each against its line of `giotto_text/specs/Parsing`; `printing` has one for each part of
-//! `giotto_text/specs/Canonical`.
+//! grammar, each against its line of `giotto_text/specs/Parsing.antt`; `printing` has one for each part of
+//! `giotto_text/specs/Canonical.antt`.
 #![tactic(auto)]
 
 mod printing;

@@ -7,13 +7,7 @@ pub mod DriverLemmas
 pub mod EvaluationLemmas
 pub mod Examples
 pub mod FrameLemmas
-pub mod IndexLemmas
-pub mod ListLemmas
-pub mod NameLemmas
 pub mod PlaceLemmas
-pub mod SoundLemmas
 pub mod StepsLemmas
-pub mod TestLemmas
-pub mod TreeLemmas
-pub mod ValuationLemmas
 pub mod WordLemmas
+pub mod cited

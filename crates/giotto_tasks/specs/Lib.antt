@@ -6,4 +6,5 @@ pub mod Names
 pub mod Sound
 pub mod Syntax
 pub mod Trees
+pub mod cited
 pub mod inner

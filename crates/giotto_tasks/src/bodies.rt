@@ -61,7 +61,7 @@ pub struct Body {
 
 impl Model for Body {
     ghost use Rattle.giotto_tasks.specs.Syntax.{TaskBody};
-    ghost use Rattle.giotto_tasks.specs.inner.Codes.{body_code};
+    ghost use Rattle.giotto_tasks.specs.cited.Codes.{body_code};
     ghost use Rattle.giotto_tasks.specs.inner.HasCode.{IsCompiled};
     ghost use Rattle.giotto_tasks.specs.Trees.{body_of};
 

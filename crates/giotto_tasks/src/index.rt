@@ -1,7 +1,7 @@
 //! Names by their places in a list.
 
 ghost use Rattle.std.specs.Prelude.{◌≡◌, ◌<◌, ◌^◌, IfOk, length};
-ghost use Rattle.giotto_tasks.specs.inner.Places.{place_from};
+ghost use Rattle.giotto_tasks.specs.cited.Places.{place_from};
 ghost use Rattle.giotto_tasks.specs.Names as tasks;
 ghost use Rattle.giotto_tasks.specs.Sound as sound;
 
@@ -25,7 +25,7 @@ impl Model for Index {
     ghost use Rattle.std.specs.Prelude.{◌≡◌, List};
     ghost use Rattle.giotto_tasks.specs.declared.names.Name.{Name};
     ghost use Rattle.giotto_tasks.specs.Sound as sound;
-    ghost use Rattle.giotto_tasks.specs.inner.Places.{HasPlaces};
+    ghost use Rattle.giotto_tasks.specs.cited.Places.{HasPlaces};
 
     ghost Value = { List Name };
 

@@ -4,7 +4,7 @@ use Rattle.std.specs.Fmt.{digits}
 use Rattle.std.specs.Result.{result_map_both}
 use Rattle.giotto_text.specs.Canonical.{canonical_of}
 use Rattle.giotto_text.specs.Parsing.{parsed}
-use Rattle.giotto_text.proofs.Adder.{adder}
+use Rattle.giotto_text.proofs.cited.Adder.{adder}
 
 pub canonical_adder : canonical_of adder ≡ codes "sensor s := 0 line 0 ; actuator a := 0 ; output o := 0 ; task T ( i ) output o { o := i + 1 ; } mode m period 2 { actfreq 1 do a := o ; taskfreq 1 do T ( s ) ; } start m ;"
 unfolding digits

@@ -14,7 +14,7 @@ use Rattle.giotto_text.specs.Nesting.{nests_too_deep}
 use Rattle.giotto_text.specs.Program.{ModeSwitch, GiottoProgram}
 use Rattle.giotto_text.specs.Sound.{is_sound_token}
 use Rattle.giotto_text.specs.Spelling.{SpellsParts, all_spelled, token_spelled, line_spelled, Spells}
-use Rattle.giotto_text.proofs.CanonicalNesting.{Keeps, keeps_same, keeps_through, keeps_token, keeps_behind, keeps_before, balanced_expression, parentheses_dropped, braces_dropped, token_dropped}
+use Rattle.giotto_text.proofs.cited.CanonicalNesting.{Keeps, keeps_same, keeps_through, keeps_token, keeps_behind, keeps_before, balanced_expression, parentheses_dropped, braces_dropped, token_dropped}
 use Rattle.giotto_text.proofs.PartTokens.{part_tokens, tokens_of_parts, tokens-append, program_becomes, sensor_becomes, actuator_becomes, task_becomes, block_becomes, mode_becomes, update_becomes, switch_with, plain_switch_becomes, braced_switch_becomes, invocation_becomes}
 
 operand_keeps : (e : Expression) → Keeps (operand_tokens e (expression_tokens e)) (expression_tokens e)

@@ -5,7 +5,7 @@ use Rattle.std.proofs.lemmas.List.Folds.{flat_map-map}
 use Rattle.std.proofs.lemmas.Grind.{flat_map-append}
 use Rattle.std.specs.List.{AllByRecursion, flat_map}
 use Rattle.giotto_tasks.specs.declared.names.Name.{Name}
-use Rattle.giotto_tasks.proofs.ListLemmas.{all_append}
+use Rattle.giotto_tasks.proofs.cited.ListLemmas.{all_append}
 use Rattle.giotto_tasks.specs.Syntax as body
 use Rattle.giotto_tasks.specs.Syntax.{Expression, Block}
 use Rattle.giotto_text.specs.declared.tokens.Keyword.{Keyword}

@@ -13,7 +13,7 @@ use Rattle.giotto_text.specs.Program.{Source, from_line, from_grant, SensorDecla
 use Rattle.giotto_text.proofs.Forms.{Form, closed, one, mark, led, ended, both, either, optional, Fails, Begins, Repeats, Writes, first_token_is, line_writes, same_writes}
 use Rattle.giotto_text.proofs.ParserSteps.{Parses, bind, mapped, parsed_as, either_parses, optional_parses}
 use Rattle.giotto_text.proofs.ParserTokens.{a_name, an_int, begins_not, repeats_of, token_parses, led_parses, ended_parses, name_parses, int_parses}
-use Rattle.giotto_text.proofs.SameToken.{is_this}
+use Rattle.giotto_text.proofs.cited.SameToken.{is_this}
 use Rattle.giotto_text.proofs.ExpressionLines.{an_initial, initial_parses}
 
 abbrev pub becomes : Token

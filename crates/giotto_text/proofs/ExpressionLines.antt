@@ -16,7 +16,7 @@ use Rattle.giotto_text.specs.Spelling.{BeginsParts}
 use Rattle.giotto_text.proofs.Forms.{Form, closed, element, one, both, led, ended, either, optional, optional_parts, Fails, Writes, first_token_is, or_false, wider_closed, line_writes, same_writes}
 use Rattle.giotto_text.proofs.ParserSteps.{Parses, bind, mapped, parsed_as, either_parses, optional_parses}
 use Rattle.giotto_text.proofs.ParserTokens.{a_name, an_int, a_size, a_unary_operator, a_binary_operator, is_number, int_starts, unary_again, binary_again, no_some, begins_not, deeper_parses, led_parses, ended_parses, name_parses, size_parses, int_parses, unary_parses, binary_parses}
-use Rattle.giotto_text.proofs.SameToken.{is_this}
+use Rattle.giotto_text.proofs.cited.SameToken.{is_this}
 
 -- init = ["-"] INT
 

@@ -1,6 +1,4 @@
-pub mod Adder
 pub mod CanonicalExamples
-pub mod CanonicalNesting
 pub mod CanonicalReads
 pub mod CanonicalSound
 pub mod CanonicalSpells
@@ -23,9 +21,8 @@ pub mod PartTokens
 pub mod Prefixes
 pub mod Printable
 pub mod ProgramLines
-pub mod SameToken
 pub mod Shallow
-pub mod SmallTasks
 pub mod SoundTokens
 pub mod TaskLines
 pub mod TokenRules
+pub mod cited

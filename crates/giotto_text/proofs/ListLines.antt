@@ -13,7 +13,7 @@ use Rattle.giotto_text.specs.Spelling.{BeginsParts}
 use Rattle.giotto_text.proofs.Forms.{Form, closed, element, one, mark, led, ended, both, either, many, optional, Fails, Begins, MayBegin, Repeats, Writes, or_right, first_token_is, led_begins, apart_many, same_writes}
 use Rattle.giotto_text.proofs.ParserSteps.{Parses, bind_apart, mapped, parsed_as, either_parses, optional_parses, many_parses}
 use Rattle.giotto_text.proofs.ParserTokens.{isnt_this, begins_not, repeats_of, token_parses, led_parses, ended_parses}
-use Rattle.giotto_text.proofs.SameToken.{is_this}
+use Rattle.giotto_text.proofs.cited.SameToken.{is_this}
 use Rattle.giotto_text.proofs.ExpressionLines.{opening, closing}
 
 -- any number of things, as long as such a token comes next

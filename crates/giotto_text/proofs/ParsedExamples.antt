@@ -5,7 +5,7 @@ use Rattle.giotto_tasks.specs.declared.operators.BinaryOperator.TheVariants as o
 use Rattle.giotto_tasks.specs.declared.operators.UnaryOperator.TheVariants as unary_operators
 use Rattle.giotto_text.specs.Parsing.{parsed}
 use Rattle.giotto_text.specs.Program.{from_line, from_grant, GiottoProgram}
-use Rattle.giotto_text.proofs.Adder.{adder_text, adder}
+use Rattle.giotto_text.proofs.cited.Adder.{adder_text, adder}
 
 pub the_adder : parsed adder_text ≡ Ok adder
 the_adder = refl

@@ -21,7 +21,7 @@ use Rattle.giotto_text.specs.Spelling.{SpellsParts, all_spelled, line_spelled, B
 use Rattle.giotto_text.specs.Tokens.{bare}
 use Rattle.giotto_text.proofs.Forms.{Form, one_token, mark, one, both, led, ended, Fails, Begins, Repeats, Writes, first_token_is, apart_closed, apart_mark, line_writes, same_writes}
 use Rattle.giotto_text.proofs.ParserSteps.{Right, Parses, Spans, one_right, behind_right, bind_apart, mapped, parsed_as}
-use Rattle.giotto_text.proofs.SameToken.{same_token_self, is_this}
+use Rattle.giotto_text.proofs.cited.SameToken.{same_token_self, is_this}
 
 pub isnt_this : (t u : Token) → same_token t u ≡ false → u ≢ t
 isnt_this t u e same = let yes : true ≡ false = sym (same_token_self t) ∙ ap (same_token t) (sym same) ∙ e in cc

@@ -26,7 +26,7 @@ use Rattle.giotto_text.specs.Program.{TaskDeclaration, ActuatorUpdate, ModeSwitc
 use Rattle.giotto_text.specs.Sound.{can_be_printed, IsPrintable}
 use Rattle.giotto_text.specs.Spelling.{SpellsParts, all_spelled}
 use Rattle.giotto_text.specs.Tokens.{bare}
-use Rattle.giotto_text.proofs.CanonicalNesting.{IsBalanced, open_after, open_after-append, deep_parts, deep_less, balanced_expression, balanced_operand, unary_symbol_opens_none, binary_symbol_opens_none}
+use Rattle.giotto_text.proofs.cited.CanonicalNesting.{IsBalanced, open_after, open_after-append, deep_parts, deep_less, balanced_expression, balanced_operand, unary_symbol_opens_none, binary_symbol_opens_none}
 use Rattle.giotto_text.proofs.CanonicalSound.{spelled_keeps}
 use Rattle.giotto_text.proofs.ParserSteps.{Right, came, broke}
 use Rattle.giotto_text.proofs.PartTokens.{tokens_of_parts}

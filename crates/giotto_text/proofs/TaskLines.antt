@@ -18,7 +18,7 @@ use Rattle.giotto_text.specs.Spelling.{BeginsParts, line_begun}
 use Rattle.giotto_text.proofs.Forms.{Form, closed, element, one, led, ended, both, either, many, optional, Fails, AreApart, Begins, Repeats, Writes, first_token_is, or_false, wider_closed, apart_first, apart_both, line_writes}
 use Rattle.giotto_text.proofs.ParserSteps.{Parses, bind, bind_apart, mapped, parsed_as, either_parses, optional_parses, many_parses}
 use Rattle.giotto_text.proofs.ParserTokens.{a_name, an_int, begins_not, repeats_of, deeper_parses, led_parses, ended_parses, name_parses, int_parses}
-use Rattle.giotto_text.proofs.SameToken.{is_this}
+use Rattle.giotto_text.proofs.cited.SameToken.{is_this}
 use Rattle.giotto_text.proofs.ExpressionLines.{an_initial, an_expression, closing, initial_parses, expressions_parse}
 use Rattle.giotto_text.proofs.DeclarationLines.{becomes, semicolon}
 use Rattle.giotto_text.proofs.ListLines.{in_parentheses, behind, parentheses_parse, behind_parses, behind_begins}

@@ -3,7 +3,7 @@ use Rattle.std.proofs.Common.{◌≡◌, ◌∷◌, [], Ok, Err, codes, refl}
 use Rattle.giotto_text.specs.declared.tokens.Keyword.TheVariants.{Do, Sensor}
 use Rattle.giotto_text.specs.declared.tokens.Symbol.TheVariants.{Becomes, Semicolon, AtMost, Less, EqualEqual, Minus, Not, Slash}
 use Rattle.giotto_text.specs.Tokens.{tokens_of}
-use Rattle.giotto_text.proofs.Adder.{word, named, count, mark}
+use Rattle.giotto_text.proofs.cited.Adder.{word, named, count, mark}
 
 -- a number is digits alone: no blank need stand between it and a word
 pub number_then_keyword : tokens_of (codes "1do") ≡ Ok (count 1 0 ∷ word Do 1 ∷ [])

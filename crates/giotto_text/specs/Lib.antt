@@ -11,4 +11,4 @@ pub mod Reading
 pub mod Sound
 pub mod Spelling
 pub mod Tokens
-pub mod inner
+pub mod cited

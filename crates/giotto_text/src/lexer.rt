@@ -5,7 +5,7 @@ ghost use Rattle.std.specs.List.{find, prefix_len, AllPass};
 ghost use Rattle.giotto_tasks.specs.Names.{same_name};
 ghost use Rattle.giotto_text.specs.Bytes.{is_digit, is_name_byte, is_blank_of_text};
 ghost use Rattle.giotto_text.specs.Tokens.{first_token, text_of_keyword, word, number, mark, tokens_of, keyword_of, symbol_at};
-ghost use Rattle.giotto_text.specs.inner.Reading.{IsLexicalFault};
+ghost use Rattle.giotto_text.specs.cited.Reading.{IsLexicalFault};
 
 use crate::faults::ReadFault;
 use crate::name_bytes::{is_digit, is_letter, is_name_byte};

@@ -16,7 +16,7 @@
 //!
 //! The definitions stand in `specs/`: `Tokens` and `Grammar` first, then `Spelling` (what tokens spell, and what they begin
 //! to spell), `Nesting` and `Reading`; `Parsing` computes what a text reads as, and `Canonical` how a program is printed.
-//! `proofs/TokenRules`, `ParsedExamples`, `ParsedFaults` and `CanonicalExamples` show the rules by example.
+//! `proofs/TokenRules.antt`, `ParsedExamples.antt`, `ParsedFaults.antt` and `CanonicalExamples.antt` show the rules by example.
 #![tactic(auto)]
 
 pub mod faults;

@@ -18,7 +18,7 @@ pub struct Program {
 
 impl Model for Program {
     ghost use Rattle.giotto_text.specs.Program.{GiottoProgram};
-    ghost use Rattle.giotto_text.specs.inner.ProgramCodes.{program_code};
+    ghost use Rattle.giotto_text.specs.cited.ProgramCodes.{program_code};
     ghost use Rattle.giotto_text.specs.Sound.{IsPrintable};
 
     ghost Value = { GiottoProgram };
@@ -50,6 +50,14 @@ impl Program {
         ensures printable { IsPrintable self.now }
     {
         &self.parts
+    }
+
+    /// Opens what is known of the type, for a proof; does nothing.
+    #[inline(always)]
+    pub fn known(&self)
+        ensures { IsPrintable self.now }
+    {
+        let _parts = self.parts();
     }
 
     /// The sensors, in text order.
@@ -110,7 +118,7 @@ pub struct Parts {
 impl Model for Parts {
     ghost use Rattle.std.specs.Prelude.{map};
     ghost use Rattle.giotto_text.specs.Program.{GiottoProgram};
-    ghost use Rattle.giotto_text.specs.inner.ProgramCodes.{program_code};
+    ghost use Rattle.giotto_text.specs.cited.ProgramCodes.{program_code};
 
     ghost Value = { GiottoProgram };
 

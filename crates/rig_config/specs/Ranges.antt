@@ -13,8 +13,8 @@ abbrev pub is_lower : ℕ → Bool
 is_lower c = from_to 97 122 c
 
 -- a to z, 0 to 9 or _
-abbrev pub is_name_byte : ℕ → Bool
-is_name_byte c = is_lower c || from_to 48 57 c || c == 95
+abbrev pub is_byte_of_tenant_name : ℕ → Bool
+is_byte_of_tenant_name c = is_lower c || from_to 48 57 c || c == 95
 
 -- the words that begin an operator's line and the host's own replies
 abbrev pub is_kept_word : List ℕ → Bool
@@ -24,7 +24,7 @@ is_kept_word x = same_name x (codes "op") || same_name x (codes "host")
 abbrev pub is_tenant_name : List ℕ → Bool
 is_tenant_name [] = false
 is_tenant_name (c ∷ cs) =
-    is_in_range field.Name (length (c ∷ cs)) && (is_lower c && list_all is_name_byte cs && not (is_kept_word (c ∷ cs)))
+    is_in_range field.Name (length (c ∷ cs)) && (is_lower c && list_all is_byte_of_tenant_name cs && not (is_kept_word (c ∷ cs)))
 
 -- a key: bytes from 0x21 to 0x7E
 abbrev pub is_key : List ℕ → Bool

@@ -34,8 +34,8 @@ whole_in _ = None
 abbrev pub number_in : Field → Data → Option ℕ
 number_in f value = only (is_in_range f) (whole_in value)
 
-abbrev pub name_in : Data → Option (List ℕ)
-name_in value = only is_tenant_name (as_str value)
+abbrev pub tenant_name_in : Data → Option (List ℕ)
+tenant_name_in value = only is_tenant_name (as_str value)
 
 abbrev pub key_in : Data → Option (List ℕ)
 key_in value = only is_key (as_str value)
@@ -108,7 +108,7 @@ budgets_of lines t fields = do
 -- the tenant at a place of a rig with so many lines: its name, its key, its budgets
 unfoldable pub tenant_of : ℕ → ℕ → Members → Result TenantConfig ConfigFault
 tenant_of lines t fields = do
-  name ← read name_in (tenant_field t field.Name) fields
+  name ← read tenant_name_in (tenant_field t field.Name) fields
   key ← read key_in (tenant_field t field.Key) fields
   budgets ← budgets_of lines t fields
   Ok (record { name = name; key = key; budgets = budgets })

@@ -5,7 +5,7 @@ ghost use Rattle.std.specs.List.{list_all, list_any};
 ghost use Rattle.toml.specs.View.{array_view, items_view, table_view, view};
 ghost use Rattle.rig_config.specs.Fields.{is_in_range, rig_field, tenant_field};
 ghost use Rattle.rig_config.specs.Ranges.{all_drive_apart, are_budgets, are_lines, drive_apart, is_key, is_tenant_config, is_tenant_name};
-ghost use Rattle.rig_config.specs.Reading.{budgets_of, config_of, key_in, lines_in, name_in, number, read, rig_of, rig_with, tables_in, tenant_of, tenants_from, value_of};
+ghost use Rattle.rig_config.specs.Reading.{budgets_of, config_of, key_in, lines_in, tenant_name_in, number, read, rig_of, rig_with, tables_in, tenant_of, tenants_from, value_of};
 ghost use Rattle.giotto_tasks.specs.Names.{is_among};
 ghost use Rattle.giotto_tasks.specs.Sound.{all_different};
 ghost use Rattle.rig_config.specs.Roster.{may_use};
@@ -45,7 +45,7 @@ fn number(fields: &Table, at: FieldPlace) -> Result<usize, ConfigFault>
 
 // The tenant's name.
 fn name(fields: &Table, tenant: TenantId) -> Result<Name, ConfigFault>
-    ensures value { result ≡ read name_in (tenant_field tenant field.Name) (table_view fields.now) }
+    ensures value { result ≡ read tenant_name_in (tenant_field tenant field.Name) (table_view fields.now) }
     ensures range { IfOk result (λ name. IsTrue (is_tenant_name name)) }
 {
     let at = FieldPlace::of_tenant(tenant, Field::Name);

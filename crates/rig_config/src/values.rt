@@ -5,8 +5,8 @@ ghost use Rattle.std.specs.List.{list_all};
 ghost use Rattle.std.specs.Option.{option_copied};
 ghost use Rattle.toml.specs.View.{array_view, items_view, view};
 ghost use Rattle.rig_config.specs.Fields.{from_to, is_in_range};
-ghost use Rattle.rig_config.specs.Ranges.{are_lines, is_key, is_lower, is_name_byte, is_tenant_name};
-ghost use Rattle.rig_config.specs.Reading.{are_tables, key_in, line_in, lines_in, name_in, number_in, tables_in, whole_in};
+ghost use Rattle.rig_config.specs.Ranges.{are_lines, is_key, is_lower, is_byte_of_tenant_name, is_tenant_name};
+ghost use Rattle.rig_config.specs.Reading.{are_tables, key_in, line_in, lines_in, tenant_name_in, number_in, tables_in, whole_in};
 ghost use Rattle.rig_config.specs.declared.faults.Field.TheVariants as field;
 
 use crate::faults::Field;
@@ -38,7 +38,7 @@ pub(crate) fn number_in(field: Field, value: &Value) -> Option<usize>
 
 // The tenant's name that a value is.
 pub(crate) fn name_in(value: &Value) -> Option<Name>
-    ensures value { result ≡ name_in (view value.now) }
+    ensures value { result ≡ tenant_name_in (view value.now) }
     ensures range { IfSome result (λ name. IsTrue (is_tenant_name name)) }
 {
     let text = value.as_str()?;
@@ -69,7 +69,7 @@ fn is_lower(byte: u8) -> bool
 }
 
 fn are_name_bytes(bytes: &[u8]) -> bool
-    ensures { result ≡ list_all is_name_byte bytes.now }
+    ensures { result ≡ list_all is_byte_of_tenant_name bytes.now }
 {
     bytes.iter().all(|&byte| is_lower(byte) || (b'0' <= byte && byte <= b'9') || byte == b'_')
 }

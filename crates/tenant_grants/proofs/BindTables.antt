@@ -12,7 +12,7 @@ use Rattle.tenant_grants.specs.Grants.{Owner, unbound, is_bind_of, without, bind
 use Rattle.tenant_grants.specs.declared.faults.GrantFault.TheVariants.{NoTenant, Own}
 use Rattle.tenant_grants.specs.declared.tables.Sensor.{Sensor}
 use Rattle.tenant_grants.specs.declared.tables.Supplier.{Supplier}
-use Rattle.tenant_grants.specs.inner.Tables.{ArePlaced, bind_of, placed}
+use Rattle.tenant_grants.specs.inner.Tables.{AreSuppliersPlaced, bind_of, placed}
 
 -- what the tables of the toolchain leave of their keys is `without`
 pub without_keys : {A : Type 0} (test : A → Bool) (xs : List A) → remove_key test xs ≡ without test xs
@@ -57,7 +57,7 @@ place_other_side owner x u h = by (place_in owner.roster x) h
         other true h = cc
         other false h = cc
 
-placed_at : (owner : Owner) (es : List (Sensor × Supplier)) → ArePlaced owner es → (i : ℕ) (e : Sensor × Supplier) → slice_get es i ≡ Some e → place_in owner.roster e.1.tenant ≡ Some e.1.place
+placed_at : (owner : Owner) (es : List (Sensor × Supplier)) → AreSuppliersPlaced owner es → (i : ℕ) (e : Sensor × Supplier) → slice_get es i ≡ Some e → place_in owner.roster e.1.tenant ≡ Some e.1.place
 placed_at owner [] all i e at = cc
 placed_at owner (x ∷ es) all zero e at = let same : x ≡ e = cc in subst (λ (y : Sensor × Supplier). place_in owner.roster y.1.tenant ≡ Some y.1.place) same (place_other_side owner x.1.tenant x.1.place all.0)
 placed_at owner (x ∷ es) all (suc i) e at = placed_at owner es all.1 i e at
@@ -79,7 +79,7 @@ module _ (P : Sensor × Supplier → Type 0) where
   all_push (x ∷ es) e all here = (all.0, all_push es e all.1 here)
 
 -- the binds by place are the entries by place
-pub bind_at_entries : (owner : Owner) (es : List (Sensor × Supplier)) → ArePlaced owner es → (i : ℕ) → option_map placed (slice_get es i) ≡ bind_at owner.roster (map bind_of es) i
+pub bind_at_entries : (owner : Owner) (es : List (Sensor × Supplier)) → AreSuppliersPlaced owner es → (i : ℕ) → option_map placed (slice_get es i) ≡ bind_at owner.roster (map bind_of es) i
 bind_at_entries owner es all i = rw (slice_get-map bind_of es i) (by (slice_get es i) (λ e at. placed_at owner es all i e at))
   where
     by : (o : Option (Sensor × Supplier)) → ((e : Sensor × Supplier) → o ≡ Some e → place_in owner.roster e.1.tenant ≡ Some e.1.place)

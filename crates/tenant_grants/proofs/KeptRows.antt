@@ -15,7 +15,7 @@ use Rattle.tenant_grants.specs.declared.tables.Supplier.{Supplier}
 use Rattle.tenant_grants.specs.declared.faults.GrantFault.{GrantFault}
 use Rattle.tenant_grants.proofs.BindTables.{all_without, all_push, without_keys}
 use Rattle.tenant_grants.specs.inner.Held.{AreHeld}
-use Rattle.tenant_grants.specs.inner.Tables.{ArePlaced, bind_of}
+use Rattle.tenant_grants.specs.inner.Tables.{AreSuppliersPlaced, bind_of}
 
 -- what holds of each holds of each with one more for which it holds
 pub all_more : {A : Type 0} (P : A → Type 0) (xs : List A) (x : A) → AllByRecursion P xs → P x → AllByRecursion P (xs ++ x ∷ [])
@@ -47,7 +47,7 @@ binds_differ_entries (e ∷ es) d = (each es d.0, binds_differ_entries es d.1)
     each (f ∷ fs) h = (h.0, each fs h.1)
 
 -- suppliers with a place are other tenants
-pub binds_to_entries : (owner : Owner) (es : List (Sensor × Supplier)) → ArePlaced owner es → AllByRecursion (λ (b : Bind). IsOk (other_side owner b.tenant)) (map bind_of es)
+pub binds_to_entries : (owner : Owner) (es : List (Sensor × Supplier)) → AreSuppliersPlaced owner es → AllByRecursion (λ (b : Bind). IsOk (other_side owner b.tenant)) (map bind_of es)
 binds_to_entries owner [] h = h
 binds_to_entries owner (e ∷ es) h = (rw (h.0) refl, binds_to_entries owner es h.1)
 

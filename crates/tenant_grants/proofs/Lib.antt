@@ -1,5 +1,5 @@
-pub mod GrantExamples
 pub mod BindTables
-pub mod RowLists
+pub mod GrantExamples
 pub mod KeptRows
 pub mod Rosters
+pub mod RowLists

@@ -32,8 +32,8 @@ abbrev pub place_in : List Name → Name → Option ℕ
 place_in roster x = position (λ n. same_name n x) roster
 
 -- the name of the tenant at a place; no name where the roster has no such place
-abbrev pub name_in : List Name → ℕ → Name
-name_in roster t = unwrap_or (slice_get roster t) []
+abbrev pub name_of_place : List Name → ℕ → Name
+name_of_place roster t = unwrap_or (slice_get roster t) []
 
 -- the offer is of this actuator to the tenant of this name
 abbrev pub is_offer_of : Name → Name → Offer → Bool

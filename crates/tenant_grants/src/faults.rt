@@ -1,5 +1,6 @@
 //! Why a row isn't made or taken out.
 
+use std::alloc::AllocFailed;
 use thiserror::Error;
 
 /// Why a row isn't made or taken out. Of several reasons the first in this order is told.
@@ -23,4 +24,15 @@ pub enum GrantFault {
     /// Want of memory.
     #[error("out of memory")]
     Memory,
+}
+
+impl<T: Drop> From<AllocFailed<T>> for GrantFault {
+    ghost use Rattle.std.specs.Prelude.{◌≡◌};
+    ghost use Rattle.tenant_grants.specs.declared.faults.GrantFault.TheVariants.{Memory};
+
+    ghost from_gives = { λ _ fault. fault ≡ Memory };
+
+    fn from(_error: AllocFailed<T>) -> GrantFault {
+        GrantFault::Memory
+    }
 }

@@ -1,7 +1,7 @@
 //! The rows of one owner.
 
 ghost use Rattle.std.specs.Prelude.{◌≡◌, ◌↔◌, ◌<◌, ◌+◌, [], ◌++◌, map, Err, Ok, IsErr, IsOk, IsSome, IfErr, IfOk, OnErr, OnOk, length};
-ghost use Rattle.tenant_grants.specs.Grants.{bind_at, bound, name_in, no_rows, offered, offers, other_side, place_in, rows_of, unbound, unoffered};
+ghost use Rattle.tenant_grants.specs.Grants.{bind_at, bound, name_of_place, no_rows, offered, offers, other_side, place_in, rows_of, unbound, unoffered};
 ghost use Rattle.tenant_grants.specs.Kept.{AreKept};
 ghost use Rattle.tenant_grants.specs.declared.rows.Row.TheVariants as row;
 ghost use Rattle.tenant_grants.specs.inner.Tables.{bind_of};
@@ -81,6 +81,14 @@ impl Grants {
         self.own
     }
 
+    /// Opens what is known of the type, for a proof; does nothing.
+    #[inline(always)]
+    pub fn known(&self)
+        ensures { AreKept self.now }
+    {
+        let _own = self.own();
+    }
+
     // The place of the tenant on the other side of a row.
     fn other_side(&self, tenant: &Name) -> Result<TenantId, GrantFault>
         ensures { result ≡ other_side self.now.owner tenant.now }
@@ -111,10 +119,8 @@ impl Grants {
         if self.offers.len() >= self.most_offers {
             return Err(GrantFault::Budget);
         }
-        match self.offers.insert(offer) {
-            Ok(_) => Ok(()),
-            Err(_) => Err(GrantFault::Memory),
-        }
+        self.offers.insert(offer)?;
+        Ok(())
     }
 
     /// Takes the offer of an actuator to the tenant of this name out; the others keep their order. Takes no memory.
@@ -140,7 +146,7 @@ impl Grants {
 
     /// Whether the actuator is offered to the tenant at a place. Takes no memory.
     pub fn offers(&self, actuator: &Name, tenant: TenantId) -> bool
-        ensures { result ≡ offers self.now.offers actuator.now (name_in self.now.owner.roster tenant) }
+        ensures { result ≡ offers self.now.offers actuator.now (name_of_place self.now.owner.roster tenant) }
     {
         let tenant = name_in(self.roster.as_slice(), tenant);
         self.offers.contains(&Offer {
@@ -233,7 +239,7 @@ fn place_in(roster: &[Name], tenant: &Name) -> Option<TenantId>
 
 // The name of the tenant at a place; no name where the roster has no such place.
 fn name_in(roster: &[Name], place: TenantId) -> Name
-    ensures { result ≡ name_in roster.now place }
+    ensures { result ≡ name_of_place roster.now place }
 {
     match roster.get(place) {
         Some(name) => name.copy(),

@@ -4,7 +4,7 @@ ghost use Rattle.std.specs.Prelude.{◌≡◌, ℕ, ℤ, List, is_some, map};
 ghost use Rattle.giotto_tasks.specs.declared.names.Name.{Name};
 ghost use Rattle.rig_config.specs.Roster.{Rig, name_at, place_of};
 ghost use Rattle.rig_config.specs.declared.TenantConfig.{TenantConfig};
-ghost use Rattle.tenant_grants.specs.Grants.{granted_value, name_in, offer_of, offers, place_in};
+ghost use Rattle.tenant_grants.specs.Grants.{granted_value, name_of_place, offer_of, offers, place_in};
 ghost use Rattle.tenant_grants.specs.declared.rows.Offer.{Offer};
 
 /// An actuator is offered where there is an offer of it, and an offer grants the actuator's value as it is.
@@ -16,5 +16,5 @@ pub fn granted_by_an_offer()
 /// The roster of a rig's names has the rig's places and names.
 pub fn roster_of_a_rig()
     ensures places { (rig : Rig) (x : Name) → place_in (map (λ (t : TenantConfig). t.name) rig.tenants) x ≡ place_of rig x }
-    ensures names { (rig : Rig) (place : ℕ) → name_in (map (λ (t : TenantConfig). t.name) rig.tenants) place ≡ name_at rig place }
+    ensures names { (rig : Rig) (place : ℕ) → name_of_place (map (λ (t : TenantConfig). t.name) rig.tenants) place ≡ name_at rig place }
 {}

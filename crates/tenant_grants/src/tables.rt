@@ -58,10 +58,8 @@ pub(crate) fn add(
     ensures same { OnErr result (binds.new.entries ≡ binds.old.entries) }
     ensures differ { IsDistinct (λ s t. same_name t.name s.name) (keys_of binds.new.entries) }
 {
-    match binds.insert(sensor, supplier) {
-        Ok(_) => Ok(()),
-        Err(_) => Err(GrantFault::Memory),
-    }
+    binds.insert(sensor, supplier)?;
+    Ok(())
 }
 
 /// The binds without a sensor's; whether it was bound.

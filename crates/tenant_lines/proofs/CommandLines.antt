@@ -4,14 +4,14 @@ use Rattle.std.proofs.lemmas.Bool.Decides.{nat_tests}
 use Rattle.std.specs.Bool.{then_some}
 use Rattle.std.specs.Option.{option_map}
 use Rattle.giotto_tasks.specs.Names.{same_name}
-use Rattle.giotto_tasks.proofs.NameLemmas.{same_name_is}
+use Rattle.giotto_tasks.proofs.cited.NameLemmas.{same_name_is}
 use Rattle.tenant_lines.specs.declared.commands.Command.{Command}
 use Rattle.tenant_lines.specs.declared.commands.Command.TheVariants.{ShowPort, Grants}
 use Rattle.tenant_lines.specs.declared.ports.PortName.{PortName}
 use Rattle.tenant_lines.specs.CommandLine.{alone, command_of_line, command_of_words, port_of_word, port_shown_by, shown_by}
 use Rattle.tenant_lines.specs.GrantLines.{grant_command_of_words}
 use Rattle.tenant_lines.specs.Words.{words_of, first_word_of, behind_first_word}
-use Rattle.tenant_lines.proofs.WordLemmas.{words_first, words_none}
+use Rattle.tenant_lines.proofs.cited.WordLemmas.{words_first, words_none}
 
 -- by cases on whether a line has a word
 pub by_word : (line : List ℕ) (P : List (List ℕ) → Type 0)

@@ -4,15 +4,15 @@ use Rattle.std.proofs.lemmas.Bool.Decides.{nat_tests}
 use Rattle.std.proofs.lemmas.List.{nil_from_length}
 use Rattle.std.specs.Bool.{then_some}
 use Rattle.giotto_tasks.specs.Names.{same_name}
-use Rattle.giotto_tasks.proofs.NameLemmas.{same_name_self}
+use Rattle.giotto_tasks.proofs.cited.NameLemmas.{same_name_self}
 use Rattle.giotto_text.specs.Bytes.{is_name}
 use Rattle.tenant_lines.specs.declared.grant_lines.GrantCommand.{GrantCommand}
 use Rattle.tenant_lines.specs.declared.grant_lines.GrantCommand.TheVariants.{Rows}
-use Rattle.tenant_lines.specs.GrantLines.{offer_of, unoffer_of, bind_of, unbind_of, grant_command_of_words}
+use Rattle.tenant_lines.specs.GrantLines.{offer_command, unoffer_command, bind_command, unbind_command, grant_command_of_words}
 use Rattle.tenant_lines.specs.Words.{words_of, first_word_of, behind_first_word}
 use Rattle.tenant_lines.specs.inner.GrantWords.{word_behind}
 use Rattle.tenant_lines.proofs.CommandLines.{by_word, not_same, words_begin}
-use Rattle.tenant_lines.proofs.WordLemmas.{words_first, words_none}
+use Rattle.tenant_lines.proofs.cited.WordLemmas.{words_first, words_none}
 
 -- another word first
 other_first : (k w : List ℕ) (ws : List (List ℕ)) → same_name w k ≡ false → word_behind k (w ∷ ws) ≡ []
@@ -76,24 +76,24 @@ of_line v k f is rest =
     no_name [] y e = is.no_name y
     no_name (c ∷ cs) y e = absurd (omega (arith, e))
 
-offer_nobody : (a : List ℕ) → offer_of a [] ≡ None
+offer_nobody : (a : List ℕ) → offer_command a [] ≡ None
 offer_nobody a = by (is_name a) refl
   where
-    by : (b : Bool) → is_name a ≡ b → offer_of a [] ≡ None
+    by : (b : Bool) → is_name a ≡ b → offer_command a [] ≡ None
     by true e = rw e refl
     by false e = rw e refl
 
-unoffer_nobody : (a : List ℕ) → unoffer_of a [] ≡ None
+unoffer_nobody : (a : List ℕ) → unoffer_command a [] ≡ None
 unoffer_nobody a = by (is_name a) refl
   where
-    by : (b : Bool) → is_name a ≡ b → unoffer_of a [] ≡ None
+    by : (b : Bool) → is_name a ≡ b → unoffer_command a [] ≡ None
     by true e = rw e refl
     by false e = rw e refl
 
-bind_nobody : (s : List ℕ) → bind_of s [] ≡ None
+bind_nobody : (s : List ℕ) → bind_command s [] ≡ None
 bind_nobody s = by (is_name s) refl
   where
-    by : (b : Bool) → is_name s ≡ b → bind_of s [] ≡ None
+    by : (b : Bool) → is_name s ≡ b → bind_command s [] ≡ None
     by true e = rw e refl
     by false e = rw e refl
 
@@ -101,8 +101,8 @@ bind_nobody s = by (is_name s) refl
 pub by_verb : (line v : List ℕ) → first_word_of line ≡ v → 0 < length v → grant_command_of_words (words_of line) ≡ grant_command_of_words (v ∷ words_of (behind_first_word line))
 by_verb line v is some = ap grant_command_of_words (words_begin line v is some)
 
-pub offered : (rest : List ℕ) → grant_command_of_words (codes "offer" ∷ words_of rest) ≡ offer_of (first_word_of rest) (word_behind (codes "to") (words_of (behind_first_word rest)))
-offered rest = of_line (codes "offer") (codes "to") offer_of (record {
+pub offered : (rest : List ℕ) → grant_command_of_words (codes "offer" ∷ words_of rest) ≡ offer_command (first_word_of rest) (word_behind (codes "to") (words_of (behind_first_word rest)))
+offered rest = of_line (codes "offer") (codes "to") offer_command (record {
   no_name = λ y. refl;
   no_word = offer_nobody;
   one = refl;
@@ -110,8 +110,8 @@ offered rest = of_line (codes "offer") (codes "to") offer_of (record {
   four = λ x w y. refl;
 }) rest
 
-pub unoffered : (rest : List ℕ) → grant_command_of_words (codes "unoffer" ∷ words_of rest) ≡ unoffer_of (first_word_of rest) (word_behind (codes "to") (words_of (behind_first_word rest)))
-unoffered rest = of_line (codes "unoffer") (codes "to") unoffer_of (record {
+pub unoffered : (rest : List ℕ) → grant_command_of_words (codes "unoffer" ∷ words_of rest) ≡ unoffer_command (first_word_of rest) (word_behind (codes "to") (words_of (behind_first_word rest)))
+unoffered rest = of_line (codes "unoffer") (codes "to") unoffer_command (record {
   no_name = λ y. refl;
   no_word = unoffer_nobody;
   one = refl;
@@ -119,8 +119,8 @@ unoffered rest = of_line (codes "unoffer") (codes "to") unoffer_of (record {
   four = λ x w y. refl;
 }) rest
 
-pub bound : (rest : List ℕ) → grant_command_of_words (codes "bind" ∷ words_of rest) ≡ bind_of (first_word_of rest) (word_behind (codes "from") (words_of (behind_first_word rest)))
-bound rest = of_line (codes "bind") (codes "from") bind_of (record {
+pub bound : (rest : List ℕ) → grant_command_of_words (codes "bind" ∷ words_of rest) ≡ bind_command (first_word_of rest) (word_behind (codes "from") (words_of (behind_first_word rest)))
+bound rest = of_line (codes "bind") (codes "from") bind_command (record {
   no_name = λ y. refl;
   no_word = bind_nobody;
   one = refl;
@@ -129,12 +129,12 @@ bound rest = of_line (codes "bind") (codes "from") bind_of (record {
 }) rest
 
 -- "unbind" and one word
-pub unbound : (rest : List ℕ) → length (first_word_of (behind_first_word rest)) ≡ 0 → grant_command_of_words (codes "unbind" ∷ words_of rest) ≡ unbind_of (first_word_of rest)
-unbound rest none = by_word rest (λ ws. grant_command_of_words (codes "unbind" ∷ ws) ≡ unbind_of (first_word_of rest))
+pub unbound : (rest : List ℕ) → length (first_word_of (behind_first_word rest)) ≡ 0 → grant_command_of_words (codes "unbind" ∷ words_of rest) ≡ unbind_command (first_word_of rest)
+unbound rest none = by_word rest (λ ws. grant_command_of_words (codes "unbind" ∷ ws) ≡ unbind_command (first_word_of rest))
     (λ no_word. sym (nobody (first_word_of rest) no_word))
     (λ some. rw (words_none (behind_first_word rest) none) refl)
   where
-    nobody : (s : List ℕ) → length s ≡ 0 → unbind_of s ≡ None
+    nobody : (s : List ℕ) → length s ≡ 0 → unbind_command s ≡ None
     nobody [] e = refl
     nobody (c ∷ cs) e = absurd (omega (arith, e))
 

@@ -5,5 +5,5 @@ pub mod GrantRows
 pub mod PortWords
 pub mod ReplyRows
 pub mod ValueLemmas
-pub mod WordLemmas
 pub mod WordRows
+pub mod cited

@@ -9,7 +9,7 @@ use Rattle.std.specs.Result.{OkIff, result_ok}
 use Rattle.std.specs.Str.Parse.{digits_value, ParsesSigned}
 use Rattle.giotto_text.specs.Bytes.{is_digit}
 use Rattle.tenant_lines.specs.Words.{digits_as, value_of_word, values_of_words, words_of, first_word_of, behind_first_word}
-use Rattle.tenant_lines.proofs.WordLemmas.{words_first, words_none}
+use Rattle.tenant_lines.proofs.cited.WordLemmas.{words_first, words_none}
 
 -- what parses decimal digits
 decimal_digits : IsNumeralModel (λ ds. list_all is_digit ds ≡ true) (digits_value 10)

@@ -8,32 +8,32 @@ use Rattle.tenant_lines.specs.declared.grant_lines.GrantCommand.TheVariants.{Off
 use Rattle.tenant_lines.specs.Words.{is_dot}
 
 -- an actuator and a tenant to offer it to, where both have the shape of names
-abbrev pub offer_of : List ℕ → List ℕ → Option GrantCommand
-offer_of a t = if is_name a && is_name t then Some (Offer a t) else None
+abbrev pub offer_command : List ℕ → List ℕ → Option GrantCommand
+offer_command a t = if is_name a && is_name t then Some (Offer a t) else None
 
 -- an actuator and a tenant to offer it to no longer
-abbrev pub unoffer_of : List ℕ → List ℕ → Option GrantCommand
-unoffer_of a t = if is_name a && is_name t then Some (Unoffer a t) else None
+abbrev pub unoffer_command : List ℕ → List ℕ → Option GrantCommand
+unoffer_command a t = if is_name a && is_name t then Some (Unoffer a t) else None
 
 -- a sensor to bind, and the tenant and its actuator whose value it is to have
-abbrev pub bind_to : List ℕ → List ℕ → List ℕ → Option GrantCommand
-bind_to s t a = if is_name s && is_name t && is_name a then Some (Bind s t a) else None
+abbrev pub bind_command_to : List ℕ → List ℕ → List ℕ → Option GrantCommand
+bind_command_to s t a = if is_name s && is_name t && is_name a then Some (Bind s t a) else None
 
 -- a sensor to bind, and TENANT.NAME, cut at its first dot
-abbrev pub bind_of : List ℕ → List ℕ → Option GrantCommand
-bind_of s w = bind_to s (before_first is_dot w) (after_first is_dot w)
+abbrev pub bind_command : List ℕ → List ℕ → Option GrantCommand
+bind_command s w = bind_command_to s (before_first is_dot w) (after_first is_dot w)
 
 -- a sensor to bind no longer
-abbrev pub unbind_of : List ℕ → Option GrantCommand
-unbind_of s = if is_name s then Some (Unbind s) else None
+abbrev pub unbind_command : List ℕ → Option GrantCommand
+unbind_command s = if is_name s then Some (Unbind s) else None
 
 -- "rows", "unbind NAME", "offer NAME to TENANT", "unoffer NAME to TENANT" or "bind NAME from TENANT.NAME"
 abbrev pub grant_command_of_words : List (List ℕ) → Option GrantCommand
 grant_command_of_words (v ∷ []) = if same_name v (codes "rows") then Some Rows else None
-grant_command_of_words (v ∷ x ∷ []) = if same_name v (codes "unbind") then unbind_of x else None
+grant_command_of_words (v ∷ x ∷ []) = if same_name v (codes "unbind") then unbind_command x else None
 grant_command_of_words (v ∷ x ∷ w ∷ y ∷ []) =
-    if same_name v (codes "offer") && same_name w (codes "to") then offer_of x y
-    else if same_name v (codes "unoffer") && same_name w (codes "to") then unoffer_of x y
-    else if same_name v (codes "bind") && same_name w (codes "from") then bind_of x y
+    if same_name v (codes "offer") && same_name w (codes "to") then offer_command x y
+    else if same_name v (codes "unoffer") && same_name w (codes "to") then unoffer_command x y
+    else if same_name v (codes "bind") && same_name w (codes "from") then bind_command x y
     else None
 grant_command_of_words _ = None

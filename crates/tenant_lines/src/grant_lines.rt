@@ -1,7 +1,7 @@
 //! The commands by which tenants grant each other values, and the lines that spell them.
 
 ghost use Rattle.std.specs.Prelude.{◌≡◌, ◌<◌, length};
-ghost use Rattle.tenant_lines.specs.GrantLines.{offer_of, unoffer_of, bind_of, bind_to, unbind_of};
+ghost use Rattle.tenant_lines.specs.GrantLines.{offer_command, unoffer_command, bind_command, bind_command_to, unbind_command};
 ghost use Rattle.tenant_lines.specs.Words.{words_of};
 ghost use Rattle.tenant_lines.specs.inner.GrantWords.{grant_command_of_line, word_behind};
 
@@ -110,7 +110,7 @@ fn word_behind<'a>(word: &str, line: &'a str) -> &'a str
 }
 
 fn offer(actuator: &str, tenant: &str) -> Option<GrantCommand>
-    ensures { result ≡ offer_of actuator.now tenant.now }
+    ensures { result ≡ offer_command actuator.now tenant.now }
 {
     Some(GrantCommand::Offer {
         actuator: name_of_word(actuator)?,
@@ -119,7 +119,7 @@ fn offer(actuator: &str, tenant: &str) -> Option<GrantCommand>
 }
 
 fn unoffer(actuator: &str, tenant: &str) -> Option<GrantCommand>
-    ensures { result ≡ unoffer_of actuator.now tenant.now }
+    ensures { result ≡ unoffer_command actuator.now tenant.now }
 {
     Some(GrantCommand::Unoffer {
         actuator: name_of_word(actuator)?,
@@ -129,14 +129,14 @@ fn unoffer(actuator: &str, tenant: &str) -> Option<GrantCommand>
 
 // `port` is TENANT.NAME.
 fn bind(sensor: &str, port: &str) -> Option<GrantCommand>
-    ensures { result ≡ bind_of sensor.now port.now }
+    ensures { result ≡ bind_command sensor.now port.now }
 {
     let (tenant, actuator) = port.split_once('.')?;
     bind_to(sensor, tenant, actuator)
 }
 
 fn bind_to(sensor: &str, tenant: &str, actuator: &str) -> Option<GrantCommand>
-    ensures { result ≡ bind_to sensor.now tenant.now actuator.now }
+    ensures { result ≡ bind_command_to sensor.now tenant.now actuator.now }
 {
     Some(GrantCommand::Bind {
         sensor: name_of_word(sensor)?,
@@ -146,7 +146,7 @@ fn bind_to(sensor: &str, tenant: &str, actuator: &str) -> Option<GrantCommand>
 }
 
 fn unbind(sensor: &str) -> Option<GrantCommand>
-    ensures { result ≡ unbind_of sensor.now }
+    ensures { result ≡ unbind_command sensor.now }
 {
     Some(GrantCommand::Unbind {
         sensor: name_of_word(sensor)?,

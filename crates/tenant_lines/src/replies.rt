@@ -61,6 +61,17 @@ pub enum Refusal {
     Memory,
 }
 
+impl From<AllocError> for Refusal {
+    ghost use Rattle.std.specs.Prelude.{◌≡◌};
+    ghost use Rattle.tenant_lines.specs.declared.replies.Refusal.TheVariants.{Memory};
+
+    ghost from_gives = { λ _ refusal. refusal ≡ Memory };
+
+    fn from(_error: AllocError) -> Refusal {
+        Refusal::Memory
+    }
+}
+
 /// What a tenant is doing, as `show mode` tells it.
 #[derive(Drop)]
 pub enum Status {

@@ -48,7 +48,7 @@ fn value_of_word(word: &str) -> Option<i64>
 ///
 /// # Errors
 /// Want of memory.
-#[tactic(auto, using(crate::proofs::ValueLemmas::values_fault, crate::proofs::WordLemmas::behind_shorter))]
+#[tactic(auto, using(crate::proofs::ValueLemmas::values_fault, crate::proofs::cited::WordLemmas::behind_shorter))]
 pub fn values_of_words(alloc: Global, line: &str) -> Result<Option<Vec<i64>>, AllocError>
     ensures { IfOk result (λ values. option_map (λ v. v.items) values ≡ values_of_words (words_of line.now)) }
 {
@@ -75,7 +75,7 @@ fn skip_blanks(line: &str) -> &str
 }
 
 // How many blanks stand at the front.
-#[tactic(auto, using(crate::proofs::WordLemmas::prefix_more, crate::proofs::WordLemmas::prefix_end))]
+#[tactic(auto, using(crate::proofs::cited::WordLemmas::prefix_more, crate::proofs::cited::WordLemmas::prefix_end))]
 fn blank_len(line: &[u8]) -> usize
     ensures len { result ≡ prefix_len is_blank_of_line line.now }
     ensures within { result ≤ length line.now }
@@ -89,7 +89,7 @@ fn blank_len(line: &[u8]) -> usize
 }
 
 // How many bytes at the front are no blanks.
-#[tactic(auto, using(crate::proofs::WordLemmas::prefix_more, crate::proofs::WordLemmas::prefix_end))]
+#[tactic(auto, using(crate::proofs::cited::WordLemmas::prefix_more, crate::proofs::cited::WordLemmas::prefix_end))]
 fn word_len(line: &[u8]) -> usize
     ensures len { result ≡ prefix_len is_word_byte line.now }
     ensures within { result ≤ length line.now }

@@ -2,7 +2,7 @@
 
 ghost use Rattle.std.specs.Prelude.{◌≡◌, ℕ, List, take};
 ghost use Rattle.tenant_trace.specs.Trace.{with_happenings};
-ghost use Rattle.tenant_trace.specs.inner.Noted.{noted};
+ghost use Rattle.tenant_trace.specs.cited.Noted.{noted};
 ghost use Rattle.tenant_trace.specs.declared.records.Happening.{Happening};
 ghost use Rattle.tenant_trace.specs.declared.records.Record.{Record};
 

@@ -1,7 +1,7 @@
 //! A trace: the last records, in a ring.
 
 ghost use Rattle.std.specs.Prelude.{◌≡◌, ◌<◌, [], length, reverse, IfOk, IsErr};
-ghost use Rattle.tenant_trace.specs.inner.Noted.{noted, pushed};
+ghost use Rattle.tenant_trace.specs.cited.Noted.{noted, pushed};
 ghost use Rattle.tenant_trace.specs.declared.records.Happening.{Happening as AnyHappening};
 
 use crate::records::{Happening, Record};

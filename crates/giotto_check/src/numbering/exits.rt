@@ -9,8 +9,8 @@ ghost use Rattle.giotto_text.specs.ProgramTrees.{mode_of, switch_of, destination
 ghost use Rattle.giotto_rules.specs.Declarations.{mode_named, names_read, output_names};
 ghost use Rattle.giotto_rules.specs.Names.{are_among};
 ghost use Rattle.giotto_rules.specs.Reads.{names_in_destinations};
-ghost use Rattle.giotto_check.specs.inner.Facts.{DriversMayRead, ModeFits, ProgramFits, SwitchFits};
-ghost use Rattle.giotto_check.specs.inner.Timetables.{AreDestinations, AreExits, IsDestination, IsExit, place_of_mode};
+ghost use Rattle.giotto_check.specs.cited.Facts.{DriversMayRead, ModeFits, ProgramFits, SwitchFits};
+ghost use Rattle.giotto_check.specs.cited.Timetables.{AreDestinations, AreExits, IsDestination, IsExit, place_of_mode};
 
 use crate::numbering::numbered::Numbered;
 use crate::timetables::{SlotDestination, SlotExit};

@@ -8,8 +8,8 @@ ghost use Rattle.giotto_text.specs.Depth.{is_shallow};
 ghost use Rattle.giotto_text.specs.ProgramTrees.{mode_of, invocation_of};
 ghost use Rattle.giotto_rules.specs.Declarations.{task_named};
 ghost use Rattle.giotto_rules.specs.Reads.{names_in_arguments};
-ghost use Rattle.giotto_check.specs.inner.Facts.{DriversMayRead, InvocationFits, ModeFits};
-ghost use Rattle.giotto_check.specs.inner.Timetables.{AreArguments, AreEach, AreInvocations, AreTaskSlots, IsInvocation, place_of_task};
+ghost use Rattle.giotto_check.specs.cited.Facts.{DriversMayRead, InvocationFits, ModeFits};
+ghost use Rattle.giotto_check.specs.cited.Timetables.{AreArguments, AreEach, AreInvocations, AreTaskSlots, IsInvocation, place_of_task};
 
 use crate::numbering::numbered::Numbered;
 use crate::timetables::{SlotExpr, SlotInvocation, TaskSlots};

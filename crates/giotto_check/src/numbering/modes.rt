@@ -2,8 +2,8 @@
 
 ghost use Rattle.std.specs.Prelude.{IfOk};
 ghost use Rattle.giotto_text.specs.ProgramTrees.{mode_of};
-ghost use Rattle.giotto_check.specs.inner.Facts.{ModeFits};
-ghost use Rattle.giotto_check.specs.inner.Timetables.{AreEach, AreTaskSlots, IsTimetable};
+ghost use Rattle.giotto_check.specs.cited.Facts.{ModeFits};
+ghost use Rattle.giotto_check.specs.cited.Timetables.{AreEach, AreTaskSlots, IsTimetable};
 
 use crate::numbering::numbered::Numbered;
 use crate::timetables::{TaskSlots, Timetable};

@@ -7,9 +7,9 @@ ghost use Rattle.giotto_text.specs.Depth.{is_shallow, has_shallow_guard};
 ghost use Rattle.giotto_text.specs.ProgramTrees.{guard_of};
 ghost use Rattle.giotto_rules.specs.Declarations.{driver_ports, names_read};
 ghost use Rattle.giotto_rules.specs.Reads.{names_in_guard};
-ghost use Rattle.giotto_check.specs.inner.Facts.{DriversMayRead, ProgramFits};
-ghost use Rattle.giotto_check.specs.Slots.{slot_of};
-ghost use Rattle.giotto_check.specs.inner.Timetables.{IsExpression, IsGuard};
+ghost use Rattle.giotto_check.specs.cited.Facts.{DriversMayRead, ProgramFits};
+ghost use Rattle.giotto_rules.specs.Ports.{slot_of};
+ghost use Rattle.giotto_check.specs.cited.Timetables.{IsExpression, IsGuard};
 
 use crate::timetables::SlotExpr;
 use giotto_rules::declarations::driver_ports;
@@ -33,8 +33,8 @@ pub(crate) struct Numbered<'a> {
 
 impl<'a> Model for Numbered<'a> {
     ghost use Rattle.giotto_text.specs.Program.{GiottoProgram};
-    ghost use Rattle.giotto_text.specs.inner.ProgramCodes.{program_code};
-    ghost use Rattle.giotto_check.specs.inner.Timetables.{AreDriverPorts};
+    ghost use Rattle.giotto_text.specs.cited.ProgramCodes.{program_code};
+    ghost use Rattle.giotto_check.specs.cited.Timetables.{AreDriverPorts};
 
     ghost Value = { GiottoProgram };
 

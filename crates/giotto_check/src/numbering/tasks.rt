@@ -3,9 +3,9 @@
 ghost use Rattle.std.specs.Prelude.{◌≡◌, Some, None, IfOk, IsTrue, map};
 ghost use Rattle.giotto_rules.specs.Declarations.{output_names};
 ghost use Rattle.giotto_rules.specs.Names.{are_among};
-ghost use Rattle.giotto_check.specs.Slots.{slot_of};
-ghost use Rattle.giotto_check.specs.inner.Slots.{slots_of};
-ghost use Rattle.giotto_check.specs.inner.Timetables.{AreEach, AreTaskSlots};
+ghost use Rattle.giotto_rules.specs.Ports.{slot_of};
+ghost use Rattle.giotto_check.specs.cited.Slots.{slots_of};
+ghost use Rattle.giotto_check.specs.cited.Timetables.{AreEach, AreTaskSlots};
 
 use crate::numbering::numbered::Numbered;
 use crate::timetables::TaskSlots;

@@ -2,8 +2,8 @@
 
 ghost use Rattle.std.specs.Prelude.{IfOk};
 ghost use Rattle.giotto_text.specs.ProgramTrees.{mode_of, update_of};
-ghost use Rattle.giotto_check.specs.inner.Facts.{ModeFits, UpdateFits};
-ghost use Rattle.giotto_check.specs.inner.Timetables.{AreUpdates, IsUpdate};
+ghost use Rattle.giotto_check.specs.cited.Facts.{ModeFits, UpdateFits};
+ghost use Rattle.giotto_check.specs.cited.Timetables.{AreUpdates, IsUpdate};
 
 use crate::numbering::numbered::Numbered;
 use crate::timetables::SlotUpdate;

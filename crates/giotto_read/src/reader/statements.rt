@@ -3,7 +3,7 @@
 ghost use Rattle.giotto_read.specs.inner.Doing.{Does};
 ghost use Rattle.giotto_tasks.specs.Trees.{block_of, statement_of};
 ghost use Rattle.giotto_text.specs.Parsing.{read_assignment, read_block, read_branch_of, read_else_of, read_repetition_of, read_statement_of};
-ghost use Rattle.giotto_text.specs.inner.ProgramTrees.{assignment_of};
+ghost use Rattle.giotto_text.specs.cited.ProgramTrees.{assignment_of};
 
 use super::{Reader, Stop};
 use giotto_tasks::bodies::{Expr, Stmt};

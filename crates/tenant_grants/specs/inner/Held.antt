@@ -8,7 +8,7 @@ use Rattle.tenant_grants.specs.Kept.{same_offer}
 use Rattle.tenant_grants.specs.declared.rows.Offer.{Offer}
 use Rattle.tenant_grants.specs.declared.tables.Sensor.{Sensor}
 use Rattle.tenant_grants.specs.declared.tables.Supplier.{Supplier}
-use Rattle.tenant_grants.specs.inner.Tables.{ArePlaced}
+use Rattle.tenant_grants.specs.inner.Tables.{AreSuppliersPlaced}
 
 -- what the two tables keep, as `AreKept` says it of the rows, and each supplier's place
 pub record AreHeld (owner : Owner) (offers : List Offer) (entries : List (Sensor × Supplier)) : Type 0 where
@@ -18,4 +18,4 @@ pub record AreHeld (owner : Owner) (offers : List Offer) (entries : List (Sensor
   pub offers_differ : IsDistinct same_offer offers
   pub binds_differ : IsDistinct (λ (s t : Sensor). same_name t.name s.name) (keys_of entries)
   pub offers_to : AllByRecursion (λ (o : Offer). IsOk (other_side owner o.tenant)) offers
-  pub placed : ArePlaced owner entries
+  pub placed : AreSuppliersPlaced owner entries

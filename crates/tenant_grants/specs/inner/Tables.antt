@@ -16,5 +16,5 @@ abbrev pub placed : Sensor × Supplier → Name × ℕ × Name
 placed e = (e.0.name, e.1.place, e.1.actuator)
 
 -- each supplier's place is that of its name, and it is another tenant than the owner
-abbrev pub ArePlaced : Owner → List (Sensor × Supplier) → Type 0
-ArePlaced owner es = AllByRecursion (λ e. other_side owner e.1.tenant ≡ Ok e.1.place) es
+abbrev pub AreSuppliersPlaced : Owner → List (Sensor × Supplier) → Type 0
+AreSuppliersPlaced owner es = AllByRecursion (λ e. other_side owner e.1.tenant ≡ Ok e.1.place) es

@@ -1,6 +1,6 @@
 use Rattle.std.proofs.Common.{length}
-use Rattle.giotto_check.specs.inner.Timetables.{AreEach, IsTimetable}
-use Rattle.giotto_check.proofs.EachLemmas.{each_long, lent_at, none_past}
+use Rattle.giotto_check.specs.cited.Timetables.{AreEach, IsTimetable}
+use Rattle.giotto_check.proofs.cited.EachLemmas.{each_long, lent_at, none_past}
 use Rattle.giotto_check.proofs.Contents.timetable.Goals as goal
 
 pub returns-clause-there : goal.returns-clause-there

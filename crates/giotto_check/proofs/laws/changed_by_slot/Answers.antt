@@ -1,9 +1,10 @@
 use Rattle.std.proofs.Common.{map, Some, None, ap, sym, ◌∙◌}
 use Rattle.std.proofs.lemmas.List.{length-map}
 use Rattle.giotto_text.specs.PortNames.{own_port}
-use Rattle.giotto_check.specs.Slots.{port_names, ports_of, shown_name}
-use Rattle.giotto_check.proofs.SlotLemmas.{name_at_slot, names_at_slots, names_in_row, shared_shown}
-use Rattle.giotto_check.proofs.Valuations.{with_value_at_place, with_values_at_places, with_values_in_range}
+use Rattle.giotto_check.specs.Slots.{port_names}
+use Rattle.giotto_rules.specs.Ports.{ports_of, shown_name}
+use Rattle.giotto_check.proofs.cited.SlotLemmas.{name_at_slot, names_at_slots, names_in_row, shared_shown}
+use Rattle.giotto_check.proofs.cited.Valuations.{with_value_at_place, with_values_at_places, with_values_in_range}
 use Rattle.giotto_check.proofs.laws.changed_by_slot.Goals as goal
 
 pub returns-clause-value : goal.returns-clause-value

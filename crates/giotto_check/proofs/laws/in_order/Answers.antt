@@ -1,8 +1,9 @@
 use Rattle.std.proofs.Common.{sym, ◌∙◌}
 use Rattle.std.proofs.lemmas.List.{length-map}
 use Rattle.std.proofs.lemmas.Slice.Zip.{firsts-zip}
-use Rattle.giotto_check.specs.Slots.{port_names, ports_of, shown_name}
-use Rattle.giotto_check.proofs.SlotLemmas.{slot_of_port}
+use Rattle.giotto_check.specs.Slots.{port_names}
+use Rattle.giotto_rules.specs.Ports.{ports_of, shown_name}
+use Rattle.giotto_check.proofs.cited.SlotLemmas.{slot_of_port}
 use Rattle.giotto_check.proofs.laws.in_order.Goals as goal
 
 pub returns-clause-slots : goal.returns-clause-slots

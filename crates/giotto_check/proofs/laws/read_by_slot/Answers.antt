@@ -1,9 +1,10 @@
 use Rattle.std.proofs.Common.{map, sym, ◌∙◌}
 use Rattle.std.proofs.lemmas.List.{length-map}
 use Rattle.giotto_text.specs.PortNames.{own_port}
-use Rattle.giotto_check.specs.Slots.{port_names, ports_of, shown_name}
-use Rattle.giotto_check.proofs.SlotLemmas.{name_at_slot, names_in_row}
-use Rattle.giotto_check.proofs.Valuations.{value_at_place, values_in_range}
+use Rattle.giotto_check.specs.Slots.{port_names}
+use Rattle.giotto_rules.specs.Ports.{ports_of, shown_name}
+use Rattle.giotto_check.proofs.cited.SlotLemmas.{name_at_slot, names_in_row}
+use Rattle.giotto_check.proofs.cited.Valuations.{value_at_place, values_in_range}
 use Rattle.giotto_check.proofs.laws.read_by_slot.Goals as goal
 
 pub returns-clause-value : goal.returns-clause-value

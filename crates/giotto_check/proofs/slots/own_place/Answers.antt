@@ -4,9 +4,9 @@ use Rattle.giotto_tasks.specs.declared.names.Name.{Name}
 use Rattle.giotto_tasks.specs.Names.{same_name}
 use Rattle.giotto_tasks.specs.Syntax.{TaskBody}
 use Rattle.giotto_text.specs.ProgramTrees.{task_of}
-use Rattle.giotto_rules.proofs.ProgramParts.{names_of_states}
-use Rattle.giotto_check.proofs.PlaceLemmas.{place_within}
-use Rattle.giotto_check.proofs.SlotLemmas.{other_task, own_inputs, own_states}
+use Rattle.giotto_rules.proofs.cited.ProgramParts.{names_of_states}
+use Rattle.giotto_check.proofs.cited.PlaceLemmas.{place_within}
+use Rattle.giotto_check.proofs.cited.SlotLemmas.{other_task, own_inputs, own_states}
 use Rattle.giotto_check.proofs.slots.own_place.Goals as goal
 
 told : (x y t : Name) (r b : Bool) → r ≡ not (same_name x t) → x ≡ y → r ≡ not b → same_name y t ≡ b

@@ -3,10 +3,10 @@ use Rattle.std.specs.List.{flat_map, position_from}
 use Rattle.std.proofs.lemmas.List.{length-append, length-map}
 use Rattle.giotto_text.specs.ProgramTrees.{task_of}
 use Rattle.giotto_rules.specs.Declarations.{driver_ports}
-use Rattle.giotto_check.specs.Slots.{is_port, ports_of_task, shared_port}
-use Rattle.giotto_check.proofs.EachLemmas.{left_at}
-use Rattle.giotto_check.proofs.PlaceLemmas.{place_first, place_second, place_within}
-use Rattle.giotto_check.proofs.SlotLemmas.{slot_own}
+use Rattle.giotto_rules.specs.Ports.{is_port, ports_of_task, shared_port}
+use Rattle.giotto_check.proofs.cited.EachLemmas.{left_at}
+use Rattle.giotto_check.proofs.cited.PlaceLemmas.{place_first, place_second, place_within}
+use Rattle.giotto_check.proofs.cited.SlotLemmas.{slot_own}
 use Rattle.giotto_check.proofs.slots.own_slot.Goals as goal
 
 pub loop-declared-init : goal.loop-declared-init

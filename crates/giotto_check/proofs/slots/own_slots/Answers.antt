@@ -1,8 +1,8 @@
 use Rattle.std.proofs.Common.{◌+◌, length, ap, sym, ◌∙◌}
 use Rattle.giotto_tasks.specs.Syntax.{TaskBody}
 use Rattle.giotto_text.specs.ProgramTrees.{task_of}
-use Rattle.giotto_rules.proofs.ProgramParts.{names_of_states}
-use Rattle.giotto_check.proofs.SlotLemmas.{ports_long}
+use Rattle.giotto_rules.proofs.cited.ProgramParts.{names_of_states}
+use Rattle.giotto_check.proofs.cited.SlotLemmas.{ports_long}
 use Rattle.giotto_check.proofs.slots.own_slots.Goals as goal
 
 pub returns : goal.returns

@@ -1,7 +1,7 @@
 use Rattle.std.proofs.Common.{◌≡◌, length, Ok, Err, sym, ap, ◌∙◌, subst}
 use Rattle.std.proofs.lemmas.Result.{err_from_is_err_and}
 use Rattle.giotto_text.specs.Parsing.{parsed_tokens}
-use Rattle.giotto_text.specs.inner.Reading.{IsLexicalFault}
+use Rattle.giotto_text.specs.cited.Reading.{IsLexicalFault}
 use Rattle.giotto_text.specs.Tokens.{tokens_of}
 use Rattle.giotto_read.proofs.TextReading.{parsed_at_fault}
 use Rattle.giotto_read.proofs.reading.read.Goals as goal

@@ -3,7 +3,7 @@ use Rattle.std.proofs.lemmas.Bool.{false≢true}
 use Rattle.std.proofs.lemmas.List.{at_drop_more}
 use Rattle.giotto_tasks.specs.Syntax.{step}
 use Rattle.giotto_tasks.specs.Trees.{block_of, statement_of}
-use Rattle.giotto_tasks.proofs.TreeLemmas.{length-block, rests}
+use Rattle.giotto_tasks.proofs.cited.TreeLemmas.{length-block, rests}
 use Rattle.giotto_tasks.proofs.bodies.+same.Goals as goal
 
 pub same_block-returns-then-a-b : goal.same_block-returns-then-a-b

@@ -1,5 +1,5 @@
 use Rattle.std.proofs.Common.{sym, ◌∙◌}
-use Rattle.giotto_tasks.proofs.NameLemmas.{names_same, names_compared}
+use Rattle.giotto_tasks.proofs.cited.NameLemmas.{names_same, names_compared}
 use Rattle.giotto_tasks.proofs.bodies.same_names.Goals as goal
 
 pub returns : goal.returns

@@ -1,5 +1,5 @@
 use Rattle.std.proofs.Common.{sym}
-use Rattle.giotto_tasks.proofs.ListLemmas.{find_is_any}
+use Rattle.giotto_tasks.proofs.cited.ListLemmas.{find_is_any}
 use Rattle.tenant_grants.specs.Grants.{is_offer_of}
 use Rattle.tenant_grants.proofs.laws.granted_by_an_offer.Goals as goal
 

@@ -3,5 +3,5 @@ use Rattle.indexmap.proofs.CallerLemmas.{insert_entry-new}
 use Rattle.tenant_grants.proofs.BindTables.{absent_entries}
 use Rattle.tenant_grants.proofs.tables.add.Goals as goal
 
-pub returns-in-Ok-clause-added : goal.returns-in-Ok-clause-added
-returns-in-Ok-clause-added c = c.in-Ok.ensures.entries ∙ insert_entry-new _ c.args.binds.now c.args.sensor c.args.supplier (absent_entries c.args.sensor.name c.args.binds.now.entries c.requires)
+pub returns-clause-added : goal.returns-clause-added
+returns-clause-added c = c.in_ok-insert.ensures.entries ∙ insert_entry-new _ c.args.binds.now c.args.sensor c.args.supplier (absent_entries c.args.sensor.name c.args.binds.now.entries c.requires)

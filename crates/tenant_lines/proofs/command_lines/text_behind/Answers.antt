@@ -1,6 +1,6 @@
 use Rattle.std.proofs.Common.{◌<◌, length, arith}
 use Rattle.std.proofs.lemmas.Bool.Decides.{nat_tests}
-use Rattle.tenant_lines.proofs.WordLemmas.{boundary_behind_blank}
+use Rattle.tenant_lines.proofs.cited.WordLemmas.{boundary_behind_blank}
 use Rattle.tenant_lines.proofs.command_lines.text_behind.Goals as goal
 
 pub range_from-requires : goal.range_from-requires

@@ -2,7 +2,7 @@ use Rattle.std.proofs.Common.{◌≡◌, Bool, true, false, not, length, refl, s
 use Rattle.std.proofs.lemmas.Bool.{eqb-true}
 use Rattle.std.proofs.lemmas.Bool.Decides.{nat_tests}
 use Rattle.giotto_tasks.specs.Names.{same_name}
-use Rattle.giotto_tasks.proofs.NameLemmas.{same_name_is}
+use Rattle.giotto_tasks.proofs.cited.NameLemmas.{same_name_is}
 use Rattle.tenant_lines.specs.Words.{first_word_of, behind_first_word}
 use Rattle.tenant_lines.proofs.GrantLines.{word_behind_other, word_behind_more, word_behind_is}
 use Rattle.tenant_lines.proofs.grant_lines.word_behind.Goals as goal

@@ -2,7 +2,7 @@ use Rattle.std.proofs.Common.{◌≡◌, sym, ap, ◌∙◌, subst}
 use Rattle.std.specs.List.{prefix_len}
 use Rattle.std.specs.Str.{IsCharBoundary}
 use Rattle.tenant_lines.specs.Words.{is_word_byte}
-use Rattle.tenant_lines.proofs.WordLemmas.{boundary_at_blank}
+use Rattle.tenant_lines.proofs.cited.WordLemmas.{boundary_at_blank}
 use Rattle.tenant_lines.proofs.words.first_word.Goals as goal
 
 pub range-requires-clause-end_boundary : goal.range-requires-clause-end_boundary

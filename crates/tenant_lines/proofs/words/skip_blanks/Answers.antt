@@ -2,7 +2,7 @@ use Rattle.std.proofs.Common.{◌≡◌, sym, ap, ◌∙◌, subst}
 use Rattle.std.specs.List.{prefix_len}
 use Rattle.std.specs.Str.{IsCharBoundary}
 use Rattle.tenant_lines.specs.Words.{is_blank_of_line}
-use Rattle.tenant_lines.proofs.WordLemmas.{boundary_behind_blanks}
+use Rattle.tenant_lines.proofs.cited.WordLemmas.{boundary_behind_blanks}
 use Rattle.tenant_lines.proofs.words.skip_blanks.Goals as goal
 
 pub range_from-requires : goal.range_from-requires

@@ -1,4 +1,4 @@
-use Rattle.tenant_trace.proofs.Kept as kept
+use Rattle.tenant_trace.proofs.cited.Kept as kept
 use Rattle.tenant_trace.proofs.laws.last_of_all.Goals as goal
 
 pub returns : goal.returns

@@ -2,7 +2,7 @@ use Rattle.std.proofs.Common.{◌≡◌, [], ◌∷◌, ◌∙◌, length, sym, 
 use Rattle.std.specs.Prelude.{vec_len}
 use Rattle.std.proofs.lemmas.List.{take_all}
 use Rattle.giotto_tasks.specs.Trees.{block_of, expression_of, statement_of}
-use Rattle.giotto_tasks.proofs.TreeLemmas.{branch_of}
+use Rattle.giotto_tasks.proofs.cited.TreeLemmas.{branch_of}
 use Rattle.giotto_text.specs.Canonical.{block_tokens, else_tokens, expression_tokens, in_braces, keyword, statement_tokens}
 use Rattle.giotto_text.specs.declared.tokens.Keyword.TheVariants.{Else, Repeat}
 use Rattle.giotto_text.specs.declared.tokens.Token.TheVariants as tokens

@@ -5,7 +5,7 @@ use Rattle.giotto_tasks.specs.Trees.{block_of, expression_of, in_order, statemen
 use Rattle.giotto_tasks.specs.declared.bodies.Stmt.TheBlock.{the_data}
 use Rattle.giotto_read.specs.inner.Doing.{left}
 use Rattle.giotto_text.specs.Parsing.{many, next_of, same_token, this, read_assignment, read_block, read_branch_of, read_repetition_of, read_statement_of}
-use Rattle.giotto_text.specs.inner.ProgramTrees.{assignment_of}
+use Rattle.giotto_text.specs.cited.ProgramTrees.{assignment_of}
 use Rattle.giotto_read.proofs.DoingLists.{none_yet, one_more, some_stopped, all_read, failed_as, does_same, next_yes, next_no, took_this, took_other, open_brace, close_brace, braces_stopped, braces_read}
 use Rattle.giotto_read.proofs.DoingStatements.{if_token, repeat_token, reads_branch, reads_repetition, assignment_stopped, else_read}
 use Rattle.giotto_read.proofs.Nested.{block_again, does_as}

@@ -4,7 +4,7 @@ use Rattle.giotto_tasks.specs.Trees.{expression_of}
 use Rattle.giotto_text.specs.declared.tokens.Token.TheVariants as token
 use Rattle.giotto_read.specs.inner.Doing.{left}
 use Rattle.giotto_text.specs.Parsing.{is_name, many, next_of, read_assignment}
-use Rattle.giotto_text.specs.inner.ProgramTrees.{assignment_of}
+use Rattle.giotto_text.specs.cited.ProgramTrees.{assignment_of}
 use Rattle.giotto_text.specs.ProgramTrees.{destination_of}
 use Rattle.giotto_read.proofs.DoingLists.{none_yet, one_more, some_stopped, all_read, failed_as}
 use Rattle.giotto_read.proofs.DoingSteps.{comes_next, is_no_name}

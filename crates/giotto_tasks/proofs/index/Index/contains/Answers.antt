@@ -1,4 +1,4 @@
-use Rattle.giotto_tasks.proofs.IndexLemmas.{is_some-place_from}
+use Rattle.giotto_tasks.proofs.cited.IndexLemmas.{is_some-place_from}
 use Rattle.giotto_tasks.proofs.index.Index.contains.Goals as goal
 
 pub returns : goal.returns

@@ -1,7 +1,7 @@
 use Rattle.std.proofs.Common.{rules, ◌≡◌, ◌+◌, ◌-◌, ◌<◌, length, drop, get_or, arith, subst}
 use Rattle.giotto_tasks.specs.Sound.{all_different}
-use Rattle.giotto_tasks.specs.inner.Places.{HasPlaces}
-use Rattle.giotto_tasks.proofs.IndexLemmas.{places_before, different_before}
+use Rattle.giotto_tasks.specs.cited.Places.{HasPlaces}
+use Rattle.giotto_tasks.proofs.cited.IndexLemmas.{places_before, different_before}
 use Rattle.giotto_tasks.proofs.index.Index.new.Goals as goal
 
 pub loop-behind-preserved : goal.loop-behind-preserved

@@ -1,6 +1,6 @@
 use Rattle.std.proofs.Common.{◌≡◌, ◌-◌, length, drop}
 use Rattle.giotto_tasks.specs.Sound.{all_different}
-use Rattle.giotto_tasks.specs.inner.Places.{HasPlaces}
+use Rattle.giotto_tasks.specs.cited.Places.{HasPlaces}
 use Rattle.giotto_tasks.proofs.index.Index.new.Given as goal
 
 -- the names from the last on

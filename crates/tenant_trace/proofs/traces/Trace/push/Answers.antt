@@ -1,7 +1,7 @@
 use Rattle.std.proofs.Common.{[], ◌∷◌, ◌++◌, ◌∙◌, ap, take}
 use Rattle.std.proofs.lemmas.List.{reverse-append}
-use Rattle.tenant_trace.specs.inner.Noted.{pushed}
-use Rattle.tenant_trace.proofs.Kept.{last_first}
+use Rattle.tenant_trace.specs.cited.Noted.{pushed}
+use Rattle.tenant_trace.proofs.cited.Kept.{last_first}
 use Rattle.tenant_trace.proofs.traces.Trace.push.Goals as goal
 
 pub returns : goal.returns

@@ -2,8 +2,8 @@ use Rattle.giotto_tasks.specs.Names.{is_among}
 use Rattle.giotto_tasks.specs.Trees.{expression_of}
 use Rattle.giotto_text.specs.Depth.{is_shallow}
 use Rattle.giotto_rules.specs.Declarations.{driver_ports, names_read}
-use Rattle.giotto_check.specs.inner.Timetables.{IsExpression}
-use Rattle.giotto_check.proofs.EachLemmas.{each_next}
+use Rattle.giotto_check.specs.cited.Timetables.{IsExpression}
+use Rattle.giotto_check.proofs.cited.EachLemmas.{each_next}
 use Rattle.giotto_check.proofs.TestLists.{all_in_item, test_at_item}
 use Rattle.giotto_check.proofs.numbering.numbered.Numbered.arguments.Goals as goal
 

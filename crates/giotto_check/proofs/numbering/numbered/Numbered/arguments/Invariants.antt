@@ -1,6 +1,6 @@
 use Rattle.std.proofs.Common.{map, take}
 use Rattle.giotto_tasks.specs.Trees.{expression_of}
-use Rattle.giotto_check.specs.inner.Timetables.{AreEach, IsExpression}
+use Rattle.giotto_check.specs.cited.Timetables.{AreEach, IsExpression}
 use Rattle.giotto_check.proofs.numbering.numbered.Numbered.arguments.Given as goal
 
 abbrev pub invariant-loop-argument : goal.invariant-loop-argument

@@ -4,8 +4,8 @@ use Rattle.giotto_tasks.specs.Syntax.{Expression}
 use Rattle.giotto_text.specs.Depth.{is_shallow}
 use Rattle.giotto_text.specs.ProgramTrees.{destination_of}
 use Rattle.giotto_rules.specs.Declarations.{driver_ports, names_read, output_names}
-use Rattle.giotto_check.specs.inner.Timetables.{IsDestination}
-use Rattle.giotto_check.proofs.EachLemmas.{each_next}
+use Rattle.giotto_check.specs.cited.Timetables.{IsDestination}
+use Rattle.giotto_check.proofs.cited.EachLemmas.{each_next}
 use Rattle.giotto_check.proofs.TestLists.{all_in_item, passes_item, test_at_item}
 use Rattle.giotto_check.proofs.numbering.numbered.Numbered.destinations.Goals as goal
 

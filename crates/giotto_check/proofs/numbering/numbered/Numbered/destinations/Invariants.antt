@@ -1,6 +1,6 @@
 use Rattle.std.proofs.Common.{map, take}
 use Rattle.giotto_text.specs.ProgramTrees.{destination_of}
-use Rattle.giotto_check.specs.inner.Timetables.{AreEach, IsDestination}
+use Rattle.giotto_check.specs.cited.Timetables.{AreEach, IsDestination}
 use Rattle.giotto_check.proofs.numbering.numbered.Numbered.destinations.Given as goal
 
 abbrev pub invariant-loop-destination : goal.invariant-loop-destination

@@ -8,7 +8,7 @@ use Rattle.giotto_text.specs.ProgramTrees.{mode_of, switch_of}
 use Rattle.giotto_rules.specs.Declarations.{driver_ports, names_read}
 use Rattle.giotto_rules.specs.Reads.{names_in_guard, names_in_switch}
 use Rattle.giotto_check.proofs.DriverReads.{readable_are_ports}
-use Rattle.giotto_check.proofs.EntryLemmas.{destinations_are_outputs}
+use Rattle.giotto_check.proofs.cited.EntryLemmas.{destinations_are_outputs}
 use Rattle.giotto_check.proofs.TestLists.{all_in_parts}
 use Rattle.giotto_check.proofs.numbering.numbered.Numbered.exit.Goals as goal
 

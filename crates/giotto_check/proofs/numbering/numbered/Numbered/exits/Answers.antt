@@ -1,8 +1,8 @@
 use Rattle.std.proofs.Common.{ap, map, subst}
 use Rattle.giotto_text.specs.ProgramTrees.{mode_of, switch_of}
-use Rattle.giotto_check.specs.inner.Facts.{ProgramFits, SwitchFits}
-use Rattle.giotto_check.specs.inner.Timetables.{IsExit}
-use Rattle.giotto_check.proofs.EachLemmas.{all_item, each_next}
+use Rattle.giotto_check.specs.cited.Facts.{ProgramFits, SwitchFits}
+use Rattle.giotto_check.specs.cited.Timetables.{IsExit}
+use Rattle.giotto_check.proofs.cited.EachLemmas.{all_item, each_next}
 use Rattle.giotto_check.proofs.numbering.numbered.Numbered.exits.Goals as goal
 
 pub exit-requires-clause-switch : goal.exit-requires-clause-switch

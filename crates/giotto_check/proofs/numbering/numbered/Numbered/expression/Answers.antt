@@ -1,7 +1,7 @@
 use Rattle.std.proofs.Common.{ap, ◌∙◌}
 use Rattle.giotto_tasks.specs.Trees.{expression_of}
 use Rattle.giotto_rules.specs.Declarations.{driver_ports}
-use Rattle.giotto_check.proofs.EntryLemmas.{is_expression}
+use Rattle.giotto_check.proofs.cited.EntryLemmas.{is_expression}
 use Rattle.giotto_check.proofs.numbering.numbered.Numbered.expression.Goals as goal
 
 pub returns-in-Ok : goal.returns-in-Ok

@@ -7,7 +7,7 @@ use Rattle.giotto_text.specs.ProgramTrees.{mode_of, invocation_of}
 use Rattle.giotto_rules.specs.Declarations.{driver_ports, names_read}
 use Rattle.giotto_rules.specs.Reads.{names_in_guard, names_in_invocation}
 use Rattle.giotto_check.proofs.DriverReads.{readable_are_ports}
-use Rattle.giotto_check.proofs.EntryLemmas.{inputs_there, task_within}
+use Rattle.giotto_check.proofs.cited.EntryLemmas.{inputs_there, task_within}
 use Rattle.giotto_check.proofs.TestLists.{all_in_parts}
 use Rattle.giotto_check.proofs.numbering.numbered.Numbered.invocation.Goals as goal
 

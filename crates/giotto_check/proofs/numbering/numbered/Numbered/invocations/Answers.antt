@@ -1,8 +1,8 @@
 use Rattle.std.proofs.Common.{ap, map}
 use Rattle.giotto_text.specs.ProgramTrees.{mode_of, invocation_of}
-use Rattle.giotto_check.specs.inner.Facts.{InvocationFits}
-use Rattle.giotto_check.specs.inner.Timetables.{IsInvocation}
-use Rattle.giotto_check.proofs.EachLemmas.{all_item, each_next}
+use Rattle.giotto_check.specs.cited.Facts.{InvocationFits}
+use Rattle.giotto_check.specs.cited.Timetables.{IsInvocation}
+use Rattle.giotto_check.proofs.cited.EachLemmas.{all_item, each_next}
 use Rattle.giotto_check.proofs.numbering.numbered.Numbered.invocations.Goals as goal
 
 pub invocation-requires-clause-invocation : goal.invocation-requires-clause-invocation

@@ -1,6 +1,6 @@
 use Rattle.std.proofs.Common.{map, take}
 use Rattle.giotto_text.specs.ProgramTrees.{mode_of, invocation_of}
-use Rattle.giotto_check.specs.inner.Timetables.{AreEach, IsInvocation}
+use Rattle.giotto_check.specs.cited.Timetables.{AreEach, IsInvocation}
 use Rattle.giotto_check.proofs.numbering.numbered.Numbered.invocations.Given as goal
 
 abbrev pub invariant-loop-invocation : goal.invariant-loop-invocation

@@ -1,8 +1,8 @@
 use Rattle.std.proofs.Common.{subst}
 use Rattle.giotto_text.specs.ProgramTrees.{mode_of}
-use Rattle.giotto_check.specs.inner.Facts.{ModeFits}
-use Rattle.giotto_check.specs.inner.Timetables.{IsTimetable}
-use Rattle.giotto_check.proofs.EachLemmas.{all_item, each_next}
+use Rattle.giotto_check.specs.cited.Facts.{ModeFits}
+use Rattle.giotto_check.specs.cited.Timetables.{IsTimetable}
+use Rattle.giotto_check.proofs.cited.EachLemmas.{all_item, each_next}
 use Rattle.giotto_check.proofs.numbering.numbered.Numbered.modes.Goals as goal
 
 pub timetable-requires-clause-mode : goal.timetable-requires-clause-mode

@@ -1,6 +1,6 @@
 use Rattle.std.proofs.Common.{map, take}
 use Rattle.giotto_text.specs.ProgramTrees.{mode_of}
-use Rattle.giotto_check.specs.inner.Timetables.{AreEach, IsTimetable}
+use Rattle.giotto_check.specs.cited.Timetables.{AreEach, IsTimetable}
 use Rattle.giotto_check.proofs.numbering.numbered.Numbered.modes.Given as goal
 
 abbrev pub invariant-loop-mode : goal.invariant-loop-mode

@@ -1,5 +1,5 @@
 use Rattle.std.proofs.Common.{◌≡◌, None, Some, map, take}
-use Rattle.giotto_check.specs.Slots.{slot_of}
+use Rattle.giotto_rules.specs.Ports.{slot_of}
 use Rattle.giotto_check.proofs.numbering.numbered.Numbered.outputs.Given as goal
 
 abbrev pub invariant-loop-name : goal.invariant-loop-name

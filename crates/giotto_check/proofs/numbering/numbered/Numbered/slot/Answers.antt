@@ -1,7 +1,7 @@
 use Rattle.std.proofs.Common.{ap, sym, ◌∙◌}
 use Rattle.giotto_rules.specs.Declarations.{driver_ports}
-use Rattle.giotto_tasks.specs.inner.Places.{place_from}
-use Rattle.giotto_check.proofs.SlotLemmas.{slot_shared, no_slot}
+use Rattle.giotto_tasks.specs.cited.Places.{place_from}
+use Rattle.giotto_check.proofs.cited.SlotLemmas.{slot_shared, no_slot}
 use Rattle.giotto_check.proofs.numbering.numbered.Numbered.slot.Goals as goal
 
 pub unreachable-requires : goal.unreachable-requires

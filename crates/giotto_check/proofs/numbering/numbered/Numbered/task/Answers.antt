@@ -1,6 +1,6 @@
 use Rattle.std.proofs.Common.{ap, ◌∙◌}
 use Rattle.giotto_text.specs.Program.{GiottoProgram}
-use Rattle.giotto_check.proofs.EntryLemmas.{task_found, task_there}
+use Rattle.giotto_check.proofs.cited.EntryLemmas.{task_found, task_there}
 use Rattle.giotto_check.proofs.numbering.numbered.Numbered.task.Goals as goal
 
 pub unreachable-requires : goal.unreachable-requires

@@ -2,11 +2,11 @@ use Rattle.std.proofs.Common.{◌+◌, length, map, take, drop, ap, sym, subst, 
 use Rattle.giotto_tasks.specs.Syntax.{TaskBody}
 use Rattle.giotto_text.specs.Program.{GiottoProgram}
 use Rattle.giotto_text.specs.ProgramTrees.{task_of}
-use Rattle.giotto_rules.proofs.ProgramParts.{names_of_states}
-use Rattle.giotto_check.specs.inner.Facts.{ProgramFits, TaskFits}
-use Rattle.giotto_check.specs.inner.Timetables.{AreTaskSlots}
-use Rattle.giotto_check.proofs.EachLemmas.{all_item, cut_at, each_next}
-use Rattle.giotto_check.proofs.SlotLemmas.{own_slots, before_more, small_task}
+use Rattle.giotto_rules.proofs.cited.ProgramParts.{names_of_states}
+use Rattle.giotto_check.specs.cited.Facts.{ProgramFits, TaskFits}
+use Rattle.giotto_check.specs.cited.Timetables.{AreTaskSlots}
+use Rattle.giotto_check.proofs.cited.EachLemmas.{all_item, cut_at, each_next}
+use Rattle.giotto_check.proofs.cited.SlotLemmas.{own_slots, before_more, small_task}
 use Rattle.giotto_check.proofs.numbering.numbered.Numbered.tasks.Goals as goal
 
 pub outputs-requires : goal.outputs-requires

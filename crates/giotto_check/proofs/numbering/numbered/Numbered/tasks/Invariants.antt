@@ -2,8 +2,8 @@ use Rattle.std.proofs.Common.{◌≡◌, ◌+◌, ◌*◌, ◌++◌, ◌≤◌, 
 use Rattle.std.specs.List.{flat_map}
 use Rattle.giotto_text.specs.ProgramTrees.{task_of}
 use Rattle.giotto_rules.specs.Declarations.{driver_ports}
-use Rattle.giotto_check.specs.Slots.{ports_of_task, shared_port}
-use Rattle.giotto_check.specs.inner.Timetables.{AreEach, AreTaskSlots}
+use Rattle.giotto_rules.specs.Ports.{ports_of_task, shared_port}
+use Rattle.giotto_check.specs.cited.Timetables.{AreEach, AreTaskSlots}
 use Rattle.giotto_check.proofs.numbering.numbered.Numbered.tasks.Given as goal
 
 -- the slot of the next input is how many ports stand before it: at most 32 for each task

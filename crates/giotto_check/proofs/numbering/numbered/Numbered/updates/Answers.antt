@@ -1,8 +1,8 @@
 use Rattle.std.proofs.Common.{ap, map}
 use Rattle.giotto_text.specs.ProgramTrees.{mode_of, update_of}
-use Rattle.giotto_check.specs.inner.Facts.{UpdateFits}
-use Rattle.giotto_check.specs.inner.Timetables.{IsUpdate}
-use Rattle.giotto_check.proofs.EachLemmas.{all_item, each_next}
+use Rattle.giotto_check.specs.cited.Facts.{UpdateFits}
+use Rattle.giotto_check.specs.cited.Timetables.{IsUpdate}
+use Rattle.giotto_check.proofs.cited.EachLemmas.{all_item, each_next}
 use Rattle.giotto_check.proofs.numbering.numbered.Numbered.updates.Goals as goal
 
 pub update-requires-clause-update : goal.update-requires-clause-update

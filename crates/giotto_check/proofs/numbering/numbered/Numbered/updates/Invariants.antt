@@ -1,6 +1,6 @@
 use Rattle.std.proofs.Common.{map, take}
 use Rattle.giotto_text.specs.ProgramTrees.{mode_of, update_of}
-use Rattle.giotto_check.specs.inner.Timetables.{AreEach, IsUpdate}
+use Rattle.giotto_check.specs.cited.Timetables.{AreEach, IsUpdate}
 use Rattle.giotto_check.proofs.numbering.numbered.Numbered.updates.Given as goal
 
 abbrev pub invariant-loop-update : goal.invariant-loop-update

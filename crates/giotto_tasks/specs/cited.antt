@@ -1,0 +1,4 @@
+pub mod Codes
+pub mod DriverCode
+pub mod Places
+pub mod Sources

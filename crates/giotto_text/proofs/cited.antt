@@ -1,0 +1,4 @@
+pub mod Adder
+pub mod CanonicalNesting
+pub mod SameToken
+pub mod SmallTasks
