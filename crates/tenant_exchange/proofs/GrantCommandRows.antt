@@ -7,8 +7,9 @@ use Rattle.tenant_lines.specs.declared.replies.Budget.TheVariants as budget
 use Rattle.tenant_lines.specs.declared.replies.Refusal.TheVariants.{NoTenant, Own, Twice, NotThere, OverBudget}
 use Rattle.tenant_lines.specs.declared.replies.Reply.TheVariants as reply
 use Rattle.tenant_lines.specs.Replies.{text_of_reply}
-use Rattle.tenant_exchange.specs.Commands.{grants_commanded, takes_memory}
-use Rattle.tenant_exchange.specs.Granted.{granted_along}
+use Rattle.rig_model.specs.GrantCommands.{grants_commanded}
+use Rattle.tenant_exchange.specs.Memory.{takes_memory}
+use Rattle.rig_model.specs.Granted.{granted_along}
 
 -- one offer, one bind, and room for no more
 alpha : GrantRows

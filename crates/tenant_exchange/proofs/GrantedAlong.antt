@@ -3,19 +3,19 @@ use Rattle.std.proofs.Common.{◌≡◌, ◌⊎◌, inl, inr, ℕ, zero, suc, �
 use Rattle.std.specs.List.{AllByRecursion, IsDistinct, filter_map, cons_option, zip}
 use Rattle.std.specs.Option.{option_and_then}
 use Rattle.giotto_tasks.specs.declared.names.Name.{Name}
-use Rattle.giotto_tasks.specs.inner.Sources.{names_in}
+use Rattle.giotto_tasks.specs.cited.Sources.{names_in}
 use Rattle.giotto_tasks.specs.Names.{Valuation, is_among, same_name}
-use Rattle.giotto_tasks.proofs.NameLemmas.{same_name_self, same_name_is}
+use Rattle.giotto_tasks.proofs.cited.NameLemmas.{same_name_self, same_name_is}
 use Rattle.giotto_text.specs.Program.{GiottoProgram}
-use Rattle.giotto_check.specs.inner.Slots.{PortNamesDiffer}
+use Rattle.giotto_check.specs.cited.Slots.{PortNamesDiffer}
 use Rattle.tenant_grants.specs.Grants.{bind_at, with_place, place_in}
 use Rattle.tenant_grants.specs.Kept.{same_bind}
 use Rattle.tenant_grants.specs.declared.rows.Bind.{Bind}
-use Rattle.tenant_slots.specs.Readings.{Readings}
-use Rattle.tenant_slots.specs.inner.Grants.{with_granted}
-use Rattle.tenant_slots.specs.inner.Readings.{with_readings}
-use Rattle.tenant_slots.proofs.Granted.{found_last, granted_more}
-use Rattle.tenant_exchange.specs.Granted.{granted_along, granted_through}
+use Rattle.rig_model.specs.Readings.{Readings}
+use Rattle.tenant_slots.specs.cited.Grants.{with_granted}
+use Rattle.tenant_slots.specs.cited.Readings.{with_readings}
+use Rattle.tenant_slots.proofs.cited.Granted.{found_last, granted_more}
+use Rattle.rig_model.specs.Granted.{granted_along, granted_through}
 
 -- what the first of these binds grant
 abbrev pub granted_before : ℕ → List Bind → List (Option ℤ) → Valuation

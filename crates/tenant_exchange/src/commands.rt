@@ -1,7 +1,8 @@
 //! What the commands about grants do.
 
 ghost use Rattle.std.specs.Prelude.{◌≡◌, ◌≢◌, false, IfErr, IfOk};
-ghost use Rattle.tenant_exchange.specs.Commands.{grants_commanded, takes_memory, refusal_of};
+ghost use Rattle.rig_model.specs.GrantCommands.{grants_commanded, refusal_of_row};
+ghost use Rattle.tenant_exchange.specs.Memory.{takes_memory};
 ghost use Rattle.tenant_lines.specs.declared.replies.Refusal.{Refusal};
 ghost use Rattle.tenant_lines.specs.declared.replies.Reply.{Reply};
 
@@ -55,7 +56,7 @@ pub fn carry_out(alloc: Global, grants: &mut Grants, command: GrantCommand) -> R
 // The reply to a change of the rows: that it is done, or why it isn't. The budget is that of such rows.
 fn answer(done: Result<(), GrantFault>, reply: Reply, budget: Budget) -> Reply
     ensures done { IfOk done (λ u. result ≡ reply) }
-    ensures refused { IfErr done (λ fault. result ≡ Reply.Refused (refusal_of budget fault)) }
+    ensures refused { IfErr done (λ fault. result ≡ Reply.Refused (refusal_of_row budget fault)) }
 {
     match done {
         Ok(()) => reply,
@@ -64,7 +65,7 @@ fn answer(done: Result<(), GrantFault>, reply: Reply, budget: Budget) -> Reply
 }
 
 fn refusal_of(budget: Budget, fault: GrantFault) -> Refusal
-    ensures { result ≡ refusal_of budget fault }
+    ensures { result ≡ refusal_of_row budget fault }
 {
     match fault {
         GrantFault::NoTenant => Refusal::NoTenant,

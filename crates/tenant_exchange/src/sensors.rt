@@ -1,11 +1,11 @@
 //! What the sensors of a tenant's program take.
 
 ghost use Rattle.std.specs.Prelude.{◌≡◌, length};
-ghost use Rattle.giotto_check.specs.inner.Slots.{slots_of};
+ghost use Rattle.giotto_check.specs.cited.Slots.{slots_of};
 ghost use Rattle.giotto_check.specs.Slots.{valuation_of};
-ghost use Rattle.tenant_exchange.specs.Granted.{granted_along};
-ghost use Rattle.tenant_slots.specs.Readings.{readings_within};
-ghost use Rattle.tenant_slots.specs.inner.Readings.{with_readings};
+ghost use Rattle.rig_model.specs.Granted.{granted_along};
+ghost use Rattle.rig_model.specs.Readings.{readings_within};
+ghost use Rattle.tenant_slots.specs.cited.Readings.{with_readings};
 
 use giotto_check::Checked;
 use rig_config::Budgets;
@@ -28,8 +28,8 @@ pub fn read_sensors(
 {
     sense(checked, budgets, frame, values);
     // Its ports stand once, and the binds are of different sensors.
-    let _program = checked.program();
-    let _own = grants.own();
+    checked.known();
+    grants.known();
     for i in 0..granted.len() {
         let Some(value) = granted[i] else { continue };
         let Some((sensor, _, _)) = grants.bind_at(i) else {

@@ -4,12 +4,12 @@ use Rattle.std.proofs.lemmas.List.{length-append}
 use Rattle.std.proofs.lemmas.List.Sums.{count_by-le-length}
 use Rattle.slab.specs.Slab.{Slab, get, slab_len, values, Updates, with_value}
 use Rattle.slab.proofs.SlabLemmas.{Updates-with_value}
-use Rattle.tenant_jobs.specs.declared.jobs.JobId.{JobId}
+use Rattle.rig_model.specs.declared.jobs.JobId.{JobId}
 use Rattle.tenant_jobs.specs.declared.jobs.JobResult.{JobResult}
-use Rattle.tenant_jobs.specs.Jobs.{same_job}
+use Rattle.rig_model.specs.Jobs.{same_job}
 use Rattle.tenant_jobs.specs.Finished.{TableEntry, has_result}
-use Rattle.tenant_jobs.specs.inner.Finished.{NamesDiffer}
-use Rattle.tenant_jobs.proofs.JobNames.{same_job_is}
+use Rattle.tenant_jobs.specs.cited.Finished.{NamesDiffer}
+use Rattle.rig_model.proofs.cited.JobNames.{same_job_is}
 use Rattle.tenant_jobs.proofs.Slots.{one_slot}
 use Rattle.tenant_jobs.proofs.TableEntries.{weigh, count-middle, count_none, find_middle, find_other, found_under, has_result_under}
 

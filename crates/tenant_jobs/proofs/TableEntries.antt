@@ -4,10 +4,10 @@ use Rattle.std.proofs.lemmas.Bool.{eq-eqb, eqb-false, eqb-true, false_from_ne_tr
 use Rattle.std.proofs.lemmas.List.Sums.{sum_by-cons, sum_by-append, count_by-le-length}
 use Rattle.std.proofs.lemmas.List.Folds.{find-append}
 use Rattle.slab.specs.Slab.{Slab, get, values}
-use Rattle.tenant_jobs.specs.declared.jobs.JobId.{JobId}
-use Rattle.tenant_jobs.specs.Jobs.{same_job}
+use Rattle.rig_model.specs.declared.jobs.JobId.{JobId}
+use Rattle.rig_model.specs.Jobs.{same_job}
 use Rattle.tenant_jobs.specs.Finished.{TableEntry, entry_in, has_result}
-use Rattle.tenant_jobs.specs.inner.Finished.{is_complete, is_entered, result_count, NamesDiffer}
+use Rattle.tenant_jobs.specs.cited.Finished.{is_complete, is_entered, result_count, NamesDiffer}
 use Rattle.tenant_jobs.proofs.Slots.{one_slot, stored}
 
 abbrev pub weight_of : Bool → ℕ

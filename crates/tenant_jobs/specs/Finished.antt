@@ -1,8 +1,8 @@
 -- The table of the active tasks of all tenants, with the results that came.
 use Rattle.std.specs.Prelude.{ℕ, Bool, List, Option, is_some, option_and_then, find}
-use Rattle.tenant_jobs.specs.declared.jobs.JobId.{JobId}
+use Rattle.rig_model.specs.declared.jobs.JobId.{JobId}
 use Rattle.tenant_jobs.specs.declared.jobs.JobResult.{JobResult}
-use Rattle.tenant_jobs.specs.Jobs.{same_job}
+use Rattle.rig_model.specs.Jobs.{same_job}
 
 -- an active task: the name of its job, and the job's result, if it came
 pub record TableEntry : Type 0 where

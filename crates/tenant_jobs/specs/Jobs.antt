@@ -1,12 +1,7 @@
 -- Jobs: the computations that an instant releases.
-use Rattle.std.specs.Prelude.{Bool, ◌&&◌, ◌==◌, ℤ, List}
+use Rattle.std.specs.Prelude.{ℤ, List}
 use Rattle.giotto_tasks.specs.Syntax.{TaskBody}
-use Rattle.giotto_tasks.specs.Names.{same_name}
-use Rattle.tenant_jobs.specs.declared.jobs.JobId.{JobId}
-
--- whether two names of jobs are one: tenant, release and task are the same
-abbrev pub same_job : JobId → JobId → Bool
-same_job i j = i.tenant == j.tenant && i.tick == j.tick && same_name i.task j.task
+use Rattle.rig_model.specs.declared.jobs.JobId.{JobId}
 
 -- a job: its name, the body, and what its task was given at its release
 pub record JobValue : Type 0 where

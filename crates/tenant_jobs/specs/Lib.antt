@@ -1,4 +1,4 @@
 pub mod Finished
 pub mod JobLists
 pub mod Jobs
-pub mod inner
+pub mod cited

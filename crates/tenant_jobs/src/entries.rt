@@ -2,8 +2,8 @@
 
 ghost use Rattle.std.specs.Prelude.{◌≡◌, None, Some, is_some, length, option_copied};
 ghost use Rattle.giotto_tasks.specs.Sound.{IsSound};
-ghost use Rattle.tenant_jobs.specs.Jobs.{same_job};
-ghost use Rattle.tenant_jobs.specs.inner.Finished.{computed};
+ghost use Rattle.rig_model.specs.Jobs.{same_job};
+ghost use Rattle.tenant_jobs.specs.cited.Finished.{computed};
 
 use crate::jobs::{JobId, JobResult, put_results};
 use giotto_tasks::bodies::Body;

@@ -1,16 +1,16 @@
 //! The table of the active tasks of all tenants of a host, with the results that came.
 
-ghost use Rattle.std.specs.Prelude.{◌≡◌, ◌<◌, ◌≤◌, ◌+◌, ◌&&◌, [], length, not, All, Some, None, IsOk, IfSome, IfNone, IsSomeAnd, OnOk, true, false, if◌then◌else◌, find, option_copied, vec_capacity};
+ghost use Rattle.std.specs.Prelude.{◌≡◌, ◌<◌, ◌≤◌, ◌+◌, ◌&&◌, [], length, not, Some, None, IsOk, IfSome, IfNone, IsSomeAnd, OnOk, true, false, if◌then◌else◌, find, option_copied, vec_capacity};
 ghost use Rattle.std.specs.Bool.{OnTrue};
 ghost use Rattle.giotto_tasks.specs.Sound.{IsSound};
 ghost use Rattle.slab.specs.Slab.{get, values};
 ghost use Rattle.tenant_jobs.specs.Finished.{entry_in, result_in, has_result};
-ghost use Rattle.tenant_jobs.specs.inner.Finished.{computed, entry_put, is_complete, is_entered, result_count, result_of, is_job_of, JobsDiffer};
-ghost use Rattle.tenant_jobs.specs.Jobs.{JobValue, same_job};
-ghost use Rattle.tenant_jobs.specs.declared.jobs.JobId.{JobId};
+ghost use Rattle.tenant_jobs.specs.cited.Finished.{computed, entry_put, is_complete, is_entered, result_count, result_of};
+ghost use Rattle.rig_model.specs.Jobs.{same_job};
+ghost use Rattle.rig_model.specs.declared.jobs.JobId.{JobId};
 
 use crate::entries::Entry;
-use crate::jobs::{Done, JobId, JobResult, Jobs, Key};
+use crate::jobs::{Done, JobId, JobResult, Key};
 use giotto_tasks::bodies::Body;
 use giotto_tasks::values::Values;
 use slab::Slab;
@@ -31,7 +31,7 @@ impl Model for Finished {
     ghost use Rattle.std.specs.Prelude.{◌≡◌, ◌≤◌, ◌+◌, length, count_by, is_some, vec_capacity};
     ghost use Rattle.slab.specs.Slab.{values, slab_len};
     ghost use Rattle.tenant_jobs.specs.Finished.{TaskTable};
-    ghost use Rattle.tenant_jobs.specs.inner.Finished.{NamesDiffer};
+    ghost use Rattle.tenant_jobs.specs.cited.Finished.{NamesDiffer};
 
     ghost Value = { TaskTable };
 
@@ -75,28 +75,6 @@ impl Finished {
         self.entries.reserve(more)?;
         self.spare.reserve(entries - spare)?;
         add_spare(self.alloc, more, &mut self.spare)
-    }
-
-    /// An entry without a result for each of these jobs, which carry its key from then on. They stay as they are, and in their order. Takes no memory.
-    pub fn enter(&mut self, jobs: &mut Jobs)
-        requires room { length jobs.old.jobs ≤ self.old.room }
-        requires new { All (λ (k : JobValue). is_entered self.old.entries k.id ≡ false) jobs.old.jobs }
-        requires differ { JobsDiffer jobs.old.jobs }
-        ensures entries { (j : JobId) → entry_in self.new.entries j
-            ≡ entry_put (is_job_of jobs.old.jobs j) j None self.old.entries }
-        ensures results { result_count self.new.entries ≡ result_count self.old.entries }
-        ensures count { length self.new.entries ≡ length self.old.entries + length jobs.old.jobs }
-        ensures room { self.new.room + length jobs.old.jobs ≡ self.old.room }
-        ensures jobs { jobs.new ≡ jobs.old }
-    {
-        for _turn in 0..jobs.len() {
-            let Some(mut job) = jobs.take() else {
-                unreachable!()
-            };
-            let key = self.enter_task(job.id().copy());
-            job.set_key(key);
-            jobs.put(job);
-        }
     }
 
     /// An entry of this name without a result. Gives its key. Takes no memory.

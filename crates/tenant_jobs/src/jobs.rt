@@ -1,44 +1,21 @@
 //! Jobs: the computations that an instant releases, and their results.
 
-ghost use Rattle.std.specs.Prelude.{◌≡◌, ◌<◌, ◌≤◌, ◌+◌, ◌-◌, [], ◌∷◌, ◌++◌, ◌↔◌, length, IsSome, IsOk, IfOk, option_to_list, option_copied, slice_get};
+ghost use Rattle.std.specs.Prelude.{◌≡◌, ◌<◌, ◌≤◌, ◌+◌, ◌-◌, [], ◌∷◌, ◌++◌, ◌↔◌, length, IsSome, IsOk, IfOk, option_to_list};
 ghost use Rattle.std.specs.Arc.{arc_value};
 ghost use Rattle.giotto_tasks.specs.Meaning.{outputs_of, states_of};
 ghost use Rattle.giotto_tasks.specs.Sound.{IsSound};
-ghost use Rattle.tenant_jobs.specs.inner.Jobs.{IsComputable};
+ghost use Rattle.tenant_jobs.specs.cited.Jobs.{IsComputable};
 
 use giotto_tasks::bodies::Body;
 use giotto_tasks::evaluation::eval_into;
-use giotto_tasks::names::Name;
 use giotto_tasks::steps::Steps;
 use giotto_tasks::values::Values;
-use rig_config::TenantId;
+pub use rig_model::jobs::JobId;
 use std::alloc::{AllocError, Global};
 use std::collections::VecDeque;
 use std::marker::{Brand, Model};
 use std::sync::Arc;
 use std::sync::ledger::{Blank, Ledger};
-
-/// The name of a job, never used twice in one host.
-#[derive(PartialEq, Eq, PartialOrd, Ord, Drop)]
-pub struct JobId {
-    pub tenant: TenantId,
-    /// The number of the instant that released the job.
-    pub tick: u64,
-    pub task: Name,
-}
-
-impl JobId {
-    /// An equal name.
-    pub fn copy(&self) -> JobId
-        ensures { result ≡ self.now }
-    {
-        JobId {
-            tenant: self.tenant,
-            tick: self.tick,
-            task: self.task.copy(),
-        }
-    }
-}
 
 /// Where the entry of an active task stands in the table. It is a hint, of which contracts see nothing: what it leads to is compared with
 /// the job's name.
@@ -87,9 +64,9 @@ pub struct Job {
 impl Model for Job {
     ghost use Rattle.std.specs.Arc.{arc_value};
     ghost use Rattle.tenant_jobs.specs.Jobs.{JobValue};
-    ghost use Rattle.tenant_jobs.specs.inner.Jobs.{IsComputable};
+    ghost use Rattle.tenant_jobs.specs.cited.Jobs.{IsComputable};
     ghost use Rattle.std.specs.Coded.{codes};
-    ghost use Rattle.giotto_tasks.specs.inner.Codes.{body_code};
+    ghost use Rattle.giotto_tasks.specs.cited.Codes.{body_code};
 
     ghost Value = { JobValue };
 
@@ -116,10 +93,10 @@ pub struct Done {
 
 impl Model for Done {
     ghost use Rattle.std.specs.Prelude.{◌≡◌};
-    ghost use Rattle.tenant_jobs.specs.inner.Finished.{result_of};
+    ghost use Rattle.tenant_jobs.specs.cited.Finished.{result_of};
     ghost use Rattle.tenant_jobs.specs.Jobs.{JobValue};
     ghost use Rattle.std.specs.Coded.{codes};
-    ghost use Rattle.giotto_tasks.specs.inner.Codes.{body_code};
+    ghost use Rattle.giotto_tasks.specs.cited.Codes.{body_code};
 
     ghost Value = { JobValue };
 
@@ -149,13 +126,6 @@ impl Job {
     /// The key of its entry.
     pub fn key(&self) -> &Key {
         &self.key
-    }
-
-    // Notes the key of its entry.
-    pub(crate) fn set_key(&mut self, key: Key)
-        ensures { self.new ≡ self.old }
-    {
-        self.key = key;
     }
 
     /// The name of the job.
@@ -285,7 +255,7 @@ impl Model for Jobs {
     ghost use Rattle.std.specs.VecDeque.{deque_len, deque_capacity};
     ghost use Rattle.tenant_jobs.specs.JobLists.{JobList};
     ghost use Rattle.std.specs.Coded.{codes};
-    ghost use Rattle.giotto_tasks.specs.inner.Codes.{body_code};
+    ghost use Rattle.giotto_tasks.specs.cited.Codes.{body_code};
 
     ghost Value = { JobList };
 
@@ -306,13 +276,6 @@ impl Jobs {
     {
         let jobs = VecDeque::with_capacity(alloc, room)?;
         Ok(Jobs { jobs })
-    }
-
-    /// The job at this place, the first at 0, if there is one.
-    pub fn get(&self, place: usize) -> Option<&Job>
-        ensures { option_copied result ≡ slice_get self.now.jobs place }
-    {
-        self.jobs.get(place)
     }
 
     /// How many jobs there are.

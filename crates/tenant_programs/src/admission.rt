@@ -3,7 +3,7 @@
 ghost use Rattle.std.specs.Prelude.{◌≡◌, ◌≢◌, ℕ, Ok, Err, IfOk, IfErr};
 ghost use Rattle.giotto_check.specs.declared.CheckFault.{CheckFault};
 ghost use Rattle.tenant_lines.specs.declared.replies.Refusal.{Refusal};
-ghost use Rattle.tenant_programs.specs.Admission.{program_of, refusal_of};
+ghost use Rattle.rig_model.specs.Admission.{program_of, refusal_of_text};
 
 use giotto_check::{self, CheckFault, Checked};
 use giotto_read::read;
@@ -35,7 +35,7 @@ pub fn read_program(alloc: Global, text: &str) -> Result<Checked, Refusal>
 
 // The refusal of a text that spells no program, by its fault.
 fn refusal_of(fault: ReadFault) -> Refusal
-    ensures { result ≡ refusal_of fault }
+    ensures { result ≡ refusal_of_text fault }
 {
     match fault {
         ReadFault::Syntax(offset) => Refusal::Syntax(offset),

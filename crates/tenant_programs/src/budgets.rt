@@ -4,7 +4,7 @@ ghost use Rattle.std.specs.Prelude.{◌≡◌};
 ghost use Rattle.std.specs.List.{list_all};
 ghost use Rattle.giotto_rules.specs.Declarations.{lines_read, lines_written};
 ghost use Rattle.rig_config.specs.Roster.{may_use};
-ghost use Rattle.tenant_programs.specs.Admission.{broken_budget, uses_own_lines};
+ghost use Rattle.rig_model.specs.Admission.{broken_budget, uses_own_lines};
 
 use giotto_check::Checked;
 use giotto_text::programs::{Program, Source};

@@ -11,7 +11,8 @@
 //! ```
 //!
 //! [`shown::port_values`] lists the ports of a program with their values, by their names in replies. Whose program it is, and
-//! what that tenant is doing, isn't known here. The definitions stand in `specs/`: `Admission`, and `ShownPorts`.
+//! what that tenant is doing, isn't known here. Which programs are let in is defined in `Admission.antt` of the crate `rig_model`,
+//! and the values of ports in its `Commands.antt`.
 #![tactic(auto)]
 
 pub mod admission;

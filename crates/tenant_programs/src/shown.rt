@@ -2,9 +2,10 @@
 
 ghost use Rattle.std.specs.Prelude.{◌≡◌, ◌++◌, length, map, IfOk, OnOk};
 ghost use Rattle.std.specs.List.{zip};
-ghost use Rattle.giotto_check.specs.Slots.{ports_of, valuation_of};
-ghost use Rattle.giotto_check.specs.inner.Slots.{slots_of};
-ghost use Rattle.tenant_programs.specs.ShownPorts.{port_with_value};
+ghost use Rattle.giotto_rules.specs.Ports.{ports_of};
+ghost use Rattle.giotto_check.specs.Slots.{valuation_of};
+ghost use Rattle.giotto_check.specs.cited.Slots.{slots_of};
+ghost use Rattle.rig_model.specs.Commands.{port_with_value};
 ghost use Rattle.tenant_programs.specs.inner.ShownPorts.{name_of_port, name_of_own_port, name_of_shared_port, with_its_value};
 
 use giotto_check::Checked;

@@ -9,19 +9,19 @@ use Rattle.std.proofs.lemmas.Option.{slice_get-get_or, slice_get-map, slice_get_
 use Rattle.giotto_tasks.specs.declared.names.Name.{Name}
 use Rattle.giotto_tasks.specs.Names.{same_name, is_among}
 use Rattle.giotto_tasks.specs.Sound.{all_different}
-use Rattle.giotto_tasks.proofs.ListLemmas.{some_same}
-use Rattle.giotto_tasks.proofs.NameLemmas.{same_name_is, all_different-append, among_first, among_passes}
+use Rattle.giotto_tasks.proofs.cited.ListLemmas.{some_same}
+use Rattle.giotto_tasks.proofs.cited.NameLemmas.{same_name_is, all_different-append, among_first, among_passes}
 use Rattle.giotto_text.specs.declared.programs.Actuator.{Actuator}
 use Rattle.giotto_text.specs.ProgramTrees.{actuator_of}
 use Rattle.giotto_text.specs.Program.{ActuatorDeclaration, ActuatorUpdate, ModeDeclaration, GiottoProgram}
 use Rattle.giotto_rules.specs.Declarations.{sensor_names, actuator_names, output_names, task_names, mode_names}
-use Rattle.giotto_check.specs.Slots.{slot_of}
-use Rattle.giotto_check.specs.inner.Facts.{ProgramFits, UpdateFits}
-use Rattle.giotto_check.specs.inner.Timetables.{AreEach, IsUpdate}
+use Rattle.giotto_rules.specs.Ports.{slot_of}
+use Rattle.giotto_check.specs.cited.Facts.{ProgramFits, UpdateFits}
+use Rattle.giotto_check.specs.cited.Timetables.{AreEach, IsUpdate}
 use Rattle.giotto_check.specs.declared.timetables.SlotUpdate.{SlotUpdate}
-use Rattle.giotto_check.proofs.SlotLemmas.{slot_shared}
-use Rattle.tenant_slots.proofs.Numbered.{mode_fits_at}
-use Rattle.tenant_slots.proofs.Updates.{each_item}
+use Rattle.giotto_check.proofs.cited.SlotLemmas.{slot_shared}
+use Rattle.tenant_slots.proofs.cited.Numbered.{mode_fits_at}
+use Rattle.tenant_slots.proofs.cited.Updates.{each_item}
 
 module _ (x : Name) where
   abbrev is_it : Name → Bool

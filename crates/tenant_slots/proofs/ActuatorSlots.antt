@@ -8,12 +8,13 @@ use Rattle.giotto_text.specs.declared.programs.Actuator.{Actuator}
 use Rattle.giotto_text.specs.ProgramTrees.{actuator_of}
 use Rattle.giotto_text.specs.Program.{ActuatorDeclaration, GiottoProgram}
 use Rattle.giotto_rules.specs.Declarations.{sensor_names, actuator_names, output_names}
-use Rattle.giotto_check.specs.inner.Facts.{ProgramFits}
-use Rattle.giotto_check.specs.Slots.{port_names, ports_of, ports_of_task, shown_name, valuation_of}
-use Rattle.giotto_check.specs.inner.Slots.{slots_of, with_slots}
-use Rattle.giotto_check.proofs.SlotLemmas.{port_names_begin}
-use Rattle.giotto_check.proofs.Valuations.{with_values_at_places}
-use Rattle.tenant_slots.specs.Ports.{actuators_reset}
+use Rattle.giotto_check.specs.cited.Facts.{ProgramFits}
+use Rattle.giotto_check.specs.Slots.{port_names, valuation_of}
+use Rattle.giotto_rules.specs.Ports.{ports_of, ports_of_task, shown_name}
+use Rattle.giotto_check.specs.cited.Slots.{slots_of, with_slots}
+use Rattle.giotto_check.proofs.cited.SlotLemmas.{port_names_begin}
+use Rattle.giotto_check.proofs.cited.Valuations.{with_values_at_places}
+use Rattle.rig_model.specs.Ports.{actuators_reset}
 
 pub map_both : (as' : List Actuator) → map (λ (a : Actuator). a.initial) as' ≡ map (λ (a : ActuatorDeclaration). a.initial) (map actuator_of as')
 map_both [] = refl

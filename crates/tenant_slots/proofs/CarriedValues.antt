@@ -7,26 +7,27 @@ use Rattle.std.proofs.lemmas.List.{drop_more, length-map}
 use Rattle.std.proofs.lemmas.Option.{slice_get-get_or}
 use Rattle.std.proofs.lemmas.Slice.Zip.{firsts-zip}
 use Rattle.giotto_tasks.specs.declared.names.Name.{Name}
-use Rattle.giotto_tasks.specs.inner.Sources.{names_in}
+use Rattle.giotto_tasks.specs.cited.Sources.{names_in}
 use Rattle.giotto_tasks.specs.Names.{Valuation, same_name, is_among, value_at, value_or_zero, with_value}
 use Rattle.giotto_tasks.specs.Sound.{all_different}
-use Rattle.giotto_tasks.proofs.NameLemmas.{same_name_is, among_first, among_second, all_in}
-use Rattle.giotto_tasks.proofs.TestLemmas.{either}
-use Rattle.giotto_tasks.proofs.ValuationLemmas.{names_in-with_value}
+use Rattle.giotto_tasks.proofs.cited.NameLemmas.{same_name_is, among_first, among_second, all_in}
+use Rattle.giotto_tasks.proofs.cited.TestLemmas.{either}
+use Rattle.giotto_tasks.proofs.cited.ValuationLemmas.{names_in-with_value}
 use Rattle.giotto_text.specs.PortNames.{with_values}
 use Rattle.giotto_text.specs.Program.{GiottoProgram}
 use Rattle.giotto_rules.specs.Declarations.{sensor_names, actuator_names, output_names, driver_ports}
-use Rattle.giotto_check.specs.inner.Facts.{ProgramFits}
-use Rattle.giotto_check.specs.inner.Slots.{HaveSlots, slots_of, with_slots}
-use Rattle.giotto_check.specs.Slots.{port_names, ports_of, shown_name, slot_of, valuation_of}
-use Rattle.giotto_check.proofs.SlotLemmas.{name_at_slot, port_names_begin}
-use Rattle.giotto_check.proofs.Valuations.{value_at_place}
-use Rattle.tenant_slots.specs.Ports.{initial_ports}
-use Rattle.tenant_slots.specs.Replacement.{carried_over, carried_ports, stands_in_both}
-use Rattle.tenant_slots.specs.inner.Replacement.{IsCarryTable, is_carried}
+use Rattle.giotto_check.specs.cited.Facts.{ProgramFits}
+use Rattle.giotto_check.specs.cited.Slots.{HaveSlots, slots_of, with_slots}
+use Rattle.giotto_check.specs.Slots.{port_names, valuation_of}
+use Rattle.giotto_rules.specs.Ports.{ports_of, shown_name, slot_of}
+use Rattle.giotto_check.proofs.cited.SlotLemmas.{name_at_slot, port_names_begin}
+use Rattle.giotto_check.proofs.cited.Valuations.{value_at_place}
+use Rattle.rig_model.specs.Ports.{initial_ports}
+use Rattle.rig_model.specs.Replacement.{carried_over, carried_ports, stands_in_both}
+use Rattle.tenant_slots.specs.cited.Replacement.{IsCarryTable, is_carried}
 use Rattle.tenant_slots.specs.declared.replacement.Carried.{Carried}
 use Rattle.tenant_slots.proofs.InitialValues.{names_are}
-use Rattle.tenant_slots.proofs.Numbered.{slot_within}
+use Rattle.tenant_slots.proofs.cited.Numbered.{slot_within}
 use Rattle.tenant_slots.proofs.TaskValues.{all_written_at}
 
 -- names that are given values stand where they stood, and each other name keeps its value

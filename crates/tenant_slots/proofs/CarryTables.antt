@@ -10,19 +10,19 @@ use Rattle.std.proofs.lemmas.List.Elements.{filter-append}
 use Rattle.std.proofs.lemmas.Option.{slice_get-get_or, slice_get-map, slice_get_within}
 use Rattle.giotto_tasks.specs.declared.names.Name.{Name}
 use Rattle.giotto_tasks.specs.Names.{is_among}
-use Rattle.giotto_tasks.proofs.ListLemmas.{all_at}
+use Rattle.giotto_tasks.proofs.cited.ListLemmas.{all_at}
 use Rattle.giotto_text.specs.Program.{GiottoProgram}
 use Rattle.giotto_rules.specs.Declarations.{sensor_names, actuator_names, output_names, driver_ports}
-use Rattle.giotto_check.specs.inner.Facts.{ProgramFits}
-use Rattle.giotto_check.specs.inner.Slots.{HaveSlots, slots_of}
-use Rattle.giotto_check.specs.Slots.{shared_port, slot_of}
-use Rattle.giotto_check.proofs.PlaceLemmas.{passes_there}
-use Rattle.giotto_check.proofs.SlotLemmas.{no_slot, slot_of_port, slot_shared}
-use Rattle.tenant_slots.specs.inner.Replacement.{AreCarried, IsCarryTable, is_carried}
+use Rattle.giotto_check.specs.cited.Facts.{ProgramFits}
+use Rattle.giotto_check.specs.cited.Slots.{HaveSlots, slots_of}
+use Rattle.giotto_rules.specs.Ports.{shared_port, slot_of}
+use Rattle.giotto_check.proofs.cited.PlaceLemmas.{passes_there}
+use Rattle.giotto_check.proofs.cited.SlotLemmas.{no_slot, slot_of_port, slot_shared}
+use Rattle.tenant_slots.specs.cited.Replacement.{AreCarried, IsCarryTable, is_carried}
 use Rattle.tenant_slots.specs.declared.replacement.Carried.{Carried}
 use Rattle.tenant_slots.proofs.ActuatorPlaces.{place_among, place_past, actuator_slot}
 use Rattle.tenant_slots.proofs.CarriedValues.{in_both}
-use Rattle.tenant_slots.proofs.Numbered.{slot_within}
+use Rattle.tenant_slots.proofs.cited.Numbered.{slot_within}
 
 -- the slots of the sensors come first, and those of the actuators next
 module _ (p : GiottoProgram) (x : Name) (k : ℕ) (at : slot_of p None x ≡ Some k) where

@@ -3,10 +3,10 @@ use Rattle.std.proofs.Common.{◌≡◌, ℤ, pos, negsuc, [], ◌∷◌, None, 
 use Rattle.std.specs.Prelude.{codes}
 use Rattle.giotto_tasks.specs.Names.{Valuation}
 use Rattle.giotto_text.specs.Program.{from_line, from_grant, GiottoProgram}
-use Rattle.tenant_slots.specs.Ports.{initial_ports}
-use Rattle.tenant_slots.specs.Readings.{Readings}
-use Rattle.tenant_slots.specs.inner.Grants.{with_granted, with_each_granted}
-use Rattle.tenant_slots.specs.inner.Readings.{with_readings}
+use Rattle.rig_model.specs.Ports.{initial_ports}
+use Rattle.rig_model.specs.Readings.{Readings}
+use Rattle.tenant_slots.specs.cited.Grants.{with_granted, with_each_granted}
+use Rattle.tenant_slots.specs.cited.Readings.{with_readings}
 
 -- sensor s := 0 line 3; sensor g := -1 grant; sensor h := -2 grant; actuator a := 0;
 abbrev reader : GiottoProgram

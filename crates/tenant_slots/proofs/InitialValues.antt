@@ -5,7 +5,7 @@ use Rattle.std.proofs.lemmas.List.{map-append, length-map, length-append, take_m
 use Rattle.std.proofs.lemmas.List.Concat.{flat_map-append}
 use Rattle.giotto_tasks.specs.declared.names.Name.{Name}
 use Rattle.giotto_tasks.specs.Names.{Valuation}
-use Rattle.giotto_tasks.specs.inner.Sources.{names_in}
+use Rattle.giotto_tasks.specs.cited.Sources.{names_in}
 use Rattle.giotto_text.specs.PortNames.{own_port, own_ports}
 use Rattle.giotto_text.specs.Program.{SensorDeclaration, ActuatorDeclaration, OutputDeclaration, TaskDeclaration, GiottoProgram, names_of}
 use Rattle.giotto_text.specs.ProgramTrees.{sensor_of, actuator_of, output_of, task_of}
@@ -13,10 +13,11 @@ use Rattle.giotto_text.specs.declared.programs.Sensor.{Sensor}
 use Rattle.giotto_text.specs.declared.programs.Actuator.{Actuator}
 use Rattle.giotto_text.specs.declared.programs.Output.{Output}
 use Rattle.giotto_text.specs.declared.programs.Task.{Task}
-use Rattle.giotto_check.specs.Slots.{ports_of, port_names, shown_name, valuation_of}
-use Rattle.giotto_check.specs.inner.Slots.{slots_of}
-use Rattle.giotto_check.proofs.PortsOnce.{all_shown, shown_of_task}
-use Rattle.tenant_slots.specs.Ports.{initial_shared, initial_of_task, initial_own, initial_ports}
+use Rattle.giotto_rules.specs.Ports.{ports_of, shown_name}
+use Rattle.giotto_check.specs.Slots.{port_names, valuation_of}
+use Rattle.giotto_check.specs.cited.Slots.{slots_of}
+use Rattle.giotto_check.proofs.cited.PortsOnce.{all_shown, shown_of_task}
+use Rattle.rig_model.specs.Ports.{initial_shared, initial_of_task, initial_own, initial_ports}
 
 -- the values of a map, in its order
 abbrev pub values_in : Valuation → List ℤ

@@ -6,10 +6,10 @@ use Rattle.giotto_tasks.specs.Meaning.{value_of}
 use Rattle.giotto_tasks.specs.Names.{Valuation}
 use Rattle.giotto_text.specs.Program.{ActuatorUpdate, ModeDeclaration}
 use Rattle.tenant_trace.specs.Trace.{LastRecords}
-use Rattle.tenant_trace.specs.inner.Noted.{noted, pushed}
+use Rattle.tenant_trace.specs.cited.Noted.{noted, pushed}
 use Rattle.tenant_trace.specs.declared.records.Happening.TheVariants as happening
-use Rattle.tenant_slots.specs.Results.{outputs_happened}
-use Rattle.tenant_slots.specs.Updates.{is_updated, updated, updates_happened}
+use Rattle.rig_model.specs.FirstHalf.{outputs_happened}
+use Rattle.rig_model.specs.Updates.{is_updated, updated, updates_happened}
 
 module _ (m : ModeDeclaration) (time n : ℕ) (us : List ActuatorUpdate) (k : ℕ) (u : ActuatorUpdate) (ports after : Valuation) (t whole : LastRecords) (here : drop k us ≡ u ∷ drop (k + 1) us) (e : updated m time u ports ≡ after)
     (h : noted n (updates_happened m time (drop k us) ports) t ≡ whole) where

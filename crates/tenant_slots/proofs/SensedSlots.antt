@@ -11,11 +11,12 @@ use Rattle.giotto_text.specs.Program.{SensorDeclaration, GiottoProgram}
 use Rattle.giotto_text.specs.ProgramTrees.{sensor_of}
 use Rattle.giotto_text.specs.declared.programs.Sensor.{Sensor}
 use Rattle.giotto_rules.specs.Declarations.{sensor_names, actuator_names, output_names, driver_ports}
-use Rattle.giotto_check.specs.Slots.{port_names, ports_of, shown_name, valuation_of}
-use Rattle.giotto_check.specs.inner.Slots.{slots_of}
-use Rattle.giotto_check.proofs.EachLemmas.{left_at}
-use Rattle.giotto_check.proofs.SlotLemmas.{port_names_begin}
-use Rattle.giotto_check.proofs.Valuations.{with_value_at_place}
+use Rattle.giotto_check.specs.Slots.{port_names, valuation_of}
+use Rattle.giotto_rules.specs.Ports.{ports_of, shown_name}
+use Rattle.giotto_check.specs.cited.Slots.{slots_of}
+use Rattle.giotto_check.proofs.cited.EachLemmas.{left_at}
+use Rattle.giotto_check.proofs.cited.SlotLemmas.{port_names_begin}
+use Rattle.giotto_check.proofs.cited.Valuations.{with_value_at_place}
 
 front_at : {X : Type 0} (xs ys : List X) (k : ℕ) (x : X) → slice_get xs k ≡ Some x → slice_get (xs ++ ys) k ≡ Some x
 front_at [] ys k x at = absurd (cc)

@@ -10,23 +10,24 @@ use Rattle.giotto_tasks.specs.Meaning.{value_of}
 use Rattle.giotto_tasks.specs.Names.{is_among, same_name}
 use Rattle.giotto_tasks.specs.Sound.{all_different}
 use Rattle.giotto_tasks.specs.Syntax.{Expression}
-use Rattle.giotto_tasks.proofs.ListLemmas.{found_has, some_same}
-use Rattle.giotto_tasks.proofs.NameLemmas.{same_name_self}
+use Rattle.giotto_tasks.proofs.cited.ListLemmas.{found_has, some_same}
+use Rattle.giotto_tasks.proofs.cited.NameLemmas.{same_name_self}
 use Rattle.giotto_text.specs.PortNames.{with_values}
 use Rattle.giotto_text.specs.Program.{ModeSwitch, ModeDeclaration, GiottoProgram}
 use Rattle.giotto_rules.specs.Declarations.{destinations_of}
 use Rattle.giotto_rules.specs.Names.{all_different_numbers}
-use Rattle.giotto_check.specs.inner.Facts.{SwitchFits, ModeFits, ProgramFits}
-use Rattle.giotto_check.specs.Slots.{slot_of, valuation_of}
-use Rattle.giotto_check.specs.inner.Slots.{slots_of, with_slots}
-use Rattle.giotto_check.specs.inner.Timetables.{AreEach, IsDestination, IsExit, value_over}
+use Rattle.giotto_check.specs.cited.Facts.{SwitchFits, ModeFits, ProgramFits}
+use Rattle.giotto_rules.specs.Ports.{slot_of}
+use Rattle.giotto_check.specs.Slots.{valuation_of}
+use Rattle.giotto_check.specs.cited.Slots.{slots_of, with_slots}
+use Rattle.giotto_check.specs.cited.Timetables.{AreEach, IsDestination, IsExit, value_over}
 use Rattle.giotto_check.specs.declared.timetables.SlotDestination.{SlotDestination}
 use Rattle.giotto_check.specs.declared.timetables.SlotExit.{SlotExit}
-use Rattle.giotto_check.proofs.SlotLemmas.{name_at_slot}
-use Rattle.tenant_slots.specs.Ports.{holds}
-use Rattle.tenant_slots.specs.Switches.{is_open, switch_taken, with_destinations}
+use Rattle.giotto_check.proofs.cited.SlotLemmas.{name_at_slot}
+use Rattle.rig_model.specs.Ports.{holds}
+use Rattle.rig_model.specs.Switches.{is_open, switch_taken, with_destinations}
 use Rattle.tenant_slots.specs.inner.Switches.{slots_given, values_given}
-use Rattle.tenant_slots.proofs.Numbered.{mode_fits_at}
+use Rattle.tenant_slots.proofs.cited.Numbered.{mode_fits_at}
 use Rattle.tenant_slots.proofs.TaskValues.{all_within, all_written_at}
 
 -- what a search finds in a list with this front

@@ -9,19 +9,20 @@ use Rattle.std.proofs.lemmas.Option.{slice_get-get_or, slice_get-map, slice_get_
 use Rattle.std.proofs.lemmas.Slice.Zip.{firsts-zip}
 use Rattle.giotto_tasks.specs.declared.names.Name.{Name}
 use Rattle.giotto_tasks.specs.Names.{values_of}
-use Rattle.giotto_tasks.proofs.ListLemmas.{some_same}
+use Rattle.giotto_tasks.proofs.cited.ListLemmas.{some_same}
 use Rattle.giotto_text.specs.PortNames.{own_port, own_ports, with_values}
 use Rattle.giotto_text.specs.Program.{TaskDeclaration, GiottoProgram, names_of}
 use Rattle.giotto_text.specs.ProgramTrees as trees
 use Rattle.giotto_text.specs.declared.programs.Task.{Task}
-use Rattle.giotto_check.specs.inner.Facts.{ProgramFits}
-use Rattle.giotto_check.specs.Slots.{port_names, ports_of, shown_name, slot_of, valuation_of}
-use Rattle.giotto_check.specs.inner.Slots.{slots_of, with_slots}
-use Rattle.giotto_check.specs.inner.Timetables.{AreTaskSlots, HaveSlotsFrom}
+use Rattle.giotto_check.specs.cited.Facts.{ProgramFits}
+use Rattle.giotto_check.specs.Slots.{port_names, valuation_of}
+use Rattle.giotto_rules.specs.Ports.{ports_of, shown_name, slot_of}
+use Rattle.giotto_check.specs.cited.Slots.{slots_of, with_slots}
+use Rattle.giotto_check.specs.cited.Timetables.{AreTaskSlots, HaveSlotsFrom}
 use Rattle.giotto_check.specs.declared.timetables.TaskSlots.{TaskSlots}
-use Rattle.giotto_check.proofs.SlotLemmas.{names_at_slots, names_in_row, shared_shown}
-use Rattle.giotto_check.proofs.Valuations.{values_in_range, with_values_at_places}
-use Rattle.tenant_slots.proofs.Numbered.{slot_within}
+use Rattle.giotto_check.proofs.cited.SlotLemmas.{names_at_slots, names_in_row, shared_shown}
+use Rattle.giotto_check.proofs.cited.Valuations.{values_in_range, with_values_at_places}
+use Rattle.tenant_slots.proofs.cited.Numbered.{slot_within}
 
 -- a task has as many initial values as states
 pub states_counted : (p : GiottoProgram) (items : List Task) (k : ℕ) (d : Task) (t : TaskDeclaration) → map trees.task_of items ≡ p.tasks → slice_get p.tasks k ≡ Some t → length (get_or items k d).states ≡ length (names_of t.states)

@@ -3,7 +3,7 @@ use Rattle.std.proofs.Common.{◌≡◌, ℕ, zero, suc, ◌+◌, ◌<◌, ◌�
 use Rattle.std.proofs.Math.Seq.{paste}
 use Rattle.std.proofs.lemmas.List.{length-map, length-append, get_or-map, drop_all}
 use Rattle.std.proofs.lemmas.List.Edits.{paste_none, paste_more, paste_all, paste-paste}
-use Rattle.giotto_check.specs.inner.Slots.{with_range}
+use Rattle.giotto_check.specs.cited.Slots.{with_range}
 
 -- one more
 pub next_value : {X : Type 0} (value : X → ℤ) (before values : List ℤ) (first slot : ℕ) (xs : List X) (i : ℕ) (x : X) (z : ℤ) → first + length xs ≤ length before → i < length xs

@@ -1,7 +1,7 @@
 -- Numbers that are written at slots, one after the other.
 use Rattle.std.proofs.Common.{◌≡◌, ℕ, zero, suc, ◌+◌, ◌<◌, ◌≤◌, min, ℤ, List, [], ◌∷◌, length, drop, set, get_or, refl, sym, ap, ◌∙◌, arith}
 use Rattle.std.proofs.lemmas.List.{drop_more}
-use Rattle.giotto_check.specs.inner.Slots.{with_slots}
+use Rattle.giotto_check.specs.cited.Slots.{with_slots}
 
 -- one more
 pub next_written : (vs whole : List ℤ) (ks : List ℕ) (zs : List ℤ) (i k : ℕ) (z : ℤ) → i < length ks → i < length zs → get_or ks i k ≡ k → get_or zs i z ≡ z

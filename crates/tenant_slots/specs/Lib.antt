@@ -1,10 +1,3 @@
-pub mod CommonPeriods
-pub mod Due
 pub mod Places
-pub mod Ports
-pub mod Readings
-pub mod Replacement
-pub mod Results
-pub mod Switches
-pub mod Updates
+pub mod cited
 pub mod inner

@@ -1,8 +1,2 @@
-pub mod CommonPeriods
-pub mod Due
-pub mod Grants
-pub mod Places
-pub mod Readings
-pub mod Replacement
 pub mod Switches
 pub mod Tasks

@@ -6,12 +6,13 @@ ghost use Rattle.std.specs.Option.{option_map};
 ghost use Rattle.giotto_tasks.specs.Names.{same_name};
 ghost use Rattle.giotto_text.specs.declared.programs.Actuator.{Actuator};
 ghost use Rattle.giotto_text.specs.Program.{ModeDeclaration};
-ghost use Rattle.giotto_check.specs.inner.Slots.{slots_of};
+ghost use Rattle.giotto_check.specs.cited.Slots.{slots_of};
 ghost use Rattle.giotto_check.specs.Slots.{valuation_of};
-ghost use Rattle.tenant_slots.specs.inner.Places.{IsModeAt};
-ghost use Rattle.tenant_slots.specs.Ports.{actuators_reset, drives};
-ghost use Rattle.tenant_slots.specs.Updates.{all_updated, updates_happened};
-ghost use Rattle.tenant_trace.specs.inner.Noted.{noted, pushed};
+ghost use Rattle.tenant_slots.specs.cited.Places.{IsModeAt};
+ghost use Rattle.rig_model.specs.Ports.{actuators_reset};
+ghost use Rattle.rig_model.specs.LineValues.{drives};
+ghost use Rattle.rig_model.specs.Updates.{all_updated, updates_happened};
+ghost use Rattle.tenant_trace.specs.cited.Noted.{noted, pushed};
 ghost use Rattle.tenant_trace.specs.declared.records.Happening.TheVariants as happening;
 
 use crate::drivers::holds;

@@ -3,10 +3,10 @@
 ghost use Rattle.std.specs.Prelude.{◌≡◌, ◌+◌, ◌≤◌, length, map, None, IfOk};
 ghost use Rattle.std.specs.Arc.{arc_value};
 ghost use Rattle.std.specs.Option.{option_map};
-ghost use Rattle.giotto_check.specs.inner.Slots.{slots_of, with_range};
+ghost use Rattle.giotto_check.specs.cited.Slots.{slots_of, with_range};
 ghost use Rattle.giotto_check.specs.Slots.{valuation_of};
 ghost use Rattle.giotto_text.specs.ProgramTrees.{task_of};
-ghost use Rattle.tenant_slots.specs.Ports.{initial_of_task, initial_ports};
+ghost use Rattle.rig_model.specs.Ports.{initial_of_task, initial_ports};
 
 use giotto_check::Checked;
 use giotto_tasks::bodies::Body;

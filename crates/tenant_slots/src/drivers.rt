@@ -3,10 +3,10 @@
 ghost use Rattle.std.specs.Prelude.{◌≡◌, Option, length};
 ghost use Rattle.giotto_tasks.specs.Syntax.{Expression};
 ghost use Rattle.giotto_text.specs.Program.{GiottoProgram};
-ghost use Rattle.giotto_check.specs.inner.Slots.{slots_of};
+ghost use Rattle.giotto_check.specs.cited.Slots.{slots_of};
 ghost use Rattle.giotto_check.specs.Slots.{valuation_of};
-ghost use Rattle.giotto_check.specs.inner.Timetables.{IsGuard};
-ghost use Rattle.tenant_slots.specs.Ports.{holds};
+ghost use Rattle.giotto_check.specs.cited.Timetables.{IsGuard};
+ghost use Rattle.rig_model.specs.Ports.{holds};
 
 use giotto_check::timetables::{SlotExpr, slot_value};
 

@@ -3,8 +3,8 @@
 ghost use Rattle.std.specs.Prelude.{◌≡◌, ◌<◌, ◌≤◌, ◌%◌, ◌-◌, ◌^◌, ◌==◌, ◌&&◌, ℕ, false, length, nat_eq};
 ghost use Rattle.std.specs.List.{list_any, AllByRecursion};
 ghost use Rattle.giotto_text.specs.Program.{ModeDeclaration};
-ghost use Rattle.tenant_slots.specs.inner.Due.{IsNextDue, IsQuietUntil, MarksDue, is_among_due};
-ghost use Rattle.tenant_slots.specs.inner.Places.{IsModeAt};
+ghost use Rattle.tenant_slots.specs.cited.Due.{IsNextDue, IsQuietUntil, MarksDue, is_among_due};
+ghost use Rattle.tenant_slots.specs.cited.Places.{IsModeAt};
 
 use giotto_check::Checked;
 use giotto_check::timetables::SlotInvocation;
@@ -61,7 +61,7 @@ pub fn next_due(checked: &Checked, mode: usize, time: u64) -> u64
     ensures none { length checked.now.modes ≤ mode → result ≡ 2 ^ 64 - 1 }
 {
     // Its frequencies are positive.
-    let _program = checked.program();
+    checked.known();
     let mut next = u64::MAX;
     for update in checked.updates(mode) {
         next = next.min(next_multiple(time, update.interval));
@@ -101,15 +101,18 @@ pub fn due_behind(checked: &Checked, mode: usize, time: u64, behind: u64, next: 
     next_due(checked, mode, behind)
 }
 
-/// For each of the first 64 tasks whether one of these invocations of it is due at this mode time.
-pub fn due_marks(invocations: &[SlotInvocation], time: u64) -> [bool; 64]
+/// How many tasks of a program, from its first on, have a place in the tables by task.
+pub const TABLED_TASKS: usize = 64;
+
+/// For each of the tasks that have a place in tables whether one of these invocations of it is due at this mode time.
+pub fn due_marks(invocations: &[SlotInvocation], time: u64) -> [bool; TABLED_TASKS]
     requires { AllByRecursion (λ i. 0 < i.interval) invocations.now }
     ensures { MarksDue invocations.now time result }
 {
     let mut due = Due::at(time);
-    let mut marks = [false; 64];
+    let mut marks = [false; TABLED_TASKS];
     for i in invocations {
-        if i.task < 64 && due.is_due(i.interval) {
+        if i.task < TABLED_TASKS && due.is_due(i.interval) {
             marks[i.task] = true;
         }
     }
@@ -120,14 +123,14 @@ pub fn due_marks(invocations: &[SlotInvocation], time: u64) -> [bool; 64]
 pub fn is_task_due(
     invocations: &[SlotInvocation],
     time: u64,
-    marks: &[bool; 64],
+    marks: &[bool; TABLED_TASKS],
     task: usize,
 ) -> bool
     requires positive { AllByRecursion (λ i. 0 < i.interval) invocations.now }
     requires marks { MarksDue invocations.now time marks.now }
     ensures { result ≡ is_among_due time task invocations.now }
 {
-    if task < 64 {
+    if task < TABLED_TASKS {
         return marks[task];
     }
     for i in invocations {

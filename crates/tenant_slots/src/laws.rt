@@ -4,14 +4,14 @@
 
 ghost use Rattle.std.specs.Prelude.{◌≡◌, ◌++◌, ◌∷◌, [], ℤ, false, IsTrue};
 ghost use Rattle.giotto_tasks.specs.declared.names.Name.{Name};
-ghost use Rattle.giotto_tasks.specs.inner.Sources.{names_in};
+ghost use Rattle.giotto_tasks.specs.cited.Sources.{names_in};
 ghost use Rattle.giotto_tasks.specs.Names.{Valuation, is_among};
 ghost use Rattle.giotto_tasks.specs.Sound.{all_different};
 ghost use Rattle.giotto_text.specs.Program.{GiottoProgram};
-ghost use Rattle.giotto_check.specs.inner.Slots.{PortNamesDiffer};
-ghost use Rattle.tenant_slots.specs.Readings.{Readings};
-ghost use Rattle.tenant_slots.specs.inner.Grants.{with_each_granted, with_granted};
-ghost use Rattle.tenant_slots.specs.inner.Readings.{with_readings};
+ghost use Rattle.giotto_check.specs.cited.Slots.{PortNamesDiffer};
+ghost use Rattle.rig_model.specs.Readings.{Readings};
+ghost use Rattle.tenant_slots.specs.cited.Grants.{with_each_granted, with_granted};
+ghost use Rattle.tenant_slots.specs.cited.Readings.{with_readings};
 
 /// A value that is granted behind the readings is one more of those that were granted: the newest, whatever these are, and
 /// also the last, where none of these has its name. So values for different names, taken one after the other, give what the

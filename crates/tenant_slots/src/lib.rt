@@ -9,6 +9,9 @@
 //! that it keeps of the one that it replaces.
 //! [`due::Due`] tells what is due at a mode time, and [`due::next_due`] until when nothing is; [`periods::period_of`] how far apart
 //! a mode invokes a task.
+//!
+//! What each of these steps is, on the map from names to values, is defined in the crate `rig_model`, and which slot a port has in
+//! `giotto_check`.
 #![tactic(auto)]
 
 pub mod actuators;

@@ -5,10 +5,10 @@ ghost use Rattle.std.specs.List.{position_from};
 ghost use Rattle.std.specs.Option.{option_map};
 ghost use Rattle.giotto_tasks.specs.Names.{same_name};
 ghost use Rattle.giotto_text.specs.declared.programs.Mode.{Mode};
-ghost use Rattle.giotto_check.specs.inner.Slots.{slots_of};
+ghost use Rattle.giotto_check.specs.cited.Slots.{slots_of};
 ghost use Rattle.giotto_check.specs.Slots.{valuation_of};
 ghost use Rattle.tenant_slots.specs.Places.{name_of_mode, name_of_task};
-ghost use Rattle.tenant_slots.specs.Ports.{value_of_port};
+ghost use Rattle.rig_model.specs.Ports.{value_of_port};
 
 use giotto_check::Checked;
 use giotto_tasks::names::Name;
@@ -21,7 +21,7 @@ pub fn port_value(program: &Checked, task: Option<&str>, name: &str, values: &[i
     ensures { result ≡ value_of_port program.now (valuation_of program.now values.now) (option_map (λ t. t.now) task.entry) name.now }
 {
     // Its ports stand once.
-    let _program = program.program();
+    program.known();
     let slot = program.slot(task, name)?;
     values.get(slot).copied()
 }

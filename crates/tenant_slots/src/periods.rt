@@ -7,8 +7,8 @@ ghost use Rattle.std.specs.Option.{option_map};
 ghost use Rattle.giotto_text.specs.Program.{ModeDeclaration};
 ghost use Rattle.giotto_rules.specs.Declarations.{period_of_task};
 ghost use Rattle.tenant_slots.specs.Places.{name_of_task};
-ghost use Rattle.tenant_slots.specs.inner.CommonPeriods.{IsLeastCommonMultiple};
-ghost use Rattle.tenant_slots.specs.inner.Places.{IsModeAt};
+ghost use Rattle.tenant_slots.specs.cited.CommonPeriods.{IsLeastCommonMultiple};
+ghost use Rattle.tenant_slots.specs.cited.Places.{IsModeAt};
 
 use giotto_check::Checked;
 use giotto_check::timetables::SlotInvocation;
@@ -21,7 +21,7 @@ pub fn period_of(checked: &Checked, mode: usize, task: usize) -> Option<u64>
     ensures none { length checked.now.modes ≤ mode → result ≡ None }
 {
     // It is well-formed.
-    let _program = checked.program();
+    checked.known();
     interval_of(checked.invocations(mode), task)
 }
 

@@ -7,11 +7,12 @@ ghost use Rattle.giotto_tasks.specs.Names.{is_among};
 ghost use Rattle.giotto_text.specs.Program.{GiottoProgram};
 ghost use Rattle.giotto_rules.specs.Declarations as declared;
 ghost use Rattle.giotto_rules.specs.Declarations.{sensor_names, actuator_names};
-ghost use Rattle.giotto_check.specs.inner.Slots.{slots_of};
-ghost use Rattle.giotto_check.specs.Slots.{slot_of, valuation_of};
-ghost use Rattle.tenant_slots.specs.Ports.{initial_ports};
-ghost use Rattle.tenant_slots.specs.Replacement.{carried_ports};
-ghost use Rattle.tenant_slots.specs.inner.Replacement.{IsCarryTable, is_carried};
+ghost use Rattle.giotto_check.specs.cited.Slots.{slots_of};
+ghost use Rattle.giotto_rules.specs.Ports.{slot_of};
+ghost use Rattle.giotto_check.specs.Slots.{valuation_of};
+ghost use Rattle.rig_model.specs.Ports.{initial_ports};
+ghost use Rattle.rig_model.specs.Replacement.{carried_ports};
+ghost use Rattle.tenant_slots.specs.cited.Replacement.{IsCarryTable, is_carried};
 
 use giotto_check::Checked;
 use giotto_rules::declarations::driver_ports;
@@ -58,8 +59,8 @@ fn add_carried(
     ensures { OnOk result (IsCarryTable old.now new.now table.new.items) }
 {
     // Both programs are well-formed.
-    let _old = old.program();
-    let _new = new.program();
+    old.known();
+    new.known();
     for (to, name) in ports.iter().enumerate() {
         if let Some(from) = running.place(name) {
             if is_one_kind(old, from, new, to) {

@@ -4,11 +4,11 @@ ghost use Rattle.std.specs.Prelude.{◌≡◌, [], length};
 ghost use Rattle.std.specs.List.{position_from};
 ghost use Rattle.giotto_text.specs.ProgramTrees.{sensor_of};
 ghost use Rattle.giotto_text.specs.declared.programs.Sensor.{Sensor};
-ghost use Rattle.giotto_check.specs.inner.Slots.{slots_of};
+ghost use Rattle.giotto_check.specs.cited.Slots.{slots_of};
 ghost use Rattle.giotto_check.specs.Slots.{valuation_of};
-ghost use Rattle.tenant_slots.specs.Readings.{readings_within, reading_of, reading_taken};
-ghost use Rattle.tenant_slots.specs.inner.Grants.{takes_granted, with_granted};
-ghost use Rattle.tenant_slots.specs.inner.Readings.{with_readings};
+ghost use Rattle.rig_model.specs.Readings.{readings_within, reading_of, reading_taken};
+ghost use Rattle.tenant_slots.specs.cited.Grants.{takes_granted, with_granted};
+ghost use Rattle.tenant_slots.specs.cited.Readings.{with_readings};
 
 use giotto_check::Checked;
 use giotto_tasks::names::Name;

@@ -4,13 +4,13 @@ ghost use Rattle.std.specs.Prelude.{◌≡◌, ◌<◌, ◌≤◌, None, IsTrue,
 ghost use Rattle.std.specs.List.{AllByRecursion};
 ghost use Rattle.giotto_text.specs.Program.{GiottoProgram, ModeDeclaration};
 ghost use Rattle.giotto_rules.specs.Names.{all_different_numbers};
-ghost use Rattle.giotto_check.specs.inner.Slots.{slots_of, with_slots};
+ghost use Rattle.giotto_check.specs.cited.Slots.{slots_of, with_slots};
 ghost use Rattle.giotto_check.specs.Slots.{valuation_of};
-ghost use Rattle.giotto_check.specs.inner.Timetables.{AreEach, IsExit};
+ghost use Rattle.giotto_check.specs.cited.Timetables.{AreEach, IsExit};
 ghost use Rattle.giotto_check.specs.declared.timetables.SlotExit.{SlotExit};
-ghost use Rattle.tenant_slots.specs.inner.Places.{IsModeAt};
+ghost use Rattle.tenant_slots.specs.cited.Places.{IsModeAt};
 ghost use Rattle.tenant_slots.specs.inner.Switches.{IsExitOf, place_entered, ports_switched, slots_given, values_given};
-ghost use Rattle.tenant_slots.specs.Switches.{switch_taken};
+ghost use Rattle.rig_model.specs.Switches.{switch_taken};
 
 use crate::drivers::holds;
 use crate::due::Due;
@@ -28,7 +28,7 @@ pub fn take_switch(checked: &Checked, mode: usize, time: u64, values: &mut [i64]
     ensures missing { length checked.now.modes ≤ mode → (result ≡ None) × (values.new ≡ values.old) }
 {
     // It is well-formed.
-    let _program = checked.program();
+    checked.known();
     let exit = first_open(checked.exits(mode), time, values)?;
     give(exit.destinations.as_slice(), values);
     Some(exit.target)

@@ -5,14 +5,14 @@ ghost use Rattle.std.specs.List.{AllByRecursion, range_with_len};
 ghost use Rattle.giotto_tasks.specs.Meaning.{value_of};
 ghost use Rattle.giotto_tasks.specs.Syntax.{Expression};
 ghost use Rattle.giotto_text.specs.Program.{GiottoProgram, TaskDeclaration};
-ghost use Rattle.giotto_check.specs.inner.Facts.{ProgramFits};
-ghost use Rattle.giotto_check.specs.inner.Slots.{slots_of, with_slots};
+ghost use Rattle.giotto_check.specs.cited.Facts.{ProgramFits};
+ghost use Rattle.giotto_check.specs.cited.Slots.{slots_of, with_slots};
 ghost use Rattle.giotto_check.specs.Slots.{valuation_of};
-ghost use Rattle.giotto_check.specs.inner.Timetables.{AreEach, AreTaskSlots, IsExpression};
-ghost use Rattle.tenant_slots.specs.Results.{outputs_happened};
-ghost use Rattle.tenant_slots.specs.inner.Places.{IsTaskAt};
+ghost use Rattle.giotto_check.specs.cited.Timetables.{AreEach, AreTaskSlots, IsExpression};
+ghost use Rattle.rig_model.specs.FirstHalf.{outputs_happened};
+ghost use Rattle.tenant_slots.specs.cited.Places.{IsTaskAt};
 ghost use Rattle.tenant_slots.specs.inner.Tasks.{states_in, with_input_values, with_results};
-ghost use Rattle.tenant_trace.specs.inner.Noted.{noted};
+ghost use Rattle.tenant_trace.specs.cited.Noted.{noted};
 
 use giotto_check::Checked;
 use giotto_check::timetables::{SlotExpr, TaskSlots, slot_value};
@@ -89,7 +89,7 @@ fn slots_at(checked: &Checked, task: usize) -> &TaskSlots
     ensures slots { (t : TaskDeclaration) × IsTaskAt checked.now task t × AreTaskSlots checked.now t result.now }
 {
     // It is well-formed.
-    let _program = checked.program();
+    checked.known();
     &checked.tasks()[task]
 }
 

@@ -1,7 +1,7 @@
 -- The names of ports in replies, and a name with its value.
 use Rattle.std.specs.Prelude.{ℤ, Some, None}
 use Rattle.giotto_tasks.specs.declared.names.Name.{Name}
-use Rattle.giotto_check.specs.Slots.{ProgramPort}
+use Rattle.giotto_rules.specs.Ports.{ProgramPort}
 use Rattle.tenant_lines.specs.declared.ports.PortName.{PortName}
 use Rattle.tenant_lines.specs.declared.ports.PortValue.{PortValue}
 

@@ -3,8 +3,8 @@ use Rattle.std.specs.Prelude.{ℕ, Option, ◌≡◌, None, IsSomeAnd, MatchOpti
 use Rattle.std.specs.Option.{option_map_or, option_and_then}
 use Rattle.giotto_tasks.specs.Names.{Valuation}
 use Rattle.giotto_text.specs.Program.{ModeDeclaration, GiottoProgram, ModeSwitch}
-use Rattle.tenant_slots.specs.Switches.{switch_taken, with_destinations}
-use Rattle.giotto_check.specs.inner.Timetables.{place_of_mode, IsExit, value_over}
+use Rattle.rig_model.specs.Switches.{switch_taken, with_destinations}
+use Rattle.giotto_check.specs.cited.Timetables.{place_of_mode, IsExit, value_over}
 use Rattle.std.specs.Borrow.{Bor}
 use Rattle.giotto_check.specs.declared.timetables.SlotExit.{SlotExit}
 use Rattle.giotto_check.specs.declared.timetables.SlotDestination.{SlotDestination}

@@ -3,7 +3,7 @@ use Rattle.tenant_grants.specs.Grants.{offered, unoffered, bound}
 use Rattle.tenant_grants.specs.declared.rows.Offer.{Offer}
 use Rattle.tenant_lines.specs.declared.replies.Budget.TheVariants.{Offers, Binds}
 use Rattle.tenant_lines.specs.declared.replies.Reply.TheVariants.{Offered, Unoffered, Bound}
-use Rattle.tenant_exchange.specs.Commands.{with_offers, with_binds}
+use Rattle.rig_model.specs.GrantCommands.{with_offers, with_binds}
 use Rattle.tenant_exchange.proofs.Told.{more_told, less_told}
 use Rattle.tenant_exchange.proofs.commands.carry_out.Goals as goal
 

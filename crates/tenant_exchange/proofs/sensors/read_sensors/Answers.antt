@@ -1,8 +1,8 @@
 use Rattle.std.proofs.Common.{◌≤◌, length, inl, inr, sym, ap, ◌∙◌, arith, rules, w64, SFits}
 use Rattle.std.proofs.lemmas.Int.{to_z-of_z}
 use Rattle.giotto_check.specs.Slots.{valuation_of}
-use Rattle.tenant_slots.specs.Readings.{readings_within}
-use Rattle.tenant_slots.specs.inner.Grants.{with_granted}
+use Rattle.rig_model.specs.Readings.{readings_within}
+use Rattle.tenant_slots.specs.cited.Grants.{with_granted}
 use Rattle.tenant_exchange.proofs.GrantedAlong.{all_taken, none_past, nothing_taken, value_taken}
 use Rattle.tenant_exchange.proofs.sensors.read_sensors.Goals as goal
 
@@ -26,7 +26,7 @@ loop-i-preserved c =
       long = c.take_granted.auto.values ∙ c.loop-i.invariant.long;
       taken = λ ports sensed. c.take_granted.ensures ∙ rw (to_z-of_z w64 c.in-Some.value fits) (ap (with_granted p it.sensor c.in-Some.value) (c.loop-i.invariant.taken ports sensed)
           ∙ value_taken p readings ports grants.binds c.args.granted.now c.loop-i.i grants.owner.roster it.sensor _ _ c.in-Some.value
-          c.program-program.ensures.fits.ports_once c.own-own.ensures.kept.binds_differ bound c.in-Some.is);
+          c.known.ensures.fits.ports_once c.known-2.ensures.binds_differ bound c.in-Some.is);
     }
 
 pub returns-in_default-bind_at : goal.returns-in_default-bind_at

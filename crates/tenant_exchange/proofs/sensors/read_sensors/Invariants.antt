@@ -1,9 +1,9 @@
 use Rattle.std.proofs.Common.{◌≡◌, [], length}
 use Rattle.giotto_tasks.specs.Names.{Valuation}
-use Rattle.giotto_check.specs.inner.Slots.{slots_of}
+use Rattle.giotto_check.specs.cited.Slots.{slots_of}
 use Rattle.giotto_check.specs.Slots.{valuation_of}
-use Rattle.tenant_slots.specs.Readings.{readings_within}
-use Rattle.tenant_slots.specs.inner.Readings.{with_readings}
+use Rattle.rig_model.specs.Readings.{readings_within}
+use Rattle.tenant_slots.specs.cited.Readings.{with_readings}
 use Rattle.tenant_exchange.proofs.GrantedAlong.{granted_before}
 use Rattle.tenant_exchange.proofs.sensors.read_sensors.Given as goal
 

@@ -1,6 +1,6 @@
 use Rattle.std.proofs.Common.{ap, refl, arith, sym, ◌∙◌, Bool, List, ℕ, map, find}
 use Rattle.tenant_jobs.specs.Finished.{TableEntry}
-use Rattle.tenant_jobs.specs.Jobs.{same_job}
+use Rattle.rig_model.specs.Jobs.{same_job}
 use Rattle.tenant_jobs.proofs.TableEntries.{find_past}
 use Rattle.slab.proofs.SlabLemmas.{Contains-cons, Contains-entries}
 use Rattle.tenant_jobs.proofs.Slots.{values-entries}

@@ -1,7 +1,7 @@
 use Rattle.std.proofs.Common.{◌≡◌, ℕ, Some, Contains, map, find}
 use Rattle.slab.specs.Slab.{get, values}
 use Rattle.tenant_jobs.specs.Finished.{TableEntry}
-use Rattle.tenant_jobs.specs.Jobs.{same_job}
+use Rattle.rig_model.specs.Jobs.{same_job}
 use Rattle.tenant_jobs.proofs.finished.searched_key.Given as goal
 
 -- every entry left is the slab's, and the name is found where it is found among those left

@@ -1,6 +1,6 @@
 use Rattle.std.proofs.Common.{◌≡◌, find, drop}
 use Rattle.giotto_text.specs.declared.programs.Actuator.{Actuator}
-use Rattle.tenant_slots.specs.Ports.{drives}
+use Rattle.rig_model.specs.LineValues.{drives}
 use Rattle.tenant_slots.proofs.actuators.driver_name.Given as goal
 
 abbrev pub invariant-loop-actuator : goal.invariant-loop-actuator

@@ -4,7 +4,7 @@ use Rattle.std.proofs.lemmas.List.{drop_all, length-map}
 use Rattle.giotto_text.specs.declared.programs.Actuator.{Actuator}
 use Rattle.giotto_text.specs.Program.{ActuatorDeclaration, GiottoProgram}
 use Rattle.giotto_text.specs.ProgramTrees.{actuator_of, sensor_of}
-use Rattle.giotto_check.specs.inner.Slots.{with_slots}
+use Rattle.giotto_check.specs.cited.Slots.{with_slots}
 use Rattle.tenant_slots.proofs.ActuatorSlots.{map_both, next_slot, reset_by_slots}
 use Rattle.tenant_slots.proofs.actuators.reset_actuators.Goals as goal
 

@@ -1,7 +1,7 @@
 use Rattle.std.proofs.Common.{◌≡◌, ◌+◌, length, map, drop}
 use Rattle.std.specs.List.{range_with_len}
 use Rattle.giotto_text.specs.declared.programs.Actuator.{Actuator}
-use Rattle.giotto_check.specs.inner.Slots.{with_slots}
+use Rattle.giotto_check.specs.cited.Slots.{with_slots}
 use Rattle.tenant_slots.proofs.actuators.reset_actuators.Given as goal
 
 abbrev pub invariant-loop-i : goal.invariant-loop-i

@@ -7,17 +7,17 @@ use Rattle.giotto_text.specs.declared.programs.Actuator.{Actuator}
 use Rattle.giotto_text.specs.ProgramTrees.{actuator_of, sensor_of}
 use Rattle.giotto_check.specs.declared.timetables.SlotUpdate.{SlotUpdate}
 use Rattle.giotto_check.specs.Slots.{valuation_of}
-use Rattle.giotto_check.specs.inner.Timetables.{IsUpdate, value_over}
-use Rattle.giotto_check.proofs.EachLemmas.{each_long}
-use Rattle.giotto_tasks.proofs.ListLemmas.{all_at}
+use Rattle.giotto_check.specs.cited.Timetables.{IsUpdate, value_over}
+use Rattle.giotto_check.proofs.cited.EachLemmas.{each_long}
+use Rattle.giotto_tasks.proofs.cited.ListLemmas.{all_at}
 use Rattle.tenant_trace.specs.Trace.{LastRecords}
-use Rattle.tenant_trace.specs.inner.Noted.{noted}
-use Rattle.tenant_slots.specs.Ports.{holds}
-use Rattle.tenant_slots.specs.Updates.{all_updated, updates_happened}
+use Rattle.tenant_trace.specs.cited.Noted.{noted}
+use Rattle.rig_model.specs.Ports.{holds}
+use Rattle.rig_model.specs.Updates.{all_updated, updates_happened}
 use Rattle.tenant_slots.proofs.ActuatorPlaces.{entry_slot, entry_within, name_at}
-use Rattle.tenant_slots.proofs.Quiet.{updates_positive}
+use Rattle.tenant_slots.proofs.cited.Quiet.{updates_positive}
 use Rattle.tenant_slots.proofs.Recorded.{update_noted, update_left_out}
-use Rattle.tenant_slots.proofs.Updates.{each_item, update_within, is_made, is_left_out, update_happens, update_waits, next_update}
+use Rattle.tenant_slots.proofs.cited.Updates.{each_item, update_within, is_made, is_left_out, update_happens, update_waits, next_update}
 use Rattle.tenant_slots.proofs.actuators.update_due.Goals as goal
 use Rattle.tenant_slots.proofs.actuators.update_due.Goals.{then-is_due+then-holds, else-is_due, else-is_due-via-then-is_due+else-holds, else-is_due-via-else-is_due}
 

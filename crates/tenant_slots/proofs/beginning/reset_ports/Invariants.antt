@@ -4,7 +4,7 @@ use Rattle.std.specs.List.{flat_map}
 use Rattle.giotto_text.specs.declared.programs.Sensor.{Sensor}
 use Rattle.giotto_text.specs.declared.programs.Actuator.{Actuator}
 use Rattle.giotto_text.specs.declared.programs.Output.{Output}
-use Rattle.giotto_check.specs.inner.Slots.{with_range}
+use Rattle.giotto_check.specs.cited.Slots.{with_range}
 use Rattle.tenant_slots.proofs.InitialValues.{values_of_task}
 use Rattle.tenant_slots.proofs.beginning.reset_ports.Given as goal
 

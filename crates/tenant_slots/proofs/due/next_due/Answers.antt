@@ -5,13 +5,13 @@ use Rattle.std.proofs.lemmas.List.{take_all}
 use Rattle.giotto_check.specs.declared.timetables.SlotUpdate.{SlotUpdate}
 use Rattle.giotto_check.specs.declared.timetables.SlotExit.{SlotExit}
 use Rattle.giotto_check.specs.declared.timetables.SlotInvocation.{SlotInvocation}
-use Rattle.giotto_tasks.proofs.ListLemmas.{all_at}
-use Rattle.tenant_slots.proofs.Quiet.{AreQuiet, AreDue, quiet_more, due_more, due_at, quiet_until, updates_positive, exits_positive, invocations_positive}
+use Rattle.giotto_tasks.proofs.cited.ListLemmas.{all_at}
+use Rattle.tenant_slots.proofs.cited.Quiet.{AreQuiet, AreDue, quiet_more, due_more, due_at, quiet_until, updates_positive, exits_positive, invocations_positive}
 use Rattle.tenant_slots.proofs.due.next_due.Goals as goal
 
 pub next_multiple-requires : goal.next_multiple-requires
 next_multiple-requires c =
-    let all = updates_positive c.args.checked.now c.program-program.ensures.fits c.args.mode _ c.updates-update-items.ensures.there c.updates-update-items.ensures.none in
+    let all = updates_positive c.args.checked.now c.known.ensures.fits c.args.mode _ c.updates-update-items.ensures.there c.updates-update-items.ensures.none in
     subst (λ (e : SlotUpdate). 0 < e.interval) (sym c.update-item.is) (all_at (λ (e : SlotUpdate). 0 < e.interval) _ c.loop-update.update-index _ c.loop-update-test.true all)
 
 pub loop-update-preserved : goal.loop-update-preserved
@@ -26,7 +26,7 @@ loop-update-preserved c = record {
 
 pub next_multiple-requires-in-loop-exit : goal.next_multiple-requires-in-loop-exit
 next_multiple-requires-in-loop-exit c =
-    let all = exits_positive c.args.checked.now c.program-program.ensures.fits c.args.mode _ c.exits-exit-items.ensures.there c.exits-exit-items.ensures.none in
+    let all = exits_positive c.args.checked.now c.known.ensures.fits c.args.mode _ c.exits-exit-items.ensures.there c.exits-exit-items.ensures.none in
     subst (λ (e : SlotExit). 0 < e.interval) (sym c.exit-item.is) (all_at (λ (e : SlotExit). 0 < e.interval) _ c.loop-exit.exit-index _ c.loop-exit-test.true all)
 
 pub loop-exit-preserved : goal.loop-exit-preserved
@@ -42,7 +42,7 @@ loop-exit-preserved c = record {
 
 pub next_multiple-requires-in-loop-invocation : goal.next_multiple-requires-in-loop-invocation
 next_multiple-requires-in-loop-invocation c =
-    let all = invocations_positive c.args.checked.now c.program-program.ensures.fits c.args.mode _ c.invocations-invocation-items.ensures.there c.invocations-invocation-items.ensures.none in
+    let all = invocations_positive c.args.checked.now c.known.ensures.fits c.args.mode _ c.invocations-invocation-items.ensures.there c.invocations-invocation-items.ensures.none in
     subst (λ (e : SlotInvocation). 0 < e.interval) (sym c.invocation-item.is) (all_at (λ (e : SlotInvocation). 0 < e.interval) _ c.loop-invocation.invocation-index _ c.loop-invocation-test.true all)
 
 pub loop-invocation-preserved : goal.loop-invocation-preserved
@@ -66,13 +66,13 @@ returns-clause-there c =
     let all_is = take_all c.loop-invocation.invocation-index is c.loop-invocation-test.false in
     λ m at. record {
       from = c.loop-invocation.invariant.from;
-      quiet = quiet_until c.args.checked.now c.program-program.ensures.fits c.args.mode m us ss is c.args.time c.loop-update.next c.loop-exit.next c.loop-invocation.next
+      quiet = quiet_until c.args.checked.now c.known.ensures.fits c.args.mode m us ss is c.args.time c.loop-update.next c.loop-exit.next c.loop-invocation.next
           (c.updates-update-items.ensures.there m at) (c.exits-exit-items.ensures.there m at) (c.invocations-invocation-items.ensures.there m at)
           (subst (λ es. AreQuiet (λ (e : SlotUpdate). e.interval) es c.args.time c.loop-update.next) all_us c.loop-update.invariant.quiet)
           (subst (λ es. AreQuiet (λ (e : SlotExit). e.interval) es c.args.time c.loop-exit.next) all_ss c.loop-exit.invariant.quiet)
           (subst (λ es. AreQuiet (λ (e : SlotInvocation). e.interval) es c.args.time c.loop-invocation.next) all_is c.loop-invocation.invariant.quiet)
           c.loop-exit.invariant.less c.loop-invocation.invariant.less;
-      due = due_at c.args.checked.now c.program-program.ensures.fits c.args.mode m us ss is c.loop-update.next c.loop-exit.next c.loop-invocation.next
+      due = due_at c.args.checked.now c.known.ensures.fits c.args.mode m us ss is c.loop-update.next c.loop-exit.next c.loop-invocation.next
           (c.updates-update-items.ensures.there m at) (c.exits-exit-items.ensures.there m at) (c.invocations-invocation-items.ensures.there m at)
           (subst (λ es. AreDue (λ (e : SlotUpdate). e.interval) es (2 ^ 64 - 1) c.loop-update.next) all_us c.loop-update.invariant.due)
           (subst (λ es. AreDue (λ (e : SlotExit). e.interval) es c.loop-update.next c.loop-exit.next) all_ss c.loop-exit.invariant.due)

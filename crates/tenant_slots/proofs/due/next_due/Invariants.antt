@@ -2,7 +2,7 @@ use Rattle.std.proofs.Common.{◌<◌, ◌≤◌, ◌-◌, ◌^◌, take}
 use Rattle.giotto_check.specs.declared.timetables.SlotUpdate.{SlotUpdate}
 use Rattle.giotto_check.specs.declared.timetables.SlotExit.{SlotExit}
 use Rattle.giotto_check.specs.declared.timetables.SlotInvocation.{SlotInvocation}
-use Rattle.tenant_slots.proofs.Quiet.{AreQuiet, AreDue}
+use Rattle.tenant_slots.proofs.cited.Quiet.{AreQuiet, AreDue}
 use Rattle.tenant_slots.proofs.due.next_due.Given as goal
 
 abbrev pub invariant-loop-update : goal.invariant-loop-update

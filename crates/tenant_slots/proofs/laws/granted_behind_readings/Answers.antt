@@ -1,5 +1,5 @@
 use Rattle.std.proofs.Common.{[], ◌∷◌, ◌++◌, refl}
-use Rattle.tenant_slots.proofs.Granted.{found_last, granted_in_order, granted_more}
+use Rattle.tenant_slots.proofs.cited.Granted.{found_last, granted_in_order, granted_more}
 use Rattle.tenant_slots.proofs.laws.granted_behind_readings.Goals as goal
 
 pub returns-clause-newest : goal.returns-clause-newest

@@ -4,12 +4,13 @@ use Rattle.std.specs.Option.{option_and_then, option_map}
 use Rattle.giotto_tasks.specs.declared.names.Name.{Name}
 use Rattle.giotto_tasks.specs.Names.{value_at}
 use Rattle.giotto_text.specs.Program.{GiottoProgram}
-use Rattle.giotto_check.specs.inner.Facts.{ProgramFits}
-use Rattle.giotto_check.specs.Slots.{port_names, shown_name, slot_of, valuation_of}
-use Rattle.giotto_check.proofs.SlotLemmas.{name_at_slot}
-use Rattle.giotto_check.proofs.Valuations.{value_at_place}
-use Rattle.tenant_slots.specs.Ports.{value_of_port}
-use Rattle.tenant_slots.proofs.Readings.{copied_at}
+use Rattle.giotto_check.specs.cited.Facts.{ProgramFits}
+use Rattle.giotto_check.specs.Slots.{port_names, valuation_of}
+use Rattle.giotto_rules.specs.Ports.{shown_name, slot_of}
+use Rattle.giotto_check.proofs.cited.SlotLemmas.{name_at_slot}
+use Rattle.giotto_check.proofs.cited.Valuations.{value_at_place}
+use Rattle.rig_model.specs.Ports.{value_of_port}
+use Rattle.tenant_slots.proofs.cited.Readings.{copied_at}
 use Rattle.tenant_slots.proofs.names.port_value.Goals as goal
 
 -- the value of a port that has a slot stands there
@@ -24,4 +25,4 @@ returns c =
     let p = c.args.program.now in
     let task = option_map {T = Bor (List ℕ)} {U = List ℕ} (λ t. t.now) c.args.task in
     c.copied.ensures ∙ copied_at c.args.values.now c.in_ok-slot.slot c.get.result c.get.ensures.lookup
-    ∙ sym (value_there p c.program-program.ensures.fits c.args.values.now task c.args.name.now c.in_ok-slot.slot (sym c.in_ok-slot.ensures))
+    ∙ sym (value_there p c.known.ensures.fits c.args.values.now task c.args.name.now c.in_ok-slot.slot (sym c.in_ok-slot.ensures))

@@ -4,9 +4,9 @@ use Rattle.std.specs.List.{position_from}
 use Rattle.giotto_text.specs.Program.{ModeDeclaration, GiottoProgram}
 use Rattle.giotto_text.specs.declared.programs.Mode.{Mode}
 use Rattle.giotto_tasks.specs.Names.{same_name}
-use Rattle.giotto_tasks.proofs.NameLemmas.{same_name_is}
-use Rattle.giotto_check.proofs.EntryLemmas.{mode_found, mode_there}
-use Rattle.giotto_check.proofs.PlaceLemmas.{passes_there}
+use Rattle.giotto_tasks.proofs.cited.NameLemmas.{same_name_is}
+use Rattle.giotto_check.proofs.cited.EntryLemmas.{mode_found, mode_there}
+use Rattle.giotto_check.proofs.cited.PlaceLemmas.{passes_there}
 use Rattle.tenant_slots.proofs.names.start_place.Goals as goal
 
 pub unreachable-requires : goal.unreachable-requires

@@ -1,4 +1,4 @@
-use Rattle.tenant_slots.proofs.CommonMultiples.{by_divisor, some_divisor}
+use Rattle.tenant_slots.proofs.cited.CommonMultiples.{by_divisor, some_divisor}
 use Rattle.tenant_slots.proofs.periods.common_multiple.Goals as goal
 
 pub nonzero_div-result : goal.nonzero_div-result

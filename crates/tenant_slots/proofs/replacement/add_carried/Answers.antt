@@ -1,8 +1,8 @@
 use Rattle.std.proofs.Common.{◌≡◌, ◌+◌, List, filter, take, Vec, Global, None, sym, ap, subst, ◌∙◌}
-use Rattle.giotto_tasks.specs.inner.Places.{place_from}
-use Rattle.giotto_check.specs.Slots.{slot_of}
-use Rattle.giotto_check.proofs.SlotLemmas.{slot_shared}
-use Rattle.tenant_slots.specs.inner.Replacement.{AreCarried, is_carried}
+use Rattle.giotto_tasks.specs.cited.Places.{place_from}
+use Rattle.giotto_rules.specs.Ports.{slot_of}
+use Rattle.giotto_check.proofs.cited.SlotLemmas.{slot_shared}
+use Rattle.tenant_slots.specs.cited.Replacement.{AreCarried, is_carried}
 use Rattle.tenant_slots.specs.declared.replacement.Carried.{Carried}
 use Rattle.tenant_slots.proofs.CarryTables.{entry_made, entry_left_out, no_port, slot_of_place}
 use Rattle.tenant_slots.proofs.replacement.add_carried.Goals as goal
@@ -14,8 +14,8 @@ loop-to-preserved c =
     let new = c.args.new.now in
     let i = c.loop-to.to in
     let x = c.index-ports-to.result in
-    let old_fits = c.program-old.ensures.fits in
-    let new_fits = c.program-new.ensures.fits in
+    let old_fits = c.known.ensures.fits in
+    let new_fits = c.known-2.ensures.fits in
     let from : slot_of old None x ≡ c.place.result = slot_shared old x ∙ sym (c.place.ensures ∙ ap (λ ns. place_from 0 ns x) c.requires.running) in
     let to = slot_of_place new new_fits c.args.ports.now c.requires.ports i x c.loop-to-test.true c.index-ports-to.is in
     let made = entry_made old new old_fits new_fits c.args.ports.now c.requires.ports i x c.loop-to-test.true c.index-ports-to.is c.loop-to.table.items c.loop-to.invariant in

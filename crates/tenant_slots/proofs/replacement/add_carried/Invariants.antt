@@ -1,5 +1,5 @@
 use Rattle.std.proofs.Common.{filter, take}
-use Rattle.tenant_slots.specs.inner.Replacement.{AreCarried, is_carried}
+use Rattle.tenant_slots.specs.cited.Replacement.{AreCarried, is_carried}
 use Rattle.tenant_slots.proofs.replacement.add_carried.Given as goal
 
 abbrev pub invariant-loop-to : goal.invariant-loop-to

@@ -1,6 +1,6 @@
 use Rattle.std.proofs.Common.{◌≡◌, [], pos, get_or, map, drop, rules, sym, ap, ◌∙◌, arith}
 use Rattle.std.proofs.lemmas.List.{drop_all}
-use Rattle.giotto_check.specs.inner.Slots.{with_slots}
+use Rattle.giotto_check.specs.cited.Slots.{with_slots}
 use Rattle.tenant_slots.specs.declared.replacement.Carried.{Carried}
 use Rattle.tenant_slots.proofs.CarriedValues.{given_by_slot}
 use Rattle.tenant_slots.proofs.CarryTables.{entry_within}

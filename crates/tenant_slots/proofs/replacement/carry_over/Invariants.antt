@@ -1,5 +1,5 @@
 use Rattle.std.proofs.Common.{◌≡◌, pos, drop, get_or, map}
-use Rattle.giotto_check.specs.inner.Slots.{with_slots}
+use Rattle.giotto_check.specs.cited.Slots.{with_slots}
 use Rattle.tenant_slots.specs.declared.replacement.Carried.{Carried}
 use Rattle.tenant_slots.proofs.replacement.carry_over.Given as goal
 

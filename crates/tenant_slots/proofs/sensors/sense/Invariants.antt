@@ -2,10 +2,10 @@ use Rattle.std.proofs.Common.{◌≡◌, [], length, map, drop}
 use Rattle.giotto_text.specs.Program.{SensorDeclaration}
 use Rattle.giotto_text.specs.ProgramTrees.{sensor_of}
 use Rattle.giotto_rules.specs.Declarations.{sensor_names}
-use Rattle.giotto_check.specs.inner.Slots.{slots_of}
+use Rattle.giotto_check.specs.cited.Slots.{slots_of}
 use Rattle.giotto_check.specs.Slots.{valuation_of}
 use Rattle.giotto_text.specs.PortNames.{with_values}
-use Rattle.tenant_slots.specs.Readings.{readings_within, reading_taken}
+use Rattle.rig_model.specs.Readings.{readings_within, reading_taken}
 use Rattle.tenant_slots.proofs.sensors.sense.Given as goal
 
 abbrev pub invariant-loop-i : goal.invariant-loop-i

@@ -3,7 +3,7 @@ use Rattle.std.specs.Prelude.{slice_set}
 use Rattle.std.proofs.lemmas.Int.{to_z-of_z}
 use Rattle.giotto_text.specs.Program.{GiottoProgram}
 use Rattle.giotto_check.specs.Slots.{valuation_of}
-use Rattle.tenant_slots.proofs.Granted.{granted_at, granted_nowhere, granted_within}
+use Rattle.tenant_slots.proofs.cited.Granted.{granted_at, granted_nowhere, granted_within}
 use Rattle.tenant_slots.proofs.sensors.take_granted.Goals as goal
 
 pub bounds-values-place : goal.bounds-values-place

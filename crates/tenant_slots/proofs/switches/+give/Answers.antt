@@ -1,7 +1,7 @@
 use Rattle.std.proofs.Common.{◌≡◌, ◌-◌, length, take, drop, set, w64, ap, subst, ◌∙◌, arith}
 use Rattle.std.proofs.lemmas.Int.{to_z-of_z}
 use Rattle.std.proofs.lemmas.List.{length-drop, take_all}
-use Rattle.giotto_check.specs.inner.Slots.{with_slots}
+use Rattle.giotto_check.specs.cited.Slots.{with_slots}
 use Rattle.tenant_slots.specs.inner.Switches.{slots_given, values_given}
 use Rattle.tenant_slots.proofs.TakenSwitches.{given_first}
 use Rattle.tenant_slots.proofs.switches.+give.Goals as goal

@@ -5,12 +5,12 @@ use Rattle.std.proofs.lemmas.Bool.{and_from, and_left, and_right}
 use Rattle.std.proofs.lemmas.List.{drop_all}
 use Rattle.giotto_text.specs.Program.{ModeSwitch}
 use Rattle.giotto_check.specs.Slots.{valuation_of}
-use Rattle.giotto_check.specs.inner.Timetables.{IsExit}
-use Rattle.giotto_check.proofs.EachLemmas.{each_long}
-use Rattle.tenant_slots.specs.Ports.{holds}
-use Rattle.tenant_slots.specs.Switches.{is_open}
+use Rattle.giotto_check.specs.cited.Timetables.{IsExit}
+use Rattle.giotto_check.proofs.cited.EachLemmas.{each_long}
+use Rattle.rig_model.specs.Ports.{holds}
+use Rattle.rig_model.specs.Switches.{is_open}
 use Rattle.tenant_slots.proofs.TakenSwitches.{found_first, found_later, opens}
-use Rattle.tenant_slots.proofs.Updates.{each_item}
+use Rattle.tenant_slots.proofs.cited.Updates.{each_item}
 use Rattle.tenant_slots.proofs.switches.first_open.Goals as goal
 use Rattle.tenant_slots.proofs.switches.first_open.Goals.{else-is_due-via-then-is_due+else-holds, else-is_due-via-else-is_due}
 

@@ -1,10 +1,10 @@
 use Rattle.std.proofs.Common.{◌≡◌, length, drop}
 use Rattle.std.specs.List.{find}
 use Rattle.giotto_text.specs.Program.{ModeDeclaration, GiottoProgram}
-use Rattle.giotto_check.specs.inner.Slots.{slots_of}
+use Rattle.giotto_check.specs.cited.Slots.{slots_of}
 use Rattle.giotto_check.specs.Slots.{valuation_of}
-use Rattle.giotto_check.specs.inner.Timetables.{AreEach, IsExit}
-use Rattle.tenant_slots.specs.Switches.{is_open, switch_taken}
+use Rattle.giotto_check.specs.cited.Timetables.{AreEach, IsExit}
+use Rattle.rig_model.specs.Switches.{is_open, switch_taken}
 use Rattle.tenant_slots.proofs.switches.first_open.Given as goal
 
 abbrev pub invariant-loop-exit : goal.invariant-loop-exit

@@ -4,17 +4,17 @@ use Rattle.std.specs.Option.{option_and_then, option_map_or}
 use Rattle.giotto_text.specs.Program.{ModeSwitch}
 use Rattle.giotto_rules.specs.Names.{all_different_numbers}
 use Rattle.giotto_check.specs.Slots.{valuation_of}
-use Rattle.giotto_check.specs.inner.Slots.{with_slots}
-use Rattle.giotto_check.specs.inner.Timetables.{IsExit, place_of_mode}
+use Rattle.giotto_check.specs.cited.Slots.{with_slots}
+use Rattle.giotto_check.specs.cited.Timetables.{IsExit, place_of_mode}
 use Rattle.giotto_check.specs.declared.timetables.SlotDestination.{SlotDestination}
 use Rattle.tenant_slots.specs.inner.Switches.{slots_given, values_given}
-use Rattle.tenant_slots.specs.Switches.{switch_taken, with_destinations}
-use Rattle.tenant_slots.proofs.Quiet.{exits_positive}
+use Rattle.rig_model.specs.Switches.{switch_taken, with_destinations}
+use Rattle.tenant_slots.proofs.cited.Quiet.{exits_positive}
 use Rattle.tenant_slots.proofs.TakenSwitches.{given, given_once, given_within, none_there, some_that, taken_there}
 use Rattle.tenant_slots.proofs.switches.take_switch.Goals as goal
 
 pub first_open-requires : goal.first_open-requires
-first_open-requires c = exits_positive c.args.checked.now c.program-program.ensures.fits c.args.mode _ c.exits.ensures.there c.exits.ensures.none
+first_open-requires c = exits_positive c.args.checked.now c.known.ensures.fits c.args.mode _ c.exits.ensures.there c.exits.ensures.none
 
 -- no switch is taken
 
@@ -44,18 +44,18 @@ give-requires-clause-there c =
     let p = c.args.checked.now in
     let e = c.in_ok-exit.exit.now in
     let values = c.args.values.now in
-    let taken = taken_there p c.program-program.ensures.fits c.args.mode c.args.time values c.exits.result.now e c.requires c.exits.ensures.there c.exits.ensures.none c.in_ok-exit.ensures in
+    let taken = taken_there p c.known.ensures.fits c.args.mode c.args.time values c.exits.result.now e c.requires c.exits.ensures.there c.exits.ensures.none c.in_ok-exit.ensures in
     subst (λ (ds : List SlotDestination). AllByRecursion (λ k. k < length values) (slots_given ds)) (sym c.as_slice.ensures.value)
-    (given_within p c.program-program.ensures.fits taken.0 taken.1 e taken.2 (length values) c.requires)
+    (given_within p c.known.ensures.fits taken.0 taken.1 e taken.2 (length values) c.requires)
 
 pub give-requires-clause-once : goal.give-requires-clause-once
 give-requires-clause-once c =
     let p = c.args.checked.now in
     let e = c.in_ok-exit.exit.now in
     let values = c.args.values.now in
-    let taken = taken_there p c.program-program.ensures.fits c.args.mode c.args.time values c.exits.result.now e c.requires c.exits.ensures.there c.exits.ensures.none c.in_ok-exit.ensures in
+    let taken = taken_there p c.known.ensures.fits c.args.mode c.args.time values c.exits.result.now e c.requires c.exits.ensures.there c.exits.ensures.none c.in_ok-exit.ensures in
     subst (λ (ds : List SlotDestination). IsTrue (all_different_numbers (slots_given ds))) (sym c.as_slice.ensures.value)
-    (given_once p c.program-program.ensures.fits taken.0 taken.1 e taken.2 taken.3)
+    (given_once p c.known.ensures.fits taken.0 taken.1 e taken.2 taken.3)
 
 pub returns-clause-target : goal.returns-clause-target
 returns-clause-target c = λ m at.
@@ -72,7 +72,7 @@ returns-clause-ports c = λ m at.
     let ports = valuation_of p values in
     let taken = some_that (λ (s : ModeSwitch). IsExit p m s e) (switch_taken m c.args.time ports) (c.in_ok-exit.ensures p m (c.exits.ensures.there m at) c.requires) in
     ap (valuation_of p) (c.give.ensures ∙ ap (λ ds. with_slots values (slots_given ds) (values_given ds values)) c.as_slice.ensures.value)
-    ∙ given p c.program-program.ensures.fits m taken.0 e taken.2 values c.requires
+    ∙ given p c.known.ensures.fits m taken.0 e taken.2 values c.requires
     ∙ sym (ap (λ o. option_map_or (λ (s : ModeSwitch). with_destinations s ports) o ports) taken.1)
 
 pub returns-clause-missing : goal.returns-clause-missing

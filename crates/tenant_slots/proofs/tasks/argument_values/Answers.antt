@@ -3,9 +3,9 @@ use Rattle.std.proofs.lemmas.List.{take_all}
 use Rattle.giotto_tasks.specs.Meaning.{value_of}
 use Rattle.giotto_tasks.specs.Syntax.{Expression}
 use Rattle.giotto_text.specs.Program.{GiottoProgram}
-use Rattle.giotto_check.specs.inner.Slots.{slots_of}
+use Rattle.giotto_check.specs.cited.Slots.{slots_of}
 use Rattle.giotto_check.specs.Slots.{valuation_of}
-use Rattle.giotto_check.specs.inner.Timetables.{AreEach, IsExpression, value_over}
+use Rattle.giotto_check.specs.cited.Timetables.{AreEach, IsExpression, value_over}
 use Rattle.giotto_check.specs.declared.timetables.SlotExpr.{SlotExpr}
 use Rattle.tenant_slots.proofs.tasks.argument_values.Goals as goal
 

@@ -1,6 +1,6 @@
 use Rattle.std.proofs.Common.{◌≡◌, map, take}
 use Rattle.giotto_check.specs.declared.timetables.SlotExpr.{SlotExpr}
-use Rattle.giotto_check.specs.inner.Timetables.{value_over}
+use Rattle.giotto_check.specs.cited.Timetables.{value_over}
 use Rattle.tenant_slots.proofs.tasks.argument_values.Given as goal
 
 abbrev pub invariant-loop-argument : goal.invariant-loop-argument

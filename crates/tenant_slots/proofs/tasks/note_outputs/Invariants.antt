@@ -1,6 +1,6 @@
 use Rattle.std.proofs.Common.{◌≡◌, length, drop}
-use Rattle.tenant_trace.specs.inner.Noted.{noted}
-use Rattle.tenant_slots.specs.Results.{outputs_happened}
+use Rattle.tenant_trace.specs.cited.Noted.{noted}
+use Rattle.rig_model.specs.FirstHalf.{outputs_happened}
 use Rattle.tenant_slots.proofs.tasks.note_outputs.Given as goal
 
 abbrev pub invariant-loop-name : goal.invariant-loop-name

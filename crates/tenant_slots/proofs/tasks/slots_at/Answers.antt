@@ -1,8 +1,8 @@
 use Rattle.std.proofs.Common.{◌<◌, length, subst, sym, ⊎_elim, arith, rules}
 use Rattle.std.proofs.lemmas.Option.{slice_get_cases}
-use Rattle.giotto_check.specs.inner.Timetables.{AreTaskSlots}
-use Rattle.giotto_check.proofs.EachLemmas.{each_long}
-use Rattle.tenant_slots.proofs.Numbered.{task_slots_at}
+use Rattle.giotto_check.specs.cited.Timetables.{AreTaskSlots}
+use Rattle.giotto_check.proofs.cited.EachLemmas.{each_long}
+use Rattle.tenant_slots.proofs.cited.Numbered.{task_slots_at}
 use Rattle.tenant_slots.proofs.tasks.slots_at.Goals as goal
 
 inside : (c : goal.After-tasks) → c.args.task < length c.tasks.result.now

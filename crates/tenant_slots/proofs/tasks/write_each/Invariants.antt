@@ -1,5 +1,5 @@
 use Rattle.std.proofs.Common.{◌≡◌, length, drop}
-use Rattle.giotto_check.specs.inner.Slots.{with_slots}
+use Rattle.giotto_check.specs.cited.Slots.{with_slots}
 use Rattle.tenant_slots.proofs.tasks.write_each.Given as goal
 
 abbrev pub invariant-loop-slot : goal.invariant-loop-slot

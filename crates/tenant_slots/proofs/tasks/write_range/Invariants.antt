@@ -1,6 +1,6 @@
 use Rattle.std.proofs.Common.{◌≡◌, length, drop}
 use Rattle.std.specs.List.{range_with_len}
-use Rattle.giotto_check.specs.inner.Slots.{with_slots}
+use Rattle.giotto_check.specs.cited.Slots.{with_slots}
 use Rattle.tenant_slots.proofs.tasks.write_range.Given as goal
 
 abbrev pub invariant-loop-i : goal.invariant-loop-i

@@ -1,7 +1,7 @@
 use Rattle.std.proofs.Common.{◌≡◌, ◌+◌, ◌≤◌, false, ap, arith, sym, ◌∙◌, not, subst, length, vec_capacity}
 use Rattle.slab.specs.Slab.{Slab, values, slab_len, with_value}
 use Rattle.tenant_jobs.specs.Finished.{TableEntry, has_result}
-use Rattle.tenant_jobs.specs.inner.Finished.{computed, result_count, NamesDiffer}
+use Rattle.tenant_jobs.specs.cited.Finished.{computed, result_count, NamesDiffer}
 use Rattle.tenant_jobs.proofs.Slots.{length-values, written_back}
 use Rattle.tenant_jobs.proofs.TableChanges.{IsAdded, is_added_under}
 use Rattle.tenant_jobs.proofs.TableEntries.{has_result_under}

@@ -1,7 +1,7 @@
 use Rattle.std.proofs.Common.{◌≡◌, false, sym, ◌∙◌, subst, find, is_some, arith}
 use Rattle.slab.specs.Slab.{values}
 use Rattle.tenant_jobs.specs.Finished.{TaskTable}
-use Rattle.tenant_jobs.specs.inner.Finished.{is_entered}
+use Rattle.tenant_jobs.specs.cited.Finished.{is_entered}
 use Rattle.tenant_jobs.proofs.TableChanges.{IsEntered, is_entered_at, is_of}
 use Rattle.tenant_jobs.proofs.finished.Finished.enter_task.Goals as goal
 

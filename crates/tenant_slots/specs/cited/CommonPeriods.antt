@@ -1,6 +1,6 @@
 -- Common periods as relations.
 use Rattle.std.specs.Prelude.{◌≡◌, ℕ, ◌<◌, ◌≤◌, true, List, [], ◌∷◌, Option, None, IsSomeAnd}
-use Rattle.tenant_slots.specs.CommonPeriods.{is_common_multiple}
+use Rattle.rig_model.specs.CommonPeriods.{is_common_multiple}
 
 -- the least number above 0 that all of these divide
 pub record IsLeastCommonMultiple (ks : List ℕ) (l : ℕ) : Type 0 where

@@ -1,12 +1,13 @@
 -- What is known of the table of active tasks, and of jobs that are entered.
-use Rattle.std.specs.Prelude.{◌≡◌, ◌≤◌, ℕ, ℤ, Bool, false, List, Option, Some, is_some, if◌then◌else◌, count_by, AllPairs}
-use Rattle.std.specs.List.{list_all, list_any}
+use Rattle.std.specs.Prelude.{◌≡◌, ◌≤◌, ℕ, ℤ, Bool, List, Option, Some, is_some, if◌then◌else◌, count_by}
+use Rattle.std.specs.List.{list_all}
 use Rattle.giotto_tasks.specs.Meaning.{outputs_of, states_of}
 use Rattle.giotto_tasks.specs.Syntax.{TaskBody}
-use Rattle.tenant_jobs.specs.declared.jobs.JobId.{JobId}
+use Rattle.rig_model.specs.declared.jobs.JobId.{JobId}
 use Rattle.tenant_jobs.specs.declared.jobs.JobResult.{JobResult}
 use Rattle.tenant_jobs.specs.Finished.{TableEntry, entry_in}
-use Rattle.tenant_jobs.specs.Jobs.{JobValue, same_job}
+use Rattle.tenant_jobs.specs.Jobs.{JobValue}
+use Rattle.rig_model.specs.Jobs.{same_job}
 
 -- what the computation of a body gives, from these inputs and states
 abbrev pub computed : TaskBody → List ℤ → List ℤ → JobResult
@@ -35,11 +36,3 @@ is_complete entries = list_all (λ e. is_some e.result) entries
 -- no two entries have one name
 abbrev pub NamesDiffer : List TableEntry → Type 0
 NamesDiffer entries = (j : JobId) → count_by (λ e. same_job e.id j) entries ≤ 1
-
--- whether one of these jobs has this name
-abbrev pub is_job_of : List JobValue → JobId → Bool
-is_job_of jobs j = list_any (λ k. same_job k.id j) jobs
-
--- no two of these jobs have one name
-abbrev pub JobsDiffer : List JobValue → Type 0
-JobsDiffer jobs = AllPairs (λ i k. same_job i.id k.id ≡ false) jobs

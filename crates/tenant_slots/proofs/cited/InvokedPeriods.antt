@@ -8,16 +8,16 @@ use Rattle.std.specs.Int.{◌∣◌}
 use Rattle.std.proofs.lemmas.Bool.{eq-eqb, eqb-true}
 use Rattle.giotto_tasks.specs.declared.names.Name.{Name}
 use Rattle.giotto_tasks.specs.Names.{same_name}
-use Rattle.giotto_tasks.proofs.ListLemmas.{found_has, some_same}
-use Rattle.giotto_tasks.proofs.NameLemmas.{same_name_is, same_name_self}
-use Rattle.giotto_tasks.proofs.TestLemmas.{same_answers}
+use Rattle.giotto_tasks.proofs.cited.ListLemmas.{found_has, some_same}
+use Rattle.giotto_tasks.proofs.cited.NameLemmas.{same_name_is, same_name_self}
+use Rattle.giotto_tasks.proofs.cited.TestLemmas.{same_answers}
 use Rattle.giotto_text.specs.Program.{TaskDeclaration, TaskInvocation, ModeDeclaration, GiottoProgram}
 use Rattle.giotto_rules.specs.Declarations.{period_of_task}
-use Rattle.giotto_check.specs.inner.Facts.{IsFrequencyOf, InvocationFits, ModeFits, ProgramFits}
-use Rattle.giotto_check.specs.inner.Timetables.{AreEach, IsInvocation}
+use Rattle.giotto_check.specs.cited.Facts.{IsFrequencyOf, InvocationFits, ModeFits, ProgramFits}
+use Rattle.giotto_check.specs.cited.Timetables.{AreEach, IsInvocation}
 use Rattle.giotto_check.specs.declared.timetables.SlotInvocation.{SlotInvocation}
 use Rattle.tenant_slots.specs.Places.{name_of_task}
-use Rattle.tenant_slots.proofs.Numbered.{same_task}
+use Rattle.tenant_slots.proofs.cited.Numbered.{same_task}
 
 -- a task's period by the mode's first invocation of it
 not_invoked : (m : ModeDeclaration) (x : Name) → find (λ (i : TaskInvocation). same_name i.task x) m.invocations ≡ None → period_of_task m x ≡ None

@@ -4,7 +4,7 @@ use Rattle.giotto_tasks.specs.Names.{Valuation}
 use Rattle.giotto_text.specs.Program.{GiottoProgram}
 use Rattle.giotto_text.specs.PortNames.{with_values}
 use Rattle.giotto_rules.specs.Declarations.{sensor_names}
-use Rattle.tenant_slots.specs.Readings.{Readings, reading_taken}
+use Rattle.rig_model.specs.Readings.{Readings, reading_taken}
 
 -- the ports behind the readings: each sensor has what it takes, all other ports are as they were
 abbrev pub with_readings : GiottoProgram → Readings → Valuation → Valuation → Valuation

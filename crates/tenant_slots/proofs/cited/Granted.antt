@@ -7,24 +7,25 @@ use Rattle.std.proofs.lemmas.Bool.{and_parts, or_left, or_right, false≢true}
 use Rattle.std.proofs.lemmas.List.{append-nil, length-map}
 use Rattle.std.proofs.lemmas.Option.{slice_get_within}
 use Rattle.giotto_tasks.specs.declared.names.Name.{Name}
-use Rattle.giotto_tasks.specs.inner.Sources.{names_in}
+use Rattle.giotto_tasks.specs.cited.Sources.{names_in}
 use Rattle.giotto_tasks.specs.Names.{Valuation, same_name, is_among, value_at, with_value}
 use Rattle.giotto_tasks.specs.Sound.{all_different}
-use Rattle.giotto_tasks.proofs.NameLemmas.{same_name_self, same_name_is, different_first}
-use Rattle.giotto_tasks.proofs.TestLemmas.{either}
+use Rattle.giotto_tasks.proofs.cited.NameLemmas.{same_name_self, same_name_is, different_first}
+use Rattle.giotto_tasks.proofs.cited.TestLemmas.{either}
 use Rattle.giotto_text.specs.PortNames.{with_values}
 use Rattle.giotto_text.specs.Program.{Source, from_line, from_grant, SensorDeclaration, GiottoProgram}
 use Rattle.giotto_text.specs.ProgramTrees.{sensor_of}
 use Rattle.giotto_text.specs.declared.programs.Sensor.{Sensor}
 use Rattle.giotto_rules.specs.Declarations.{sensor_names, actuator_names, output_names, driver_ports}
-use Rattle.giotto_check.specs.inner.Slots.{PortNamesDiffer, slots_of}
-use Rattle.giotto_check.specs.Slots.{port_names, ports_of, shown_name, valuation_of}
-use Rattle.giotto_check.proofs.PlaceLemmas.{passes_there, place-map}
-use Rattle.giotto_check.proofs.SlotLemmas.{port_names_begin}
-use Rattle.giotto_check.proofs.Valuations.{with_value_at_place}
-use Rattle.tenant_slots.specs.Readings.{Readings, reading_from, reading_taken}
-use Rattle.tenant_slots.specs.inner.Grants.{is_grant, takes_granted, with_granted, with_each_granted}
-use Rattle.tenant_slots.specs.inner.Readings.{with_readings}
+use Rattle.giotto_check.specs.cited.Slots.{PortNamesDiffer, slots_of}
+use Rattle.giotto_check.specs.Slots.{port_names, valuation_of}
+use Rattle.giotto_rules.specs.Ports.{ports_of, shown_name}
+use Rattle.giotto_check.proofs.cited.PlaceLemmas.{passes_there, place-map}
+use Rattle.giotto_check.proofs.cited.SlotLemmas.{port_names_begin}
+use Rattle.giotto_check.proofs.cited.Valuations.{with_value_at_place}
+use Rattle.rig_model.specs.Readings.{Readings, reading_from, reading_taken}
+use Rattle.tenant_slots.specs.cited.Grants.{is_grant, takes_granted, with_granted, with_each_granted}
+use Rattle.tenant_slots.specs.cited.Readings.{with_readings}
 use Rattle.tenant_slots.proofs.SensedSlots.{sensor_there}
 
 -- maps in which names get values

@@ -6,7 +6,7 @@ use Rattle.std.specs.Slice.{IsItemAt}
 use Rattle.std.proofs.lemmas.Option.{slice_get_past, slice_get_read}
 use Rattle.std.proofs.lemmas.Bool.{cases_eq, ltb-true, ltb-false, eqb-true, ne_eqb, eq-eqb, false≢true}
 use Rattle.rig_config.specs.Roster.{may_use}
-use Rattle.tenant_slots.specs.Readings.{Readings, reading_of, readings_within}
+use Rattle.rig_model.specs.Readings.{Readings, reading_of, readings_within}
 
 -- a line that may not be read has no reading
 none_read : (reads : List ℕ) (rs : Readings) (k : ℕ) → may_use reads k ≡ false → reading_of (filter (λ (r : ℕ × ℤ). may_use reads r.0) rs) k ≡ None

@@ -3,7 +3,8 @@ use Rattle.std.specs.Prelude.{◌≡◌, ℕ, Bool, false, nat_eq, ◌<◌, ◌�
 use Rattle.std.specs.List.{list_any, AllByRecursion}
 use Rattle.giotto_check.specs.declared.timetables.SlotInvocation.{SlotInvocation}
 use Rattle.giotto_text.specs.Program.{ActuatorUpdate, ModeSwitch, TaskInvocation, ModeDeclaration}
-use Rattle.tenant_slots.specs.Due.{is_due_at}
+use Rattle.rig_model.specs.Due.{is_due_at}
+use Rattle.tenant_slots.specs.declared.due.TheConstants.{TABLED_TASKS}
 
 -- nothing of the mode is due at this mode time
 pub record IsQuietAt (m : ModeDeclaration) (time : ℕ) : Type 0 where
@@ -27,4 +28,4 @@ is_among_due time task invocations = list_any (λ (i : SlotInvocation). nat_eq t
 
 -- each mark says whether its task is due
 abbrev pub MarksDue : List SlotInvocation → ℕ → List Bool → Type 0
-MarksDue invocations time marks = (t : ℕ) → t < 64 → get_or marks t false ≡ is_among_due time t invocations
+MarksDue invocations time marks = (t : ℕ) → t < TABLED_TASKS → get_or marks t false ≡ is_among_due time t invocations

@@ -7,15 +7,15 @@ use Rattle.std.proofs.lemmas.Bool.{cases_lt}
 use Rattle.std.proofs.lemmas.List.{take_more}
 use Rattle.std.proofs.lemmas.Option.{slice_get_cases}
 use Rattle.giotto_text.specs.Program.{ActuatorUpdate, ModeSwitch, TaskInvocation, ModeDeclaration, GiottoProgram}
-use Rattle.giotto_check.specs.inner.Facts.{ProgramFits}
-use Rattle.giotto_check.specs.inner.Timetables.{AreEach, IsUpdate, IsExit, IsInvocation}
+use Rattle.giotto_check.specs.cited.Facts.{ProgramFits}
+use Rattle.giotto_check.specs.cited.Timetables.{AreEach, IsUpdate, IsExit, IsInvocation}
 use Rattle.giotto_check.specs.declared.timetables.SlotUpdate.{SlotUpdate}
 use Rattle.giotto_check.specs.declared.timetables.SlotExit.{SlotExit}
 use Rattle.giotto_check.specs.declared.timetables.SlotInvocation.{SlotInvocation}
-use Rattle.giotto_tasks.proofs.ListLemmas.{all_and_one, all_middle}
-use Rattle.tenant_slots.specs.Due.{is_due_at}
-use Rattle.tenant_slots.specs.inner.Due.{IsQuietAt, IsQuietUntil}
-use Rattle.tenant_slots.proofs.Numbered.{mode_fits_at, update_due, exit_due, invocation_due, update_intervals, exit_intervals, invocation_intervals}
+use Rattle.giotto_tasks.proofs.cited.ListLemmas.{all_and_one, all_middle}
+use Rattle.rig_model.specs.Due.{is_due_at}
+use Rattle.tenant_slots.specs.cited.Due.{IsQuietAt, IsQuietUntil}
+use Rattle.tenant_slots.proofs.cited.Numbered.{mode_fits_at, update_due, exit_due, invocation_due, update_intervals, exit_intervals, invocation_intervals}
 
 -- from this time on and before the next
 abbrev pub AreQuiet : {E : Type 0} → (E → ℕ) → List E → ℕ → ℕ → Type 0

@@ -3,9 +3,9 @@ use Rattle.std.specs.Prelude.{Bool, ◌||◌, List, map, filter}
 use Rattle.giotto_tasks.specs.declared.names.Name.{Name}
 use Rattle.giotto_text.specs.Program.{GiottoProgram}
 use Rattle.giotto_rules.specs.Declarations.{sensor_names, actuator_names, driver_ports}
-use Rattle.giotto_check.specs.inner.Facts.{ProgramFits}
-use Rattle.giotto_check.specs.inner.Slots.{HaveSlots}
-use Rattle.tenant_slots.specs.Replacement.{stands_in_both}
+use Rattle.giotto_check.specs.cited.Facts.{ProgramFits}
+use Rattle.giotto_check.specs.cited.Slots.{HaveSlots}
+use Rattle.rig_model.specs.Replacement.{stands_in_both}
 use Rattle.tenant_slots.specs.declared.replacement.Carried.{Carried}
 
 -- a port of this name keeps its value: it is a sensor of both programs, or an actuator of both

@@ -5,17 +5,18 @@ use Rattle.std.proofs.lemmas.List.{drop_more, length-map}
 use Rattle.std.proofs.lemmas.Option.{slice_get-get_or, slice_get_cases}
 use Rattle.giotto_tasks.specs.Names.{Valuation}
 use Rattle.giotto_text.specs.Program.{ActuatorUpdate, ModeDeclaration, GiottoProgram}
-use Rattle.giotto_check.specs.inner.Facts.{ProgramFits}
-use Rattle.giotto_check.specs.Slots.{port_names, ports_of, shown_name, valuation_of}
-use Rattle.giotto_check.specs.inner.Slots.{slots_of}
-use Rattle.giotto_check.specs.inner.Timetables.{AreEach, IsUpdate, value_over}
+use Rattle.giotto_check.specs.cited.Facts.{ProgramFits}
+use Rattle.giotto_check.specs.Slots.{port_names, valuation_of}
+use Rattle.giotto_rules.specs.Ports.{ports_of, shown_name}
+use Rattle.giotto_check.specs.cited.Slots.{slots_of}
+use Rattle.giotto_check.specs.cited.Timetables.{AreEach, IsUpdate, value_over}
 use Rattle.giotto_check.specs.declared.timetables.SlotUpdate.{SlotUpdate}
-use Rattle.giotto_check.proofs.EachLemmas.{each_at, each_long}
-use Rattle.giotto_check.proofs.SlotLemmas.{name_at_slot}
-use Rattle.giotto_check.proofs.Valuations.{with_value_at_place}
-use Rattle.tenant_slots.specs.Updates.{is_updated, updated, all_updated}
-use Rattle.tenant_slots.specs.Ports.{holds}
-use Rattle.tenant_slots.proofs.Numbered.{slot_within, update_due}
+use Rattle.giotto_check.proofs.cited.EachLemmas.{each_at, each_long}
+use Rattle.giotto_check.proofs.cited.SlotLemmas.{name_at_slot}
+use Rattle.giotto_check.proofs.cited.Valuations.{with_value_at_place}
+use Rattle.rig_model.specs.Updates.{is_updated, updated, all_updated}
+use Rattle.rig_model.specs.Ports.{holds}
+use Rattle.tenant_slots.proofs.cited.Numbered.{slot_within, update_due}
 
 -- the one that an entry stands for
 pub each_item : {A B : Type 0} (R : A → B → Type 0) (xs : List A) (ys : List B) (k : ℕ) (y : B) → AreEach R xs ys → k < length ys → y ≡ get_or ys k y → (x : A) × (drop k xs ≡ x ∷ drop (k + 1) xs) × R x y

@@ -5,9 +5,9 @@ use Rattle.std.specs.Int.{◌∣◌, IsGcd}
 use Rattle.std.proofs.lemmas.Bool.{and_parts, and_from, false≢true, eqb-true, eq-eqb}
 use Rattle.std.proofs.lemmas.List.Folds.{list_all-append}
 use Rattle.std.proofs.lemmas.Nat.Gcd.{dvd_refl, dvd_trans, le_of_dvd, dvd_of_mod-eq-zero, mod-eq-zero_of_dvd, IsGcd-from_zero, IsGcd-from_mod}
-use Rattle.giotto_tasks.proofs.ListLemmas.{all_wider}
-use Rattle.tenant_slots.specs.CommonPeriods.{is_common_multiple, common_multiple_from, least_common_multiple}
-use Rattle.tenant_slots.specs.inner.CommonPeriods.{IsLeastCommonMultiple}
+use Rattle.giotto_tasks.proofs.cited.ListLemmas.{all_wider}
+use Rattle.rig_model.specs.CommonPeriods.{is_common_multiple, common_multiple_from, least_common_multiple}
+use Rattle.tenant_slots.specs.cited.CommonPeriods.{IsLeastCommonMultiple}
 
 pub divides : (k n : ℕ) → (n % k == 0) ≡ true → k ∣ n
 divides k n e = dvd_of_mod-eq-zero k (eqb-true (n % k) 0 e)

@@ -8,22 +8,22 @@ use Rattle.std.proofs.lemmas.Option.{slice_get-get_or, slice_get_within}
 use Rattle.giotto_tasks.specs.declared.names.Name.{Name}
 use Rattle.giotto_tasks.specs.Names.{same_name, is_among}
 use Rattle.giotto_tasks.specs.Sound.{all_different}
-use Rattle.giotto_tasks.proofs.ListLemmas.{found_has, some_same}
-use Rattle.giotto_tasks.proofs.NameLemmas.{same_name_is, same_name_self, all_different-append}
-use Rattle.giotto_tasks.proofs.TestLemmas.{same_answers}
+use Rattle.giotto_tasks.proofs.cited.ListLemmas.{found_has, some_same}
+use Rattle.giotto_tasks.proofs.cited.NameLemmas.{same_name_is, same_name_self, all_different-append}
+use Rattle.giotto_tasks.proofs.cited.TestLemmas.{same_answers}
 use Rattle.giotto_text.specs.Program.{TaskDeclaration, ActuatorUpdate, ModeSwitch, TaskInvocation, ModeDeclaration, GiottoProgram}
 use Rattle.giotto_rules.specs.Declarations.{sensor_names, actuator_names, output_names, task_names, mode_names, task_named, mode_named}
-use Rattle.giotto_check.specs.inner.Facts.{UpdateFits, SwitchFits, InvocationFits, ModeFits, TaskFits, ProgramFits}
-use Rattle.giotto_check.specs.Slots.{is_port, ports_of, slot_of}
-use Rattle.giotto_check.specs.inner.Slots.{slots_of}
-use Rattle.giotto_check.specs.inner.Timetables.{AreEach, IsUpdate, IsExit, IsInvocation, AreTaskSlots, place_of_task}
+use Rattle.giotto_check.specs.cited.Facts.{UpdateFits, SwitchFits, InvocationFits, ModeFits, TaskFits, ProgramFits}
+use Rattle.giotto_rules.specs.Ports.{is_port, ports_of, slot_of}
+use Rattle.giotto_check.specs.cited.Slots.{slots_of}
+use Rattle.giotto_check.specs.cited.Timetables.{AreEach, IsUpdate, IsExit, IsInvocation, AreTaskSlots, place_of_task}
 use Rattle.giotto_check.specs.declared.timetables.SlotUpdate.{SlotUpdate}
 use Rattle.giotto_check.specs.declared.timetables.SlotExit.{SlotExit}
 use Rattle.giotto_check.specs.declared.timetables.SlotInvocation.{SlotInvocation}
 use Rattle.giotto_check.specs.declared.timetables.TaskSlots.{TaskSlots}
-use Rattle.giotto_check.proofs.EachLemmas.{each_at, each_long}
-use Rattle.giotto_check.proofs.PlaceLemmas.{found_there, place_within, passes_there}
-use Rattle.tenant_slots.specs.Due.{is_due_at}
+use Rattle.giotto_check.proofs.cited.EachLemmas.{each_at, each_long}
+use Rattle.giotto_check.proofs.cited.PlaceLemmas.{found_there, place_within, passes_there}
+use Rattle.rig_model.specs.Due.{is_due_at}
 use Rattle.tenant_slots.specs.Places.{name_of_task, name_of_mode}
 
 -- what has a name of its own among others is found by it, at its place

@@ -1,0 +1,14 @@
+-- Which commands about offers and binds take memory, and so can be refused for want of it.
+use Rattle.std.specs.Prelude.{Bool, true, false, ◌+◌, nat_lt, length}
+use Rattle.tenant_grants.specs.Grants.{GrantRows}
+use Rattle.tenant_lines.specs.declared.grant_lines.GrantCommand.{GrantCommand}
+use Rattle.tenant_lines.specs.declared.grant_lines.GrantCommand.TheVariants as command
+use Rattle.tenant_lines.specs.declared.replies.Reply.TheVariants.{Rows}
+
+-- whether it takes memory, and so can be refused for want of it: `offer` and `bind` for a row more, and `rows` where there is a row
+abbrev pub takes_memory : GrantCommand → GrantRows → Bool
+takes_memory (command.Offer actuator tenant) rows = true
+takes_memory (command.Unoffer actuator tenant) rows = false
+takes_memory (command.Bind sensor tenant actuator) rows = true
+takes_memory (command.Unbind sensor) rows = false
+takes_memory command.Rows rows = nat_lt 0 (length rows.offers + length rows.binds)

@@ -1,0 +1,7 @@
+pub mod CommonMultiples
+pub mod Granted
+pub mod InvokedPeriods
+pub mod Numbered
+pub mod Quiet
+pub mod Readings
+pub mod Updates

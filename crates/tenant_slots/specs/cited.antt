@@ -1,0 +1,6 @@
+pub mod CommonPeriods
+pub mod Due
+pub mod Grants
+pub mod Places
+pub mod Readings
+pub mod Replacement
