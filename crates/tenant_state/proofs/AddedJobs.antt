@@ -1,29 +1,30 @@
 -- The jobs of tasks that are released, with the shares that they take.
-use Rattle.std.proofs.Common.{◌≡◌, ◌≢◌, ℕ, ◌<◌, true, false, not, List, [], ◌∷◌, ℤ, length, map, set, get_or, Option, Some, None, sym, ap, subst, ◌∙◌, arith}
+use Rattle.std.proofs.Common.{◌≡◌, ◌≢◌, ℕ, ◌+◌, ◌<◌, Bool, true, false, cond, not, nat_eq, List, [], ◌∷◌, ℤ, length, map, set, drop, get_or, Option, Some, None, sym, ap, subst, ◌∙◌, arith}
 use Rattle.std.specs.Prelude.{is_some, slice_get}
 use Rattle.std.specs.List.{AllByRecursion, list_all}
 use Rattle.std.specs.Option.{option_map, option_map_or}
-use Rattle.std.proofs.lemmas.Bool.{and_parts, or_parts, false≢true, not-true}
+use Rattle.std.proofs.lemmas.Bool.{and_parts, or_parts, eq-eqb, ne_eqb, false≢true, not-true}
 use Rattle.std.proofs.lemmas.List.{get_or-set_other, length-map}
 use Rattle.std.proofs.lemmas.Option.{slice_get-map, slice_get-get_or, slice_get_within}
 use Rattle.giotto_tasks.specs.declared.names.Name.{Name}
 use Rattle.giotto_tasks.specs.Names.{same_name, is_among}
 use Rattle.giotto_tasks.specs.Sound.{IsSound, all_different}
 use Rattle.giotto_tasks.specs.Syntax.{TaskBody}
-use Rattle.giotto_tasks.proofs.ListLemmas.{all_map, all_at, all_pass}
-use Rattle.giotto_tasks.proofs.NameLemmas.{same_name_self}
+use Rattle.giotto_tasks.proofs.cited.ListLemmas.{all_map, all_at, all_pass}
+use Rattle.giotto_tasks.proofs.cited.NameLemmas.{same_name_self}
 use Rattle.giotto_text.specs.Program.{TaskDeclaration, GiottoProgram, body_of}
-use Rattle.giotto_check.specs.inner.Timetables.{AreEach}
-use Rattle.giotto_check.proofs.EachLemmas.{each_at, each_long}
-use Rattle.giotto_check.specs.inner.Facts.{ProgramFits}
+use Rattle.giotto_check.specs.cited.Timetables.{AreEach}
+use Rattle.giotto_check.proofs.cited.EachLemmas.{each_at, each_long}
+use Rattle.giotto_check.specs.cited.Facts.{ProgramFits}
 use Rattle.tenant_slots.specs.Places.{name_of_task}
-use Rattle.tenant_slots.proofs.Numbered.{task_here, task_fits_at}
+use Rattle.tenant_slots.proofs.cited.Numbered.{task_here, task_fits_at}
 use Rattle.tenant_state.proofs.EndedTasks.{some_of}
 use Rattle.tenant_state.specs.declared.tenants.Active.{Active}
-use Rattle.tenant_jobs.specs.inner.Jobs.{IsComputable}
+use Rattle.tenant_jobs.specs.cited.Jobs.{IsComputable}
 use Rattle.tenant_state.specs.Jobs.{job_in, body_in}
 use Rattle.tenant_state.specs.Tenants.{active_of}
-use Rattle.tenant_state.specs.inner.Tenants.{IsActiveAs, IsActiveOf, IsShareOf}
+use Rattle.tenant_state.specs.inner.Tenants.{IsActiveAs, IsActiveOf, IsShareOf, released_in}
+use Rattle.tenant_state.proofs.AwaitedTasks.{from_place}
 
 -- the body of the task at a place
 pub body_here : (p : GiottoProgram) → ProgramFits p → (k : ℕ) (t : TaskDeclaration) → slice_get p.tasks k ≡ Some t → body_in p (name_of_task p k) ≡ body_of t
@@ -83,3 +84,14 @@ module _ (p : GiottoProgram) {S : Type 0} (v : S → TaskBody) where
         sound = subst IsSound (sym body) (task_fits_at p fits a.task t its.1).sound;
       } in
       rw same (there, computable, each_at IsShareOf p.tasks (map (option_map v) shares) a.task t (Some (v share)) each its.1 found ∙ sym body)
+
+-- those of one instant among the tasks that are left, from the next on
+module _ (n : ℕ) (xs : List Active) (i : ℕ) (a : Active) (lt : i < length xs) (at : a ≡ get_or xs i a) where
+  next_released : (b : Bool) → nat_eq a.release n ≡ b → released_in n (drop i xs) ≡ cond b (a ∷ released_in n (drop (i + 1) xs)) (released_in n (drop (i + 1) xs))
+  next_released b is = ap (released_in n) (from_place xs i a lt at) ∙ ap (λ c. cond c (a ∷ released_in n (drop (i + 1) xs)) (released_in n (drop (i + 1) xs))) is
+
+  pub released_next : a.release ≡ n → released_in n (drop i xs) ≡ a ∷ released_in n (drop (i + 1) xs)
+  released_next is = next_released true (eq-eqb a.release n is)
+
+  pub none_next : a.release ≢ n → released_in n (drop i xs) ≡ released_in n (drop (i + 1) xs)
+  none_next other = next_released false (ne_eqb a.release n other)

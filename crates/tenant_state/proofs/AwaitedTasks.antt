@@ -4,14 +4,13 @@ use Rattle.std.specs.List.{list_all, AllByRecursion}
 use Rattle.std.proofs.lemmas.Bool.{false≢true, and_parts, and_from, eq-eqb, ne_eqb}
 use Rattle.std.proofs.lemmas.List.{drop_more}
 use Rattle.giotto_tasks.specs.Names.{same_name}
-use Rattle.tenant_jobs.specs.declared.jobs.JobId.{JobId}
-use Rattle.tenant_jobs.specs.Jobs.{same_job}
-use Rattle.tenant_state.specs.Jobs.{has_job, job_of}
-use Rattle.tenant_state.specs.Row.{ActiveTask}
+use Rattle.rig_model.specs.declared.jobs.JobId.{JobId}
+use Rattle.rig_model.specs.Jobs.{same_job, has_job, job_of}
+use Rattle.rig_model.specs.Row.{ActiveTask}
 use Rattle.tenant_state.specs.Standing.{is_another, all_different_releases}
-use Rattle.tenant_jobs.proofs.JobNames.{same_job_is}
-use Rattle.giotto_tasks.proofs.NameLemmas.{same_name_self}
-use Rattle.giotto_tasks.proofs.ListLemmas.{all_pass, all_at}
+use Rattle.rig_model.proofs.cited.JobNames.{same_job_is}
+use Rattle.giotto_tasks.proofs.cited.NameLemmas.{same_name_self}
+use Rattle.giotto_tasks.proofs.cited.ListLemmas.{all_pass, all_at}
 
 -- what is found from a place on
 pub found_here : {X : Type 0} (test : X → Bool) (xs : List X) (i : ℕ) (x : X) → i < length xs → x ≡ get_or xs i x → test x ≡ true → find test (drop i xs) ≡ slice_get xs i

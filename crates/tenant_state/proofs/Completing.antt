@@ -13,22 +13,23 @@ use Rattle.giotto_tasks.specs.Syntax.{TaskBody, finished}
 use Rattle.giotto_text.specs.Program.{GiottoProgram, body_of}
 use Rattle.giotto_text.specs.ProgramTrees as trees
 use Rattle.giotto_text.specs.declared.programs.Task.{Task}
-use Rattle.giotto_check.specs.inner.Facts.{ProgramFits}
-use Rattle.tenant_slots.proofs.Numbered.{task_here, task_fits_at}
-use Rattle.tenant_jobs.specs.declared.jobs.JobId.{JobId}
+use Rattle.giotto_check.specs.cited.Facts.{ProgramFits}
+use Rattle.tenant_slots.proofs.cited.Numbered.{task_here, task_fits_at}
+use Rattle.rig_model.specs.declared.jobs.JobId.{JobId}
 use Rattle.tenant_jobs.specs.Finished.{TableEntry, entry_in, result_in, has_result}
-use Rattle.tenant_jobs.specs.inner.Finished.{is_entered, result_of}
-use Rattle.tenant_jobs.specs.Jobs.{JobValue, same_job}
-use Rattle.tenant_jobs.proofs.JobNames.{same_job_is}
+use Rattle.tenant_jobs.specs.cited.Finished.{is_entered, result_of}
+use Rattle.tenant_jobs.specs.Jobs.{JobValue}
+use Rattle.rig_model.specs.Jobs.{same_job, has_job, job_of}
+use Rattle.rig_model.proofs.cited.JobNames.{same_job_is}
 use Rattle.tenant_state.specs.declared.tenants.Active.{Active}
-use Rattle.tenant_state.specs.Jobs.{body_in, has_job, job_in, job_of}
-use Rattle.tenant_state.specs.Row.{ActiveTask}
+use Rattle.tenant_state.specs.Jobs.{body_in, job_in}
+use Rattle.rig_model.specs.Row.{ActiveTask}
 use Rattle.tenant_state.specs.Standing.{is_another, all_different_releases}
 use Rattle.tenant_state.specs.Tenants.{active_of}
 use Rattle.tenant_state.specs.inner.Tenants.{IsActiveAs, IsActiveOf}
 use Rattle.tenant_state.proofs.AwaitedTasks.{from_place, find-map, alone, different_drop, another_job}
-use Rattle.giotto_tasks.proofs.ListLemmas.{all_at, all_mapped_at, all_pass, all_with, find_passes, same_filter, some_same}
-use Rattle.giotto_tasks.proofs.TestLemmas.{and_false, or_true, or_assoc, or_turned}
+use Rattle.giotto_tasks.proofs.cited.ListLemmas.{all_at, all_mapped_at, all_pass, all_with, find_passes, same_filter, some_same}
+use Rattle.giotto_tasks.proofs.cited.TestLemmas.{and_false, or_true, or_assoc, or_turned}
 use Rattle.tenant_state.proofs.TenantFacts.{body_of_task}
 
 -- the task of an active task

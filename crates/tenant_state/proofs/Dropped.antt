@@ -5,7 +5,7 @@ use Rattle.std.proofs.lemmas.List.{drop-append-le, drop-set-lt, drop-take, drop_
 use Rattle.std.proofs.lemmas.List.Elements.{filter_more}
 use Rattle.std.proofs.lemmas.List.Filters.{FiltersInPlace}
 use Rattle.std.proofs.lemmas.List.Folds.{list_any-append}
-use Rattle.giotto_tasks.proofs.TestLemmas.{or_turned}
+use Rattle.giotto_tasks.proofs.cited.TestLemmas.{or_turned}
 
 module _ {X : Type 0} (due : X → Bool) (xs ys : List X) (k i : ℕ) where
   -- between the first k of ys and its place i stand those of the first i of xs that are due

@@ -7,13 +7,13 @@ use Rattle.std.proofs.lemmas.List.Elements.{filter-append}
 use Rattle.std.proofs.lemmas.Map.Views.{any-filter_same}
 use Rattle.giotto_tasks.specs.declared.names.Name.{Name}
 use Rattle.giotto_tasks.specs.Names.{same_name, is_among}
-use Rattle.giotto_tasks.proofs.ListLemmas.{all_map, all_mapped, all_of, any_map, same_filter}
-use Rattle.giotto_tasks.proofs.NameLemmas.{same_name_is, same_name_self, any_is_among, is_among-append}
-use Rattle.giotto_tasks.proofs.TestLemmas.{absorbed, and_false, and_true}
+use Rattle.giotto_tasks.proofs.cited.ListLemmas.{all_map, all_mapped, all_of, any_map, same_filter}
+use Rattle.giotto_tasks.proofs.cited.NameLemmas.{same_name_is, same_name_self, any_is_among, is_among-append}
+use Rattle.giotto_tasks.proofs.cited.TestLemmas.{absorbed, and_false, and_true}
 use Rattle.giotto_text.specs.Program.{TaskInvocation, ModeDeclaration}
-use Rattle.tenant_slots.specs.Due.{is_due_at}
-use Rattle.tenant_state.specs.FirstHalf.{still_active}
-use Rattle.tenant_state.specs.Row.{ActiveTask}
+use Rattle.rig_model.specs.Due.{is_due_at}
+use Rattle.rig_model.specs.FirstHalf.{still_active}
+use Rattle.rig_model.specs.Row.{ActiveTask}
 
 abbrev pub names_of_tasks : List ActiveTask → List Name
 names_of_tasks tasks = map (λ (a : ActiveTask). a.task) tasks

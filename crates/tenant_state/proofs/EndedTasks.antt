@@ -13,36 +13,35 @@ use Rattle.giotto_tasks.specs.Names.{Valuation, same_name}
 use Rattle.giotto_tasks.specs.Meaning.{outputs_of, states_of}
 use Rattle.giotto_tasks.specs.Syntax.{TaskBody}
 use Rattle.giotto_tasks.specs.Syntax as syntax
-use Rattle.giotto_tasks.proofs.ListLemmas.{all_if_any, all_map, any_if_all, any_map, all_of, filter-map, list_all-filter, same_filter}
-use Rattle.giotto_tasks.proofs.TestLemmas.{and_false, and_true}
-use Rattle.giotto_tasks.proofs.NameLemmas.{same_name_is}
+use Rattle.giotto_tasks.proofs.cited.ListLemmas.{all_if_any, all_map, any_if_all, any_map, all_of, filter-map, list_all-filter, same_filter}
+use Rattle.giotto_tasks.proofs.cited.TestLemmas.{and_false, and_true}
+use Rattle.giotto_tasks.proofs.cited.NameLemmas.{same_name_is}
 use Rattle.giotto_text.specs.Program.{TaskDeclaration, TaskInvocation, ModeDeclaration, GiottoProgram, body_of, names_of}
-use Rattle.giotto_check.specs.inner.Facts.{ProgramFits}
+use Rattle.giotto_check.specs.cited.Facts.{ProgramFits}
 use Rattle.giotto_check.specs.Slots.{valuation_of}
-use Rattle.giotto_check.specs.inner.Timetables.{AreEach, IsInvocation, place_of_task}
+use Rattle.giotto_check.specs.cited.Timetables.{AreEach, IsInvocation, place_of_task}
 use Rattle.giotto_check.specs.declared.timetables.SlotInvocation.{SlotInvocation}
-use Rattle.giotto_check.proofs.PlaceLemmas.{passes_there, place_within}
-use Rattle.tenant_slots.specs.Due.{is_due_at}
-use Rattle.tenant_slots.specs.inner.Due.{IsQuietAt}
+use Rattle.giotto_check.proofs.cited.PlaceLemmas.{passes_there, place_within}
+use Rattle.rig_model.specs.Due.{is_due_at}
+use Rattle.tenant_slots.specs.cited.Due.{IsQuietAt, is_among_due}
 use Rattle.tenant_slots.specs.Places.{name_of_task}
-use Rattle.tenant_slots.specs.Updates.{all_updated}
-use Rattle.tenant_slots.proofs.Numbered.{invocation_due, mode_here, same_task, task_here}
+use Rattle.rig_model.specs.Updates.{all_updated, updates_happened}
+use Rattle.tenant_slots.proofs.cited.Numbered.{invocation_due, mode_here, same_task, task_here}
 use Rattle.tenant_grants.specs.Grants.{GrantRows}
 use Rattle.tenant_state.specs.declared.tenants.Active.{Active}
 use Rattle.tenant_state.specs.declared.tenants.waiting.Waiting.{Waiting}
 use Rattle.tenant_state.specs.declared.tenants.State as code
 use Rattle.tenant_state.specs.declared.tenants.State.TheVariants as states
-use Rattle.tenant_slots.specs.inner.Due.{is_among_due}
 use Rattle.tenant_state.specs.inner.EntryTable.{ends_noted, is_left_open, is_task_open}
-use Rattle.tenant_jobs.specs.declared.jobs.JobId.{JobId}
+use Rattle.rig_model.specs.declared.jobs.JobId.{JobId}
 use Rattle.tenant_jobs.specs.declared.jobs.JobResult.{JobResult}
-use Rattle.tenant_jobs.specs.inner.Finished.{result_of}
-use Rattle.tenant_jobs.specs.Jobs.{same_job}
-use Rattle.tenant_state.specs.Jobs.{body_in, has_job, job_in, job_of}
-use Rattle.tenant_state.specs.FirstHalf.{all_ended, ends_happened, outputs_of_end, due_tasks, names_due, still_active, unfinished_tasks, first_half_of, stopped_with}
-use Rattle.tenant_state.specs.Row.{overrun, ActiveTask, Row}
+use Rattle.tenant_jobs.specs.cited.Finished.{result_of}
+use Rattle.rig_model.specs.Jobs.{same_job, has_job, job_of}
+use Rattle.tenant_state.specs.Jobs.{body_in, job_in}
+use Rattle.rig_model.specs.FirstHalf.{all_ended, ends_happened, outputs_of_end, due_tasks, names_due, still_active, unfinished_tasks, first_half_of, stopped_with}
+use Rattle.rig_model.specs.Row.{overrun, ActiveTask, Row}
 use Rattle.tenant_state.specs.Standing.{is_another, all_different_releases, with_last, Standing}
-use Rattle.tenant_state.specs.inner.Standing.{AreEnded, has_active}
+use Rattle.tenant_state.specs.cited.Standing.{AreEnded, has_active}
 use Rattle.rig_config.specs.declared.Budgets.{Budgets}
 use Rattle.tenant_state.specs.Tenants.{active_of, standing_of, state_of}
 use Rattle.tenant_state.specs.inner.Tenants.{FitsProgram, FitsIts, IsActiveAs, IsActiveIn, IsActiveOf, IsTenant}
@@ -50,13 +49,12 @@ use Rattle.tenant_state.proofs.DueTasks.{any_parted, group, ends, is_open, is_un
 use Rattle.tenant_state.proofs.FirstHalfOf.{Runs, due_are, goes_on, stops, unchanged}
 use Rattle.tenant_state.proofs.Records.{last_noted}
 use Rattle.tenant_state.proofs.Stops.{row_of}
-use Rattle.tenant_slots.specs.Updates.{updates_happened}
 use Rattle.tenant_trace.specs.Trace.{LastRecords, with_happenings}
-use Rattle.tenant_trace.specs.inner.Noted.{noted}
-use Rattle.tenant_trace.proofs.Kept.{noted_behind}
+use Rattle.tenant_trace.specs.cited.Noted.{noted}
+use Rattle.tenant_trace.proofs.cited.Kept.{noted_behind}
 
 -- a tenant that stays as it is, where none had ended, has none that end
-pub none_ended : (s : Standing) → s.ended ≡ [] → AreEnded s s
+pub none_ended : (s : Standing) → s.ready.ended ≡ [] → AreEnded s s
 none_ended s e j = ap (λ l. has_job s.tenancy.owner.place l j) e ∙ neither (has_active s j)
   where
     neither : (b : Bool) → false ≡ (b && not b)

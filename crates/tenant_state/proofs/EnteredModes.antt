@@ -1,19 +1,20 @@
 -- The switch that is taken, and the mode that it enters.
-use Rattle.std.proofs.Common.{◌≡◌, ℕ, ◌<◌, ◌&&◌, true, false, cond, ℤ, List, [], ◌∷◌, length, Option, Some, None, refl, sym, ap, ◌∙◌, arith}
+use Rattle.std.proofs.Common.{◌≡◌, ℕ, ◌<◌, ◌≤◌, ◌&&◌, true, false, cond, ℤ, List, [], ◌∷◌, length, Option, Some, None, ⊎_elim, refl, sym, ap, ◌∙◌, arith}
 use Rattle.std.specs.Prelude.{is_some, slice_get}
 use Rattle.std.specs.List.{find, AllByRecursion}
 use Rattle.std.specs.Option.{option_and_then, option_map_or}
+use Rattle.std.proofs.lemmas.Option.{slice_get_cases}
 use Rattle.giotto_tasks.specs.Names.{Valuation, same_name}
 use Rattle.giotto_text.specs.Program.{ModeDeclaration, ModeSwitch, GiottoProgram}
 use Rattle.giotto_rules.specs.Declarations.{mode_named}
 use Rattle.giotto_check.specs.Slots.{valuation_of}
-use Rattle.giotto_check.specs.inner.Timetables.{place_of_mode}
-use Rattle.giotto_check.proofs.PlaceLemmas.{found_there, place_if_found, place_within}
-use Rattle.tenant_slots.specs.Due.{is_due_at}
-use Rattle.tenant_slots.specs.Ports.{holds}
-use Rattle.tenant_slots.specs.Switches.{switch_taken, with_destinations}
-use Rattle.tenant_state.specs.Row.{ActiveTask}
-use Rattle.tenant_state.specs.SecondHalf.{entry_time}
+use Rattle.giotto_check.specs.cited.Timetables.{place_of_mode}
+use Rattle.giotto_check.proofs.cited.PlaceLemmas.{found_there, place_if_found, place_within}
+use Rattle.rig_model.specs.Due.{is_due_at}
+use Rattle.rig_model.specs.Ports.{holds}
+use Rattle.rig_model.specs.Switches.{switch_taken, with_destinations}
+use Rattle.rig_model.specs.Row.{ActiveTask}
+use Rattle.rig_model.specs.SecondHalf.{entry_time}
 use Rattle.tenant_state.specs.inner.Tenants.{IsEntered}
 
 -- where none is due none is taken
@@ -28,6 +29,16 @@ none_taken m time ports (s ∷ switches) none =
 pub target_within : (p : GiottoProgram) (o : Option ModeSwitch) (k : ℕ) → Some k ≡ option_and_then (λ (s : ModeSwitch). place_of_mode p s.target) o → k < length p.modes
 target_within p None k e = absurd (cc)
 target_within p (Some s) k e = let within = place_within (λ (m : ModeDeclaration). same_name m.name s.target) 0 p.modes k (sym e) in omega (arith, within)
+
+-- so it does, as none is taken at a place without a mode
+pub entered_within : (p : GiottoProgram) (mode time : ℕ) (ports : Valuation) (k : ℕ)
+    → ((m : ModeDeclaration) → slice_get p.modes mode ≡ Some m → Some k ≡ option_and_then (λ (s : ModeSwitch). place_of_mode p s.target) (switch_taken m time ports))
+    → (length p.modes ≤ mode → Some k ≡ None) → k < length p.modes
+entered_within p mode time ports k entered missing =
+    ⊎_elim
+    (λ found. target_within p (switch_taken found.0 time ports) k (entered found.0 found.2))
+    (λ past. absurd (let none = missing past.0 in cc))
+    (slice_get_cases p.modes mode).1
 
 module _ (p : GiottoProgram) (m : ModeDeclaration) (time : ℕ) (active : List ActiveTask) (ports : Valuation) (k begins : ℕ) (values : List ℤ) where
   pub enters : Some k ≡ option_and_then (λ (s : ModeSwitch). place_of_mode p s.target) (switch_taken m time ports)

@@ -5,12 +5,13 @@ use Rattle.std.proofs.lemmas.Bool.{and_parts, eqb-true, eqb-false}
 use Rattle.std.proofs.lemmas.List.{append-nil, drop_more, get_or-replicate, get_or-set_same, get_or-set_other, take_more}
 use Rattle.std.proofs.lemmas.List.Elements.{filter-append}
 use Rattle.std.proofs.lemmas.Map.Views.{any-filter_same}
-use Rattle.giotto_tasks.proofs.ListLemmas.{all_filter}
+use Rattle.giotto_tasks.proofs.cited.ListLemmas.{all_filter}
 use Rattle.tenant_state.specs.inner.EntryTable.{IsTableOf, is_task_open}
 use Rattle.tenant_state.specs.declared.tenants.Active.{Active}
+use Rattle.tenant_slots.specs.declared.due.TheConstants.{TABLED_TASKS}
 
 -- one entry more, of a task that has none yet
-pub table_more : (items : List Active) (i : ℕ) (d : Active) (table : List ℕ) → i < length items → length table ≡ 64 → (get_or items i d).task < 64 → get_or table (get_or items i d).task 0 ≡ 0
+pub table_more : (items : List Active) (i : ℕ) (d : Active) (table : List ℕ) → i < length items → length table ≡ TABLED_TASKS → (get_or items i d).task < TABLED_TASKS → get_or table (get_or items i d).task 0 ≡ 0
     → IsTableOf i items table → IsTableOf (i + 1) items (set table (get_or items i d).task (i + 1))
 table_more items i d table lt long small free before t small_t = by (nat_eq a.task t) refl
   where
@@ -39,8 +40,8 @@ table_more items i d table lt long small free before t small_t = by (nat_eq a.ta
         (omega (arith, other, (before t small_t).0), cut false e ∙ append-nil _ ∙ (before t small_t).1 ∙ sym (ap entries other))
 
 -- at first no task has an entry
-pub no_entry : (items : List Active) → IsTableOf 0 items (replicate 64 0)
-no_entry items t small = let none = get_or-replicate 64 t 0 0 small in (omega (arith, none), sym (ap (λ n. take (n - (n - 1)) (drop (n - 1) items)) none))
+pub no_entry : (items : List Active) → IsTableOf 0 items (replicate TABLED_TASKS 0)
+no_entry items t small = let none = get_or-replicate TABLED_TASKS t 0 0 small in (omega (arith, none), sym (ap (λ n. take (n - (n - 1)) (drop (n - 1) items)) none))
 
 twice : {X : Type 0} (p : X → Bool) (xs : List X) → filter p (filter p xs) ≡ filter p xs
 twice p [] = refl

@@ -1,37 +1,34 @@
 -- What stands before an installation.
-use Rattle.std.proofs.Common.{ℕ, ◌+◌, ℤ, cond, List, [], ◌∷◌, length, take, drop, map, filter, ap, sym, subst, ◌∙◌, arith, inr}
+use Rattle.std.proofs.Common.{ℕ, ◌+◌, ℤ, cond, List, [], ◌∷◌, length, take, drop, map, filter, ap, sym, subst, ◌∙◌, arith, inr, ◌≡◌, Bool, true, false, Option, Some, None, refl, is_some}
 use Rattle.std.specs.Prelude.{◌&&◌}
 use Rattle.std.specs.List.{AllByRecursion, flat_map}
 use Rattle.std.specs.Option.{option_map_or}
 use Rattle.giotto_tasks.specs.Names.{same_name}
 use Rattle.giotto_rules.specs.Declarations.{mode_named}
-use Rattle.giotto_text.specs.Program.{ModeDeclaration, TaskInvocation}
-use Rattle.tenant_exchange.specs.Granted.{granted_along}
-use Rattle.tenant_slots.specs.Due.{is_due_at}
-use Rattle.tenant_slots.specs.Readings.{readings_within}
-use Rattle.tenant_state.specs.SecondHalf.{replaced_if_due, second_half_of}
-use Rattle.tenant_state.specs.inner.Halves.{IsSecondHalf}
-use Rattle.tenant_state.specs.inner.Standing.{AreReleased, IsBehind}
+use Rattle.giotto_text.specs.Program.{ModeDeclaration, TaskInvocation, GiottoProgram}
+use Rattle.rig_model.specs.Granted.{granted_along}
+use Rattle.rig_model.specs.Due.{is_due_at}
+use Rattle.rig_model.specs.Readings.{readings_within}
+use Rattle.rig_model.specs.SecondHalf.{replaced_if_due, second_half_of}
+use Rattle.tenant_state.specs.cited.Halves.{IsSecondHalf}
+use Rattle.tenant_state.specs.cited.Standing.{AreReleased, IsBehind}
 use Rattle.tenant_state.proofs.Replaced.{installed_first}
-use Rattle.giotto_text.specs.Program.{GiottoProgram}
 use Rattle.giotto_tasks.specs.Syntax.{TaskBody}
-use Rattle.giotto_check.specs.inner.Facts.{ProgramFits}
+use Rattle.giotto_check.specs.cited.Facts.{ProgramFits}
 use Rattle.rig_config.specs.declared.Budgets.{Budgets}
 use Rattle.tenant_grants.specs.Grants.{GrantRows}
 use Rattle.tenant_trace.specs.Trace.{LastRecords}
 use Rattle.tenant_state.specs.declared.tenants.Active.{Active}
 use Rattle.tenant_state.specs.declared.tenants.waiting.Waiting.{Waiting}
-use Rattle.tenant_state.specs.FirstHalf.{due_in_mode, due_tasks}
-use Rattle.tenant_state.specs.Row.{ActiveTask, Row, is_running}
+use Rattle.rig_model.specs.FirstHalf.{due_in_mode, due_tasks}
+use Rattle.rig_model.specs.Row.{ActiveTask, Row, is_running, is_running_state}
 use Rattle.tenant_state.specs.Standing.{Standing, StandsFor, most_released, with_last}
 use Rattle.tenant_state.specs.inner.Tenants.{IsTenant, IsTraceOf}
 use Rattle.tenant_state.proofs.EndedTasks.{as_running}
 use Rattle.tenant_state.proofs.Invoked.{no_task_left}
-use Rattle.std.proofs.Common.{◌≡◌, Bool, true, false, Option, Some, None, refl, is_some}
 use Rattle.std.proofs.lemmas.Bool.{false≢true}
 use Rattle.tenant_state.specs.declared.tenants.State as code
 use Rattle.tenant_state.specs.declared.tenants.State.TheVariants as states
-use Rattle.tenant_state.specs.Row.{is_running_state}
 use Rattle.tenant_state.specs.Tenants.{active_of, standing_of, state_of}
 
 pub some_there : {A : Type 0} (o : Option A) → is_some o ≡ true → (x : A) × (o ≡ Some x)

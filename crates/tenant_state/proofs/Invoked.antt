@@ -7,28 +7,28 @@ use Rattle.std.proofs.lemmas.Nat.Gcd.{dvd_trans}
 use Rattle.giotto_tasks.specs.declared.names.Name.{Name}
 use Rattle.giotto_tasks.specs.Names.{Valuation, same_name, is_among}
 use Rattle.giotto_tasks.specs.Syntax.{TaskBody}
-use Rattle.giotto_tasks.proofs.ListLemmas.{all_append, all_if_any, all_map, all_mapped, all_of, all_with, any_map, find_is_any, find_passes, found_has, found_passes, some_same}
-use Rattle.giotto_tasks.proofs.NameLemmas.{any_is_among, same_name_is, same_name_self}
-use Rattle.giotto_tasks.proofs.TestLemmas.{either}
+use Rattle.giotto_tasks.proofs.cited.ListLemmas.{all_append, all_if_any, all_map, all_mapped, all_of, all_with, any_map, find_is_any, find_passes, found_has, found_passes, some_same}
+use Rattle.giotto_tasks.proofs.cited.NameLemmas.{any_is_among, same_name_is, same_name_self}
+use Rattle.giotto_tasks.proofs.cited.TestLemmas.{either}
 use Rattle.giotto_text.specs.Program.{TaskDeclaration, ModeSwitch, TaskInvocation, ModeDeclaration, GiottoProgram}
 use Rattle.giotto_rules.specs.Declarations.{invoked_tasks, mode_named, period_of_task}
-use Rattle.giotto_rules.specs.inner.KeepsRules.{KeepsRules}
+use Rattle.giotto_rules.specs.cited.KeepsRules.{KeepsRules}
 use Rattle.giotto_rules.specs.Rules.{switches_keep_periods}
 use Rattle.giotto_rules.specs.Switches.{goes_on_with, is_period, keeps_period, mode_keeps_periods, switch_keeps_periods}
-use Rattle.giotto_rules.proofs.RulesKept.{rule_kept}
-use Rattle.giotto_check.specs.inner.Facts.{ProgramFits}
+use Rattle.giotto_rules.proofs.cited.RulesKept.{rule_kept}
+use Rattle.giotto_check.specs.cited.Facts.{ProgramFits}
 use Rattle.tenant_grants.specs.Grants.{GrantRows}
-use Rattle.tenant_slots.specs.Due.{is_due_at}
+use Rattle.rig_model.specs.Due.{is_due_at}
 use Rattle.tenant_slots.specs.Places.{name_of_mode}
-use Rattle.tenant_slots.specs.Switches.{is_open, switch_taken}
-use Rattle.tenant_slots.proofs.CommonMultiples.{divides, is_divided}
-use Rattle.tenant_slots.proofs.Numbered.{mode_here}
+use Rattle.rig_model.specs.Switches.{is_open, switch_taken}
+use Rattle.tenant_slots.proofs.cited.CommonMultiples.{divides, is_divided}
+use Rattle.tenant_slots.proofs.cited.Numbered.{mode_here}
 use Rattle.tenant_state.specs.declared.tenants.Active.{Active}
 use Rattle.tenant_state.specs.declared.tenants.waiting.Waiting.{Waiting}
 use Rattle.tenant_state.specs.declared.tenants.switches.Entry.{Entry}
-use Rattle.tenant_state.specs.FirstHalf.{due_tasks}
-use Rattle.tenant_state.specs.Row.{ActiveTask, Row}
-use Rattle.tenant_state.specs.SecondHalf.{all_released}
+use Rattle.rig_model.specs.FirstHalf.{due_tasks}
+use Rattle.rig_model.specs.Row.{ActiveTask, Row}
+use Rattle.rig_model.specs.SecondHalf.{all_released}
 use Rattle.tenant_state.specs.Standing.{Standing}
 use Rattle.tenant_state.specs.Tenants.{active_of}
 use Rattle.tenant_state.specs.inner.Invoked.{IsInvokedIn}

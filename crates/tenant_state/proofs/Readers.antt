@@ -7,37 +7,36 @@ use Rattle.std.proofs.lemmas.List.{length-map}
 use Rattle.std.proofs.lemmas.Option.{slice_get_within}
 use Rattle.giotto_tasks.specs.declared.names.Name.{Name}
 use Rattle.giotto_tasks.specs.Names.{Valuation, is_among, same_name, value_at}
-use Rattle.giotto_tasks.proofs.ListLemmas.{any_map, find_is_any, find_passes, found_has}
-use Rattle.giotto_tasks.proofs.NameLemmas.{any_is_among, same_name_is}
-use Rattle.giotto_tasks.proofs.TestLemmas.{and_true, and_false}
+use Rattle.giotto_tasks.proofs.cited.ListLemmas.{any_map, find_is_any, find_passes, found_has}
+use Rattle.giotto_tasks.proofs.cited.NameLemmas.{any_is_among, same_name_is}
+use Rattle.giotto_tasks.proofs.cited.TestLemmas.{and_true, and_false}
 use Rattle.giotto_text.specs.Program.{ActuatorDeclaration, ModeDeclaration, GiottoProgram}
 use Rattle.giotto_text.specs.ProgramTrees.{actuator_of, sensor_of}
 use Rattle.giotto_text.specs.declared.programs.Actuator.{Actuator}
 use Rattle.giotto_text.specs.declared.programs.Sensor.{Sensor}
 use Rattle.giotto_rules.specs.Declarations.{sensor_names, actuator_names, output_names}
-use Rattle.giotto_check.specs.inner.Facts.{ProgramFits}
-use Rattle.giotto_check.specs.Slots.{port_names, ports_of, ports_of_task, shown_name, valuation_of}
-use Rattle.giotto_check.specs.inner.Slots.{slots_of}
-use Rattle.giotto_check.specs.inner.Timetables.{AreEach, IsInvocation}
+use Rattle.giotto_check.specs.cited.Facts.{ProgramFits}
+use Rattle.giotto_check.specs.Slots.{port_names, valuation_of}
+use Rattle.giotto_rules.specs.Ports.{ports_of, ports_of_task, shown_name}
+use Rattle.giotto_check.specs.cited.Slots.{slots_of}
+use Rattle.giotto_check.specs.cited.Timetables.{AreEach, IsInvocation}
 use Rattle.giotto_check.specs.declared.timetables.SlotInvocation.{SlotInvocation}
-use Rattle.giotto_check.proofs.PlaceLemmas.{passes_there, place-map, place_if_found}
-use Rattle.giotto_check.proofs.SlotLemmas.{port_names_begin}
-use Rattle.giotto_check.proofs.Valuations.{value_at_place}
-use Rattle.tenant_slots.specs.Due.{is_due_at}
+use Rattle.giotto_check.proofs.cited.PlaceLemmas.{passes_there, place-map, place_if_found}
+use Rattle.giotto_check.proofs.cited.SlotLemmas.{port_names_begin}
+use Rattle.giotto_check.proofs.cited.Valuations.{value_at_place}
+use Rattle.rig_model.specs.Due.{is_due_at}
 use Rattle.tenant_slots.specs.Places.{name_of_task}
-use Rattle.tenant_slots.proofs.Numbered.{invocation_due, mode_here, same_task}
-use Rattle.tenant_jobs.specs.declared.jobs.JobId.{JobId}
+use Rattle.tenant_slots.proofs.cited.Numbered.{invocation_due, mode_here, same_task}
+use Rattle.rig_model.specs.declared.jobs.JobId.{JobId}
 use Rattle.tenant_grants.specs.Grants.{GrantRows}
 use Rattle.rig_config.specs.Roster.{no_budgets}
 use Rattle.tenant_state.specs.declared.tenants.Active.{Active}
 use Rattle.tenant_state.specs.declared.tenants.State.TheVariants as states
-use Rattle.tenant_state.specs.FirstHalf.{names_due}
-use Rattle.tenant_jobs.specs.Jobs.{same_job}
-use Rattle.tenant_state.specs.Jobs.{has_job, job_of}
-use Rattle.tenant_state.specs.Row.{ActiveTask, Row}
+use Rattle.rig_model.specs.FirstHalf.{names_due}
+use Rattle.rig_model.specs.Jobs.{same_job, has_job, job_of}
+use Rattle.rig_model.specs.Row.{ActiveTask, Row, actuator_value}
 use Rattle.tenant_state.specs.Tenants.{active_of, standing_of}
-use Rattle.tenant_slots.specs.Ports.{drives}
-use Rattle.tenant_state.specs.Readers.{actuator_value, driver_of, line_value}
+use Rattle.rig_model.specs.LineValues.{drives, driver_of, line_value}
 use Rattle.tenant_state.specs.inner.Tenants.{IsActiveOf, is_of_job}
 use Rattle.tenant_state.proofs.DueTasks as tasks
 use Rattle.tenant_state.proofs.DueTasks.{group, ends, names_of_tasks}

@@ -4,9 +4,9 @@ use Rattle.std.proofs.lemmas.List.{take-take}
 use Rattle.tenant_trace.specs.declared.records.Happening.{Happening}
 use Rattle.tenant_trace.specs.declared.records.Record.{Record}
 use Rattle.tenant_trace.specs.Trace.{LastRecords, with_happenings}
-use Rattle.tenant_trace.specs.inner.Noted.{noted, pushed}
-use Rattle.tenant_trace.proofs.Kept.{last_of_all}
-use Rattle.tenant_state.specs.Row.{Row, recorded}
+use Rattle.tenant_trace.specs.cited.Noted.{noted, pushed}
+use Rattle.tenant_trace.proofs.cited.Kept.{last_of_all}
+use Rattle.rig_model.specs.Row.{Row, recorded}
 use Rattle.tenant_state.specs.Standing.{with_last}
 use Rattle.tenant_state.specs.inner.Tenants.{IsTraceOf}
 

@@ -9,29 +9,29 @@ use Rattle.giotto_tasks.specs.declared.names.Name.{Name}
 use Rattle.giotto_tasks.specs.Names.{Valuation, same_name}
 use Rattle.giotto_text.specs.Program.{ModeSwitch, TaskInvocation, ModeDeclaration, GiottoProgram}
 use Rattle.giotto_rules.specs.Declarations.{mode_named, period_of_task}
-use Rattle.giotto_check.specs.inner.Facts.{ProgramFits}
+use Rattle.giotto_check.specs.cited.Facts.{ProgramFits}
 use Rattle.giotto_check.specs.Slots.{valuation_of}
-use Rattle.tenant_slots.specs.Due.{is_due_at}
-use Rattle.tenant_slots.specs.inner.Due.{IsQuietUntil}
+use Rattle.rig_model.specs.Due.{is_due_at}
+use Rattle.tenant_slots.specs.cited.Due.{IsQuietUntil}
 use Rattle.tenant_slots.specs.Places.{name_of_mode}
-use Rattle.tenant_slots.specs.Ports.{holds}
-use Rattle.tenant_slots.specs.Readings.{Readings}
-use Rattle.tenant_slots.proofs.Numbered.{mode_fits_at}
+use Rattle.rig_model.specs.Ports.{holds}
+use Rattle.rig_model.specs.Readings.{Readings}
+use Rattle.tenant_slots.proofs.cited.Numbered.{mode_fits_at}
 use Rattle.tenant_state.specs.declared.tenants.switches.Entry.{Entry}
 use Rattle.tenant_trace.specs.declared.records.Happening.TheVariants as happening
 use Rattle.tenant_trace.specs.declared.records.Happening.{Happening}
 use Rattle.tenant_trace.specs.declared.records.Record.{Record}
 use Rattle.tenant_trace.specs.Trace.{LastRecords, with_happenings}
-use Rattle.tenant_trace.specs.inner.Noted.{noted}
-use Rattle.tenant_state.specs.Row.{running, ActiveTask, Row, is_running_state, where_some, in_mode}
-use Rattle.tenant_state.specs.SecondHalf.{installed, replaced_if_due, sensed, time_before_end, entry_time, entered, switched, invoked_in_mode, moved_on, counted, second_half_running, second_half_of}
-use Rattle.giotto_check.specs.Costs.{greatest}
+use Rattle.tenant_trace.specs.cited.Noted.{noted}
+use Rattle.rig_model.specs.Row.{running, ActiveTask, Row, is_running_state, where_some, in_mode}
+use Rattle.rig_model.specs.SecondHalf.{installed, replaced_if_due, sensed, time_before_end, entry_time, entered, switched, invoked_in_mode, moved_on, counted, second_half_running, second_half_of}
+use Rattle.giotto_rules.specs.Costs.{greatest}
 use Rattle.tenant_state.specs.Standing.{invoked_in, most_at}
 use Rattle.tenant_state.proofs.GreatestOf.{greatest_more}
 use Rattle.tenant_state.specs.inner.Tenants.{IsEntered, IsSwitched}
-use Rattle.giotto_tasks.proofs.ListLemmas.{find_passes, some_same}
-use Rattle.giotto_tasks.proofs.NameLemmas.{same_name_is}
-use Rattle.giotto_tasks.proofs.TestLemmas.{cond-same}
+use Rattle.giotto_tasks.proofs.cited.ListLemmas.{find_passes, some_same}
+use Rattle.giotto_tasks.proofs.cited.NameLemmas.{same_name_is}
+use Rattle.giotto_tasks.proofs.cited.TestLemmas.{cond-same}
 
 pub in_its_mode : (step : GiottoProgram → ModeDeclaration → Row → Row) (row : Row) (p : GiottoProgram) (m : ModeDeclaration) → row.program ≡ Some p → mode_named p row.mode ≡ Some m
     → in_mode step row ≡ step p m row

@@ -14,22 +14,22 @@ use Rattle.giotto_tasks.specs.Syntax.{TaskBody}
 use Rattle.giotto_text.specs.declared.programs.Task.{Task}
 use Rattle.giotto_text.specs.Program.{TaskDeclaration, ModeSwitch, TaskInvocation, ModeDeclaration, GiottoProgram, body_of}
 use Rattle.giotto_text.specs.ProgramTrees as trees
-use Rattle.giotto_tasks.proofs.ListLemmas.{all_same, some_same, is_some-option_map}
+use Rattle.giotto_tasks.proofs.cited.ListLemmas.{all_same, some_same, is_some-option_map}
 use Rattle.giotto_rules.specs.Declarations.{mode_named}
-use Rattle.giotto_check.specs.Costs.{greatest}
-use Rattle.giotto_check.specs.inner.Timetables.{AreEach, IsInvocation, place_of_mode}
-use Rattle.giotto_check.specs.inner.Facts.{ProgramFits}
+use Rattle.giotto_rules.specs.Costs.{greatest}
+use Rattle.giotto_check.specs.cited.Timetables.{AreEach, IsInvocation, place_of_mode}
+use Rattle.giotto_check.specs.cited.Facts.{ProgramFits}
 use Rattle.giotto_check.specs.declared.timetables.SlotInvocation.{SlotInvocation}
-use Rattle.giotto_check.proofs.EachLemmas.{each_long}
-use Rattle.giotto_check.proofs.PlaceLemmas.{found_there, place_if_found}
-use Rattle.tenant_slots.specs.Due.{is_due_at}
-use Rattle.tenant_slots.proofs.Numbered.{mode_here}
+use Rattle.giotto_check.proofs.cited.EachLemmas.{each_long}
+use Rattle.giotto_check.proofs.cited.PlaceLemmas.{found_there, place_if_found}
+use Rattle.rig_model.specs.Due.{is_due_at}
+use Rattle.tenant_slots.proofs.cited.Numbered.{mode_here}
 use Rattle.tenant_state.proofs.DueTasks.{none_passes}
 use Rattle.tenant_state.proofs.GreatestOf.{greatest_more}
 use Rattle.tenant_state.proofs.TenantFacts.{body_of_task}
 use Rattle.tenant_trace.specs.Trace.{LastRecords}
-use Rattle.tenant_state.specs.inner.Standing.{IsSettled}
-use Rattle.tenant_state.specs.Row.{Row}
+use Rattle.tenant_state.specs.cited.Standing.{IsSettled}
+use Rattle.rig_model.specs.Row.{Row}
 use Rattle.tenant_grants.specs.Grants.{GrantRows}
 use Rattle.rig_config.specs.Roster.{no_budgets}
 use Rattle.tenant_state.specs.declared.tenants.Active.{Active}

@@ -5,19 +5,19 @@ use Rattle.giotto_tasks.specs.Names.{Valuation}
 use Rattle.giotto_text.specs.Program.{GiottoProgram}
 use Rattle.rig_config.specs.Roster.{no_budgets}
 use Rattle.tenant_grants.specs.Grants.{GrantRows}
-use Rattle.tenant_slots.specs.Ports.{actuators_reset}
+use Rattle.rig_model.specs.Ports.{actuators_reset}
 use Rattle.tenant_state.specs.declared.tenants.Active.{Active}
 use Rattle.tenant_state.specs.declared.tenants.waiting.Waiting.{Waiting}
 use Rattle.tenant_state.specs.declared.tenants.Reason.{Reason}
 use Rattle.tenant_state.specs.declared.tenants.State as code
 use Rattle.tenant_state.specs.declared.tenants.State.TheVariants as states
-use Rattle.tenant_state.specs.FirstHalf.{happening_of, stopped_with}
-use Rattle.tenant_state.specs.Row.{StopReason, stopped, Row, recorded}
+use Rattle.rig_model.specs.FirstHalf.{happening_of, stopped_with}
+use Rattle.rig_model.specs.Row.{StopReason, stopped, Row, recorded}
 use Rattle.tenant_state.specs.Standing.{with_last}
 use Rattle.tenant_state.specs.Tenants.{ports_in, reason_of, standing_of, tasks_in}
 use Rattle.tenant_state.proofs.Records.{last_noted}
 use Rattle.tenant_trace.specs.Trace.{LastRecords}
-use Rattle.tenant_trace.specs.inner.Noted.{noted}
+use Rattle.tenant_trace.specs.cited.Noted.{noted}
 
 -- the ports behind a stop; as they are where there is no program
 abbrev pub reset_in : Option GiottoProgram → Valuation → Valuation

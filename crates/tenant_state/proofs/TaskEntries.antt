@@ -3,15 +3,14 @@ use Rattle.std.proofs.Common.{◌≡◌, ℕ, ◌+◌, ◌<◌, ◌≤◌, Bool,
 use Rattle.std.specs.List.{list_all, AllByRecursion}
 use Rattle.std.proofs.lemmas.Bool.{and_parts, false_from_ne_true}
 use Rattle.std.proofs.lemmas.List.{get_or-take, length-take}
-use Rattle.giotto_tasks.proofs.ListLemmas.{all_pass, all_with}
-use Rattle.tenant_jobs.specs.declared.jobs.JobId.{JobId}
+use Rattle.giotto_tasks.proofs.cited.ListLemmas.{all_pass, all_with}
+use Rattle.rig_model.specs.declared.jobs.JobId.{JobId}
 use Rattle.tenant_jobs.specs.Finished.{TableEntry, entry_in}
-use Rattle.tenant_jobs.specs.inner.Finished.{is_entered}
-use Rattle.tenant_jobs.specs.Jobs.{same_job}
-use Rattle.tenant_jobs.proofs.JobNames.{same_job_is}
+use Rattle.tenant_jobs.specs.cited.Finished.{is_entered}
+use Rattle.rig_model.specs.Jobs.{same_job, has_job, job_of}
+use Rattle.rig_model.proofs.cited.JobNames.{same_job_is}
 use Rattle.tenant_state.specs.declared.tenants.Active.{Active}
-use Rattle.tenant_state.specs.Jobs.{has_job, job_of}
-use Rattle.tenant_state.specs.Row.{ActiveTask}
+use Rattle.rig_model.specs.Row.{ActiveTask}
 use Rattle.tenant_state.specs.Standing.{is_another, all_different_releases}
 use Rattle.tenant_state.proofs.AwaitedTasks.{from_place, another_job, different_drop}
 

@@ -1,12 +1,13 @@
 -- What is known of a tenant behind the second half of an instant.
-use Rattle.std.proofs.Common.{◌≡◌, ℕ, ◌+◌, ◌-◌, ◌%◌, ◌<◌, ◌≤◌, true, false, not, nat_eq, ◌&&◌, ℤ, List, [], ◌∷◌, ◌++◌, length, map, filter, take, drop, Option, Some, None, refl, ap, sym, subst, ◌∙◌, arith}
+use Rattle.std.proofs.Common.{◌≡◌, ℕ, ◌+◌, ◌%◌, ◌<◌, ◌≤◌, Bool, true, false, cond, not, nat_eq, ◌&&◌, ℤ, List, [], ◌∷◌, ◌++◌, length, map, filter, drop, Option, Some, None, refl, ap, sym, subst, ◌∙◌, arith}
 use Rattle.std.specs.Prelude.{◌==◌, slice_get, slice_index_or}
 use Rattle.std.specs.Option.{option_map, option_map_or}
 use Rattle.std.specs.List.{list_all, AllByRecursion}
-use Rattle.std.proofs.lemmas.Bool.{and_parts, and_from, or_parts, false≢true, ne_eqb, eq-eqb, false_from_ne_true, not-true}
-use Rattle.std.proofs.lemmas.List.{length-map, length-drop, drop-map, take-append-drop, take_rest}
+use Rattle.std.proofs.lemmas.Bool.{and_parts, and_from, or_parts, false≢true, ne_eqb, eq-eqb, eqb-true, false_from_ne_true, not-true}
+use Rattle.std.proofs.lemmas.List.{length-map, length-drop, take-append-drop}
 use Rattle.std.proofs.lemmas.Nat.{mod_below}
-use Rattle.std.proofs.lemmas.List.Folds.{list_all-append}
+use Rattle.std.proofs.lemmas.List.Folds.{list_all-append, list_all-map}
+use Rattle.std.proofs.lemmas.Simd.{map-map}
 use Rattle.std.proofs.lemmas.Option.{slice_get-map, slice_get-get_or, slice_get_within}
 use Rattle.giotto_tasks.specs.declared.names.Name.{Name}
 use Rattle.giotto_tasks.specs.Names.{Valuation, same_name, is_among}
@@ -15,32 +16,27 @@ use Rattle.giotto_tasks.specs.Syntax.{TaskBody}
 use Rattle.giotto_text.specs.declared.programs.Mode.{Mode}
 use Rattle.giotto_text.specs.ProgramTrees as tree
 use Rattle.giotto_text.specs.Program.{TaskDeclaration, TaskInvocation, ModeDeclaration, GiottoProgram}
-use Rattle.giotto_check.specs.inner.Facts.{ProgramFits}
-use Rattle.tenant_slots.specs.inner.Due.{IsQuietUntil}
+use Rattle.giotto_check.specs.cited.Facts.{ProgramFits}
+use Rattle.tenant_slots.specs.cited.Due.{IsQuietUntil}
 use Rattle.tenant_slots.specs.Places.{name_of_task}
-use Rattle.tenant_slots.proofs.Numbered.{mode_fits_at}
+use Rattle.tenant_slots.proofs.cited.Numbered.{mode_fits_at}
 use Rattle.tenant_state.specs.declared.tenants.Active.{Active}
-use Rattle.tenant_state.specs.declared.tenants.waiting.Waiting.{Waiting}
-use Rattle.tenant_state.specs.declared.tenants.State as code
 use Rattle.tenant_state.specs.Jobs.{job_in, released_at}
-use Rattle.tenant_state.specs.Row.{running, ActiveTask, Row}
-use Rattle.tenant_state.specs.SecondHalf.{released, all_released}
-use Rattle.tenant_state.specs.Standing.{is_another, all_different_releases, Standing, most_released}
+use Rattle.rig_model.specs.Row.{running, ActiveTask, Row}
+use Rattle.rig_model.specs.SecondHalf.{released, all_released}
+use Rattle.tenant_state.specs.Standing.{is_another, all_different_releases, most_released}
 use Rattle.tenant_state.specs.inner.Invoked.{IsInvokedIn}
-use Rattle.tenant_state.specs.inner.Standing.{AreReleased}
-use Rattle.rig_config.specs.declared.Budgets.{Budgets}
-use Rattle.tenant_grants.specs.Grants.{GrantRows, no_rows}
-use Rattle.tenant_state.specs.Tenants.{active_of, tasks_in, standing_of, state_of}
-use Rattle.tenant_state.specs.inner.Tenants.{AreInvoked, IsActiveOf, IsActiveIn, FitsIts, IsTenant}
-use Rattle.tenant_state.proofs.AwaitedTasks.{all_drop, different_drop}
-use Rattle.tenant_trace.specs.Trace.{LastRecords}
+use Rattle.tenant_state.specs.cited.Standing.{AreReleased}
+use Rattle.tenant_grants.specs.Grants.{no_rows}
+use Rattle.tenant_state.specs.Tenants.{active_of}
+use Rattle.tenant_state.specs.inner.Tenants.{AreInvoked, IsActiveIn, IsTenant, its_job, released_in}
 use Rattle.tenant_state.proofs.HalfStands.{released_by, new_releases}
 use Rattle.tenant_state.proofs.Invoked.{invoked_behind}
 use Rattle.tenant_state.proofs.SecondHalfSteps.{those_released}
 use Rattle.tenant_state.proofs.TenantFacts.{early_of}
-use Rattle.giotto_tasks.proofs.TestLemmas.{and_true, and_false, not_either}
-use Rattle.giotto_tasks.proofs.NameLemmas.{same_name_is, same_name_self}
-use Rattle.giotto_tasks.proofs.ListLemmas.{all_wider, all_map, all_that, find_passes, some_same}
+use Rattle.giotto_tasks.proofs.cited.TestLemmas.{and_true, and_false, not_either}
+use Rattle.giotto_tasks.proofs.cited.NameLemmas.{same_name_is, same_name_self}
+use Rattle.giotto_tasks.proofs.cited.ListLemmas.{all_of, all_wider, all_map, all_that, filter-map, find_passes, list_all-filter, some_same}
 
 other_by_release : (a b : ActiveTask) → (a.release ≡ b.release → ⊥) → is_another a b ≡ true
 other_by_release a b apart = ap not (ap (λ same. same_name a.task b.task && same) (ne_eqb a.release b.release apart) ∙ and_false _)
@@ -141,44 +137,60 @@ module _ (p : GiottoProgram) (n : ℕ) where
       let both = and_parts (list_all (is_another (active_of p a)) (map (active_of p) rest)) (all_different_releases (map (active_of p) rest)) h in
       and_from _ _ (others_named a rest now.0 now.1 both.0) (names_differ rest now.1 both.1)
 
--- the tasks that an instant made active, for their jobs
-pub record AreNew (p : GiottoProgram) (tenant : ℕ) (before after : Row) (news : List Active) : Type 0 where
-  pub few : length news ≤ most_released before
-  pub declared : AllByRecursion (IsActiveOf p) news
-  pub different : all_different (names p before.next_tick news) ≡ true
-  pub jobs : released_at tenant before.next_tick after ≡ map (job_in p tenant) (map (active_of p) news)
+  now_in : (items : List Active) → ReleasedNow (released_in n items)
+  now_in [] = tt
+  now_in (a ∷ rest) = by (nat_eq a.release n) refl (now_in rest)
+    where
+      by : (b : Bool) → nat_eq a.release n ≡ b → ReleasedNow (released_in n rest) → ReleasedNow (cond b (a ∷ released_in n rest) (released_in n rest))
+      by true at now = (eqb-true a.release n at, now)
+      by false at now = now
 
-new_tasks : (p : GiottoProgram) (tenant n : ℕ) (before after : Row) (items : List Active) → AreReleased before after → AllByRecursion (λ (a : ActiveTask). a.release < before.next_tick) before.active
-    → after.program ≡ Some p → after.active ≡ map (active_of p) items → AllByRecursion (IsActiveIn p n) items → all_different_releases (map (active_of p) items) ≡ true
-    → AreNew p tenant before after (drop (length before.active) items)
-new_tasks p tenant n before after items is early program active each different =
-    let k = length before.active in
-    let dropped : drop k after.active ≡ map (active_of p) (drop k items) = ap (drop k) active ∙ drop-map (active_of p) k items in
-    let now : ReleasedNow p before.next_tick (drop k items) = subst (AllByRecursion (λ (a : ActiveTask). a.release ≡ before.next_tick)) dropped is.newer in
-    record {
-      few = omega (arith, is.few, length-drop k items, ap length active ∙ length-map items (active_of p));
-      declared = all_drop (IsActiveOf p) k items (all_map (IsActiveIn p n) (IsActiveOf p) items (λ a is. is.declared) each);
-      different = names_differ p before.next_tick (drop k items) now (subst (λ xs. all_different_releases xs ≡ true) (drop-map (active_of p) k items) (different_drop k (map (active_of p) items) different));
-      jobs = ap (λ o. option_map_or (λ p. map (job_in p tenant) (filter (λ (a : ActiveTask). a.release == before.next_tick) after.active)) o []) program
-          ∙ ap (λ xs. map (job_in p tenant) (filter (λ (a : ActiveTask). a.release == before.next_tick) xs)) (sym (take-append-drop k after.active) ∙ ap (λ xs. xs ++ drop k after.active) is.older)
-          ∙ ap (map (job_in p tenant)) (those_released before.next_tick before.active (drop k after.active) early is.newer ∙ dropped);
-    }
+  different_in : (items : List Active) → all_different_releases (map (active_of p) items) ≡ true → all_different_releases (map (active_of p) (released_in n items)) ≡ true
+  different_in [] h = refl
+  different_in (a ∷ rest) h =
+      let both = and_parts (list_all (is_another (active_of p a)) (map (active_of p) rest)) (all_different_releases (map (active_of p) rest)) h in
+      by (nat_eq a.release n)
+      (list_all-map (is_another (active_of p a)) (active_of p) (released_in n rest)
+      ∙ list_all-filter (λ b. is_another (active_of p a) (active_of p b)) (λ b. nat_eq b.release n) rest (sym (list_all-map (is_another (active_of p a)) (active_of p) rest) ∙ both.0))
+      (different_in rest both.1)
+    where
+      by : (b : Bool) → list_all (is_another (active_of p a)) (map (active_of p) (released_in n rest)) ≡ true → all_different_releases (map (active_of p) (released_in n rest)) ≡ true
+          → all_different_releases (map (active_of p) (cond b (a ∷ released_in n rest) (released_in n rest))) ≡ true
+      by true others different = and_from _ _ others different
+      by false others different = different
 
-active_long : (o : Option GiottoProgram) (mode time next : ℕ) (active gone : List Active) (values : List ℤ) (shares : List (Option TaskBody)) (n : ℕ) → FitsIts o mode time next active gone values shares n
-    → length (tasks_in o active) ≡ length active
-active_long None mode time next active gone values shares n none = ap length (sym none)
-active_long (Some p) mode time next active gone values shares n fits = length-map active (active_of p)
+  -- the tasks that this instant released are different
+  pub differ_in : (items : List Active) → all_different_releases (map (active_of p) items) ≡ true → all_different (names (released_in n items)) ≡ true
+  differ_in items different = names_differ (released_in n items) (now_in items) (different_in items different)
 
--- as the code has them
-pub are_new : {o q : Option GiottoProgram} {mode time next places n to at later room m : ℕ} {old items gone ended : List Active} {values written : List ℤ} {shares others : List (Option TaskBody)} {budgets budgets_behind : Budgets} {grants grants_behind : GrantRows}
-    (waiting later_waiting : Option Waiting) (trace told : LastRecords) (p : GiottoProgram) (tenant : ℕ) (before after : Standing) (s t : code.State)
-    → IsTenant (state_of s) o mode time next old gone values shares n → standing_of budgets grants s o mode time old gone places values shares waiting trace n ≡ before
-    → IsTenant (state_of t) q to at later items ended written others m → standing_of budgets_behind grants_behind t q to at items ended room written others later_waiting told m ≡ after
-    → q ≡ Some p → AreReleased before.row after.row → (k : ℕ) (xs : List Active) → k ≡ length old → xs ≡ items → AreNew p tenant before.row after.row (take (length xs - k) (drop k xs))
-are_new {o} {q} {mode} {time} {next} {places} {n} {to} {at} {later} {room} {m} {old} {items} {gone} {ended} {values} {written} {shares} {others} {grants = grants} waiting later_waiting trace told p tenant before after s t known view known_after view_after program released k xs long same =
-    let is : IsTenant (state_of t) (Some p) to at later items ended written others m = subst (λ o. IsTenant (state_of t) o to at later items ended written others m) program known_after in
-    let early = early_of grants mode time next old gone values shares n o known.fits in
-    let olds : length before.row.active ≡ k = ap (λ (b : Standing). length b.row.active) (sym view) ∙ active_long o mode time next old gone values shares n known.fits ∙ sym long in
-    subst (λ news. AreNew p tenant before.row after.row news) (ap (λ i. drop i items) olds ∙ ap (drop k) (sym same) ∙ sym (take_rest xs k))
-    (new_tasks p tenant m before.row after.row items released (subst (λ (b : Standing). AllByRecursion (λ (a : ActiveTask). a.release < b.row.next_tick) b.row.active) view early)
-    (ap (λ (b : Standing). b.row.program) (sym view_after) ∙ program) (ap (λ (b : Standing). b.row.active) (sym view_after) ∙ ap (λ o. tasks_in o items) program) is.fits.each is.different)
+  -- their jobs
+  pub jobs_in : (tenant : ℕ) (row : Row) (items : List Active) → row.program ≡ Some p → row.active ≡ map (active_of p) items → released_at tenant n row ≡ map (its_job tenant p) (released_in n items)
+  jobs_in tenant row items program active =
+      ap (λ o. option_map_or (λ p. map (job_in p tenant) (filter (λ (a : ActiveTask). a.release == n) row.active)) o []) program
+      ∙ ap (λ xs. map (job_in p tenant) (filter (λ (a : ActiveTask). a.release == n) xs)) active
+      ∙ ap (map (job_in p tenant)) (filter-map (active_of p) (λ (a : ActiveTask). a.release == n) (λ (a : Active). nat_eq a.release n) items (all_of (λ a. refl) items))
+      ∙ map-map (job_in p tenant) (active_of p) (released_in n items)
+
+-- an instant makes no more jobs than it can release
+pub few_released : (tenant : ℕ) (before after : Row) → AllByRecursion (λ (a : ActiveTask). a.release < before.next_tick) before.active → AreReleased before after
+    → length (released_at tenant before.next_tick after) ≤ most_released before
+few_released tenant before after early is = by after.program
+  where
+    new : List ActiveTask
+    new = drop (length before.active) after.active
+
+    these : filter (λ (a : ActiveTask). a.release == before.next_tick) after.active ≡ new
+    these =
+        ap (filter (λ (a : ActiveTask). a.release == before.next_tick)) (sym (take-append-drop (length before.active) after.active) ∙ ap (λ xs. xs ++ new) is.older)
+        ∙ those_released before.next_tick before.active new early is.newer
+
+    by : (o : Option GiottoProgram) → length (option_map_or (λ p. map (job_in p tenant) (filter (λ (a : ActiveTask). a.release == before.next_tick) after.active)) o []) ≤ most_released before
+    by (Some p) =
+        omega (
+          arith,
+          length-map (filter (λ (a : ActiveTask). a.release == before.next_tick) after.active) (job_in p tenant),
+          ap length these,
+          length-drop (length before.active) after.active,
+          is.few,
+        )
+    by None = omega arith

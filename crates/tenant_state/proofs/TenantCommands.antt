@@ -5,15 +5,15 @@ use Rattle.giotto_text.specs.Program.{GiottoProgram, TaskDeclaration}
 use Rattle.tenant_state.specs.declared.tenants.Active.{Active}
 use Rattle.tenant_state.specs.declared.tenants.waiting.Waiting.{Waiting}
 use Rattle.tenant_state.specs.declared.tenants.State as code
-use Rattle.tenant_state.specs.Commands.{at_beginning}
+use Rattle.rig_model.specs.Commands.{at_beginning}
 use Rattle.giotto_text.specs.declared.programs.Task.{Task}
 use Rattle.giotto_text.specs.ProgramTrees.{task_of}
-use Rattle.giotto_check.specs.inner.Timetables.{AreEach}
+use Rattle.giotto_check.specs.cited.Timetables.{AreEach}
 use Rattle.giotto_check.specs.Slots.{valuation_of}
 use Rattle.tenant_grants.specs.Grants.{GrantRows}
 use Rattle.tenant_slots.specs.Places.{name_of_mode}
-use Rattle.tenant_slots.specs.Ports.{initial_ports}
-use Rattle.tenant_state.specs.Row.{Row}
+use Rattle.rig_model.specs.Ports.{initial_ports}
+use Rattle.rig_model.specs.Row.{Row}
 use Rattle.tenant_state.specs.Standing.{with_last}
 use Rattle.tenant_state.specs.Tenants.{state_of}
 use Rattle.tenant_state.proofs.Stops.{row_of}

@@ -13,11 +13,11 @@ use Rattle.tenant_trace.specs.Trace.{LastRecords}
 use Rattle.tenant_state.specs.declared.tenants.Active.{Active}
 use Rattle.tenant_state.specs.declared.tenants.waiting.Waiting.{Waiting}
 use Rattle.tenant_state.specs.declared.tenants.State as code
-use Rattle.tenant_state.specs.Row.{ActiveTask}
+use Rattle.rig_model.specs.Row.{ActiveTask}
 use Rattle.tenant_state.specs.Standing.{IsKnown}
 use Rattle.tenant_state.specs.Tenants.{state_of, active_of, tasks_in, standing_of}
 use Rattle.tenant_state.specs.inner.Tenants.{IsActiveIn, FitsIts, IsTenant, IsTraceOf}
-use Rattle.giotto_tasks.proofs.ListLemmas.{all_map, all_mapped}
+use Rattle.giotto_tasks.proofs.cited.ListLemmas.{all_map, all_mapped}
 
 abbrev pub AreEarly : ℕ → List ActiveTask → Type 0
 AreEarly count tasks = AllByRecursion (λ (a : ActiveTask). a.release < count) tasks

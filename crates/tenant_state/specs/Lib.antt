@@ -1,12 +1,7 @@
 pub mod ActiveTasks
-pub mod Commands
-pub mod FirstHalf
-pub mod Instants
 pub mod Jobs
-pub mod Readers
-pub mod Row
-pub mod SecondHalf
+pub mod Memory
 pub mod Standing
-pub mod Tenancy
 pub mod Tenants
+pub mod cited
 pub mod inner

@@ -5,24 +5,23 @@ use Rattle.std.specs.Option.{option_and_then, option_map, option_map_or}
 use Rattle.giotto_tasks.specs.declared.names.Name.{Name}
 use Rattle.giotto_tasks.specs.Names.{same_name}
 use Rattle.giotto_text.specs.Program.{GiottoProgram, ModeDeclaration, ModeSwitch, TaskInvocation}
-use Rattle.giotto_check.specs.Costs.{greatest}
+use Rattle.giotto_rules.specs.Costs.{greatest}
 use Rattle.giotto_rules.specs.Declarations.{mode_named}
 use Rattle.rig_config.specs.Roster.{no_budgets}
 use Rattle.rig_config.specs.declared.Budgets.{Budgets}
 use Rattle.tenant_grants.specs.Grants.{GrantRows, no_rows}
-use Rattle.tenant_jobs.specs.declared.jobs.JobId.{JobId}
-use Rattle.tenant_slots.specs.Due.{is_due_at}
+use Rattle.rig_model.specs.declared.jobs.JobId.{JobId}
+use Rattle.rig_model.specs.Due.{is_due_at}
 use Rattle.tenant_jobs.specs.Finished.{TableEntry, has_result}
-use Rattle.tenant_jobs.specs.Jobs.{JobValue, same_job}
-use Rattle.tenant_state.specs.Jobs.{job_in, job_of}
-use Rattle.tenant_state.specs.SecondHalf.{replaced_if_due}
-use Rattle.tenant_state.specs.Tenancy.{Tenancy}
-use Rattle.tenant_state.specs.Row.{ActiveTask, Row, empty_row, is_running}
+use Rattle.tenant_jobs.specs.Jobs.{JobValue}
+use Rattle.rig_model.specs.Jobs.{same_job, job_of}
+use Rattle.tenant_state.specs.Jobs.{job_in}
+use Rattle.rig_model.specs.SecondHalf.{replaced_if_due}
+use Rattle.rig_model.specs.Tenancies.{Tenancy}
+use Rattle.rig_model.specs.Row.{ActiveTask, Row, empty_row, is_running}
 
--- what a tenant's code keeps: whose it is and what it may use, and a row with the last records; and what it has ready for the next instant
-pub record Standing : Type 0 where
-  pub tenancy : Tenancy
-  pub row : Row
+-- what a tenant's code has ready for the next instant
+pub record Readiness : Type 0 where
   -- the tasks that are active no longer, while their entries are still to leave the table of active tasks
   pub ended : List ActiveTask
   -- how many more tasks there is room for
@@ -30,18 +29,22 @@ pub record Standing : Type 0 where
   -- whether a share of each task's body is at hand, of the program's and of one that waits
   pub shared : Bool
 
+-- what a tenant's code keeps: whose it is and what it may use, a row with the last records, and what it has ready
+pub record Standing : Type 0 where
+  pub tenancy : Tenancy
+  pub row : Row
+  pub ready : Readiness
+
 -- with nothing ready for the next instant
 abbrev pub at_rest : Standing → Standing
-at_rest s = record s { room = 0; shared = false }
+at_rest s = record s { ready = record s.ready { room = 0; shared = false } }
 
 -- that of a tenant with these budgets and these rows of grants, without a program, whose first instant has this number
 abbrev pub empty_standing : Budgets → GrantRows → ℕ → Standing
 empty_standing budgets rows first_tick = record {
   tenancy = record { owner = rows.owner; budgets = budgets };
   row = record (empty_row first_tick) { offers = rows.offers; binds = rows.binds };
-  ended = [];
-  room = 0;
-  shared = true;
+  ready = record { ended = []; room = 0; shared = true };
 }
 
 -- that of no tenant, which may use nothing

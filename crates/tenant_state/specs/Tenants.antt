@@ -16,7 +16,7 @@ use Rattle.tenant_state.specs.declared.tenants.Reason.TheVariants.{Asked, Overru
 use Rattle.tenant_state.specs.declared.tenants.State as code
 use Rattle.tenant_state.specs.declared.tenants.waiting.Waiting.{Waiting}
 use Rattle.tenant_state.specs.declared.tenants.State.TheVariants as states
-use Rattle.tenant_state.specs.Row.{StopReason, asked, overrun, State, empty, loaded, running, stopped, ActiveTask}
+use Rattle.rig_model.specs.Row.{StopReason, asked, overrun, TenantState, empty, loaded, running, stopped, ActiveTask}
 use Rattle.tenant_state.specs.Standing.{Standing}
 use Rattle.tenant_trace.specs.Trace.{LastRecords}
 
@@ -26,7 +26,7 @@ reason_of Asked = asked
 reason_of (Overrun x) = overrun x
 
 -- the state that the code's state stands for
-abbrev pub state_of : code.State → State
+abbrev pub state_of : code.State → TenantState
 state_of states.Empty = empty
 state_of states.Loaded = loaded
 state_of states.Running = running
@@ -68,7 +68,5 @@ standing_of budgets grants state program mode time active ended room values shar
     records = trace.records;
     next_tick = next_tick;
   };
-  ended = tasks_in program ended;
-  room = room;
-  shared = list_all is_some shares && is_shared waiting;
+  ready = record { ended = tasks_in program ended; room = room; shared = list_all is_some shares && is_shared waiting };
 }

@@ -2,8 +2,9 @@
 //!
 //! A [`tenants::Tenant`] goes from row to row: by a command, by the first half of an instant, and by its second half. The
 //! results of its jobs stand in the table of the active tasks of all tenants, which is lent to it. The rows and steps stand
-//! in `specs/`: `Row` first, then `Commands`, `FirstHalf`, `SecondHalf` and `Jobs`; `Standing` and `Tenants` say which rows
-//! a tenant stands for.
+//! in the crate `rig_model`: `Row.antt` first, then `Commands.antt`, `FirstHalf.antt` and `SecondHalf.antt`. Here `specs/` says
+//! for which rows a tenant stands, in `Standing.antt` and `Tenants.antt`, which jobs its active tasks are, in `Jobs.antt`, and
+//! which commands take memory, in `Commands.antt`.
 //!
 //! A tenant has one list of the values of its ports, by the slots of its checked program, and its tasks and its mode by
 //! their places in it. An instant goes down the timetables of the mode, by the steps of `tenant_slots`.

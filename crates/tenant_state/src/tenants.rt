@@ -97,7 +97,7 @@ impl Model for Tenant {
     ghost use Rattle.tenant_state.specs.Tenants.{standing_of, state_of};
     ghost use Rattle.tenant_state.specs.inner.Tenants.{FitsWaiting, IsTenant, IsTraceOf};
     ghost use Rattle.std.specs.Coded.{codes};
-    ghost use Rattle.giotto_text.specs.inner.ProgramCodes.{program_code};
+    ghost use Rattle.giotto_text.specs.cited.ProgramCodes.{program_code};
 
     ghost Value = { Standing };
 
@@ -147,7 +147,16 @@ impl Tenant {
         ensures known { IsKnown self.now.tenancy self.now.row }
         ensures binds { length self.now.row.binds ≤ self.now.tenancy.owner.most_binds }
     {
-        let _own = self.grants.own();
+        self.known();
         self.next_tick
+    }
+
+    /// Opens what is known of the type, for a proof; does nothing.
+    #[inline(always)]
+    pub fn known(&self)
+        ensures row { IsKnown self.now.tenancy self.now.row }
+        ensures binds { length self.now.row.binds ≤ self.now.tenancy.owner.most_binds }
+    {
+        self.grants.known();
     }
 }

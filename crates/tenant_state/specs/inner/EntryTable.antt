@@ -5,13 +5,14 @@ use Rattle.giotto_check.specs.Slots.{valuation_of}
 use Rattle.giotto_check.specs.declared.timetables.SlotInvocation.{SlotInvocation}
 use Rattle.giotto_text.specs.Program.{GiottoProgram, ModeDeclaration}
 use Rattle.tenant_state.specs.declared.tenants.Active.{Active}
-use Rattle.tenant_state.specs.FirstHalf.{all_ended, due_among, outputs_of_end}
-use Rattle.tenant_state.specs.Row.{ActiveTask}
+use Rattle.rig_model.specs.FirstHalf.{all_ended, due_among, outputs_of_end}
+use Rattle.rig_model.specs.Row.{ActiveTask}
 use Rattle.giotto_rules.specs.Declarations.{task_named}
 use Rattle.std.specs.Option.{option_map_or}
 use Rattle.tenant_trace.specs.Trace.{LastRecords}
-use Rattle.tenant_trace.specs.inner.Noted.{noted}
+use Rattle.tenant_trace.specs.cited.Noted.{noted}
 use Rattle.tenant_state.specs.Tenants.{active_of}
+use Rattle.tenant_slots.specs.declared.due.TheConstants.{TABLED_TASKS}
 
 -- the active entries of the task at this place
 abbrev pub entries_at : ℕ → List Active → List Active
@@ -20,7 +21,7 @@ entries_at task active = filter (λ (a : Active). nat_eq a.task task) active
 -- of the first entries each task has at most one: the table has its number from 1, or 0 where there is none
 abbrev pub IsTableOf : ℕ → List Active → List ℕ → Type 0
 IsTableOf count active table =
-    (t : ℕ) → t < 64 → (get_or table t 0 ≤ count) × (entries_at t (take count active) ≡ take (get_or table t 0 - (get_or table t 0 - 1)) (drop (get_or table t 0 - 1) active))
+    (t : ℕ) → t < TABLED_TASKS → (get_or table t 0 ≤ count) × (entries_at t (take count active) ≡ take (get_or table t 0 - (get_or table t 0 - 1)) (drop (get_or table t 0 - 1) active))
 
 -- whether an active entry of the task at this place isn't done
 abbrev pub is_task_open : (Active → Bool) → List Active → ℕ → Bool

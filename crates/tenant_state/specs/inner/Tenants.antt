@@ -1,31 +1,32 @@
 -- What is true of a tenant's fields at any time, and of the steps of an instant in them.
-use Rattle.std.specs.Prelude.{true, nat_eq, Bool, ◌&&◌, List, [], ◌∷◌, ◌≡◌, length, IsSomeAnd, slice_get, ◌<◌, ℕ, ◌+◌, ℤ, false, ◌++◌, map, Some, Option, None, IfSome, ◌^◌, take}
+use Rattle.std.specs.Prelude.{true, nat_eq, Bool, ◌&&◌, List, [], ◌∷◌, ◌≡◌, length, IsSomeAnd, slice_get, ◌<◌, ℕ, ◌+◌, ℤ, false, ◌++◌, filter, map, Some, Option, None, IfSome, ◌^◌, take}
 use Rattle.tenant_jobs.specs.Finished.{TableEntry, result_in, has_result}
 use Rattle.tenant_jobs.specs.Jobs.{JobValue}
-use Rattle.tenant_jobs.specs.inner.Finished.{result_of}
-use Rattle.tenant_state.specs.Jobs.{job_of, job_in}
+use Rattle.tenant_jobs.specs.cited.Finished.{result_of}
+use Rattle.rig_model.specs.Jobs.{job_of}
+use Rattle.tenant_state.specs.Jobs.{job_in}
 use Rattle.tenant_state.specs.Standing.{all_different_releases}
 use Rattle.tenant_state.specs.declared.tenants.Active.{Active}
 use Rattle.giotto_tasks.specs.Names.{same_name, Valuation}
 use Rattle.giotto_text.specs.Program.{GiottoProgram, TaskDeclaration, body_of, ModeDeclaration, ModeSwitch}
 use Rattle.tenant_slots.specs.Places.{name_of_mode, name_of_task}
-use Rattle.tenant_slots.specs.inner.Places.{IsModeAt}
-use Rattle.tenant_jobs.specs.declared.jobs.JobId.{JobId}
+use Rattle.tenant_slots.specs.cited.Places.{IsModeAt}
+use Rattle.rig_model.specs.declared.jobs.JobId.{JobId}
 use Rattle.tenant_jobs.specs.declared.jobs.JobResult.{JobResult}
 use Rattle.tenant_state.specs.Tenants.{active_of, tasks_in}
-use Rattle.tenant_state.specs.Row.{ActiveTask, State, is_running_state}
+use Rattle.rig_model.specs.Row.{ActiveTask, TenantState, is_running_state}
 use Rattle.std.specs.List.{AllByRecursion}
-use Rattle.giotto_check.specs.inner.Slots.{slots_of}
+use Rattle.giotto_check.specs.cited.Slots.{slots_of}
 use Rattle.giotto_check.specs.Slots.{valuation_of}
-use Rattle.tenant_state.specs.SecondHalf.{all_invoked, all_released, entry_time}
+use Rattle.rig_model.specs.SecondHalf.{all_invoked, all_released, entry_time}
 use Rattle.giotto_rules.specs.Declarations.{mode_named}
-use Rattle.tenant_slots.specs.Switches.{switch_taken, with_destinations}
+use Rattle.rig_model.specs.Switches.{switch_taken, with_destinations}
 use Rattle.tenant_state.specs.declared.tenants.switches.Entry.{Entry}
 use Rattle.giotto_tasks.specs.Syntax.{TaskBody}
-use Rattle.giotto_check.specs.inner.Timetables.{AreEach}
-use Rattle.tenant_slots.specs.inner.Due.{IsQuietUntil}
-use Rattle.tenant_slots.specs.inner.Replacement.{IsCarryTable}
-use Rattle.tenant_slots.specs.Ports.{initial_ports}
+use Rattle.giotto_check.specs.cited.Timetables.{AreEach}
+use Rattle.tenant_slots.specs.cited.Due.{IsQuietUntil}
+use Rattle.tenant_slots.specs.cited.Replacement.{IsCarryTable}
+use Rattle.rig_model.specs.Ports.{initial_ports}
 use Rattle.tenant_state.specs.declared.tenants.waiting.Beginning.{Beginning}
 use Rattle.tenant_state.specs.declared.tenants.waiting.Waiting.{Waiting}
 use Rattle.std.specs.Arc.{arc_value}
@@ -46,6 +47,10 @@ its_name place p a = job_of place (active_of p a)
 -- its job
 abbrev pub its_job : ℕ → GiottoProgram → Active → JobValue
 its_job place p a = job_in p place (active_of p a)
+
+-- those of these active tasks that the instant of number n released
+abbrev pub released_in : ℕ → List Active → List Active
+released_in n active = filter (λ (a : Active). nat_eq a.release n) active
 
 -- whether the result of its job came
 abbrev pub is_done : List TableEntry → ℕ → GiottoProgram → Active → Bool
@@ -123,7 +128,7 @@ FitsIts (Some p) mode time next active ended values shares next_tick = FitsProgr
 
 -- what is known of a tenant at any time: its mode time is small, only while its program runs has it active tasks, its releases differ, and
 -- the rest fits its program
-pub record IsTenant (state : State) (program : Option GiottoProgram) (mode time next : ℕ) (active ended : List Active) (values : List ℤ) (shares : List (Option TaskBody)) (next_tick : ℕ) : Type 0 where
+pub record IsTenant (state : TenantState) (program : Option GiottoProgram) (mode time next : ℕ) (active ended : List Active) (values : List ℤ) (shares : List (Option TaskBody)) (next_tick : ℕ) : Type 0 where
   pub short_time : time < 2 ^ 32
   pub rests : is_running_state state ≡ false → active ≡ []
   pub different : all_different_releases (tasks_in program active) ≡ true

@@ -4,11 +4,12 @@ ghost use Rattle.std.specs.Prelude.{◌≡◌, ◌≢◌, ◌⊎◌, [], false, 
 ghost use Rattle.tenant_lines.specs.declared.commands.Command.{Command};
 ghost use Rattle.tenant_lines.specs.declared.replies.Refusal.{Refusal};
 ghost use Rattle.tenant_lines.specs.declared.replies.Reply.{Reply};
-ghost use Rattle.tenant_state.specs.Commands.{at_beginning, commanded, takes_memory, load_kept};
-ghost use Rattle.tenant_state.specs.Row.{Row, is_running, loaded};
-ghost use Rattle.tenant_state.specs.Tenancy.{Tenancy};
+ghost use Rattle.rig_model.specs.Commands.{at_beginning, commanded, load_kept};
+ghost use Rattle.tenant_state.specs.Memory.{takes_memory};
+ghost use Rattle.rig_model.specs.Row.{Row, is_running, loaded};
+ghost use Rattle.rig_model.specs.Tenancies.{Tenancy};
 ghost use Rattle.tenant_state.specs.inner.Tenants.{IsBeginning};
-ghost use Rattle.tenant_state.specs.inner.Standing.{AreEnded, AreTasksKept, HoldsOfRow, IsAnswered, IsBehind, IsOutcome, IsRefused};
+ghost use Rattle.tenant_state.specs.cited.Standing.{AreEnded, AreTasksKept, HoldsOfRow, IsAnswered, IsBehind, IsOutcome, IsRefused};
 ghost use Rattle.tenant_state.specs.Standing.{StandsFor};
 
 use crate::tenants::waiting::{Beginning, beginning_of};
@@ -28,7 +29,7 @@ impl Tenant {
     /// Carries out a command. A refusal changes nothing, want of memory included. Only `load`, `replace`, `show all` of a tenant with a
     /// program, `trace` where there is a record, `offer`, `bind`, and `rows` where there is one, take memory; no other command is refused for it.
     pub fn command(&mut self, command: Command) -> Reply
-        requires rest { self.old.ended ≡ [] }
+        requires rest { self.old.ready.ended ≡ [] }
         ensures memory { result ≡ Reply.Refused Refusal.Memory → self.new ≡ self.old }
         ensures room { takes_memory self.old.tenancy.owner command self.old.row ≡ false → result ≢ Reply.Refused Refusal.Memory }
         ensures tenancy { self.new.tenancy ≡ self.old.tenancy }
@@ -84,7 +85,7 @@ impl Tenant {
         ensures next_tick { self.new.row.next_tick ≡ self.old.row.next_tick }
         ensures refused { IfErr result (λ r. r ≢ Refusal.Memory → IsRefused self.old (commanded self.old.tenancy (Command.Load text.now)) r) }
         ensures loaded { OnOk result (IsAnswered self.old (commanded self.old.tenancy (Command.Load text.now)) Reply.Loaded self.new) }
-        ensures none_ended { OnOk result ((self.old.row.active ≡ []) × (self.new.row.active ≡ []) × (self.new.ended ≡ [])) }
+        ensures none_ended { OnOk result ((self.old.row.active ≡ []) × (self.new.row.active ≡ []) × (self.new.ready.ended ≡ [])) }
     {
         let program = read_program(self.alloc, text)?;
         match self.beginning(text.len(), &program) {
@@ -123,7 +124,7 @@ impl Tenant {
         ensures next_tick { self.new.row.next_tick ≡ self.old.row.next_tick }
         ensures step { IsBehind self.old (at_beginning loaded program) self.new }
         ensures active { self.new.row.active ≡ [] }
-        ensures ended { self.new.ended ≡ [] }
+        ensures ended { self.new.ready.ended ≡ [] }
     {
         self.state = State::Loaded;
         self.mode = start_place(&program);
@@ -145,7 +146,7 @@ impl Tenant {
         ensures room { result ≢ Err Refusal.Memory }
         ensures refused { IfErr result (λ r. (tenancy : Tenancy) → IsRefused self.old (commanded tenancy Command.Start) r) }
         ensures started { OnOk result ((tenancy : Tenancy) → IsAnswered self.old (commanded tenancy Command.Start) Reply.Started self.new) }
-        ensures none_ended { OnOk result ((self.old.row.active ≡ []) × (self.new.row.active ≡ []) × (self.new.ended ≡ [])) }
+        ensures none_ended { OnOk result ((self.old.row.active ≡ []) × (self.new.row.active ≡ []) × (self.new.ready.ended ≡ [])) }
     {
         if self.is_running() {
             return Err(Refusal::Running);
@@ -174,7 +175,7 @@ impl Tenant {
         ensures room { result ≢ Err Refusal.Memory }
         ensures refused { IfErr result (λ r. (tenancy : Tenancy) → IsRefused self.old (commanded tenancy Command.Stop) r) }
         ensures stopped { OnOk result ((tenancy : Tenancy) → IsAnswered self.old (commanded tenancy Command.Stop) Reply.Stopped self.new) }
-        ensures all_ended { OnOk result ((self.new.row.active ≡ []) × (self.new.ended ≡ self.old.row.active)) }
+        ensures all_ended { OnOk result ((self.new.row.active ≡ []) × (self.new.ready.ended ≡ self.old.row.active)) }
     {
         if !self.is_running() {
             return Err(Refusal::NotRunning);

@@ -4,14 +4,14 @@ ghost use Rattle.std.specs.Prelude.{◌≡◌, ◌<◌, ◌↔◌, ◌||◌, ◌
 ghost use Rattle.std.specs.Arc.{arc_value};
 ghost use Rattle.std.specs.List.{AllByRecursion};
 ghost use Rattle.std.specs.Option.{option_and_then};
-ghost use Rattle.giotto_check.specs.inner.Facts.{ProgramFits};
+ghost use Rattle.giotto_check.specs.cited.Facts.{ProgramFits};
 ghost use Rattle.giotto_text.specs.ProgramTrees.{task_of};
-ghost use Rattle.tenant_slots.specs.inner.Places.{IsTaskAt};
+ghost use Rattle.tenant_slots.specs.cited.Places.{IsTaskAt};
 ghost use Rattle.tenant_jobs.specs.Finished.{entry_in, has_result, result_in};
-ghost use Rattle.tenant_jobs.specs.inner.Finished.{entry_put, is_entered};
-ghost use Rattle.tenant_jobs.specs.Jobs.{same_job};
-ghost use Rattle.tenant_jobs.specs.declared.jobs.JobId.{JobId};
-ghost use Rattle.tenant_state.specs.inner.Standing.{has_active, HasItsEntries, HasItsResults};
+ghost use Rattle.tenant_jobs.specs.cited.Finished.{entry_put, is_entered};
+ghost use Rattle.rig_model.specs.Jobs.{same_job};
+ghost use Rattle.rig_model.specs.declared.jobs.JobId.{JobId};
+ghost use Rattle.tenant_state.specs.cited.Standing.{has_active, HasItsEntries, HasItsResults};
 ghost use Rattle.tenant_state.specs.Standing.{awaited_job, outstanding_tasks, released_job};
 ghost use Rattle.tenant_state.specs.inner.Tenants.{IsActiveOf, is_done, its_name, its_result};
 

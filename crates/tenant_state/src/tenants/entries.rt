@@ -3,12 +3,12 @@
 ghost use Rattle.std.specs.Prelude.{◌≡◌, ◌<◌, ◌≤◌, ◌+◌, [], drop, true, false, if◌then◌else◌, length, map, None, Some};
 ghost use Rattle.std.specs.List.{AllByRecursion};
 ghost use Rattle.tenant_jobs.specs.Finished.{entry_in};
-ghost use Rattle.tenant_jobs.specs.inner.Finished.{entry_put, is_entered};
-ghost use Rattle.tenant_jobs.specs.Jobs.{same_job};
-ghost use Rattle.tenant_jobs.specs.declared.jobs.JobId.{JobId};
-ghost use Rattle.tenant_state.specs.Jobs.{has_job, job_of};
-ghost use Rattle.tenant_state.specs.Row.{ActiveTask};
+ghost use Rattle.tenant_jobs.specs.cited.Finished.{entry_put, is_entered};
+ghost use Rattle.rig_model.specs.Jobs.{same_job, has_job, job_of};
+ghost use Rattle.rig_model.specs.declared.jobs.JobId.{JobId};
+ghost use Rattle.rig_model.specs.Row.{ActiveTask};
 ghost use Rattle.tenant_state.specs.Standing.{all_different_releases};
+ghost use Rattle.tenant_state.specs.cited.Standing.{without_ended};
 ghost use Rattle.tenant_state.specs.Tenants.{active_of};
 ghost use Rattle.tenant_state.specs.inner.Tenants.{IsActiveOf};
 
@@ -18,16 +18,15 @@ use crate::tenants::{Active, Tenant};
 use giotto_check::Checked;
 use rig_config::TenantId;
 use tenant_jobs::finished::Finished;
-use tenant_jobs::jobs::Jobs;
 
 impl Tenant {
     /// Takes the entries of the tasks that ended out of the table. Nothing is known of them any longer.
     pub fn leave(&mut self, finished: &mut Finished)
         ensures entries { (j : JobId) → entry_in finished.new.entries j
-            ≡ (if has_job self.old.tenancy.owner.place self.old.ended j then None else entry_in finished.old.entries j) }
-        ensures none { self.old.ended ≡ [] → finished.new ≡ finished.old }
+            ≡ (if has_job self.old.tenancy.owner.place self.old.ready.ended j then None else entry_in finished.old.entries j) }
+        ensures none { self.old.ready.ended ≡ [] → finished.new ≡ finished.old }
         ensures room { finished.old.room ≤ finished.new.room }
-        ensures same { self.new ≡ record self.old { ended = [] } }
+        ensures same { self.new ≡ without_ended self.old }
     {
         let Some(checked) = &self.program else {
             return;
@@ -51,14 +50,6 @@ impl Tenant {
             return;
         };
         enter_each(checked, self.grants.own(), from, &mut self.active, finished);
-    }
-
-    /// Notes the keys of the tasks that the last instant released: those of the jobs from this place on, in their order. The place behind
-    /// the last of them. A key is no more than a hint.
-    pub fn note_keys(&mut self, jobs: &Jobs, first: usize) -> usize
-        ensures same { self.new ≡ self.old }
-    {
-        note_each(self.next_tick, jobs, first, &mut self.active)
     }
 }
 
@@ -96,33 +87,4 @@ fn enter_one(checked: &Checked, tenant: TenantId, active: &mut Active, finished:
 {
     let id = job_id(checked, tenant, active);
     active.key = finished.enter_task(id);
-}
-
-// Notes the keys of those tasks that were released at the instant before this one: those of the jobs from this place on.
-fn note_each(next_tick: u64, jobs: &Jobs, first: usize, active: &mut ActiveTasks) -> usize
-    ensures same { active.new ≡ active.old }
-{
-    // One more than the place of a job fits.
-    let _jobs = jobs.len();
-    let mut next = first;
-    for place in first_released(next_tick, active.as_slice())..active.count {
-        let Some(job) = jobs.get(next) else {
-            return next;
-        };
-        active.entries[place].key = job.key().copy();
-        next += 1;
-    }
-    next
-}
-
-// The place of the first of those tasks that were released at the instant before this one. They stand behind all others.
-fn first_released(next_tick: u64, active: &[Active]) -> usize
-    ensures { result ≤ length active.now }
-{
-    for place in (0..active.len()).rev() {
-        if next_tick.wrapping_sub(active[place].release) != 1 {
-            return place + 1;
-        }
-    }
-    0
 }

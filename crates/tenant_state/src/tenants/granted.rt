@@ -1,7 +1,7 @@
 //! What a tenant tells of its offers and binds.
 
 ghost use Rattle.std.specs.Prelude.{◌≡◌, ◌↔◌, ◌<◌, IsSome, length};
-ghost use Rattle.tenant_grants.specs.Grants.{bind_at, name_in, offers};
+ghost use Rattle.tenant_grants.specs.Grants.{bind_at, name_of_place, offers};
 
 use crate::tenants::Tenant;
 use giotto_tasks::names::Name;
@@ -10,7 +10,7 @@ use rig_config::TenantId;
 impl Tenant {
     /// Whether the tenant offers this actuator to the tenant at a place of the roster. Takes no memory.
     pub fn offers(&self, actuator: &Name, tenant: TenantId) -> bool
-        ensures { result ≡ offers self.now.row.offers actuator.now (name_in self.now.tenancy.owner.roster tenant) }
+        ensures { result ≡ offers self.now.row.offers actuator.now (name_of_place self.now.tenancy.owner.roster tenant) }
     {
         self.grants.offers(actuator, tenant)
     }

@@ -4,19 +4,19 @@ ghost use Rattle.std.specs.Prelude.{◌≡◌, ◌<◌, ◌≤◌, not, true, fa
 ghost use Rattle.std.specs.List.{find, list_any, AllByRecursion};
 ghost use Rattle.std.specs.Option.{option_map};
 ghost use Rattle.giotto_text.specs.Program.{ModeDeclaration};
-ghost use Rattle.giotto_check.specs.inner.Slots.{slots_of};
+ghost use Rattle.giotto_check.specs.cited.Slots.{slots_of};
 ghost use Rattle.giotto_check.specs.Slots.{valuation_of};
-ghost use Rattle.giotto_check.specs.inner.Timetables.{AreEach, IsInvocation};
+ghost use Rattle.giotto_check.specs.cited.Timetables.{AreEach, IsInvocation};
 ghost use Rattle.tenant_slots.specs.Places.{name_of_task};
-ghost use Rattle.tenant_jobs.specs.inner.Finished.{is_entered};
+ghost use Rattle.tenant_jobs.specs.cited.Finished.{is_entered};
 ghost use Rattle.tenant_state.specs.declared.tenants.Active.{Active};
-ghost use Rattle.tenant_state.specs.Jobs.{job_of};
-ghost use Rattle.tenant_slots.specs.inner.Due.{is_among_due};
+ghost use Rattle.rig_model.specs.Jobs.{job_of};
+ghost use Rattle.tenant_slots.specs.cited.Due.{is_among_due};
 ghost use Rattle.tenant_state.specs.inner.EntryTable.{IsTableOf, AreDueEnded, AreEndsNoted, ends_noted, entries_at, is_left_open, is_task_open};
-ghost use Rattle.tenant_state.specs.FirstHalf.{all_ended};
-ghost use Rattle.tenant_state.specs.inner.Halves.{IsFirstHalf};
+ghost use Rattle.rig_model.specs.FirstHalf.{all_ended};
+ghost use Rattle.tenant_state.specs.cited.Halves.{IsFirstHalf};
 ghost use Rattle.tenant_state.specs.Standing.{most_released};
-ghost use Rattle.tenant_state.specs.inner.Standing.{HasItsEntries, HasItsResults};
+ghost use Rattle.tenant_state.specs.cited.Standing.{HasItsEntries, HasItsResults};
 ghost use Rattle.tenant_state.specs.Tenants.{active_of};
 ghost use Rattle.tenant_state.specs.inner.Tenants.{IsActiveOf, IsResultRight, is_done};
 
@@ -28,7 +28,7 @@ use giotto_check::timetables::SlotInvocation;
 use rig_config::TenantId;
 use tenant_jobs::finished::Finished;
 use tenant_slots::actuators::update_due;
-use tenant_slots::due::{Due, due_marks, is_task_due};
+use tenant_slots::due::{Due, TABLED_TASKS, due_marks, is_task_due};
 use tenant_slots::names::task_name;
 use tenant_slots::tasks::write_results;
 use tenant_trace::traces::Trace;
@@ -37,12 +37,12 @@ impl Tenant {
     /// The first half of an instant. The due tasks write their results, which are in this table, and the due actuators are updated; or
     /// the tenant is stopped where a due task has no result. Its trace records what happens. Takes no memory.
     pub fn phase_one(&mut self, finished: &Finished)
-        requires rest { self.old.ended ≡ [] }
+        requires rest { self.old.ready.ended ≡ [] }
         requires entries { HasItsEntries self.old finished.now.entries }
         requires results { HasItsResults self.old finished.now.entries }
         ensures half { IsFirstHalf finished.now.entries self.old self.new }
-        ensures room { self.old.room ≤ self.new.room }
-        ensures shared { self.old.shared ≡ true → self.new.shared ≡ true }
+        ensures room { self.old.ready.room ≤ self.new.ready.room }
+        ensures shared { self.old.ready.shared ≡ true → self.new.ready.shared ≡ true }
         ensures fewer { most_released self.new.row ≤ most_released self.old.row }
     {
         let State::Running = &self.state else {
@@ -51,62 +51,57 @@ impl Tenant {
         let Some(checked) = &self.program else {
             return;
         };
-        let _program = checked.program();
+        checked.known();
         let time = self.mode_time;
         if time < self.next_due {
             return;
         }
-        let tenant = self.grants.own();
+        let tick = self.next_tick;
+        let ending = Ending {
+            checked,
+            tenant: self.grants.own(),
+            finished,
+            time,
+            tick,
+        };
         let invocations = checked.invocations(self.mode);
         let active = self.active.as_slice();
         let table = entry_table(active);
-        let unfinished = first_unfinished(
-            checked,
-            tenant,
-            finished,
-            invocations,
-            time,
-            active,
-            &table,
-        );
-        if let Some(task) = unfinished {
+        if let Some(task) = first_unfinished(&ending, invocations, active, &table) {
             let name = task_name(checked, task);
             self.stop_with(Reason::Overrun(name));
             return;
         }
-        let tick = self.next_tick;
         let values = self.values.as_mut_slice();
         let trace = &mut self.trace;
-        end_due(
-            checked,
-            tenant,
-            finished,
-            invocations,
-            time,
-            active,
-            &table,
-            tick,
-            values,
-            trace,
-        );
+        end_due(&ending, invocations, active, &table, values, trace);
         drop_due(invocations, time, &mut self.active);
         update_due(checked, self.mode, time, tick, values, trace);
     }
 }
 
-// Whether an active task at this place of the program has no result.
-fn is_unfinished(
-    checked: &Checked,
+// What the tasks that end in one instant have in common.
+#[derive(Clone, Copy)]
+struct Ending<'a> {
+    checked: &'a Checked,
     tenant: TenantId,
-    finished: &Finished,
-    active: &[Active],
-    task: usize,
-) -> bool
-    requires { AllByRecursion (IsActiveOf checked.now) active.now }
-    ensures { result ≡ is_task_open (is_done finished.now.entries tenant checked.now) active.now task }
+    // The table with their results.
+    finished: &'a Finished,
+    // The mode time, in ticks.
+    time: u64,
+    // The number of the instant.
+    tick: u64,
+}
+
+// Whether an active task at this place of the program has no result.
+fn is_unfinished(ending: &Ending, active: &[Active], task: usize) -> bool
+    requires { AllByRecursion (IsActiveOf ending.now.checked.now) active.now }
+    ensures { result ≡ is_task_open (is_done ending.now.finished.now.entries ending.now.tenant ending.now.checked.now) active.now task }
 {
     for a in active {
-        if a.task == task && result_of(checked, tenant, finished, a).is_none() {
+        if a.task == task
+            && result_of(ending.checked, ending.tenant, ending.finished, a).is_none()
+        {
             return true;
         }
     }
@@ -114,16 +109,16 @@ fn is_unfinished(
 }
 
 // The number of each task's one active entry, from 1, or 0 where it has none. Nothing where a task has two, or there are few, or many.
-fn entry_table(active: &[Active]) -> Option<[u8; 64]>
+fn entry_table(active: &[Active]) -> Option<[u8; TABLED_TASKS]>
     ensures { IfSome result (IsTableOf (length active.now) active.now) }
 {
     if active.len() < 4 {
         return None; // A few are looked through at once.
     }
-    let mut table = [0u8; 64];
+    let mut table = [0u8; TABLED_TASKS];
     for i in 0..active.len() {
         let task = active[i].task;
-        if i >= 64 || task >= 64 || table[task] != 0 {
+        if i >= TABLED_TASKS || task >= TABLED_TASKS || table[task] != 0 {
             return None;
         }
         table[task] = i as u8 + 1;
@@ -132,14 +127,18 @@ fn entry_table(active: &[Active]) -> Option<[u8; 64]>
 }
 
 // Active entries, among which are all of the task at this place. By the table only these.
-fn entries_of<'a>(active: &'a [Active], table: &Option<[u8; 64]>, task: usize) -> &'a [Active]
+fn entries_of<'a>(
+    active: &'a [Active],
+    table: &Option<[u8; TABLED_TASKS]>,
+    task: usize,
+) -> &'a [Active]
     requires { IfSome table.now (IsTableOf (length active.now) active.now) }
     ensures { (result.now ≡ active.now) ⊎ (result.now ≡ entries_at task active.now) }
 {
     let Some(table) = table else {
         return active;
     };
-    if task >= 64 {
+    if task >= TABLED_TASKS {
         return active;
     }
     let end = usize::from(table[task]);
@@ -148,30 +147,27 @@ fn entries_of<'a>(active: &'a [Active], table: &Option<[u8; 64]>, task: usize) -
 
 // The place of the first task in text order that is due and has no result.
 fn first_unfinished(
-    checked: &Checked,
-    tenant: TenantId,
-    finished: &Finished,
+    ending: &Ending,
     invocations: &[SlotInvocation],
-    time: u64,
     active: &[Active],
-    table: &Option<[u8; 64]>,
+    table: &Option<[u8; TABLED_TASKS]>,
 ) -> Option<usize>
     requires positive { AllByRecursion (λ i. 0 < i.interval) invocations.now }
-    requires active { AllByRecursion (IsActiveOf checked.now) active.now }
-    requires entered { AllByRecursion (λ a. is_entered finished.now.entries (job_of tenant (active_of checked.now a)) ≡ true) active.now }
+    requires active { AllByRecursion (IsActiveOf ending.now.checked.now) active.now }
+    requires entered { AllByRecursion (λ a. is_entered ending.now.finished.now.entries (job_of ending.now.tenant (active_of ending.now.checked.now a)) ≡ true)
+        active.now }
     requires table { IfSome table.now (IsTableOf (length active.now) active.now) }
-    ensures { result ≡ option_map (λ i. i.task) (find (is_left_open time (is_done finished.now.entries tenant checked.now) active.now) invocations.now) }
+    ensures { result ≡ option_map (λ i. i.task)
+        (find (is_left_open ending.now.time (is_done ending.now.finished.now.entries ending.now.tenant ending.now.checked.now) active.now) invocations.now) }
 {
-    if finished.is_complete() {
+    if ending.finished.is_complete() {
         return None;
     }
-    let mut due = Due::at(time);
+    let mut due = Due::at(ending.time);
     for invocation in invocations {
         let task = invocation.task;
         let entries = entries_of(active, table, task);
-        if due.is_due(invocation.interval)
-            && is_unfinished(checked, tenant, finished, entries, task)
-        {
+        if due.is_due(invocation.interval) && is_unfinished(ending, entries, task) {
             return Some(task);
         }
     }
@@ -180,96 +176,75 @@ fn first_unfinished(
 
 // The due tasks end, in the order of these invocations.
 fn end_due(
-    checked: &Checked,
-    tenant: TenantId,
-    finished: &Finished,
+    ending: &Ending,
     invocations: &[SlotInvocation],
-    time: u64,
     active: &[Active],
-    table: &Option<[u8; 64]>,
-    tick: u64,
+    table: &Option<[u8; TABLED_TASKS]>,
     values: &mut [i64],
     trace: &mut Trace,
 )
-    requires values { length values.old ≡ slots_of checked.now }
-    requires active { AllByRecursion (IsActiveOf checked.now) active.now }
+    requires values { length values.old ≡ slots_of ending.now.checked.now }
+    requires active { AllByRecursion (IsActiveOf ending.now.checked.now) active.now }
     requires positive { AllByRecursion (λ i. 0 < i.interval) invocations.now }
-    requires there { AllByRecursion (λ i. i.task < length checked.now.tasks) invocations.now }
+    requires there { AllByRecursion (λ i. i.task < length ending.now.checked.now.tasks) invocations.now }
     requires table { IfSome table.now (IsTableOf (length active.now) active.now) }
-    requires right { AllByRecursion (IsResultRight finished.now.entries tenant checked.now) active.now }
-    requires done { find (is_left_open time (is_done finished.now.entries tenant checked.now) active.now) invocations.now ≡ None }
-    ensures ended { (m : ModeDeclaration) → AreEach (IsInvocation checked.now m) m.invocations invocations.now
-        → AreDueEnded checked.now m time active.now values.old values.new }
-    ensures noted { (m : ModeDeclaration) → AreEach (IsInvocation checked.now m) m.invocations invocations.now
-        → AreEndsNoted checked.now m time tick active.now trace.old trace.new }
+    requires right { AllByRecursion (IsResultRight ending.now.finished.now.entries ending.now.tenant ending.now.checked.now) active.now }
+    requires done { find (is_left_open ending.now.time (is_done ending.now.finished.now.entries ending.now.tenant ending.now.checked.now) active.now) invocations.now
+        ≡ None }
+    ensures ended { (m : ModeDeclaration) → AreEach (IsInvocation ending.now.checked.now m) m.invocations invocations.now
+        → AreDueEnded ending.now.checked.now m ending.now.time active.now values.old values.new }
+    ensures noted { (m : ModeDeclaration) → AreEach (IsInvocation ending.now.checked.now m) m.invocations invocations.now
+        → AreEndsNoted ending.now.checked.now m ending.now.time ending.now.tick active.now trace.old trace.new }
 {
-    let _program = checked.program();
-    let mut due = Due::at(time);
+    ending.checked.known();
+    let mut due = Due::at(ending.time);
     for invocation in invocations {
         if due.is_due(invocation.interval) {
             let task = invocation.task;
             let entries = entries_of(active, table, task);
-            end_each(
-                checked, tenant, finished, entries, task, tick, values, trace,
-            );
+            end_each(ending, entries, task, values, trace);
         }
     }
 }
 
 // Each active task at this place of the program ends.
-fn end_each(
-    checked: &Checked,
-    tenant: TenantId,
-    finished: &Finished,
-    active: &[Active],
-    task: usize,
-    tick: u64,
-    values: &mut [i64],
-    trace: &mut Trace,
-)
-    requires there { task < length checked.now.tasks }
-    requires values { length values.old ≡ slots_of checked.now }
-    requires active { AllByRecursion (IsActiveOf checked.now) active.now }
-    requires right { AllByRecursion (IsResultRight finished.now.entries tenant checked.now) active.now }
-    requires done { is_task_open (is_done finished.now.entries tenant checked.now) active.now task ≡ false }
-    ensures ended { valuation_of checked.now values.new
-        ≡ all_ended checked.now (map (active_of checked.now) (entries_at task active.now)) (valuation_of checked.now values.old) }
-    ensures noted { trace.new ≡ ends_noted checked.now tick (map (active_of checked.now) (entries_at task active.now)) trace.old }
+fn end_each(ending: &Ending, active: &[Active], task: usize, values: &mut [i64], trace: &mut Trace)
+    requires there { task < length ending.now.checked.now.tasks }
+    requires values { length values.old ≡ slots_of ending.now.checked.now }
+    requires active { AllByRecursion (IsActiveOf ending.now.checked.now) active.now }
+    requires right { AllByRecursion (IsResultRight ending.now.finished.now.entries ending.now.tenant ending.now.checked.now) active.now }
+    requires done { is_task_open (is_done ending.now.finished.now.entries ending.now.tenant ending.now.checked.now) active.now task ≡ false }
+    ensures ended { valuation_of ending.now.checked.now values.new
+        ≡ all_ended ending.now.checked.now (map (active_of ending.now.checked.now) (entries_at task active.now)) (valuation_of ending.now.checked.now values.old) }
+    ensures noted { trace.new ≡ ends_noted ending.now.checked.now ending.now.tick (map (active_of ending.now.checked.now) (entries_at task active.now)) trace.old }
 {
     for a in active {
         if a.task == task {
-            end(checked, tenant, finished, a, tick, values, trace);
+            end(ending, a, values, trace);
         }
     }
 }
 
 // A task ends: its outputs and its states get the values of its computation.
-fn end(
-    checked: &Checked,
-    tenant: TenantId,
-    finished: &Finished,
-    active: &Active,
-    tick: u64,
-    values: &mut [i64],
-    trace: &mut Trace,
-)
-    requires values { length values.old ≡ slots_of checked.now }
-    requires active { IsActiveOf checked.now active.now }
-    requires right { IsResultRight finished.now.entries tenant checked.now active.now }
-    requires done { is_done finished.now.entries tenant checked.now active.now ≡ true }
-    ensures ended { valuation_of checked.now values.new ≡ all_ended checked.now (active_of checked.now active.now ∷ []) (valuation_of checked.now values.old) }
-    ensures noted { trace.new ≡ ends_noted checked.now tick (active_of checked.now active.now ∷ []) trace.old }
+fn end(ending: &Ending, active: &Active, values: &mut [i64], trace: &mut Trace)
+    requires values { length values.old ≡ slots_of ending.now.checked.now }
+    requires active { IsActiveOf ending.now.checked.now active.now }
+    requires right { IsResultRight ending.now.finished.now.entries ending.now.tenant ending.now.checked.now active.now }
+    requires done { is_done ending.now.finished.now.entries ending.now.tenant ending.now.checked.now active.now ≡ true }
+    ensures ended { valuation_of ending.now.checked.now values.new
+        ≡ all_ended ending.now.checked.now (active_of ending.now.checked.now active.now ∷ []) (valuation_of ending.now.checked.now values.old) }
+    ensures noted { trace.new ≡ ends_noted ending.now.checked.now ending.now.tick (active_of ending.now.checked.now active.now ∷ []) trace.old }
 {
-    let _program = checked.program();
-    let Some(result) = result_of(checked, tenant, finished, active) else {
+    ending.checked.known();
+    let Some(result) = result_of(ending.checked, ending.tenant, ending.finished, active) else {
         unreachable!()
     };
     write_results(
-        checked,
+        ending.checked,
         active.task,
         &result.outputs,
         &result.states,
-        tick,
+        ending.tick,
         values,
         trace,
     );

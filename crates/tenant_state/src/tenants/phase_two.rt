@@ -4,24 +4,24 @@ ghost use Rattle.std.specs.Prelude.{◌≡◌, ◌<◌, ◌≤◌, ◌+◌, ◌-
 ghost use Rattle.std.specs.Arc.{arc_value};
 ghost use Rattle.std.specs.List.{AllByRecursion, list_all};
 ghost use Rattle.std.specs.Option.{option_map};
-ghost use Rattle.giotto_check.specs.inner.Timetables.{AreEach};
+ghost use Rattle.giotto_check.specs.cited.Timetables.{AreEach};
 ghost use Rattle.giotto_tasks.specs.Sound.{all_different};
 ghost use Rattle.giotto_text.specs.Program.{ModeDeclaration};
-ghost use Rattle.tenant_slots.specs.inner.Due.{IsQuietUntil};
+ghost use Rattle.tenant_slots.specs.cited.Due.{IsQuietUntil};
 ghost use Rattle.tenant_slots.specs.Places.{name_of_task};
-ghost use Rattle.tenant_slots.specs.inner.Places.{IsModeAt};
-ghost use Rattle.tenant_state.specs.FirstHalf.{due_tasks};
-ghost use Rattle.tenant_state.specs.inner.Halves.{IsSecondHalf};
-ghost use Rattle.tenant_jobs.specs.inner.Jobs.{IsComputable};
+ghost use Rattle.tenant_slots.specs.cited.Places.{IsModeAt};
+ghost use Rattle.rig_model.specs.FirstHalf.{due_tasks};
+ghost use Rattle.tenant_state.specs.cited.Halves.{IsSecondHalf};
+ghost use Rattle.tenant_jobs.specs.cited.Jobs.{IsComputable};
 ghost use Rattle.tenant_state.specs.Jobs.{body_in, job_in, released_at};
-ghost use Rattle.tenant_state.specs.inner.Standing.{AreReleased, HasRoom, HasShares, IsSettled};
-ghost use Rattle.tenant_state.specs.Row.{is_running};
+ghost use Rattle.tenant_state.specs.cited.Standing.{AreReleased, HasRoom, HasShares, IsSettled};
+ghost use Rattle.rig_model.specs.Row.{is_running};
 ghost use Rattle.tenant_state.specs.Standing.{most_released};
 ghost use Rattle.tenant_state.specs.Tenants.{active_of};
-ghost use Rattle.tenant_state.specs.inner.Tenants.{IsActiveOf, IsShareOf};
+ghost use Rattle.tenant_state.specs.inner.Tenants.{IsActiveOf, IsShareOf, its_job, released_in};
 
 use crate::tenants::releases::invoke_due;
-use crate::tenants::switches::switch;
+use crate::tenants::switches::{Instant, switch};
 use crate::tenants::{Active, State, Tenant};
 use giotto_check::Checked;
 use giotto_tasks::bodies::Body;
@@ -34,11 +34,11 @@ use tenant_jobs::jobs::{Job, JobId, Jobs};
 use tenant_slots::due::due_behind;
 
 impl Tenant {
-    /// The second half of an instant whose number is below the greatest. Each due task ended in the first half. `frame` has the input
-    /// value of each line, and `granted` what is granted through each bind, if something is, by the bind's place. The jobs of the tasks
-    /// that are released are added to `jobs`, which has room for them. Takes no memory.
+    /// The second half of an instant whose number is below the greatest, with the jobs of the tasks that it releases. Each due task ended
+    /// in the first half. `frame` has the input value of each line, and `granted` what is granted through each bind, if something is, by
+    /// the bind's place. The jobs are added to `jobs`, which has room for them. Takes no memory.
     pub fn phase_two(&mut self, frame: &[i64], granted: &[Option<i64>], jobs: &mut Jobs)
-        requires rest { self.old.ended ≡ [] }
+        requires rest { self.old.ready.ended ≡ [] }
         requires ended_due { due_tasks self.old.row ≡ [] }
         requires next_tick { self.old.row.next_tick < 2 ^ 64 - 1 }
         requires room { HasRoom self.old }
@@ -49,43 +49,53 @@ impl Tenant {
         ensures jobs { jobs.new.jobs ≡ jobs.old.jobs ++ released_at self.old.tenancy.owner.place self.old.row.next_tick self.new.row }
         ensures room { jobs.old.room ≤ jobs.new.room + most_released self.old.row }
     {
-        let before = self.active.len();
-        self.phase_two_without_jobs(frame, granted);
-        let Some(checked) = &self.program else {
-            return;
-        };
-        let released = &self.active.as_slice()[before..];
-        add_jobs(
-            checked,
-            self.grants.own(),
-            released,
-            self.shares.as_mut_slice(),
-            jobs,
-        );
+        let tick = self.next_tick();
+        self.second_half(frame, granted);
+        self.add_jobs(tick, jobs);
     }
 
-    /// The second half of an instant, as `phase_two`, where nobody takes its jobs. Takes no memory.
+    /// The second half of an instant whose number is below the greatest: sensors are read, tasks are released, and the mode time moves on.
+    /// Each due task ended in the first half. `frame` has the input value of each line, and `granted` what is granted through each bind,
+    /// if something is, by the bind's place. It releases no more tasks than `ready` told. Takes no memory.
     // Inlined, so that a tenant that isn't running costs its host no call.
     #[inline(always)]
-    pub fn phase_two_without_jobs(&mut self, frame: &[i64], granted: &[Option<i64>])
-        requires rest { self.old.ended ≡ [] }
+    pub fn second_half(&mut self, frame: &[i64], granted: &[Option<i64>])
+        requires rest { self.old.ready.ended ≡ [] }
         requires next_tick { self.old.row.next_tick < 2 ^ 64 - 1 }
         requires room { HasRoom self.old }
         requires ended_due { due_tasks self.old.row ≡ [] }
         ensures half { IsSecondHalf frame.now granted.now self.old self.new }
         ensures released { AreReleased self.old.row self.new.row }
-        ensures shared { self.old.shared ≡ true → self.new.shared ≡ true }
+        ensures few { length (released_at self.old.tenancy.owner.place self.old.row.next_tick self.new.row) ≤ most_released self.old.row }
+        ensures shared { self.old.ready.shared ≡ true → self.new.ready.shared ≡ true }
     {
-        if self.is_running() && self.mode_time == 0 {
+        if self.mode_time == 0 && self.is_running() {
             self.install_waiting();
         }
         self.go_on(frame, granted);
     }
 
+    /// Adds the jobs of the active tasks that the instant of this number released, in the order of their release, to `jobs`, which has room
+    /// for them. Each carries the key of its task's entry, and takes the share of its body that was made ready. Takes no memory.
+    pub fn add_jobs(&mut self, tick: u64, jobs: &mut Jobs)
+        requires shares { 0 < length (released_at self.old.tenancy.owner.place tick self.old.row) → self.old.ready.shared ≡ true }
+        requires room { length (released_at self.old.tenancy.owner.place tick self.old.row) ≤ jobs.old.room }
+        ensures jobs { jobs.new.jobs ≡ jobs.old.jobs ++ released_at self.old.tenancy.owner.place tick self.old.row }
+        ensures room { jobs.new.room + length (released_at self.old.tenancy.owner.place tick self.old.row) ≡ jobs.old.room }
+        ensures rest { self.new ≡ record self.old { ready = record self.old.ready { shared = self.new.ready.shared } } }
+    {
+        let Some(checked) = &self.program else {
+            return;
+        };
+        let active = self.active.as_slice();
+        let shares = self.shares.as_mut_slice();
+        add_jobs(checked, self.grants.own(), tick, active, shares, jobs);
+    }
+
     // The second half where no program is installed.
     #[inline(always)]
     fn go_on(&mut self, frame: &[i64], granted: &[Option<i64>])
-        requires rest { self.old.ended ≡ [] }
+        requires rest { self.old.ready.ended ≡ [] }
         requires next_tick { self.old.row.next_tick < 2 ^ 64 - 1 }
         requires room { HasRoom self.old }
         requires ended_due { due_tasks self.old.row ≡ [] }
@@ -93,7 +103,7 @@ impl Tenant {
         ensures half { IsSecondHalf frame.now granted.now self.old self.new }
         ensures program { self.new.row.program ≡ self.old.row.program }
         ensures released { AreReleased self.old.row self.new.row }
-        ensures shared { self.new.shared ≡ self.old.shared }
+        ensures shared { self.new.ready.shared ≡ self.old.ready.shared }
     {
         let release = self.next_tick;
         self.next_tick += 1;
@@ -110,7 +120,14 @@ impl Tenant {
         let mut next = self.next_due;
         let active = self.active.as_slice();
         let trace = &mut self.trace;
-        if let Some(entry) = switch(checked, mode, time, next, active, release, values, trace) {
+        let at = Instant {
+            checked,
+            mode,
+            time,
+            next,
+            tick: release,
+        };
+        if let Some(entry) = switch(&at, active, values, trace) {
             mode = entry.mode;
             time = entry.time;
             next = 0;
@@ -124,29 +141,33 @@ impl Tenant {
     }
 }
 
-// Adds the jobs of these active tasks, which are of different tasks, in their order. Each takes the share of its body.
+// Adds the jobs of those of these active tasks that the instant of this number released, in their order. They are of different tasks, and
+// each takes the share of its body.
 fn add_jobs(
     checked: &Checked,
     tenant: TenantId,
-    released: &[Active],
+    tick: u64,
+    active: &[Active],
     shares: &mut [Option<Arc<Body, Global>>],
     jobs: &mut Jobs,
 )
-    requires each { AllByRecursion (IsActiveOf checked.now) released.now }
-    requires different { IsTrue (all_different (map (λ a. name_of_task checked.now a.task) released.now)) }
+    requires each { AllByRecursion (IsActiveOf checked.now) active.now }
+    requires different { IsTrue (all_different (map (λ a. name_of_task checked.now a.task) (released_in tick active.now))) }
     requires shares { AreEach IsShareOf checked.now.tasks (map (option_map arc_value) shares.old) }
-    requires shared { 0 < length released.now → list_all is_some shares.old ≡ true }
-    requires room { length released.now ≤ jobs.old.room }
+    requires shared { 0 < length (released_in tick active.now) → list_all is_some shares.old ≡ true }
+    requires room { length (released_in tick active.now) ≤ jobs.old.room }
     ensures shares { AreEach IsShareOf checked.now.tasks (map (option_map arc_value) shares.new) }
-    ensures jobs { jobs.new.jobs ≡ jobs.old.jobs ++ map (job_in checked.now tenant) (map (active_of checked.now) released.now) }
-    ensures room { jobs.new.room + length released.now ≡ jobs.old.room }
+    ensures jobs { jobs.new.jobs ≡ jobs.old.jobs ++ map (its_job tenant checked.now) (released_in tick active.now) }
+    ensures room { jobs.new.room + length (released_in tick active.now) ≡ jobs.old.room }
 {
     let program = checked.program();
-    for active in released {
-        let Some(body) = shares[active.task].take() else {
-            unreachable!()
-        };
-        jobs.put(job_for(program, tenant, active, body));
+    for entry in active {
+        if entry.release == tick {
+            let Some(body) = shares[entry.task].take() else {
+                unreachable!()
+            };
+            jobs.put(job_for(program, tenant, entry, body));
+        }
     }
 }
 

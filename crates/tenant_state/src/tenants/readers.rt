@@ -7,9 +7,10 @@ ghost use Rattle.giotto_tasks.specs.Names.{is_among, same_name};
 ghost use Rattle.giotto_text.specs.declared.programs.Actuator.{Actuator};
 ghost use Rattle.giotto_check.specs.declared.timetables.SlotInvocation.{SlotInvocation};
 ghost use Rattle.tenant_slots.specs.Places.{name_of_task};
-ghost use Rattle.tenant_state.specs.FirstHalf.{names_due};
-ghost use Rattle.tenant_state.specs.inner.Standing.{has_active};
-ghost use Rattle.tenant_state.specs.Readers.{actuator_value, line_value};
+ghost use Rattle.rig_model.specs.FirstHalf.{names_due};
+ghost use Rattle.tenant_state.specs.cited.Standing.{has_active};
+ghost use Rattle.rig_model.specs.Row.{actuator_value};
+ghost use Rattle.rig_model.specs.LineValues.{line_value};
 ghost use Rattle.tenant_state.specs.inner.Tenants.{IsActiveOf, is_of_job};
 
 use crate::tenants::{Active, State, Tenant};
@@ -34,7 +35,7 @@ impl Tenant {
             return false;
         };
         // Its frequencies are positive.
-        let _program = checked.program();
+        checked.known();
         let Some(place) = active_place(checked, self.active.as_slice(), task) else {
             return false;
         };

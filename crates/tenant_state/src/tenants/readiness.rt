@@ -4,13 +4,13 @@ ghost use Rattle.std.specs.Prelude.{◌≡◌, map, is_some, true, Some, IsOk, I
 ghost use Rattle.std.specs.Arc.{arc_value};
 ghost use Rattle.std.specs.List.{list_all};
 ghost use Rattle.std.specs.Option.{option_map};
-ghost use Rattle.giotto_check.specs.inner.Timetables.{AreEach};
+ghost use Rattle.giotto_check.specs.cited.Timetables.{AreEach};
 ghost use Rattle.giotto_text.specs.Program.{ModeDeclaration};
 ghost use Rattle.giotto_text.specs.ProgramTrees.{task_of};
-ghost use Rattle.tenant_state.specs.inner.Standing.{HasRoom, HasShares, IsSettled};
+ghost use Rattle.tenant_state.specs.cited.Standing.{HasRoom, HasShares, IsSettled};
 ghost use Rattle.tenant_state.specs.Standing.{most_at, most_released};
 ghost use Rattle.tenant_state.specs.inner.Tenants.{IsShareOf};
-ghost use Rattle.tenant_slots.specs.inner.Places.{IsModeAt};
+ghost use Rattle.tenant_slots.specs.cited.Places.{IsModeAt};
 
 use crate::tenants::waiting::Waiting;
 use crate::tenants::{State, Tenant};
@@ -35,7 +35,7 @@ impl Tenant {
         ensures shares { OnOk result (HasShares self.new) }
         ensures tenancy { self.new.tenancy ≡ self.old.tenancy }
         ensures row { self.new.row ≡ self.old.row }
-        ensures ended { self.new.ended ≡ self.old.ended }
+        ensures ended { self.new.ready.ended ≡ self.old.ready.ended }
     {
         let most = self.most_released();
         if most == 0 {
@@ -56,10 +56,10 @@ impl Tenant {
         let Some(checked) = &self.program else {
             return 0;
         };
-        let _program = checked.program();
+        checked.known();
         if let Some(waiting) = self.installs() {
             let program = &waiting.program;
-            let _new = program.program();
+            program.known();
             return most_at(program, start_place(program), 0);
         }
         if self.mode_time < self.next_due {
@@ -82,11 +82,11 @@ impl Tenant {
 
     // Makes each share that isn't at hand, of the program's bodies and of those of one that waits.
     fn share_all(&mut self) -> Result<(), AllocError>
-        ensures shared { OnOk result (is_some self.old.row.program ≡ true → self.new.shared ≡ true) }
+        ensures shared { OnOk result (is_some self.old.row.program ≡ true → self.new.ready.shared ≡ true) }
         ensures tenancy { self.new.tenancy ≡ self.old.tenancy }
         ensures row { self.new.row ≡ self.old.row }
-        ensures ended { self.new.ended ≡ self.old.ended }
-        ensures room { self.new.room ≡ self.old.room }
+        ensures ended { self.new.ready.ended ≡ self.old.ready.ended }
+        ensures room { self.new.ready.room ≡ self.old.ready.room }
     {
         let Some(checked) = &self.program else {
             return Ok(());
@@ -105,7 +105,7 @@ fn most_at(checked: &Checked, mode: usize, time: u64) -> usize
     ensures { (m : ModeDeclaration) → IsModeAt checked.now mode m → result ≡ most_at checked.now m time }
 {
     // Its frequencies are positive, and its switches go to modes.
-    let _program = checked.program();
+    checked.known();
     let mut due = Due::at(time);
     let mut most: usize = 0;
     for invocation in checked.invocations(mode) {

@@ -2,15 +2,15 @@
 
 ghost use Rattle.std.specs.Prelude.{◌≡◌, ◌≤◌, ◌<◌, ◌+◌, ◌++◌, ◌∷◌, [], length, map, filter};
 ghost use Rattle.std.specs.List.{AllByRecursion};
-ghost use Rattle.giotto_check.specs.inner.Slots.{slots_of};
+ghost use Rattle.giotto_check.specs.cited.Slots.{slots_of};
 ghost use Rattle.giotto_check.specs.Slots.{valuation_of};
 ghost use Rattle.giotto_text.specs.Program.{ModeDeclaration, TaskInvocation};
-ghost use Rattle.tenant_slots.specs.Due.{is_due_at};
-ghost use Rattle.tenant_slots.specs.inner.Due.{IsQuietUntil};
+ghost use Rattle.rig_model.specs.Due.{is_due_at};
+ghost use Rattle.tenant_slots.specs.cited.Due.{IsQuietUntil};
 ghost use Rattle.tenant_state.specs.inner.Releases.{IsEntryOf, AreInputsGiven, ForItsInvocation, released_by};
 ghost use Rattle.tenant_state.specs.Tenants.{active_of};
 ghost use Rattle.tenant_state.specs.inner.Tenants.{AreInvoked, IsActiveIn};
-ghost use Rattle.tenant_slots.specs.inner.Places.{IsModeAt};
+ghost use Rattle.tenant_slots.specs.cited.Places.{IsModeAt};
 
 use crate::tenants::Active;
 use crate::tenants::active_tasks::ActiveTasks;
@@ -44,7 +44,7 @@ pub(crate) fn invoke_due(
     if time < next {
         return;
     }
-    let _program = checked.program();
+    checked.known();
     let mut due = Due::at(time);
     for invocation in checked.invocations(mode) {
         if due.is_due(invocation.interval) && holds(&invocation.guard, values) {

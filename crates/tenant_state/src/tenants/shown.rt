@@ -3,9 +3,9 @@
 ghost use Rattle.std.specs.Prelude.{◌≡◌, ◌≢◌, Err, false, is_some, IfOk, IfErr};
 ghost use Rattle.tenant_lines.specs.declared.replies.Refusal.{Refusal};
 ghost use Rattle.tenant_lines.specs.declared.replies.Reply.{Reply};
-ghost use Rattle.tenant_state.specs.Commands.{show_all, show_port, status_of};
-ghost use Rattle.tenant_state.specs.Row.{Row};
-ghost use Rattle.tenant_state.specs.inner.Standing.{IsRefused};
+ghost use Rattle.rig_model.specs.Commands.{show_all, show_port, status_of};
+ghost use Rattle.rig_model.specs.Row.{Row};
+ghost use Rattle.tenant_state.specs.cited.Standing.{IsRefused};
 ghost use Rattle.tenant_state.specs.Standing.{StandsFor};
 
 use crate::tenants::{Reason, State, Tenant};
@@ -64,9 +64,7 @@ impl Tenant {
         let Some(checked) = &self.program else {
             return Err(Refusal::NotLoaded);
         };
-        match port_values(self.alloc, checked, self.values.as_slice()) {
-            Ok(all) => Ok(List::from_vec(all)),
-            Err(_) => Err(Refusal::Memory),
-        }
+        let all = port_values(self.alloc, checked, self.values.as_slice())?;
+        Ok(List::from_vec(all))
     }
 }

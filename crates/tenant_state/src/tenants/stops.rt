@@ -1,8 +1,8 @@
 //! A stop: of a tenant that asks for it, or of one whose due task isn't completed.
 
 ghost use Rattle.std.specs.Prelude.{◌≡◌, ◌≤◌, [], true};
-ghost use Rattle.tenant_state.specs.FirstHalf.{happening_of, stopped_with};
-ghost use Rattle.tenant_state.specs.inner.Standing.{IsBehind};
+ghost use Rattle.rig_model.specs.FirstHalf.{happening_of, stopped_with};
+ghost use Rattle.tenant_state.specs.cited.Standing.{IsBehind};
 ghost use Rattle.tenant_state.specs.Standing.{most_released};
 ghost use Rattle.tenant_state.specs.Tenants.{reason_of};
 
@@ -15,9 +15,9 @@ impl Tenant {
     pub(crate) fn stop_with(&mut self, reason: Reason)
         ensures step { IsBehind self.old (stopped_with (reason_of reason)) self.new }
         ensures active { self.new.row.active ≡ [] }
-        ensures ended { self.new.ended ≡ self.old.row.active }
-        ensures room { self.old.room ≤ self.new.room }
-        ensures shared { self.old.shared ≡ true → self.new.shared ≡ true }
+        ensures ended { self.new.ready.ended ≡ self.old.row.active }
+        ensures room { self.old.ready.room ≤ self.new.ready.room }
+        ensures shared { self.old.ready.shared ≡ true → self.new.ready.shared ≡ true }
         ensures fewer { most_released self.new.row ≡ 0 }
         ensures tenancy { self.new.tenancy ≡ self.old.tenancy }
         ensures program { self.new.row.program ≡ self.old.row.program }

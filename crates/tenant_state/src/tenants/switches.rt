@@ -3,17 +3,17 @@
 ghost use Rattle.std.specs.Prelude.{◌≡◌, ◌<◌, ◌≤◌, None, length, map};
 ghost use Rattle.std.specs.List.{filter_map, AllByRecursion};
 ghost use Rattle.giotto_rules.specs.Declarations.{period_of_task};
-ghost use Rattle.giotto_check.specs.inner.Slots.{slots_of};
+ghost use Rattle.giotto_check.specs.cited.Slots.{slots_of};
 ghost use Rattle.giotto_check.specs.Slots.{valuation_of};
 ghost use Rattle.giotto_text.specs.Program.{ModeDeclaration};
-ghost use Rattle.tenant_slots.specs.inner.CommonPeriods.{IsCommonPeriod};
-ghost use Rattle.tenant_slots.specs.inner.Due.{IsQuietUntil};
-ghost use Rattle.tenant_slots.specs.inner.Places.{IsModeAt};
-ghost use Rattle.tenant_state.specs.Row.{ActiveTask};
-ghost use Rattle.tenant_state.specs.SecondHalf.{entry_time};
+ghost use Rattle.tenant_slots.specs.cited.CommonPeriods.{IsCommonPeriod};
+ghost use Rattle.tenant_slots.specs.cited.Due.{IsQuietUntil};
+ghost use Rattle.tenant_slots.specs.cited.Places.{IsModeAt};
+ghost use Rattle.rig_model.specs.Row.{ActiveTask};
+ghost use Rattle.rig_model.specs.SecondHalf.{entry_time};
 ghost use Rattle.tenant_state.specs.Tenants.{active_of};
 ghost use Rattle.tenant_state.specs.inner.Tenants.{IsActiveOf, IsSwitched, entry_happened};
-ghost use Rattle.tenant_trace.specs.inner.Noted.{noted};
+ghost use Rattle.tenant_trace.specs.cited.Noted.{noted};
 
 use crate::tenants::Active;
 use giotto_check::Checked;
@@ -32,35 +32,42 @@ pub(crate) struct Entry {
     pub(crate) time: u64,
 }
 
-// Takes the first switch of the mode at this place that is due and whose guard holds, and says where it leads; the trace records it.
-// None is due before mode time `next`.
+/// An instant of a program, before its switch.
+#[derive(Clone, Copy)]
+pub(crate) struct Instant<'a> {
+    pub(crate) checked: &'a Checked,
+    /// The place of the mode in the program's text, from 0.
+    pub(crate) mode: usize,
+    /// The mode time, in ticks.
+    pub(crate) time: u64,
+    /// A mode time before which nothing is due.
+    pub(crate) next: u64,
+    /// The instant's number.
+    pub(crate) tick: u64,
+}
+
+// Takes the first switch of the instant's mode that is due and whose guard holds, and says where it leads; the trace records it.
 pub(crate) fn switch(
-    checked: &Checked,
-    mode: usize,
-    time: u64,
-    next: u64,
+    at: &Instant,
     active: &[Active],
-    tick: u64,
     values: &mut [i64],
     trace: &mut Trace,
 ) -> Option<Entry>
-    requires quiet { (m : ModeDeclaration) → IsModeAt checked.now mode m → IsQuietUntil m time next }
-    requires values { length values.old ≡ slots_of checked.now }
-    requires active { AllByRecursion (IsActiveOf checked.now) active.now }
-    ensures switched { (m : ModeDeclaration) → IsModeAt checked.now mode m
-        → IsSwitched checked.now m time (map (active_of checked.now) active.now) (valuation_of checked.now values.old) result values.new }
-    ensures noted { trace.new ≡ noted tick (entry_happened checked.now result) trace.old }
+    requires quiet { (m : ModeDeclaration) → IsModeAt at.now.checked.now at.now.mode m → IsQuietUntil m at.now.time at.now.next }
+    requires values { length values.old ≡ slots_of at.now.checked.now }
+    requires active { AllByRecursion (IsActiveOf at.now.checked.now) active.now }
+    ensures switched { (m : ModeDeclaration) → IsModeAt at.now.checked.now at.now.mode m
+        → IsSwitched at.now.checked.now m at.now.time (map (active_of at.now.checked.now) active.now) (valuation_of at.now.checked.now values.old) result values.new }
+    ensures noted { trace.new ≡ noted at.now.tick (entry_happened at.now.checked.now result) trace.old }
 {
-    if time < next {
+    if at.time < at.next {
         return None;
     }
-    // It is well-formed, and the mode is one of it.
-    let _mode = checked.program().modes().get(mode)?;
-    let target = take_switch(checked, mode, time, values)?;
-    trace.note(tick, Happening::Mode(mode_name(checked, target)));
+    let target = take_switch(at.checked, at.mode, at.time, values)?;
+    trace.note(at.tick, Happening::Mode(mode_name(at.checked, target)));
     Some(Entry {
         mode: target,
-        time: entry_time(checked, mode, target, time, active),
+        time: entry_time(at.checked, at.mode, target, at.time, active),
     })
 }
 
@@ -89,7 +96,7 @@ fn common_period(checked: &Checked, mode: usize, active: &[Active]) -> Option<u6
     ensures none { length checked.now.modes ≤ mode → result ≡ None }
 {
     // It is well-formed.
-    let _program = checked.program();
+    checked.known();
     let mut common: Option<u64> = None;
     for a in active {
         if let Some(period) = period_of(checked, mode, a.task) {

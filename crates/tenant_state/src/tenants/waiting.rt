@@ -4,18 +4,18 @@ ghost use Rattle.std.specs.Prelude.{◌≡◌, ◌≢◌, [], true, None, Some, 
 ghost use Rattle.std.specs.Arc.{arc_value};
 ghost use Rattle.std.specs.List.{list_all};
 ghost use Rattle.std.specs.Option.{option_map};
-ghost use Rattle.giotto_check.specs.inner.Timetables.{AreEach};
+ghost use Rattle.giotto_check.specs.cited.Timetables.{AreEach};
 ghost use Rattle.tenant_lines.specs.declared.commands.Command.{Command};
 ghost use Rattle.tenant_lines.specs.declared.replies.Refusal.{Refusal};
 ghost use Rattle.tenant_lines.specs.declared.replies.Reply.{Reply};
-ghost use Rattle.tenant_state.specs.Commands.{commanded, replace_kept};
-ghost use Rattle.tenant_state.specs.FirstHalf.{due_tasks};
-ghost use Rattle.tenant_state.specs.Row.{Row, is_running};
-ghost use Rattle.tenant_state.specs.SecondHalf.{installed, replaced_if_due};
+ghost use Rattle.rig_model.specs.Commands.{commanded, replace_kept};
+ghost use Rattle.rig_model.specs.FirstHalf.{due_tasks};
+ghost use Rattle.rig_model.specs.Row.{Row, is_running};
+ghost use Rattle.rig_model.specs.SecondHalf.{installed, replaced_if_due};
 ghost use Rattle.tenant_state.specs.Standing.{StandsFor, most_released};
-ghost use Rattle.tenant_state.specs.inner.Standing.{AreTasksKept, IsAnswered, IsBehind, IsRefused, IsSettled};
+ghost use Rattle.tenant_state.specs.cited.Standing.{AreTasksKept, IsAnswered, IsBehind, IsRefused, IsSettled};
 ghost use Rattle.tenant_state.specs.inner.Tenants.{IsBeginning, IsShareOf, IsWaitingFor};
-ghost use Rattle.tenant_slots.specs.inner.Replacement.{IsCarryTable};
+ghost use Rattle.tenant_slots.specs.cited.Replacement.{IsCarryTable};
 
 use crate::tenants::Tenant;
 use crate::tenants::readiness::share_bodies;
@@ -57,7 +57,7 @@ impl Tenant {
         ensures refused { IfErr result (λ r. r ≢ Refusal.Memory → IsRefused self.old (commanded self.old.tenancy (Command.Replace text.now)) r) }
         ensures replaced { OnOk result (IsAnswered self.old (commanded self.old.tenancy (Command.Replace text.now)) Reply.Replaced self.new) }
         ensures tasks { AreTasksKept self.old self.new }
-        ensures ended { self.new.ended ≡ self.old.ended }
+        ensures ended { self.new.ready.ended ≡ self.old.ready.ended }
     {
         let program = read_program(self.alloc, text)?;
         match self.needs(text.len(), &program) {
@@ -101,9 +101,7 @@ impl Tenant {
         ensures keeps { IfOk result (λ table. IfSome self.now.row.program (λ p. IsCarryTable p program.now table.items)) }
     {
         match &self.program {
-            Some(running) => {
-                carried_slots(self.alloc, running, program).map_err(|_| Refusal::Memory)
-            }
+            Some(running) => Ok(carried_slots(self.alloc, running, program)?),
             None => Ok(Vec::new(self.alloc)),
         }
     }
@@ -115,7 +113,7 @@ impl Tenant {
         ensures tenancy { self.new.tenancy ≡ self.old.tenancy }
         ensures next_tick { self.new.row.next_tick ≡ self.old.row.next_tick }
         ensures tasks { AreTasksKept self.old self.new }
-        ensures ended { self.new.ended ≡ self.old.ended }
+        ensures ended { self.new.ready.ended ≡ self.old.ready.ended }
     {
         drop(self.waiting.replace(waiting));
     }
@@ -124,14 +122,14 @@ impl Tenant {
     pub(crate) fn install_waiting(&mut self)
         requires begins { self.old.row.mode_time ≡ 0 }
         requires running { is_running self.old.row ≡ true }
-        requires rest { self.old.ended ≡ [] }
+        requires rest { self.old.ready.ended ≡ [] }
         requires ended_due { due_tasks self.old.row ≡ [] }
         ensures step { IsBehind self.old replaced_if_due self.new }
         ensures active { self.new.row.active ≡ self.old.row.active }
         ensures none_active { self.old.row.active ≡ [] }
-        ensures ended { self.new.ended ≡ [] }
-        ensures room { self.new.room ≡ self.old.room }
-        ensures shared { self.old.shared ≡ true → self.new.shared ≡ true }
+        ensures ended { self.new.ready.ended ≡ [] }
+        ensures room { self.new.ready.room ≡ self.old.ready.room }
+        ensures shared { self.old.ready.shared ≡ true → self.new.ready.shared ≡ true }
         ensures tenancy { self.new.tenancy ≡ self.old.tenancy }
         ensures offers { self.new.row.offers ≡ self.old.row.offers }
         ensures binds { self.new.row.binds ≡ self.old.row.binds }
@@ -144,7 +142,7 @@ impl Tenant {
             return;
         };
         // Its frequencies are positive.
-        let _program = old.program();
+        old.known();
         let Some(waiting) = self.waiting.take() else {
             return;
         };
@@ -158,12 +156,12 @@ impl Tenant {
         requires waits { self.old.row.waiting ≡ None }
         requires none_active { self.old.row.active ≡ [] }
         requires running { is_running self.old.row ≡ true }
-        requires rest { self.old.ended ≡ [] }
+        requires rest { self.old.ready.ended ≡ [] }
         ensures step { IsBehind self.old (installed waiting.program) self.new }
         ensures active { self.new.row.active ≡ [] }
-        ensures ended { self.new.ended ≡ [] }
-        ensures room { self.new.room ≡ self.old.room }
-        ensures shared { list_all is_some waiting.beginning.shares.items ≡ true → self.new.shared ≡ true }
+        ensures ended { self.new.ready.ended ≡ [] }
+        ensures room { self.new.ready.room ≡ self.old.ready.room }
+        ensures shared { list_all is_some waiting.beginning.shares.items ≡ true → self.new.ready.shared ≡ true }
         ensures tenancy { self.new.tenancy ≡ self.old.tenancy }
         ensures offers { self.new.row.offers ≡ self.old.row.offers }
         ensures binds { self.new.row.binds ≡ self.old.row.binds }
@@ -214,11 +212,7 @@ pub(crate) fn beginning_of(alloc: Global, program: &Checked) -> Result<Beginning
     ensures refused { IfErr result (λ r. r ≡ Refusal.Memory) }
     ensures begins { IfOk result (IsBeginning program.now) }
 {
-    let Ok(values) = initial_values(alloc, program) else {
-        return Err(Refusal::Memory);
-    };
-    let Ok(shares) = no_shares(alloc, program.program().tasks()) else {
-        return Err(Refusal::Memory);
-    };
+    let values = initial_values(alloc, program)?;
+    let shares = no_shares(alloc, program.program().tasks())?;
     Ok(Beginning { values, shares })
 }

@@ -1,5 +1,5 @@
 use Rattle.std.proofs.Common.{sym, ◌∙◌, arith}
-use Rattle.tenant_slots.proofs.Readings.{copied_at}
+use Rattle.tenant_slots.proofs.cited.Readings.{copied_at}
 use Rattle.tenant_state.proofs.Readers.{no_value, slot_there, value_there}
 use Rattle.tenant_state.proofs.tenants.Tenant.actuator.Goals as goal
 

@@ -1,6 +1,6 @@
 use Rattle.std.proofs.Common.{ap, sym, ◌∙◌, Result, Ok, Err}
 use Rattle.std.specs.Prelude.{OnOk}
-use Rattle.tenant_state.specs.Row.{is_running}
+use Rattle.rig_model.specs.Row.{is_running}
 use Rattle.tenant_state.specs.Standing.{Standing}
 use Rattle.tenant_state.specs.Tenants.{tasks_in}
 use Rattle.tenant_state.proofs.Stops.{none_active}

@@ -3,8 +3,8 @@ use Rattle.std.specs.Arc.{arc_value}
 use Rattle.std.specs.Option.{option_map}
 use Rattle.giotto_text.specs.Program.{GiottoProgram}
 use Rattle.tenant_state.specs.declared.tenants.waiting.Waiting.{Waiting}
-use Rattle.tenant_state.specs.Row.{Row}
-use Rattle.tenant_state.specs.SecondHalf.{replaced_if_due}
+use Rattle.rig_model.specs.Row.{Row}
+use Rattle.rig_model.specs.SecondHalf.{replaced_if_due}
 use Rattle.tenant_state.specs.Standing.{Standing, most_released, with_last}
 use Rattle.tenant_state.proofs.Installed.{none_left, stands_for_itself}
 use Rattle.tenant_state.proofs.Replaced.{due_is, installed_is, released_as_before, released_behind}
@@ -12,16 +12,16 @@ use Rattle.tenant_state.proofs.tenants.Tenant.install_waiting.Goals as goal
 
 pub returns-in_default-take-clause-none_active : goal.returns-in_default-take-clause-none_active
 returns-in_default-take-clause-none_active c =
-    none_left _ _ _ _ _ _ _ _ _ _ _ _ c.self.inside.waiting c.self.inside.trace _ _ c.self.view_is c.self.invariant.0 c.requires.running c.in-Some.old c.in-Some.is c.program-program.ensures.fits c.requires.ended_due c.requires.begins
+    none_left _ _ _ _ _ _ _ _ _ _ _ _ c.self.inside.waiting c.self.inside.trace _ _ c.self.view_is c.self.invariant.0 c.requires.running c.in-Some.old c.in-Some.is c.known.ensures.fits c.requires.ended_due c.requires.begins
 
 pub put_in_place-requires-clause-none_active : goal.put_in_place-requires-clause-none_active
 put_in_place-requires-clause-none_active c =
     ap (λ (t : Standing). t.row.active) c.self.view_is
-    ∙ none_left _ _ _ _ _ _ _ _ _ _ _ _ c.self.inside.waiting c.self.inside.trace _ _ c.self.view_is c.self.invariant.0 c.requires.running c.in-Some.old c.in-Some.is c.program-program.ensures.fits c.requires.ended_due c.requires.begins
+    ∙ none_left _ _ _ _ _ _ _ _ _ _ _ _ c.self.inside.waiting c.self.inside.trace _ _ c.self.view_is c.self.invariant.0 c.requires.running c.in-Some.old c.in-Some.is c.known.ensures.fits c.requires.ended_due c.requires.begins
 
 pub returns-clause-none_active : goal.returns-clause-none_active
 returns-clause-none_active c =
-    none_left _ _ _ _ _ _ _ _ _ _ _ _ c.self.inside.waiting c.self.inside.trace _ _ c.self.view_is c.self.invariant.0 c.requires.running c.in-Some.old c.in-Some.is c.program-program.ensures.fits c.requires.ended_due c.requires.begins
+    none_left _ _ _ _ _ _ _ _ _ _ _ _ c.self.inside.waiting c.self.inside.trace _ _ c.self.view_is c.self.invariant.0 c.requires.running c.in-Some.old c.in-Some.is c.known.ensures.fits c.requires.ended_due c.requires.begins
 
 pub returns-clause-active : goal.returns-clause-active
 returns-clause-active c = c.put_in_place.ensures.active ∙ sym (returns-clause-none_active c)

@@ -1,6 +1,6 @@
 use Rattle.std.proofs.Common.{◌≡◌, true, false, is_some, sym, ap, ◌∙◌}
-use Rattle.giotto_tasks.proofs.ListLemmas.{is_some-option_map}
-use Rattle.tenant_state.specs.Jobs.{job_of}
+use Rattle.giotto_tasks.proofs.cited.ListLemmas.{is_some-option_map}
+use Rattle.rig_model.specs.Jobs.{job_of}
 use Rattle.tenant_state.specs.Tenants.{active_of}
 use Rattle.tenant_jobs.specs.Finished.{has_result}
 use Rattle.tenant_state.proofs.Completing.{fits_body, sound_body, so_there, awaited_now, none_awaited, none_there, not_awaited}

@@ -1,8 +1,7 @@
 use Rattle.std.proofs.Common.{◌≡◌, ◌<◌, cond, None, [], map, length, ap, ◌∙◌, arith}
 use Rattle.std.proofs.lemmas.List.{length-map}
 use Rattle.tenant_jobs.specs.Finished.{entry_in}
-use Rattle.tenant_jobs.specs.Jobs.{same_job}
-use Rattle.tenant_state.specs.Jobs.{job_of}
+use Rattle.rig_model.specs.Jobs.{same_job, job_of}
 use Rattle.tenant_state.specs.Standing.{Standing}
 use Rattle.tenant_state.specs.Tenants.{active_of, tasks_in}
 use Rattle.tenant_state.proofs.Completing.{stands_there}
@@ -25,7 +24,7 @@ loop-active-preserved c =
 
 pub returns-clause-none : goal.returns-clause-none
 returns-clause-none c = λ none.
-    let gone : tasks_in c.self.inside.program c.self.inside.active.ended ≡ [] = ap (λ (s : Standing). s.ended) c.self.view_is ∙ none in
+    let gone : tasks_in c.self.inside.program c.self.inside.active.ended ≡ [] = ap (λ (s : Standing). s.ready.ended) c.self.view_is ∙ none in
     let here : map (active_of c.in-Some.checked) c.self.inside.active.ended ≡ [] = rw c.in-Some.is at gone in
     c.loop-active.invariant.none
     (omega (arith, c.loop-active.auto.active-index-end, ap length here, length-map c.self.inside.active.ended (active_of c.in-Some.checked), ap length c.ended-active-items.ensures))

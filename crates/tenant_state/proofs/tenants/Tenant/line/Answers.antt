@@ -1,5 +1,5 @@
 use Rattle.std.proofs.Common.{◌≡◌, None, Some, ap, sym, ◌∙◌}
-use Rattle.tenant_state.specs.Readers.{actuator_value}
+use Rattle.rig_model.specs.Row.{actuator_value}
 use Rattle.tenant_state.specs.Standing.{Standing}
 use Rattle.tenant_state.proofs.Readers.{line_named, named_driver}
 use Rattle.tenant_state.proofs.tenants.Tenant.line.Goals as goal

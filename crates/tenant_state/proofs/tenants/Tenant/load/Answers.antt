@@ -1,5 +1,5 @@
 use Rattle.std.proofs.Common.{length, refl, ap, ◌∙◌}
-use Rattle.tenant_state.specs.Commands.{load_read}
+use Rattle.rig_model.specs.Commands.{load_read}
 use Rattle.tenant_state.proofs.tenants.Tenant.load.Goals as goal
 
 pub returns-in-Ok-clause-loaded : goal.returns-in-Ok-clause-loaded

@@ -1,36 +1,31 @@
-use Rattle.std.proofs.Common.{rules, ◌++◌, ap, sym, ◌∙◌, arith}
-use Rattle.std.specs.Prelude.{is_some}
-use Rattle.std.specs.Arc.{arc_value}
-use Rattle.std.specs.List.{list_all}
-use Rattle.std.proofs.lemmas.Bool.{and_parts}
+use Rattle.std.proofs.Common.{◌≡◌, ◌++◌, length, sym, ap, subst, ◌∙◌, arith}
 use Rattle.tenant_state.specs.Jobs.{released_at}
 use Rattle.tenant_state.specs.Standing.{Standing}
-use Rattle.tenant_state.specs.Tenancy.{Tenancy}
-use Rattle.tenant_state.proofs.Shares.{shared_map}
-use Rattle.tenant_state.proofs.TenantBehind.{are_new}
+use Rattle.tenant_state.specs.cited.Standing.{AreReleased}
 use Rattle.tenant_state.proofs.tenants.Tenant.phase_two.Goals as goal
+use Rattle.tenant_state.proofs.tenants.Tenant.phase_two.Goals.{After-second_half}
+
+-- the jobs that it adds, by the number that it had before
+same_jobs : (c : After-second_half) → released_at c.second_half.new.self.tenancy.owner.place c.next_tick-tick.result c.second_half.new.self.row
+    ≡ released_at c.args.self.now.tenancy.owner.place c.args.self.now.row.next_tick c.second_half.new.self.row
+same_jobs c = λ k. released_at (c.second_half.ensures.half.tenancy k).owner.place (c.next_tick-tick.ensures.number k) c.second_half.new.self.row
 
 pub add_jobs-requires : goal.add_jobs-requires
 add_jobs-requires c =
-    let new = are_new c.self.inside.waiting c.self-2.inside.waiting c.self.inside.trace c.self-2.inside.trace c.in-Some.checked c.own.result c.args.self.now c.phase_two_without_jobs.new.self c.self.inside.state c.self-2.inside.state c.self.invariant.0 c.self.view_is c.self-2.invariant.0 c.self-2.view_is
-    c.in-Some.is c.phase_two_without_jobs.ensures.released c.len-before.result c.as_slice.result.now c.len-before.ensures c.as_slice.ensures in
+    let jobs = same_jobs (goal.at.add_jobs-requires c).After-second_half in
     record {
-      each = new.declared;
-      different = new.different;
-      shares = search rules;
-      shared = λ some. ap (list_all is_some) c.as_mut_slice.ensures.value ∙ sym (shared_map arc_value c.self-2.inside.shares.items) ∙ (and_parts _ _ (ap (λ (s : Standing). s.shared) c.self-2.view_is
-          ∙ c.phase_two_without_jobs.ensures.shared (c.requires.shares (omega (arith, some, new.few))))).0;
-      room = omega (arith, new.few, c.requires.jobs);
+      shares = λ some. c.second_half.ensures.shared (c.requires.shares (omega (arith, some, ap length jobs, c.second_half.ensures.few)));
+      room = omega (arith, ap length jobs, c.second_half.ensures.few, c.requires.jobs);
     }
 
 pub returns : goal.returns
 returns c =
-    let new = are_new c.self.inside.waiting c.self-2.inside.waiting c.self.inside.trace c.self-2.inside.trace c.in-Some.checked c.own.result c.args.self.now c.phase_two_without_jobs.new.self c.self.inside.state c.self-2.inside.state c.self.invariant.0 c.self.view_is c.self-2.invariant.0 c.self-2.view_is
-    c.in-Some.is c.phase_two_without_jobs.ensures.released c.len-before.result c.as_slice.result.now c.len-before.ensures c.as_slice.ensures in
-    let tenancy = ap (λ (s : Standing). s.tenancy) c.self-2.view_is ∙ c.phase_two_without_jobs.ensures.half.tenancy in
+    let jobs = same_jobs (goal.at.returns c).After-second_half in
+    let half = c.second_half.ensures.half in
+    let row = ap (λ (s : Standing). s.row) c.add_jobs.ensures.rest in
     record {
-      half = record { step = search rules; next_tick = search rules; tenancy = tenancy; program = search rules; offers = search rules; binds = search rules; ended = search rules };
-      released = search rules;
-      jobs = c.add_jobs.ensures.jobs ∙ ap (λ js. c.args.jobs.now.jobs ++ js) (sym new.jobs ∙ (λ k. released_at ((c.own.ensures.place ∙ ap (λ (y : Tenancy). y.owner.place) tenancy) k) c.args.self.now.row.next_tick (sym c.self-2.view_is k).row));
-      room = omega (arith, new.few, c.add_jobs.ensures.room);
+      half = rw (c.add_jobs.ensures.rest) (record { step = half.step; next_tick = half.next_tick; tenancy = half.tenancy; program = half.program; offers = half.offers; binds = half.binds; ended = half.ended });
+      released = subst (AreReleased c.args.self.now.row) (sym row) c.second_half.ensures.released;
+      jobs = c.add_jobs.ensures.jobs ∙ ap (λ js. c.args.jobs.now.jobs ++ js) (jobs ∙ ap (released_at c.args.self.now.tenancy.owner.place c.args.self.now.row.next_tick) (sym row));
+      room = omega (arith, c.add_jobs.ensures.room, ap length jobs, c.second_half.ensures.few);
     }

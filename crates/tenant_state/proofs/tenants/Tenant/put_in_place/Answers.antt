@@ -7,16 +7,16 @@ use Rattle.std.specs.Vec.{with_items}
 use Rattle.std.proofs.lemmas.Bool.{and_from}
 use Rattle.std.proofs.lemmas.List.{with_items_is}
 use Rattle.std.proofs.lemmas.Option.{slice_get_within}
-use Rattle.giotto_check.specs.inner.Slots.{slots_of}
+use Rattle.giotto_check.specs.cited.Slots.{slots_of}
 use Rattle.giotto_check.specs.Slots.{valuation_of}
 use Rattle.giotto_text.specs.Program.{GiottoProgram, ModeDeclaration}
 use Rattle.tenant_slots.specs.Places.{name_of_mode}
-use Rattle.tenant_slots.specs.Replacement.{carried_ports}
-use Rattle.tenant_slots.specs.inner.Replacement.{IsCarryTable}
+use Rattle.rig_model.specs.Replacement.{carried_ports}
+use Rattle.tenant_slots.specs.cited.Replacement.{IsCarryTable}
 use Rattle.tenant_trace.specs.declared.records.Happening.TheVariants as happening
-use Rattle.tenant_trace.specs.inner.Noted.{noted}
+use Rattle.tenant_trace.specs.cited.Noted.{noted}
 use Rattle.tenant_state.specs.declared.tenants.waiting.Waiting.{Waiting}
-use Rattle.tenant_state.specs.Row.{is_running}
+use Rattle.rig_model.specs.Row.{is_running}
 use Rattle.tenant_state.specs.Standing.{Standing, all_different_releases, with_last}
 use Rattle.tenant_state.specs.Tenants.{is_shared, tasks_in}
 use Rattle.tenant_state.specs.inner.Invoked.{IsInvokedIn}
@@ -41,7 +41,7 @@ module _ (c : goal.After-drop-carried) where
   none = none_stand has.0 c.self.inside.active.items (ap (λ o. tasks_in o c.self.inside.active.items) (sym has.1) ∙ ap (λ (t : Standing). t.row.active) c.self.view_is ∙ c.requires.none_active)
 
   none_ended : c.self.inside.active.ended ≡ []
-  none_ended = none_stand has.0 c.self.inside.active.ended (ap (λ o. tasks_in o c.self.inside.active.ended) (sym has.1) ∙ ap (λ (t : Standing). t.ended) c.self.view_is ∙ c.requires.rest)
+  none_ended = none_stand has.0 c.self.inside.active.ended (ap (λ o. tasks_in o c.self.inside.active.ended) (sym has.1) ∙ ap (λ (t : Standing). t.ready.ended) c.self.view_is ∙ c.requires.rest)
 
   long : length c.carry_over.new.new_values ≡ slots_of c.args.waiting.program
   long = c.carry_over.auto.new_values ∙ ap length c.as_mut_slice.ensures.value ∙ c.requires.fits.begins.long

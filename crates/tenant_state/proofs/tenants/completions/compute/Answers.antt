@@ -1,9 +1,9 @@
 use Rattle.std.proofs.Common.{Some, ◌&&◌, cond, sym, ◌∙◌}
 use Rattle.giotto_tasks.specs.Syntax.{TaskBody}
 use Rattle.tenant_jobs.specs.Finished.{entry_in}
-use Rattle.tenant_jobs.specs.inner.Finished.{result_of}
-use Rattle.tenant_jobs.specs.Jobs.{same_job}
-use Rattle.tenant_jobs.specs.declared.jobs.JobId.{JobId}
+use Rattle.tenant_jobs.specs.cited.Finished.{result_of}
+use Rattle.rig_model.specs.Jobs.{same_job}
+use Rattle.rig_model.specs.declared.jobs.JobId.{JobId}
 use Rattle.tenant_state.proofs.Completing.{body_is, fits_body, sound_body}
 use Rattle.tenant_state.proofs.tenants.completions.compute.Goals as goal
 

@@ -1,7 +1,6 @@
 use Rattle.std.proofs.Common.{◌≡◌, find, drop}
-use Rattle.tenant_jobs.specs.Jobs.{same_job}
+use Rattle.rig_model.specs.Jobs.{same_job, job_of}
 use Rattle.tenant_state.specs.declared.tenants.Active.{Active}
-use Rattle.tenant_state.specs.Jobs.{job_of}
 use Rattle.tenant_state.specs.Tenants.{active_of}
 use Rattle.tenant_state.proofs.tenants.completions.place_of.Given as goal
 

@@ -1,7 +1,7 @@
 use Rattle.std.proofs.Common.{◌≡◌, ◌+◌, cond, map, length, drop, Some, None}
-use Rattle.tenant_jobs.specs.declared.jobs.JobId.{JobId}
+use Rattle.rig_model.specs.declared.jobs.JobId.{JobId}
 use Rattle.tenant_jobs.specs.Finished.{entry_in}
-use Rattle.tenant_state.specs.Jobs.{has_job}
+use Rattle.rig_model.specs.Jobs.{has_job}
 use Rattle.tenant_state.specs.Tenants.{active_of}
 use Rattle.tenant_state.proofs.TaskEntries.{AreNew}
 use Rattle.tenant_state.proofs.tenants.entries.enter_each.Given as goal

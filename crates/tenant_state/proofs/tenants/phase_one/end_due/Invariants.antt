@@ -1,11 +1,11 @@
 use Rattle.std.proofs.Common.{◌≡◌, ◌<◌, None, map, drop, length}
 use Rattle.std.specs.List.{find, flat_map, AllByRecursion}
-use Rattle.giotto_check.specs.inner.Slots.{slots_of}
+use Rattle.giotto_check.specs.cited.Slots.{slots_of}
 use Rattle.giotto_check.specs.Slots.{valuation_of}
-use Rattle.giotto_check.specs.inner.Timetables.{AreEach, IsInvocation}
+use Rattle.giotto_check.specs.cited.Timetables.{AreEach, IsInvocation}
 use Rattle.giotto_check.specs.declared.timetables.SlotInvocation.{SlotInvocation}
 use Rattle.giotto_text.specs.Program.{ModeDeclaration}
-use Rattle.tenant_state.specs.FirstHalf.{all_ended}
+use Rattle.rig_model.specs.FirstHalf.{all_ended}
 use Rattle.tenant_state.specs.Tenants.{active_of}
 use Rattle.tenant_state.proofs.DueTasks.{group}
 use Rattle.tenant_state.specs.inner.EntryTable.{ends_noted, is_left_open}
@@ -14,17 +14,17 @@ use Rattle.tenant_state.proofs.tenants.phase_one.end_due.Given as goal
 
 abbrev pub invariant-loop-invocation : goal.invariant-loop-invocation
 invariant-loop-invocation l =
-    let p = l.checked in
+    let p = l.ending.checked.now in
     let active = map (active_of p) l.active in
     let left = drop l.invocation-index l.invocations in
     record {
-      time : l.due ≡ l.time;
+      time : l.due ≡ l.ending.time;
       long : length l.values ≡ slots_of p;
       positive : AllByRecursion (λ (i : SlotInvocation). 0 < i.interval) left;
       there : AllByRecursion (λ (i : SlotInvocation). i.task < length p.tasks) left;
-      done : find (is_left_open l.time (is_done l.finished.entries l.tenant p) l.active) left ≡ None;
+      done : find (is_left_open l.ending.time (is_done l.ending.finished.now.entries l.ending.tenant p) l.active) left ≡ None;
       value : (m : ModeDeclaration) → AreEach (IsInvocation p m) m.invocations l.invocations
-          → all_ended p (flat_map (group m l.time active) (drop l.invocation-index m.invocations)) (valuation_of p l.values) ≡ all_ended p (flat_map (group m l.time active) m.invocations) (valuation_of p l.initial.values);
+          → all_ended p (flat_map (group m l.ending.time active) (drop l.invocation-index m.invocations)) (valuation_of p l.values) ≡ all_ended p (flat_map (group m l.ending.time active) m.invocations) (valuation_of p l.initial.values);
       told : (m : ModeDeclaration) → AreEach (IsInvocation p m) m.invocations l.invocations
-          → ends_noted p l.tick (flat_map (group m l.time active) (drop l.invocation-index m.invocations)) l.trace ≡ ends_noted p l.tick (flat_map (group m l.time active) m.invocations) l.initial.trace;
+          → ends_noted p l.ending.tick (flat_map (group m l.ending.time active) (drop l.invocation-index m.invocations)) l.trace ≡ ends_noted p l.ending.tick (flat_map (group m l.ending.time active) m.invocations) l.initial.trace;
     }

@@ -1,8 +1,8 @@
 use Rattle.std.proofs.Common.{◌≡◌, false, map, drop, length}
 use Rattle.std.specs.List.{AllByRecursion}
-use Rattle.giotto_check.specs.inner.Slots.{slots_of}
+use Rattle.giotto_check.specs.cited.Slots.{slots_of}
 use Rattle.giotto_check.specs.Slots.{valuation_of}
-use Rattle.tenant_state.specs.FirstHalf.{all_ended}
+use Rattle.rig_model.specs.FirstHalf.{all_ended}
 use Rattle.tenant_state.specs.Tenants.{active_of}
 use Rattle.tenant_state.specs.inner.EntryTable.{ends_noted, entries_at, is_task_open}
 use Rattle.tenant_state.specs.inner.Tenants.{IsActiveOf, IsResultRight, is_done}
@@ -10,14 +10,14 @@ use Rattle.tenant_state.proofs.tenants.phase_one.end_each.Given as goal
 
 abbrev pub invariant-loop-a : goal.invariant-loop-a
 invariant-loop-a l =
-    let p = l.checked in
+    let p = l.ending.checked.now in
     let left = drop l.a-index l.active in
     record {
       long : length l.values ≡ slots_of p;
       each : AllByRecursion (IsActiveOf p) left;
-      right : AllByRecursion (IsResultRight l.finished.entries l.tenant p) left;
-      done : is_task_open (is_done l.finished.entries l.tenant p) left l.task ≡ false;
+      right : AllByRecursion (IsResultRight l.ending.finished.now.entries l.ending.tenant p) left;
+      done : is_task_open (is_done l.ending.finished.now.entries l.ending.tenant p) left l.task ≡ false;
       value : all_ended p (map (active_of p) (entries_at l.task left)) (valuation_of p l.values)
           ≡ all_ended p (map (active_of p) (entries_at l.task l.active)) (valuation_of p l.initial.values);
-      told : ends_noted p l.tick (map (active_of p) (entries_at l.task left)) l.trace ≡ ends_noted p l.tick (map (active_of p) (entries_at l.task l.active)) l.initial.trace;
+      told : ends_noted p l.ending.tick (map (active_of p) (entries_at l.task left)) l.trace ≡ ends_noted p l.ending.tick (map (active_of p) (entries_at l.task l.active)) l.initial.trace;
     }

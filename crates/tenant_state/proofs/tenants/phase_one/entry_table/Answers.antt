@@ -11,5 +11,5 @@ loop-i-preserved c =
     let before = c.loop-i.invariant in
     record {
       long = length-set c.loop-i.table _ _ ∙ before.long;
-      table = table_more c.args.active.now c.loop-i.i c.index-active-i.result c.loop-i.table c.loop-i-test.true before.long c.if-task-ge64.false c.if-table-task-ne0.false before.table;
+      table = table_more c.args.active.now c.loop-i.i c.index-active-i.result c.loop-i.table c.loop-i-test.true before.long c.if-task-ge-TABLED_TASKS.false c.if-table-task-ne0.false before.table;
     }

@@ -1,10 +1,11 @@
 use Rattle.std.proofs.Common.{◌≡◌, length}
 use Rattle.tenant_state.specs.inner.EntryTable.{IsTableOf}
 use Rattle.tenant_state.proofs.tenants.phase_one.entry_table.Given as goal
+use Rattle.tenant_slots.specs.declared.due.TheConstants.{TABLED_TASKS}
 
 abbrev pub invariant-loop-i : goal.invariant-loop-i
 invariant-loop-i l =
     record {
-      long : length l.table ≡ 64;
+      long : length l.table ≡ TABLED_TASKS;
       table : IsTableOf l.i l.active l.table;
     }

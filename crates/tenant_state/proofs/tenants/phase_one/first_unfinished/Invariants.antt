@@ -7,9 +7,9 @@ use Rattle.tenant_state.proofs.tenants.phase_one.first_unfinished.Given as goal
 
 abbrev pub invariant-loop-invocation : goal.invariant-loop-invocation
 invariant-loop-invocation l =
-    let open_at = is_left_open l.time (is_done l.finished.entries l.tenant l.checked) l.active in
+    let open_at = is_left_open l.ending.time (is_done l.ending.finished.now.entries l.ending.tenant l.ending.checked.now) l.active in
     record {
-      time : l.due ≡ l.time;
+      time : l.due ≡ l.ending.time;
       positive : AllByRecursion (λ (i : SlotInvocation). 0 < i.interval) (drop l.invocation-index l.invocations);
       left : find open_at (drop l.invocation-index l.invocations) ≡ find open_at l.invocations;
     }

@@ -6,9 +6,9 @@ use Rattle.tenant_state.proofs.tenants.phase_one.is_unfinished.Given as goal
 
 abbrev pub invariant-loop-a : goal.invariant-loop-a
 invariant-loop-a l =
-    let done = is_done l.finished.entries l.tenant l.checked in
+    let done = is_done l.ending.finished.now.entries l.ending.tenant l.ending.checked.now in
     let rest = drop l.a-index l.active in
     record {
-      each : AllByRecursion (IsActiveOf l.checked) rest;
+      each : AllByRecursion (IsActiveOf l.ending.checked.now) rest;
       left : is_task_open done rest l.task ≡ is_task_open done l.active l.task;
     }

@@ -4,7 +4,7 @@ use Rattle.std.specs.Option.{option_map}
 use Rattle.std.proofs.lemmas.Bool.{and_from}
 use Rattle.std.proofs.lemmas.List.{length-map}
 use Rattle.std.proofs.lemmas.List.Folds.{list_all_more}
-use Rattle.giotto_check.proofs.EachLemmas.{each_long}
+use Rattle.giotto_check.proofs.cited.EachLemmas.{each_long}
 use Rattle.giotto_text.specs.ProgramTrees.{task_of}
 use Rattle.tenant_state.specs.inner.Tenants.{IsShareOf}
 use Rattle.tenant_state.proofs.Shares.{share_made}

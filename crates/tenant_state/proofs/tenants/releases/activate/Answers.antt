@@ -3,7 +3,7 @@ use Rattle.std.specs.Prelude.{IsSomeAnd}
 use Rattle.std.proofs.lemmas.List.{length-map}
 use Rattle.giotto_text.specs.Program.{names_of}
 use Rattle.giotto_text.specs.PortNames.{own_ports}
-use Rattle.giotto_check.specs.inner.Timetables.{AreEach, IsExpression}
+use Rattle.giotto_check.specs.cited.Timetables.{AreEach, IsExpression}
 use Rattle.tenant_state.specs.inner.Tenants.{IsActiveAs}
 use Rattle.tenant_state.specs.declared.tenants.Active.{Active}
 use Rattle.tenant_state.proofs.tenants.releases.activate.Goals as goal

@@ -2,9 +2,9 @@ use Rattle.std.proofs.Common.{◌≡◌, ℕ, true, ◌%◌, ◌==◌, [], Some,
 use Rattle.std.proofs.lemmas.Bool.{and_from, and_left, and_right}
 use Rattle.std.proofs.lemmas.List.{drop_all}
 use Rattle.giotto_text.specs.Program.{ModeDeclaration}
-use Rattle.giotto_check.specs.inner.Timetables.{IsInvocation}
-use Rattle.giotto_check.proofs.EachLemmas.{each_long}
-use Rattle.tenant_slots.proofs.Numbered.{invocation_due}
+use Rattle.giotto_check.specs.cited.Timetables.{IsInvocation}
+use Rattle.giotto_check.proofs.cited.EachLemmas.{each_long}
+use Rattle.tenant_slots.proofs.cited.Numbered.{invocation_due}
 use Rattle.giotto_check.specs.Slots.{valuation_of}
 use Rattle.tenant_state.specs.Tenants.{active_of}
 use Rattle.tenant_state.proofs.HalfStands.{none_due}
@@ -33,22 +33,22 @@ returns-then-time-next-clause-invoked c m at =
 
 pub is_due-requires : goal.is_due-requires
 is_due-requires c =
-    (some_entry c.args.checked.now c.program-program.ensures.fits c.args.mode c.loop-invocation.invocation-index _ c.invocation-item.result c.loop-invocation-test.true c.invocation-item.is
+    (some_entry c.args.checked.now c.known.ensures.fits c.args.mode c.loop-invocation.invocation-index _ c.invocation-item.result c.loop-invocation-test.true c.invocation-item.is
     c.invocations-invocation-items.ensures.there c.invocations-invocation-items.ensures.none).2.positive
 
 pub add_release-requires-clause-its : goal.add_release-requires-clause-its
 add_release-requires-clause-its c =
-    let its = some_entry c.args.checked.now c.program-program.ensures.fits c.args.mode c.loop-invocation.invocation-index _ c.invocation-item.result c.loop-invocation-test.true c.invocation-item.is
+    let its = some_entry c.args.checked.now c.known.ensures.fits c.args.mode c.loop-invocation.invocation-index _ c.invocation-item.result c.loop-invocation-test.true c.invocation-item.is
     c.invocations-invocation-items.ensures.there c.invocations-invocation-items.ensures.none in
     record { mode = its.0; invocation = its.2.invocation; task = its.2.task; is = its.2.is; there = its.2.there; as_many = its.2.arguments; few = its.2.few }
 
 pub add_release-requires-clause-room : goal.add_release-requires-clause-room
 add_release-requires-clause-room c =
-    let its = some_entry c.args.checked.now c.program-program.ensures.fits c.args.mode c.loop-invocation.invocation-index _ c.invocation-item.result c.loop-invocation-test.true c.invocation-item.is
+    let its = some_entry c.args.checked.now c.known.ensures.fits c.args.mode c.loop-invocation.invocation-index _ c.invocation-item.result c.loop-invocation-test.true c.invocation-item.is
     c.invocations-invocation-items.ensures.there c.invocations-invocation-items.ensures.none in
     let now : (c.args.time % c.invocation-item.result.interval == 0) ≡ true = ap (λ (t : ℕ). t % c.invocation-item.result.interval == 0) (sym c.loop-invocation.invariant.time) ∙ sym c.is_due.ensures.due ∙ c.if-is_due.true in
     its_room (left_as its.2.here (c.loop-invocation.invariant.to its.0 its.1))
-    (sym (invocation_due c.args.checked.now c.program-program.ensures.fits c.args.time its.0 its.2.invocation c.invocation-item.result its.2.is) ∙ now)
+    (sym (invocation_due c.args.checked.now c.known.ensures.fits c.args.time its.0 its.2.invocation c.invocation-item.result its.2.is) ∙ now)
 
 pub loop-invocation-preserved : goal.loop-invocation-preserved
 loop-invocation-preserved c =
@@ -67,8 +67,8 @@ loop-invocation-preserved c =
         | else-is_due w ↦ rw (w.active-is) c.loop-invocation.invariant.rest
       ];
       to = λ m at.
-          let its = its_entry p c.program-program.ensures.fits c.args.mode c.loop-invocation.invocation-index _ e c.loop-invocation-test.true c.invocation-item.is c.invocations-invocation-items.ensures.there m at in
-          let due = sym (invocation_due p c.program-program.ensures.fits c.args.time m its.invocation e its.is) ∙ now in
+          let its = its_entry p c.known.ensures.fits c.args.mode c.loop-invocation.invocation-index _ e c.loop-invocation-test.true c.invocation-item.is c.invocations-invocation-items.ensures.there m at in
+          let due = sym (invocation_due p c.known.ensures.fits c.args.time m its.invocation e its.is) ∙ now in
           let to = left_as its.here (c.loop-invocation.invariant.to m at) in
           elim c.if-is_due.branch [
             | then-is_due+then-holds w ↦ rw (w.active-is, w.values-is)

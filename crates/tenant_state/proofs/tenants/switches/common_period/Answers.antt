@@ -4,9 +4,9 @@ use Rattle.std.proofs.lemmas.List.{take_all}
 use Rattle.giotto_text.specs.Program.{ModeDeclaration}
 use Rattle.giotto_rules.specs.Declarations.{period_of_task}
 use Rattle.tenant_slots.specs.Places.{name_of_task}
-use Rattle.tenant_slots.proofs.InvokedPeriods.{period_divides}
-use Rattle.tenant_slots.proofs.Numbered.{mode_fits_at}
-use Rattle.tenant_slots.specs.inner.CommonPeriods.{IsCommonPeriod}
+use Rattle.tenant_slots.proofs.cited.InvokedPeriods.{period_divides}
+use Rattle.tenant_slots.proofs.cited.Numbered.{mode_fits_at}
+use Rattle.tenant_slots.specs.cited.CommonPeriods.{IsCommonPeriod}
 use Rattle.tenant_state.specs.Tenants.{active_of}
 use Rattle.tenant_state.proofs.TaskPeriods.{periods_more, periods_of, small_product, with_first, with_more, with_none}
 use Rattle.tenant_state.proofs.tenants.switches.common_period.Goals as goal
@@ -16,7 +16,7 @@ pub common_multiple-requires-clause-positive : goal.common_multiple-requires-cla
 common_multiple-requires-clause-positive c =
     let p = c.args.checked.now in
     let is = c.in-Some-common.is in
-    let small = small_product p c.program-program.ensures.fits c.args.mode (map (active_of p) (take c.loop-a.a-index c.args.active.now)) (name_of_task p c.a-item.result.task) c.in-Some-common.other c.in-Some.period
+    let small = small_product p c.known.ensures.fits c.args.mode (map (active_of p) (take c.loop-a.a-index c.args.active.now)) (name_of_task p c.a-item.result.task) c.in-Some-common.other c.in-Some.period
     (λ past. let none = c.loop-a.invariant.none past in cc)
     (λ m at. subst (IsCommonPeriod (periods_of m (map (active_of p) (take c.loop-a.a-index c.args.active.now)))) is (c.loop-a.invariant.there m at))
     c.in-Some.ensures.there in
@@ -26,7 +26,7 @@ pub common_multiple-requires-clause-small : goal.common_multiple-requires-clause
 common_multiple-requires-clause-small c =
     let p = c.args.checked.now in
     let is = c.in-Some-common.is in
-    (small_product p c.program-program.ensures.fits c.args.mode (map (active_of p) (take c.loop-a.a-index c.args.active.now)) (name_of_task p c.a-item.result.task) c.in-Some-common.other c.in-Some.period
+    (small_product p c.known.ensures.fits c.args.mode (map (active_of p) (take c.loop-a.a-index c.args.active.now)) (name_of_task p c.a-item.result.task) c.in-Some-common.other c.in-Some.period
     (λ past. let none = c.loop-a.invariant.none past in cc)
     (λ m at. subst (IsCommonPeriod (periods_of m (map (active_of p) (take c.loop-a.a-index c.args.active.now)))) is (c.loop-a.invariant.there m at))
     c.in-Some.ensures.there).2
@@ -37,7 +37,7 @@ loop-a-preserved c =
     let active = c.args.active.now in
     let k = c.loop-a.a-index in
     let a = c.a-item.result in
-    let fits = c.program-program.ensures.fits in
+    let fits = c.known.ensures.fits in
     let more = λ (m : ModeDeclaration) (o : Option ℕ) (same : o ≡ period_of_task m (name_of_task p a.task)).
     periods_more p m active k a c.loop-a-test.true c.a-item.is ∙ ap (λ (o : Option ℕ). periods_of m (map (active_of p) (take k active)) ++ cons_option o []) (sym same) in
     elim c.match-period_of.branch [

@@ -1,21 +1,22 @@
 -- What a command and an instant leave a tenant with, what it has to have ready, and what the table of active tasks has to have.
-use Rattle.std.specs.Prelude.{◌≡◌, ◌&&◌, not, Bool, ◌≤◌, ◌<◌, true, ◌+◌, List, Some, IfSome, length, take, drop}
+use Rattle.std.specs.Prelude.{[], ◌≡◌, ◌&&◌, not, Bool, ◌≤◌, ◌<◌, true, ◌+◌, List, Some, IfSome, length, take, drop}
 use Rattle.giotto_text.specs.Program.{GiottoProgram}
 use Rattle.tenant_lines.specs.declared.replies.Reply.{Reply}
-use Rattle.tenant_state.specs.Commands.{Outcome, refused}
-use Rattle.tenant_state.specs.Row.{ActiveTask, Row}
-use Rattle.tenant_jobs.specs.declared.jobs.JobId.{JobId}
+use Rattle.rig_model.specs.Commands.{CommandOutcome, refused}
+use Rattle.rig_model.specs.Row.{ActiveTask, Row}
+use Rattle.rig_model.specs.declared.jobs.JobId.{JobId}
 use Rattle.tenant_jobs.specs.Finished.{TableEntry, result_in}
-use Rattle.tenant_jobs.specs.inner.Finished.{is_entered, result_of}
-use Rattle.tenant_state.specs.Jobs.{has_job, job_in, job_of}
-use Rattle.tenant_state.specs.SecondHalf.{replaced_if_due}
+use Rattle.tenant_jobs.specs.cited.Finished.{is_entered, result_of}
+use Rattle.rig_model.specs.Jobs.{has_job, job_of}
+use Rattle.tenant_state.specs.Jobs.{job_in}
+use Rattle.rig_model.specs.SecondHalf.{replaced_if_due}
 use Rattle.tenant_state.specs.Standing.{Standing, StandsFor, most_released}
 use Rattle.tenant_trace.specs.declared.records.Record.{Record}
 use Rattle.tenant_lines.specs.declared.replies.Refusal.{Refusal}
 use Rattle.std.specs.List.{AllByRecursion}
 
 -- a command's outcome: this reply was given, and this is what is left
-pub record IsOutcome (outcome : Outcome) (reply : Reply) (standing : Standing) : Type 0 where
+pub record IsOutcome (outcome : CommandOutcome) (reply : Reply) (standing : Standing) : Type 0 where
   pub same_reply : reply ≡ outcome.reply
   pub stands : StandsFor standing outcome.row
 
@@ -28,11 +29,11 @@ abbrev pub IsBehind : Standing → (Row → Row) → Standing → Type 0
 IsBehind before step after = HoldsOfRow before (λ row. StandsFor after (step row))
 
 -- whatever row the tenant stood for, this reply is that of the step, and now it stands for the row behind the step
-abbrev pub IsAnswered : Standing → (Row → Outcome) → Reply → Standing → Type 0
+abbrev pub IsAnswered : Standing → (Row → CommandOutcome) → Reply → Standing → Type 0
 IsAnswered before step reply after = HoldsOfRow before (λ row. IsOutcome (step row) reply after)
 
 -- whatever row the tenant stands for, the step refuses it so
-abbrev pub IsRefused : Standing → (Row → Outcome) → Refusal → Type 0
+abbrev pub IsRefused : Standing → (Row → CommandOutcome) → Refusal → Type 0
 IsRefused standing step r = HoldsOfRow standing (λ row. step row ≡ refused row r)
 
 -- whether the tenant has an active task with the job of this name
@@ -45,11 +46,15 @@ AreTasksKept before after = (after.row.active ≡ before.row.active) × (after.r
 
 -- just those tasks that were active before and aren't behind are told as ended
 abbrev pub AreEnded : Standing → Standing → Type 0
-AreEnded before after = (j : JobId) → has_job after.tenancy.owner.place after.ended j ≡ (has_active before j && not (has_active after j))
+AreEnded before after = (j : JobId) → has_job after.tenancy.owner.place after.ready.ended j ≡ (has_active before j && not (has_active after j))
+
+-- without tasks that ended
+abbrev pub without_ended : Standing → Standing
+without_ended s = record s { ready = record s.ready { ended = [] } }
 
 -- room for the most tasks that the next instant can release
 abbrev pub HasRoom : Standing → Type 0
-HasRoom s = most_released s.row ≤ s.room
+HasRoom s = most_released s.row ≤ s.ready.room
 
 -- no program is installed at the next instant, whatever was recorded
 abbrev pub IsSettled : Row → Type 0
@@ -57,7 +62,7 @@ IsSettled row = (rs : List Record) → replaced_if_due (record row { records = r
 
 -- a share of each body that the next instant can need
 abbrev pub HasShares : Standing → Type 0
-HasShares s = 0 < most_released s.row → s.shared ≡ true
+HasShares s = 0 < most_released s.row → s.ready.shared ≡ true
 
 -- the tasks that an instant made active, behind those of before: no more than it can release, and of its number
 pub record AreReleased (before after : Row) : Type 0 where

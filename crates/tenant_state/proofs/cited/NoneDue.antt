@@ -5,12 +5,12 @@ use Rattle.std.specs.Option.{option_map_or}
 use Rattle.std.proofs.lemmas.Bool.{not-true, or_parts}
 use Rattle.giotto_tasks.specs.declared.names.Name.{Name}
 use Rattle.giotto_tasks.specs.Names.{same_name, is_among}
-use Rattle.giotto_tasks.proofs.ListLemmas.{all_map}
+use Rattle.giotto_tasks.proofs.cited.ListLemmas.{all_map}
 use Rattle.giotto_text.specs.Program.{TaskInvocation, ModeDeclaration, GiottoProgram}
 use Rattle.giotto_rules.specs.Declarations.{mode_named}
-use Rattle.tenant_slots.specs.Due.{is_due_at}
-use Rattle.tenant_state.specs.FirstHalf.{due_among, due_in_mode, due_tasks, names_due, still_active, completed_in_mode, first_half_of, first_half_with, stopped_with}
-use Rattle.tenant_state.specs.Row.{StopReason, State, empty, loaded, running, stopped, ActiveTask, Row, where_some}
+use Rattle.rig_model.specs.Due.{is_due_at}
+use Rattle.rig_model.specs.FirstHalf.{due_among, due_in_mode, due_tasks, names_due, still_active, completed_in_mode, first_half_of, first_half_with, stopped_with}
+use Rattle.rig_model.specs.Row.{StopReason, TenantState, empty, loaded, running, stopped, ActiveTask, Row, where_some}
 use Rattle.tenant_state.proofs.DueTasks.{all_pass, ends, group, names_of_tasks, none_passes, stay}
 
 module _ (m : ModeDeclaration) (time : ℕ) where
@@ -54,7 +54,7 @@ module _ (row : Row) where
   in_its_program None = refl
   in_its_program (Some p) = in_its_mode p (mode_named p row.mode) refl
 
-  in_its_state : (s : State) → due_tasks (first_half_with [] (record row { state = s })) ≡ []
+  in_its_state : (s : TenantState) → due_tasks (first_half_with [] (record row { state = s })) ≡ []
   in_its_state empty = refl
   in_its_state loaded = refl
   in_its_state running = in_its_program row.program

@@ -1,14 +1,14 @@
 -- A tenant before and behind the two halves of an instant.
 use Rattle.std.specs.Prelude.{◌≡◌, ◌⊎◌, ◌+◌, ℤ, List, Option, [], ℕ}
 use Rattle.tenant_jobs.specs.Finished.{TableEntry, has_result}
-use Rattle.tenant_exchange.specs.Granted.{granted_along}
-use Rattle.tenant_slots.specs.Readings.{readings_within}
-use Rattle.tenant_state.specs.FirstHalf.{unfinished_tasks, first_half_of}
-use Rattle.tenant_state.specs.Jobs.{job_of}
-use Rattle.tenant_state.specs.Row.{Row}
-use Rattle.tenant_state.specs.SecondHalf.{second_half_of}
+use Rattle.rig_model.specs.Granted.{granted_along}
+use Rattle.rig_model.specs.Readings.{readings_within}
+use Rattle.rig_model.specs.FirstHalf.{unfinished_tasks, first_half_of}
+use Rattle.rig_model.specs.Jobs.{job_of}
+use Rattle.rig_model.specs.Row.{Row}
+use Rattle.rig_model.specs.SecondHalf.{second_half_of}
 use Rattle.tenant_state.specs.Standing.{Standing, StandsFor}
-use Rattle.tenant_state.specs.inner.Standing.{AreEnded}
+use Rattle.tenant_state.specs.cited.Standing.{AreEnded}
 
 -- the first half of the row of the tenant at this place, where just the tasks with a result in this table are completed
 abbrev pub first_half_by : List TableEntry → ℕ → Row → Row
@@ -32,4 +32,4 @@ pub record IsSecondHalf (frame : List ℤ) (granted : List (Option ℤ)) (before
   pub program : (after.row.program ≡ before.row.program) ⊎ (before.row.active ≡ [])
   pub offers : after.row.offers ≡ before.row.offers
   pub binds : after.row.binds ≡ before.row.binds
-  pub ended : after.ended ≡ []
+  pub ended : after.ready.ended ≡ []

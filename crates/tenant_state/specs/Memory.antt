@@ -1,0 +1,22 @@
+-- Which commands of a tenant take memory, and so can be refused for want of it.
+use Rattle.std.specs.Prelude.{length, Bool, true, false, nat_lt, is_some}
+use Rattle.tenant_exchange.specs.Memory as grants
+use Rattle.tenant_grants.specs.Grants.{Owner}
+use Rattle.tenant_lines.specs.declared.commands.Command.{Command}
+use Rattle.tenant_lines.specs.declared.commands.Command.TheVariants.{Load, Replace, Start, Stop, ShowMode, ShowPort, ShowAll, Grants}
+use Rattle.tenant_lines.specs.declared.commands.Command.TheVariants as command
+use Rattle.rig_model.specs.Row.{Row}
+use Rattle.rig_model.specs.Commands.{grant_rows}
+
+-- whether a command takes memory, and so can be refused for want of it: `load` and `replace` for their program; `show all` for the list of all values,
+-- where the tenant has a program; `trace` for the list of records, where there is one; and those about grants that do
+abbrev pub takes_memory : Owner → Command → Row → Bool
+takes_memory owner (Load text) row = true
+takes_memory owner (Replace text) row = true
+takes_memory owner Start row = false
+takes_memory owner Stop row = false
+takes_memory owner ShowMode row = false
+takes_memory owner (ShowPort x) row = false
+takes_memory owner ShowAll row = is_some row.program
+takes_memory owner command.Trace row = nat_lt 0 (length row.records)
+takes_memory owner (Grants c) row = grants.takes_memory c (grant_rows owner row)
