@@ -3,54 +3,34 @@ use Rattle.std.proofs.Common.{◌≡◌, ℕ, ◌+◌, ◌<◌, ◌≤◌, List,
 use Rattle.std.specs.Prelude.{slice_get}
 use Rattle.std.specs.Option.{option_and_then, option_map}
 use Rattle.std.specs.List.{All, flat_map, enumerate_from}
-use Rattle.std.specs.Prelude.{sum}
-use Rattle.std.proofs.Math.ListN as lists
-use Rattle.std.proofs.lemmas.List.{length-map, get_or_default}
-use Rattle.std.proofs.lemmas.List.Sums.{sum-map}
-use Rattle.std.proofs.lemmas.Simd.{map-map}
+use Rattle.std.proofs.lemmas.List.{get_or_default}
 use Rattle.std.proofs.lemmas.Option.{slice_get-get_or, slice_get-map}
-use Rattle.tenant_jobs.specs.declared.jobs.JobId.{JobId}
-use Rattle.instant_engine.specs.inner.Tables.{IsTaskTable}
-use Rattle.instant_engine.specs.Tenants.{ArePlaced, most_of, tenant_at}
+use Rattle.rig_model.specs.declared.jobs.JobId.{JobId}
+use Rattle.instant_engine.specs.Tenants.{ArePlaced, tenant_at}
+use Rattle.instant_engine.proofs.cited.AtRest.{between_at_rest, same_at_rest, same_length, table_at_rest}
 use Rattle.host_core.specs.HostStanding.{HostStanding, Stands, awaited_in, outstanding_from, outstanding_of}
 use Rattle.host_core.specs.inner.HostStanding.{IsAt, IsWhole}
-use Rattle.host_core.specs.HostState.{HostState, row_at}
+use Rattle.rig_model.specs.HostState.{HostState, row_at}
 use Rattle.host_core.specs.declared.hosts.Host.TheInside.{Inside}
-use Rattle.host_core.specs.Setting.{Setting}
+use Rattle.rig_model.specs.Base.{Setting}
 use Rattle.tenant_jobs.specs.Finished.{TableEntry}
-use Rattle.tenant_state.specs.Jobs.{has_job, job_of}
-use Rattle.tenant_state.specs.Standing.{Standing, with_last, IsKnown, at_rest, no_tenant, most_released, outstanding_tasks, awaited_job}
-use Rattle.tenant_state.specs.inner.Standing.{HasItsResults}
+use Rattle.rig_model.specs.Jobs.{job_of}
+use Rattle.tenant_state.specs.Standing.{Standing, with_last, at_rest, no_tenant, outstanding_tasks, awaited_job}
 use Rattle.rig_config.specs.Roster.{Rig}
 
 -- a host as its code has it
 abbrev pub standing : Inside → HostStanding
 standing h = record { config = h.config; tenants = h.tenants.items; entries = h.finished.entries; clock = h.clock }
 
-pub same_at_rest : (xs ys : List Standing) (k : ℕ) (d : Standing) → map at_rest ys ≡ map at_rest xs → at_rest (get_or ys k d) ≡ at_rest (get_or xs k d)
-same_at_rest xs ys k d same = sym (lists.get_or-map at_rest ys k d) ∙ ap (λ zs. get_or zs k (at_rest d)) same ∙ lists.get_or-map at_rest xs k d
-
-pub same_length : (xs ys : List Standing) → map at_rest ys ≡ map at_rest xs → length ys ≡ length xs
-same_length xs ys same = sym (length-map ys at_rest) ∙ ap length same ∙ length-map xs at_rest
-
 pub rest_twice : (xs : List Standing) → map at_rest (map at_rest xs) ≡ map at_rest xs
 rest_twice [] = refl
 rest_twice (x ∷ xs) = ap (λ ys. at_rest x ∷ ys) (rest_twice xs)
 
 is_at_rest : (n : ℕ) (x y : Standing) → at_rest y ≡ at_rest x → IsAt n x → IsAt n y
-is_at_rest n x y e is = (
-  ap (λ (s : Standing). s.row.next_tick) e ∙ is.0,
-  record { known = subst (λ (s : Standing). IsKnown s.tenancy s.row) (sym e) is.1.known; binds = subst (λ (s : Standing). length s.row.binds ≤ s.tenancy.owner.most_binds) (sym e) is.1.binds; rest = ap (λ (s : Standing). s.ended) e ∙ is.1.rest },
-)
+is_at_rest n x y e is = (ap (λ (s : Standing). s.row.next_tick) e ∙ is.0, between_at_rest x y e is.1)
 
 all_at_rest : (n : ℕ) (xs ys : List Standing) → map at_rest ys ≡ map at_rest xs → All (IsAt n) xs → All (IsAt n) ys
 all_at_rest n xs ys same all k d lt = is_at_rest n (get_or xs k d) (get_or ys k d) (same_at_rest xs ys k d same) (all k d (omega (arith, lt, same_length xs ys same)))
-
-table_at_rest : (entries : List TableEntry) (xs ys : List Standing) → map at_rest ys ≡ map at_rest xs → IsTaskTable xs entries → IsTaskTable ys entries
-table_at_rest entries xs ys same table = record {
-  entered = λ j. table.entered j ∙ sym (ap (λ (s : Standing). has_job s.tenancy.owner.place s.row.active j) (same_at_rest xs ys j.tenant no_tenant same));
-  results = λ k d lt. subst (λ (s : Standing). HasItsResults s entries) (sym (same_at_rest xs ys k d same)) (table.results k d (omega (arith, lt, same_length xs ys same)));
-}
 
 placed_at_rest : (xs ys : List Standing) → map at_rest ys ≡ map at_rest xs → ArePlaced xs → ArePlaced ys
 placed_at_rest xs ys same placed t lt =
@@ -119,10 +99,3 @@ here_at_rest host view t x is lt here =
     ap (λ (h : HostStanding). at_rest (tenant_at h.tenants t)) (sym is)
     ∙ (same_at_rest host.tenants (map at_rest host.tenants) t no_tenant (rest_twice host.tenants)
     ∙ ap at_rest (sym (here ∙ get_or_default host.tenants t x no_tenant lt)))
-
--- the most jobs of all
-pub most_at_rest : (xs : List Standing) → most_of (map at_rest xs) ≡ most_of xs
-most_at_rest xs = let most : Standing → ℕ = λ s. most_released s.row in sym (sum-map most (map at_rest xs)) ∙ (ap sum (map-map most at_rest xs) ∙ sum-map most xs)
-
-pub same_most : (xs ys : List Standing) → map at_rest ys ≡ map at_rest xs → most_of ys ≡ most_of xs
-same_most xs ys same = sym (most_at_rest ys) ∙ (ap most_of same ∙ most_at_rest xs)

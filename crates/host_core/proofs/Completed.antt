@@ -1,31 +1,29 @@
 -- The completion of outstanding jobs, of all tenants and of one.
-use Rattle.std.proofs.Common.{◌≡◌, ℕ, zero, suc, ◌+◌, ◌<◌, ◌≢◌, ⊎_elim, Bool, true, false, not, cond, ◌&&◌, ◌||◌, List, [], ◌∷◌, ◌++◌, filter, map, length, reverse, refl, sym, ap, ◌∙◌, subst, arith, zero-add, append_assoc}
+use Rattle.std.proofs.Common.{◌≡◌, ℕ, zero, suc, ◌+◌, ◌<◌, ◌≢◌, ⊎_elim, Bool, true, false, not, cond, ◌&&◌, ◌||◌, List, [], ◌∷◌, ◌++◌, filter, map, length, reverse, refl, sym, ap, ◌∙◌, subst, arith, zero-add}
 use Rattle.std.specs.List.{AllByRecursion, list_any, flat_map, enumerate_from}
 use Rattle.std.proofs.Math.ListN.{get_or-eq_default}
 use Rattle.std.proofs.lemmas.Bool.{cases_eq, cases_lt}
-use Rattle.std.proofs.lemmas.List.{reverse-append}
 use Rattle.std.proofs.lemmas.List.Folds.{list_any-append}
 use Rattle.std.proofs.lemmas.Map.Views.{any-filter_same}
 use Rattle.rig_config.specs.declared.TenantConfig.{TenantConfig}
-use Rattle.tenant_jobs.specs.declared.jobs.JobId.{JobId}
+use Rattle.rig_model.specs.declared.jobs.JobId.{JobId}
 use Rattle.tenant_jobs.specs.Finished.{TableEntry, has_result}
-use Rattle.tenant_jobs.specs.Jobs.{same_job}
-use Rattle.tenant_jobs.proofs.JobNames.{same_job_is}
-use Rattle.tenant_state.specs.Jobs.{has_job, job_of, is_active}
-use Rattle.tenant_state.specs.Row.{Row, empty_row}
-use Rattle.tenant_state.proofs.JobNames.{own_jobs_active}
+use Rattle.rig_model.specs.Jobs.{same_job, has_job, job_of, is_active}
+use Rattle.rig_model.proofs.cited.JobNames.{same_job_is, own_jobs_active}
+use Rattle.rig_model.specs.Row.{Row, empty_row}
 use Rattle.instant_engine.specs.Tenants.{ArePlaced, tenant_at}
-use Rattle.instant_engine.specs.inner.Tenants.{is_active_among}
-use Rattle.host_core.specs.declared.events.Event.{Event}
-use Rattle.host_core.specs.declared.events.Event.TheVariants.{Done}
-use Rattle.host_core.specs.Host.{after_event, host_after}
-use Rattle.host_core.specs.HostState.{HostState, row_at, is_counted, awaits}
+use Rattle.instant_engine.specs.cited.Tenants.{is_active_among}
+use Rattle.rig_model.specs.declared.events.Event.{Event}
+use Rattle.rig_model.specs.declared.events.Event.TheVariants.{Done}
+use Rattle.rig_model.specs.Host.{after_event, host_after}
+use Rattle.rig_model.specs.HostState.{HostState, row_at, is_counted, is_awaited}
 use Rattle.host_core.specs.HostStanding.{HostStanding, Stands, outstanding_jobs, outstanding_of}
-use Rattle.host_core.specs.Setting.{Setting}
-use Rattle.giotto_tasks.proofs.ListLemmas.{all_of, all_flat, all_filtered, any_if_all, any_map}
-use Rattle.giotto_tasks.proofs.TestLemmas.{absorbed, or_assoc, or_true, or_turned}
-use Rattle.host_core.proofs.HostSteps.{active_alike}
-use Rattle.host_core.proofs.Outstanding.{jobs_at, all_jobs, awaited_at, code_awaits}
+use Rattle.rig_model.specs.Base.{Setting}
+use Rattle.giotto_tasks.proofs.cited.ListLemmas.{all_of, all_flat, all_filtered, any_if_all, any_map}
+use Rattle.giotto_tasks.proofs.cited.TestLemmas.{absorbed, or_assoc, or_true, or_turned}
+use Rattle.host_core.proofs.cited.HostSteps.{active_alike}
+use Rattle.host_core.proofs.cited.Outstanding.{jobs_at, all_jobs, awaited_at, code_awaits}
+use Rattle.rig_laws.proofs.cited.Places.{first_done}
 
 moved : (a b c : Bool) → (a || (b || c)) ≡ ((b || a) || c)
 moved a b c = or_assoc a b c ∙ ap (λ x. x || c) (or_turned a b)
@@ -54,10 +52,6 @@ one_more true active = refl
 one_more false true = refl
 one_more false false = refl
 
--- of the completions of these jobs, the first comes first
-pub first_done : (j : JobId) (js : List JobId) (past : List Event) → reverse (map Done (j ∷ js)) ++ past ≡ reverse (map Done js) ++ (Done j ∷ past)
-first_done j js past = ap (λ es. es ++ past) (reverse-append (Done j ∷ []) (map Done js)) ∙ append_assoc (reverse (map Done js)) (Done j ∷ []) past
-
 module _ (setting : Setting) where
   -- the state behind the completions of these jobs, the first of them first
   abbrev pub after_done : List JobId → HostState → HostState
@@ -81,7 +75,7 @@ module _ (setting : Setting) where
       next : Bool → HostState
       next b = cond b (record state { counted = j ∷ state.counted }) state
 
-      awaited : (b : Bool) → is_counted state j ≡ b → awaits state j ≡ not b
+      awaited : (b : Bool) → is_counted state j ≡ b → is_awaited state j ≡ not b
       awaited b e = ap (λ a. a && not (is_counted state j)) active.0 ∙ ap not e
 
       by : (b : Bool) → is_counted state j ≡ b → AreCounted js state → AreCounted js (next true) → AreCounted (j ∷ js) state

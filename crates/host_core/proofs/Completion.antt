@@ -6,23 +6,23 @@ use Rattle.std.specs.Option.{option_and_then}
 use Rattle.std.proofs.Math.ListN.{get_or-eq_default}
 use Rattle.std.proofs.lemmas.Bool.{cases_lt}
 use Rattle.std.proofs.lemmas.Option.{slice_get_past}
-use Rattle.tenant_jobs.specs.declared.jobs.JobId.{JobId}
+use Rattle.rig_model.specs.declared.jobs.JobId.{JobId}
 use Rattle.tenant_jobs.specs.Finished.{TableEntry, has_result}
 use Rattle.tenant_jobs.specs.Jobs.{JobValue}
-use Rattle.tenant_state.specs.Jobs.{is_active}
-use Rattle.tenant_state.specs.Row.{Row, empty_row}
+use Rattle.rig_model.specs.Jobs.{is_active}
+use Rattle.rig_model.specs.Row.{Row, empty_row}
 use Rattle.tenant_state.specs.Standing.{Standing, at_rest, awaited_job, no_tenant, released_job}
 use Rattle.instant_engine.specs.Tenants.{ArePlaced}
-use Rattle.host_core.specs.declared.events.Event.TheVariants.{Done}
+use Rattle.rig_model.specs.declared.events.Event.TheVariants.{Done}
 use Rattle.host_core.specs.declared.hosts.Counted.{Counted}
 use Rattle.host_core.specs.declared.hosts.Counted.TheVariants as became
-use Rattle.host_core.specs.Host.{after_event}
-use Rattle.host_core.specs.HostState.{HostState, row_at, is_counted, awaits}
+use Rattle.rig_model.specs.Host.{after_event}
+use Rattle.rig_model.specs.HostState.{HostState, row_at, is_counted, is_awaited}
 use Rattle.host_core.specs.HostStanding.{HostStanding, Stands, IsOwn, awaited_in}
 use Rattle.host_core.specs.inner.HostStanding.{IsAt}
-use Rattle.host_core.specs.Setting.{Setting}
+use Rattle.rig_model.specs.Base.{Setting}
 use Rattle.host_core.proofs.AtRest.{stands_inside, awaited_at_rest, awaited_here}
-use Rattle.host_core.proofs.HostSteps.{awaits_here}
+use Rattle.host_core.proofs.cited.HostSteps.{awaits_here}
 
 -- what isn't counted is late
 late_if : (result : Counted) → (result ≡ became.Counted → ⊥) → result ≡ became.Late
@@ -50,26 +50,26 @@ module _ (setting : Setting) (host view : HostStanding) (state : HostState) (kno
   inside = stands_inside setting host state (subst (λ h. Stands setting h state) (sym is) stands)
 
   -- no job of a place beyond the roster is awaited
-  past_all : (j : JobId) → length setting.config.tenants ≤ j.tenant → awaits state j ≡ false
+  past_all : (j : JobId) → length setting.config.tenants ≤ j.tenant → is_awaited state j ≡ false
   past_all j le =
       let row : row_at state j.tenant ≡ empty_row state.clock = get_or-eq_default state.rows (empty_row state.clock) (omega (arith, inside.all_rows, le)) in
       ap (λ (r : Row). is_active r j && not (is_counted state j)) row
 
   -- the host awaits a job where the definitions do, whatever tenant the job names
-  awaits_own : (j : JobId) → awaits state j ≡ is_some (awaited_in view j)
+  awaits_own : (j : JobId) → is_awaited state j ≡ is_some (awaited_in view j)
   awaits_own j = ⊎_elim here past (cases_lt j.tenant (length setting.config.tenants)) ∙ ap is_some (sym (awaited_at_rest host j) ∙ ap (λ (h : HostStanding). awaited_in h j) is)
     where
-      here : j.tenant < length setting.config.tenants → awaits state j ≡ is_some (awaited_in host j)
+      here : j.tenant < length setting.config.tenants → is_awaited state j ≡ is_some (awaited_in host j)
       here lt = awaits_here setting host state j lt inside placed (known j.tenant no_tenant (omega (arith, inside.as_many, lt))).1.known
 
-      past : length setting.config.tenants ≤ j.tenant → awaits state j ≡ is_some (awaited_in host j)
+      past : length setting.config.tenants ≤ j.tenant → is_awaited state j ≡ is_some (awaited_in host j)
       past le =
           let none : slice_get host.tenants j.tenant ≡ None = slice_get_past host.tenants j.tenant (omega (arith, inside.as_many, le)) in
           past_all j le ∙ sym (ap (λ o. is_some (option_and_then (λ s. awaited_job s host.entries j) o)) none)
 
   -- the answer, and what stands behind it
   pub record ComesTo (done : JobValue) (result : Counted) (after : HostStanding) : Type 0 where
-    pub answer : result ≡ cond (awaits state done.id) became.Counted became.Late
+    pub answer : result ≡ cond (is_awaited state done.id) became.Counted became.Late
     pub step : Stands setting after (after_event setting state (Done done.id))
 
   pub comes_to : (done : JobValue) (result : Counted) (after : HostStanding) → (result ≡ became.Counted) ↔ (awaited_in view done.id ≡ Some done) → (result ≡ became.Late → after ≡ view)
@@ -78,14 +78,14 @@ module _ (setting : Setting) (host view : HostStanding) (state : HostState) (kno
     where
       by : (o : Option JobValue) → awaited_in view done.id ≡ o → IfSome o (λ job. job ≡ done) → ComesTo done result after
       by None none same =
-          let awaited : awaits state done.id ≡ false = awaits_own done.id ∙ ap is_some none in
+          let awaited : is_awaited state done.id ≡ false = awaits_own done.id ∙ ap is_some none in
           let is_late : result ≡ became.Late = late_if result (λ e. let bad : Some done ≡ None = sym (counted.0 e) ∙ none in absurd (cc)) in
           record {
             answer = is_late ∙ sym (ap (λ b. cond b became.Counted became.Late) awaited);
             step = subst (λ b. Stands setting after (cond b (record state { counted = done.id ∷ state.counted }) state)) (sym awaited) (subst (λ h. Stands setting h state) (sym (late is_late)) stands);
           }
       by (Some job) some same =
-          let awaited : awaits state done.id ≡ true = awaits_own done.id ∙ ap is_some some in
+          let awaited : is_awaited state done.id ≡ true = awaits_own done.id ∙ ap is_some some in
           let is_counted : result ≡ became.Counted = counted.1 (some ∙ ap Some same) in
           record {
             answer = is_counted ∙ sym (ap (λ b. cond b became.Counted became.Late) awaited);
@@ -95,7 +95,7 @@ module _ (setting : Setting) (host view : HostStanding) (state : HostState) (kno
   -- a completion for a place beyond the roster
   pub past_roster : (done : JobValue) → length host.tenants ≤ done.id.tenant → ComesTo done became.Late view
   past_roster done le =
-      let awaited : awaits state done.id ≡ false = past_all done.id (omega (arith, inside.as_many, le)) in
+      let awaited : is_awaited state done.id ≡ false = past_all done.id (omega (arith, inside.as_many, le)) in
       record {
         answer = sym (ap (λ b. cond b became.Counted became.Late) awaited);
         step = subst (λ b. Stands setting view (cond b (record state { counted = done.id ∷ state.counted }) state)) (sym awaited) stands;

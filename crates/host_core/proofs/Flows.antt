@@ -9,27 +9,27 @@ use Rattle.std.proofs.Math.ListN.{get_or-eq_default}
 use Rattle.std.proofs.lemmas.Bool.{cases_eq, cases_lt}
 use Rattle.std.proofs.lemmas.Bool.Decides.{nat_tests}
 use Rattle.std.proofs.lemmas.List.Folds.{list_any-append}
-use Rattle.giotto_tasks.proofs.TestLemmas.{and_false, or_assoc, or_true, or_turned}
+use Rattle.giotto_tasks.proofs.cited.TestLemmas.{and_false, or_assoc, or_true, or_turned}
 use Rattle.giotto_tasks.specs.declared.names.Name.{Name}
 use Rattle.tenant_grants.specs.Grants.{bind_at, place_in, with_place}
 use Rattle.tenant_grants.specs.declared.rows.Bind.{Bind}
 use Rattle.rig_config.specs.Roster.{Rig}
-use Rattle.tenant_jobs.specs.declared.jobs.JobId.{JobId}
-use Rattle.tenant_state.specs.Row.{empty_row}
-use Rattle.host_core.specs.Host.{host_after}
-use Rattle.host_core.specs.HostState.{HostState, row_at}
+use Rattle.rig_model.specs.declared.jobs.JobId.{JobId}
+use Rattle.rig_model.specs.Row.{empty_row}
+use Rattle.rig_model.specs.Host.{host_after}
+use Rattle.rig_model.specs.HostState.{HostState, row_at}
 use Rattle.host_core.specs.HostStanding.{HostStanding, Stands}
-use Rattle.host_core.specs.Setting.{Setting}
-use Rattle.host_core.specs.Sources.{is_source, suppliers_of}
-use Rattle.host_core.specs.Views.{row_of}
-use Rattle.host_core.specs.declared.events.Event.{Event}
-use Rattle.host_core.specs.declared.events.Event.TheVariants.{Own, Tick, Done}
+use Rattle.rig_model.specs.Base.{Setting}
+use Rattle.rig_model.specs.Sources.{is_source, suppliers_of}
+use Rattle.rig_model.specs.Views.{row_of}
+use Rattle.rig_model.specs.declared.events.Event.{Event}
+use Rattle.rig_model.specs.declared.events.Event.TheVariants.{Own, Tick, Done}
 use Rattle.host_core.specs.declared.trials.Flow.{Flow}
 use Rattle.host_core.specs.inner.Playing.{IsPlayed}
 use Rattle.host_core.specs.inner.Trials.{AreFlows, AreFlowsBefore, LeadBack, has_flow, is_reached}
-use Rattle.host_core.proofs.AloneAlong.{same_rows}
-use Rattle.host_core.proofs.Played.{is_within, row_outside}
-use Rattle.host_core.proofs.SourceSets.{before_tick}
+use Rattle.rig_laws.proofs.cited.AloneAlong.{same_rows}
+use Rattle.rig_laws.proofs.cited.Releases.{is_within, row_outside}
+use Rattle.rig_laws.proofs.cited.SourceSets.{before_tick}
 
 -- the suppliers that these binds name
 abbrev pub named : List Name → List Bind → List ℕ

@@ -2,11 +2,11 @@
 use Rattle.std.proofs.Common.{◌≡◌, ◌<◌, ℕ, length, map, get_or, ap, sym, subst}
 use Rattle.rig_config.specs.Roster.{Rig}
 use Rattle.instant_engine.specs.Tenants.{tenant_at}
-use Rattle.tenant_state.specs.Row.{Row}
+use Rattle.rig_model.specs.Row.{Row}
 use Rattle.tenant_state.specs.Standing.{Standing, at_rest}
 use Rattle.host_core.specs.HostStanding.{HostStanding, Stands}
-use Rattle.host_core.specs.HostState.{HostState, row_at}
-use Rattle.host_core.specs.Setting.{Setting}
+use Rattle.rig_model.specs.HostState.{HostState, row_at}
+use Rattle.rig_model.specs.Base.{Setting}
 use Rattle.host_core.proofs.AtRest.{here_at_rest}
 
 -- a tenant's binds, as the host's value has them

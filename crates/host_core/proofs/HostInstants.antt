@@ -1,33 +1,33 @@
 -- What a host keeps and stands for behind an instant, whose tenants were made ready before.
-use Rattle.std.proofs.Common.{◌≡◌, ℕ, suc, ◌+◌, ◌-◌, ◌<◌, ◌≤◌, ◌^◌, ⊎_elim, cond, ℤ, Option, List, [], ◌∷◌, ◌++◌, length, map, take, drop, get_or, Some, None, refl, sym, ap, ◌∙◌, subst, arith}
-use Rattle.std.specs.List.{All, sum_by}
+use Rattle.std.proofs.Common.{◌≡◌, ℕ, ◌+◌, ◌-◌, ◌<◌, ◌≤◌, ◌^◌, ⊎_elim, cond, ℤ, Option, List, [], ◌∷◌, ◌++◌, length, map, take, drop, get_or, Some, None, refl, sym, ap, ◌∙◌, subst, arith}
+use Rattle.std.specs.List.{All}
 use Rattle.std.specs.Option.{option_map_or}
 use Rattle.std.proofs.Math.ListN.{get_or-eq_default}
 use Rattle.std.proofs.lemmas.Bool.{cases_lt}
 use Rattle.std.proofs.lemmas.List.{get_or_default, length-map}
-use Rattle.std.proofs.lemmas.List.Sums.{sum_by-cons}
 use Rattle.std.proofs.lemmas.Option.{slice_get-get_or}
-use Rattle.tenant_jobs.specs.declared.jobs.JobId.{JobId}
+use Rattle.rig_model.specs.declared.jobs.JobId.{JobId}
 use Rattle.tenant_jobs.specs.Finished.{TableEntry, entry_in, result_in}
-use Rattle.tenant_state.specs.Tenancy.{Tenancy}
+use Rattle.rig_model.specs.Tenancies.{Tenancy, roster_of}
 use Rattle.tenant_state.specs.Standing.{Standing, at_rest, no_tenant}
-use Rattle.instant_engine.specs.inner.Instants.{AreInstants}
-use Rattle.instant_engine.specs.inner.Tables.{IsTaskTable}
+use Rattle.instant_engine.specs.cited.Instants.{AreInstants}
+use Rattle.instant_engine.specs.cited.Tables.{IsTaskTable}
 use Rattle.instant_engine.specs.Tenants.{tenant_at}
-use Rattle.instant_engine.specs.inner.Tenants.{HaveRoster, binds_of, is_active_among, roster_among}
-use Rattle.host_core.specs.declared.events.Event.TheVariants.{Tick}
-use Rattle.host_core.specs.Host.{after_event}
-use Rattle.host_core.specs.HostState.{HostState}
+use Rattle.instant_engine.specs.cited.Tenants.{HaveRoster, binds_of, is_active_among, roster_among}
+use Rattle.rig_model.specs.declared.events.Event.TheVariants.{Tick}
+use Rattle.rig_model.specs.Host.{after_event}
+use Rattle.rig_model.specs.HostState.{HostState}
 use Rattle.host_core.specs.HostStanding.{HostStanding, Stands}
 use Rattle.host_core.specs.inner.HostStanding.{IsAt, IsWhole, most_binds}
-use Rattle.host_core.specs.Setting.{Setting}
-use Rattle.host_core.proofs.AtRest.{kept_at_rest, same_length, stands_at_rest, stands_inside, stands_outside}
-use Rattle.host_core.proofs.HostSteps.{stands_after_tick}
+use Rattle.rig_model.specs.Base.{Setting}
+use Rattle.instant_engine.proofs.cited.AtRest.{same_length}
+use Rattle.instant_engine.proofs.cited.Loops.{sums_within}
+use Rattle.host_core.proofs.AtRest.{kept_at_rest, stands_at_rest, stands_inside, stands_outside}
+use Rattle.host_core.proofs.cited.HostSteps.{stands_after_tick}
 use Rattle.rig_config.specs.Roster.{Rig, budgets_at, no_budgets}
 use Rattle.rig_config.specs.declared.Budgets.{Budgets}
 use Rattle.rig_config.specs.declared.TenantConfig.{TenantConfig}
-use Rattle.host_core.specs.Tenancies.{roster_of}
-use Rattle.host_core.proofs.NewHost.{nobody}
+use Rattle.rig_laws.proofs.cited.Places.{nobody}
 
 take_front : {X : Type 0} (xs ys : List X) → take (length xs) (xs ++ ys) ≡ xs
 take_front [] ys = refl
@@ -36,13 +36,6 @@ take_front (x ∷ xs) ys = ap (λ zs. x ∷ zs) (take_front xs ys)
 -- a list that is written over by one of its length
 pub written_over : {X : Type 0} (n : ℕ) (old new : List X) → length new ≡ n → take n (new ++ drop (length new) old) ≡ new
 written_over n old new e = ap (λ k. take k (new ++ drop (length new) old)) (sym e) ∙ take_front new (drop (length new) old)
-
--- sums over lists of one length, term by term
-sums_within : {A B : Type 0} (f : A → ℕ) (g : B → ℕ) (d : A) (e : B) (xs : List A) (ys : List B) → length xs ≡ length ys → ((t : ℕ) → t < length xs → f (get_or xs t d) ≤ g (get_or ys t e)) → sum_by f xs ≤ sum_by g ys
-sums_within f g d e [] ys long each = omega arith
-sums_within f g d e (x ∷ xs) [] long each = absurd (omega (arith, long))
-sums_within f g d e (x ∷ xs) (y ∷ ys) long each =
-    omega (arith, sum_by-cons f x xs, sum_by-cons g y ys, each 0 (omega arith), sums_within f g d e xs ys (omega (arith, long)) (λ t lt. each (suc t) (omega (arith, lt))))
 
 -- the budgets of a tenant of the roster
 budgets_there : (config : Rig) (t : ℕ) → t < length config.tenants → budgets_at config t ≡ (get_or config.tenants t nobody).budgets
@@ -75,70 +68,68 @@ module _ (config : Rig) (clock : ℕ) (tenants : List Standing) (entries : List 
         ap (λ (b : Budgets). b.binds) (budgets_there config t (omega (arith, lt, whole.as_many))),
       ))
 
--- the tenants are written through a slice: first made ready, then through an instant
-module _ (config : Rig) (clock places : ℕ) (old slice ready : List Standing) (before readied : List TableEntry)
-    (value : slice ≡ old) (long : length slice ≡ places) (rest : map at_rest ready ≡ map at_rest slice) (same : readied ≡ before)
-    (whole : IsWhole config clock old before) where
-  abbrev pub ready_items : List Standing
-  ready_items = take places (ready ++ drop (length ready) old)
+-- the tenants of a host that were made ready, read again through a slice
+pub record AreReadied (config : Rig) (clock places : ℕ) (old again : List Standing) (before readied : List TableEntry) : Type 0 where
+  pub whole : IsWhole config clock again readied
+  pub rest : map at_rest again ≡ map at_rest old
+  pub long : length again ≡ places
+  pub same : readied ≡ before
 
-  items_ready : ready_items ≡ ready
-  items_ready = written_over places old ready (same_length slice ready rest ∙ long)
+-- they are written over by as many that are the same at rest
+pub are_readied : (config : Rig) (clock places : ℕ) (old slice ready : List Standing) (before readied : List TableEntry) → slice ≡ old → length slice ≡ places → map at_rest ready ≡ map at_rest slice → readied ≡ before
+    → IsWhole config clock old before → AreReadied config clock places old (take places (ready ++ drop (length ready) old)) before readied
+are_readied config clock places old slice ready before readied value long rest same whole =
+    let many : length ready ≡ places = same_length slice ready rest ∙ long in
+    let at_ready : map at_rest ready ≡ map at_rest old = rest ∙ ap (map at_rest) value in
+    subst (λ xs. AreReadied config clock places old xs before readied) (sym (written_over places old ready many)) (record {
+      whole = subst (IsWhole config clock ready) (sym same) (kept_at_rest old ready at_ready whole);
+      rest = at_ready;
+      long = many;
+      same = same;
+    })
 
-  rest_ready : map at_rest ready ≡ map at_rest old
-  rest_ready = rest ∙ ap (map at_rest) value
+-- tenants and their table behind an instant
+pub record IsNext (frame : List ℤ) (again : List Standing) (readied : List TableEntry) (tenants : List Standing) (entries : List TableEntry) : Type 0 where
+  pub instants : AreInstants frame readied again tenants
+  pub table : IsTaskTable tenants entries
+  pub exact : (j : JobId) → entry_in entries j ≡ cond (is_active_among tenants j) (Some (record { id = j; result = result_in readied j })) None
 
-  ready_whole : IsWhole config clock ready readied
-  ready_whole = subst (IsWhole config clock ready) (sym same) (kept_at_rest old ready rest_ready whole)
+module _ {config : Rig} {clock places : ℕ} {old again : List Standing} {before readied : List TableEntry} (is : AreReadied config clock places old again before readied) where
+  pub rosters_again : HaveRoster again
+  rosters_again = have_roster config clock again readied is.whole
 
-  pub whole_ready : IsWhole config clock ready_items readied
-  whole_ready = subst (λ xs. IsWhole config clock xs readied) (sym items_ready) ready_whole
+  pub places_again : (granted : List (Option ℤ)) → most_binds config ≤ length granted → binds_of again ≤ length granted
+  places_again granted room = omega (arith, room, binds_fit config clock again readied is.whole)
 
-  module _ (again : List Standing) (now : again ≡ ready_items) where
-    pub whole_again : IsWhole config clock again readied
-    whole_again = subst (λ xs. IsWhole config clock xs readied) (sym now) whole_ready
+  pub counts_again : clock < 2 ^ 64 - 1 → All (λ (s : Standing). s.row.next_tick < 2 ^ 64 - 1) again
+  counts_again below k d lt = subst (λ n. n < 2 ^ 64 - 1) (sym (is.whole.known k d lt).0) below
 
-    pub rosters_again : HaveRoster again
-    rosters_again = have_roster config clock again readied whole_again
+  -- what an instant made of them is written over the others
+  pub written_behind : (frame : List ℤ) (after others : List Standing) → AreInstants frame readied again after → take places (after ++ drop (length after) others) ≡ after
+  written_behind frame after others instants = written_over places others after (instants.moved.as_many ∙ is.long)
 
-    pub places_again : (granted : List (Option ℤ)) → most_binds config ≤ length granted → binds_of again ≤ length granted
-    places_again granted room = omega (arith, room, binds_fit config clock again readied whole_again)
+  pub next_written : (frame : List ℤ) (after others : List Standing) (behind : List TableEntry) → IsNext frame again readied after behind → IsNext frame again readied (take places (after ++ drop (length after) others)) behind
+  next_written frame after others behind next = subst (λ xs. IsNext frame again readied xs behind) (sym (written_behind frame after others next.instants)) next
 
-    pub counts_again : clock < 2 ^ 64 - 1 → All (λ (s : Standing). s.row.next_tick < 2 ^ 64 - 1) again
-    counts_again below k d lt = subst (λ n. n < 2 ^ 64 - 1) (sym (whole_again.known k d lt).0) below
+  module _ (frame : List ℤ) (after : List Standing) (behind : List TableEntry) (next : IsNext frame again readied after behind) where
+    pub whole_behind : IsWhole config (clock + 1) after behind
+    whole_behind = record {
+      as_many = next.instants.moved.as_many ∙ is.whole.as_many;
+      known = λ k d lt. subst (IsAt (clock + 1)) (sym (get_or_default after k d no_tenant lt)) (at k (omega (arith, lt, next.instants.moved.as_many)));
+      placed = λ t lt. let within : t < length again = omega (arith, lt, next.instants.moved.as_many) in ap (λ (y : Tenancy). y.owner.place) (next.instants.moved.each t within).tenancy ∙ is.whole.placed t within;
+      tenancies = λ t lt. let within : t < length again = omega (arith, lt, next.instants.moved.as_many) in (next.instants.moved.each t within).tenancy ∙ is.whole.tenancies t within;
+      table = next.table;
+    }
+      where
+        at : (k : ℕ) → k < length again → IsAt (clock + 1) (tenant_at after k)
+        at k lt = ((next.instants.moved.each k lt).next_tick ∙ ap (λ n. n + 1) (is.whole.known k no_tenant lt).0, (next.instants.moved.each k lt).between)
 
-    module _ (frame : List ℤ) (after : List Standing) (behind : List TableEntry) (instants : AreInstants frame readied again after) (table : IsTaskTable after behind) where
-      abbrev pub items_behind : List Standing
-      items_behind = take places (after ++ drop (length after) ready_items)
-
-      pub written_behind : items_behind ≡ after
-      written_behind = written_over places ready_items after (instants.moved.as_many ∙ ap length (now ∙ items_ready) ∙ same_length slice ready rest ∙ long)
-
-      after_whole : IsWhole config (clock + 1) after behind
-      after_whole = record {
-        as_many = instants.moved.as_many ∙ whole_again.as_many;
-        known = λ k d lt. subst (IsAt (clock + 1)) (sym (get_or_default after k d no_tenant lt)) (at k (omega (arith, lt, instants.moved.as_many)));
-        placed = λ t lt. let within : t < length again = omega (arith, lt, instants.moved.as_many) in ap (λ (y : Tenancy). y.owner.place) (instants.moved.each t within).tenancy ∙ whole_again.placed t within;
-        tenancies = λ t lt. let within : t < length again = omega (arith, lt, instants.moved.as_many) in (instants.moved.each t within).tenancy ∙ whole_again.tenancies t within;
-        table = table;
-      }
-        where
-          at : (k : ℕ) → k < length again → IsAt (clock + 1) (tenant_at after k)
-          at k lt = ((instants.moved.each k lt).next_tick ∙ ap (λ n. n + 1) (whole_again.known k no_tenant lt).0, (instants.moved.each k lt).between)
-
-      pub whole_behind : IsWhole config (clock + 1) items_behind behind
-      whole_behind = subst (λ xs. IsWhole config (clock + 1) xs behind) (sym written_behind) after_whole
-
-      pub stands_behind : ((j : JobId) → entry_in behind j ≡ cond (is_active_among after j) (Some (record { id = j; result = result_in readied j })) None)
-          → (setting : Setting) (state : HostState) → Stands setting (record { config = config; tenants = map at_rest old; entries = before; clock = clock }) state
-          → Stands setting (record { config = config; tenants = map at_rest items_behind; entries = behind; clock = clock + 1 }) (after_event setting state (Tick frame))
-      stands_behind exact setting state view =
-          let host : HostStanding = record { config = config; tenants = old; entries = before; clock = clock } in
-          let inside : Stands setting host state = stands_inside setting host state view in
-          let at_ready : Stands setting (record host { tenants = again }) state =
-          stands_at_rest setting host state again (ap (map at_rest) (now ∙ items_ready) ∙ rest_ready) inside in
-          let with_entries : Stands setting (record host { tenants = again; entries = readied }) state =
-          subst (λ (es : List TableEntry). Stands setting (record host { tenants = again; entries = es }) state) (sym same) at_ready in
-          subst (λ xs. Stands setting (record { config = config; tenants = map at_rest xs; entries = behind; clock = clock + 1 }) (after_event setting state (Tick frame))) (sym written_behind)
-          (stands_outside setting (record { config = config; tenants = after; entries = behind; clock = clock + 1 }) (after_event setting state (Tick frame))
-          (stands_after_tick setting (record host { tenants = again; entries = readied }) state frame after behind with_entries whole_again.placed whole_again.tenancies instants exact))
+    pub stands_behind : (setting : Setting) (state : HostState) → Stands setting (record { config = config; tenants = map at_rest old; entries = before; clock = clock }) state
+        → Stands setting (record { config = config; tenants = map at_rest after; entries = behind; clock = clock + 1 }) (after_event setting state (Tick frame))
+    stands_behind setting state view =
+        let host : HostStanding = record { config = config; tenants = old; entries = before; clock = clock } in
+        let at_ready : Stands setting (record host { tenants = again }) state = stands_at_rest setting host state again is.rest (stands_inside setting host state view) in
+        let with_entries : Stands setting (record host { tenants = again; entries = readied }) state =
+        subst (λ (es : List TableEntry). Stands setting (record host { tenants = again; entries = es }) state) (sym is.same) at_ready in
+        stands_outside setting (record { config = config; tenants = after; entries = behind; clock = clock + 1 }) (after_event setting state (Tick frame))
+        (stands_after_tick setting (record host { tenants = again; entries = readied }) state frame after behind with_entries is.whole.placed is.whole.tenancies next.instants next.exact)

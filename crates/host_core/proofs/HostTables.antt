@@ -7,24 +7,25 @@ use Rattle.std.proofs.Math.ListN.{get_or-eq_default}
 use Rattle.std.proofs.lemmas.Bool.{and_parts, or_left, or_right, cases_eq, cases_lt, false_from_ne_true, false≢true}
 use Rattle.std.proofs.lemmas.List.{get_or_default, get_or-set_same, get_or-set_other, get_or-take, length-take}
 use Rattle.giotto_text.specs.Program.{GiottoProgram}
-use Rattle.tenant_jobs.specs.declared.jobs.JobId.{JobId}
+use Rattle.rig_model.specs.declared.jobs.JobId.{JobId}
 use Rattle.tenant_jobs.specs.Finished.{TableEntry, entry_in, has_result, result_in}
-use Rattle.tenant_jobs.specs.inner.Finished.{is_entered, result_of}
-use Rattle.tenant_jobs.specs.Jobs.{JobValue, same_job}
-use Rattle.tenant_jobs.proofs.JobNames.{same_job_is, same_job_self}
-use Rattle.tenant_state.specs.Jobs.{has_job, job_in, job_of}
-use Rattle.tenant_state.specs.Row.{ActiveTask}
+use Rattle.tenant_jobs.specs.cited.Finished.{is_entered, result_of}
+use Rattle.tenant_jobs.specs.Jobs.{JobValue}
+use Rattle.rig_model.specs.Jobs.{same_job, has_job, job_of}
+use Rattle.rig_model.proofs.cited.JobNames.{same_job_is, same_job_self}
+use Rattle.tenant_state.specs.Jobs.{job_in}
+use Rattle.rig_model.specs.Row.{ActiveTask}
 use Rattle.tenant_state.specs.Standing.{Standing, IsKnown, all_different_releases, no_tenant, is_another, released_job}
-use Rattle.tenant_state.specs.inner.Standing.{HasItsEntries, HasItsResults, AreEnded, AreTasksKept, has_active}
-use Rattle.instant_engine.specs.inner.Tables.{IsTaskTable}
+use Rattle.tenant_state.specs.cited.Standing.{HasItsEntries, HasItsResults, AreEnded, AreTasksKept, has_active, without_ended}
+use Rattle.instant_engine.specs.cited.Tables.{IsTaskTable}
 use Rattle.instant_engine.specs.Tenants.{ArePlaced, tenant_at}
-use Rattle.instant_engine.specs.inner.Tenants.{is_active_among}
-use Rattle.tenant_state.specs.Tenancy.{Tenancy}
+use Rattle.instant_engine.specs.cited.Tenants.{is_active_among}
+use Rattle.rig_model.specs.Tenancies.{Tenancy}
 use Rattle.rig_config.specs.Roster.{Rig}
 use Rattle.host_core.specs.inner.HostStanding.{IsAt, IsWhole}
-use Rattle.giotto_tasks.proofs.ListLemmas.{all_map, all_of, all_pass, any_if_all}
-use Rattle.host_core.proofs.HostSteps.{AreResultsStill, tenancies_set, placed_set, released_is}
-use Rattle.host_core.proofs.Outstanding.{another_job}
+use Rattle.giotto_tasks.proofs.cited.ListLemmas.{all_map, all_of, all_pass, any_if_all}
+use Rattle.host_core.proofs.cited.HostSteps.{AreResultsStill, tenancies_set, placed_set, released_is}
+use Rattle.host_core.proofs.cited.Outstanding.{another_job}
 
 -- a job of a tenant's tasks is of that tenant
 pub own_job : (t : ℕ) (tasks : List ActiveTask) (j : JobId) → has_job t tasks j ≡ true → t ≡ j.tenant
@@ -56,9 +57,9 @@ either_way false b which = ⊎_elim (λ e. e) (λ e. e) which
 module _ (tenants : List Standing) (before after : List TableEntry) (u : ℕ) (x y : Standing) {config : Rig} {clock : ℕ} (whole : IsWhole config clock tenants before)
     (within : u < length tenants) (here : x ≡ tenant_at tenants u) (tenancy : y.tenancy ≡ x.tenancy) (count : y.row.next_tick ≡ x.row.next_tick) (known : IsKnown y.tenancy y.row)
     (binds : length y.row.binds ≤ y.tenancy.owner.most_binds) (ended : AreEnded x y) (active : (y.row.active ≡ []) ⊎ AreTasksKept x y)
-    (left : (j : JobId) → entry_in after j ≡ cond (has_job y.tenancy.owner.place y.ended j) None (entry_in before j)) where
+    (left : (j : JobId) → entry_in after j ≡ cond (has_job y.tenancy.owner.place y.ready.ended j) None (entry_in before j)) where
   abbrev s : Standing
-  s = record y { ended = [] }
+  s = without_ended y
 
   abbrev pub tenants_behind : List Standing
   tenants_behind = set tenants u s
@@ -71,7 +72,7 @@ module _ (tenants : List Standing) (before after : List TableEntry) (u : ℕ) (x
 
   -- whether the job's entry leaves
   abbrev leaves : JobId → Bool
-  leaves j = has_job y.tenancy.owner.place y.ended j
+  leaves j = has_job y.tenancy.owner.place y.ready.ended j
 
   there : (t : ℕ) → t ≢ u → tenant_at tenants_behind t ≡ tenant_at tenants t
   there t differ = get_or-set_other tenants u t s no_tenant differ

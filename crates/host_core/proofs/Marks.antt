@@ -4,10 +4,10 @@ use Rattle.std.specs.Prelude.{slice_get}
 use Rattle.std.proofs.Math.Seq.{take-suc}
 use Rattle.std.proofs.lemmas.Bool.{and_parts}
 use Rattle.std.proofs.lemmas.List.{length-reverse, length-take-le, reverse-append, reverse-reverse, take-append-drop}
-use Rattle.host_core.specs.Legal.{is_legal, may_follow}
-use Rattle.host_core.specs.Setting.{Setting}
-use Rattle.host_core.specs.Sources.{kept_from, kept_of, sources_before, sources_from, stays}
-use Rattle.host_core.specs.declared.events.Event.{Event}
+use Rattle.rig_model.specs.Legal.{is_legal, may_follow}
+use Rattle.rig_model.specs.Base.{Setting}
+use Rattle.rig_model.specs.Sources.{kept_from, kept_of, sources_before, sources_from, stays}
+use Rattle.rig_model.specs.declared.events.Event.{Event}
 use Rattle.host_core.specs.inner.Trials.{marked, marks_from}
 
 -- lists of one length, and two ends of one length

@@ -7,12 +7,13 @@ use Rattle.std.proofs.lemmas.List.{take_more, take_all}
 use Rattle.rig_config.specs.declared.TenantConfig.{TenantConfig}
 use Rattle.rig_config.specs.Roster.{Rig}
 use Rattle.host_core.specs.inner.HostStanding.{IsAt, IsWhole}
-use Rattle.instant_engine.specs.inner.Tenants.{is_active_among}
-use Rattle.tenant_jobs.specs.declared.jobs.JobId.{JobId}
-use Rattle.tenant_state.specs.Jobs.{has_job}
+use Rattle.instant_engine.specs.cited.Tenants.{is_active_among}
+use Rattle.rig_model.specs.declared.jobs.JobId.{JobId}
+use Rattle.rig_model.specs.Jobs.{has_job}
 use Rattle.tenant_state.specs.Standing.{Standing, no_tenant}
-use Rattle.tenant_state.specs.inner.Standing.{HasItsResults}
-use Rattle.host_core.proofs.NewHost.{at_place, as_many_places, begun, nobody}
+use Rattle.tenant_state.specs.cited.Standing.{HasItsResults}
+use Rattle.host_core.proofs.cited.NewHost.{at_place, as_many_places, begun}
+use Rattle.rig_laws.proofs.cited.Places.{nobody}
 
 module _ (n : ℕ) (config : Rig) where
   abbrev roster : List TenantConfig

@@ -10,42 +10,46 @@ use Rattle.std.proofs.lemmas.Bool.Decides.{nat_tests}
 use Rattle.std.proofs.lemmas.List.{get_or-set_same, get_or-set_other}
 use Rattle.std.proofs.lemmas.List.Folds.{list_any-append}
 use Rattle.giotto_text.specs.Program.{GiottoProgram}
-use Rattle.host_core.specs.declared.events.Event.{Event}
-use Rattle.host_core.specs.declared.events.Event.TheVariants.{Own, Tick, Done}
+use Rattle.rig_model.specs.declared.events.Event.{Event}
+use Rattle.rig_model.specs.declared.events.Event.TheVariants.{Own, Tick, Done}
 use Rattle.tenant_lines.specs.declared.commands.Command.{Command}
-use Rattle.tenant_jobs.specs.declared.jobs.JobId.{JobId}
+use Rattle.rig_model.specs.declared.jobs.JobId.{JobId}
 use Rattle.tenant_lines.specs.declared.replies.Reply.{Reply}
 use Rattle.std.proofs.Math.ListN.{get_or-eq_default}
-use Rattle.host_core.specs.Answers.{answers_along, answers_of}
-use Rattle.host_core.specs.Base.{IsBase, new_base}
-use Rattle.host_core.specs.Host.{host_after}
-use Rattle.host_core.specs.HostState.{HostState, row_at}
+use Rattle.rig_model.specs.Answers.{answers_along, answers_of}
+use Rattle.rig_model.specs.Base.{IsBase, new_base, Setting}
+use Rattle.rig_model.specs.Host.{host_after}
+use Rattle.rig_model.specs.HostState.{HostState, row_at}
 use Rattle.host_core.specs.HostStanding.{HostStanding, new_host, Stands}
 use Rattle.instant_engine.specs.Tenants.{tenant_at, released_from}
-use Rattle.host_core.specs.Legal.{next_tick, was_released, may_follow, is_legal}
+use Rattle.rig_model.specs.Legal.{next_tick, was_released, may_follow, is_legal}
 use Rattle.host_core.specs.inner.Playing.{IsPlayed}
-use Rattle.host_core.specs.Plays.{IsLeastIllegal, IsSettingOf}
-use Rattle.host_core.specs.Setting.{Setting}
+use Rattle.rig_model.specs.Plays.{IsLeastIllegal, IsSettingOf}
 use Rattle.host_core.specs.declared.plays.PlayFault.{PlayFault}
-use Rattle.host_core.specs.Tenancies.{tenancy_at}
-use Rattle.host_core.specs.Views.{after_command, run_of, view_of, row_of}
+use Rattle.rig_model.specs.Tenancies.{tenancy_at}
+use Rattle.rig_model.specs.Views.{after_command, run_of, view_of, row_of}
 use Rattle.rig_config.specs.Roster.{Rig, budgets_at, is_tenant}
-use Rattle.tenant_slots.specs.Readings.{readings_within}
-use Rattle.tenant_state.specs.FirstHalf.{first_half_of}
-use Rattle.tenant_jobs.specs.Jobs.{JobValue, same_job}
-use Rattle.tenant_state.specs.Jobs.{job_of, job_in, is_active, released_at}
+use Rattle.rig_model.specs.Readings.{readings_within}
+use Rattle.rig_model.specs.FirstHalf.{first_half_of}
+use Rattle.tenant_jobs.specs.Jobs.{JobValue}
+use Rattle.rig_model.specs.Jobs.{same_job, job_of, is_active}
+use Rattle.tenant_state.specs.Jobs.{job_in, released_at}
 use Rattle.tenant_lines.specs.Replies.{text_of_reply}
-use Rattle.tenant_state.specs.Row.{ActiveTask, Row, empty_row}
-use Rattle.tenant_state.specs.SecondHalf.{second_half_of}
+use Rattle.rig_model.specs.Row.{ActiveTask, Row, empty_row}
+use Rattle.rig_model.specs.SecondHalf.{second_half_of}
 use Rattle.tenant_state.specs.Standing.{Standing, no_tenant, IsKnown}
-use Rattle.tenant_state.proofs.ActiveTasks.{kept_by_command, kept_by_instant}
-use Rattle.host_core.proofs.AloneAlong.{same_rows, same_clock}
-use Rattle.host_core.proofs.Histories.{unfinished_of, own_instant, own_row, releases}
-use Rattle.host_core.proofs.LaterBase.{new_is_base, new_row}
-use Rattle.host_core.proofs.NewHost.{new_stands}
-use Rattle.tenant_jobs.proofs.JobNames.{same_job_is}
-use Rattle.giotto_tasks.proofs.TestLemmas.{absorbed, either, or_true, same_answers}
-use Rattle.giotto_tasks.proofs.ListLemmas.{all_if_any, any_if_all, reverse_more}
+use Rattle.rig_laws.proofs.cited.ActiveTasks.{kept_by_command}
+use Rattle.rig_laws.proofs.cited.ActiveTasks.{kept_by_instant}
+use Rattle.rig_laws.proofs.cited.AloneAlong.{same_rows}
+use Rattle.rig_laws.proofs.cited.AloneAlong.{same_clock}
+use Rattle.rig_laws.proofs.cited.Histories.{unfinished_of, own_instant, own_row}
+use Rattle.rig_laws.proofs.cited.Histories.{releases}
+use Rattle.rig_laws.proofs.cited.LaterBase.{new_is_base, new_row}
+use Rattle.host_core.proofs.cited.NewHost.{new_stands}
+use Rattle.rig_model.proofs.cited.JobNames.{same_job_is}
+use Rattle.giotto_tasks.proofs.cited.TestLemmas.{absorbed, either, or_true, same_answers}
+use Rattle.giotto_tasks.proofs.cited.ListLemmas.{all_if_any, any_if_all, reverse_more}
+use Rattle.rig_laws.proofs.cited.Releases.{within, is_within, row_outside, released_own, released_done, active_behind}
 
 -- the jobs of one name among those that an instant released
 module _ (j : JobId) where
@@ -143,71 +147,10 @@ module _ (j : JobId) where
       ∙ or_true (list_any is_it (released_at from n x.row)))
 
 module _ (setting : Setting) (base : IsBase setting.config setting.base) where
-  within : (u : ℕ) → is_tenant setting.config u ≡ true → u < length setting.config.tenants
-  within u e = grind (arith, nat_tests)
-
-  pub is_within : (u : ℕ) → u < length setting.config.tenants → is_tenant setting.config u ≡ true
-  is_within u lt = grind (arith, nat_tests)
-
-  -- no event reaches a place that isn't in the roster
-  pub row_outside : (past : List Event) (t : ℕ) → is_legal setting past ≡ true → length setting.config.tenants ≤ t → row_of setting past t ≡ empty_row (next_tick setting past)
-  row_outside [] t legal le = get_or-eq_default setting.base.rows (empty_row setting.base.clock) (omega (arith, base.as_many))
-  row_outside (Own u c ∷ past) t legal le =
-      let parts = and_parts (is_tenant setting.config u) (is_legal setting past) legal in
-      let lt = within u parts.0 in
-      let other : eqb u t ≡ false = grind (arith, nat_tests) in
-      ap (λ b. run_of setting t (cond b (Rattle.host_core.specs.Views.command c ∷ view_of setting past t) (view_of setting past t))) other ∙ row_outside past t parts.1 le
-  row_outside (Done i ∷ past) t legal le = row_outside past t (and_parts (may_follow setting past (Done i)) (is_legal setting past) legal).1 le
-  row_outside (Tick frame ∷ past) t legal le =
-      ap (λ r. second_half_of (readings_within (budgets_at setting.config t).reads frame) (own_instant setting past frame t).granted (first_half_of (unfinished_of setting past t r) r))
-      (row_outside past t (and_parts (may_follow setting past (Tick frame)) (is_legal setting past) legal).1 le)
-
-  released_if_active : (past : List Event) (j : JobId) → is_active (row_of setting past j.tenant) j ≡ true → was_released setting past j ≡ true
-  released_if_active [] j e = e
-  released_if_active (e ∷ past) j is = ap (λ b. b || was_released setting past j) is
-
-  -- commands and completions release nothing
-  active_before : (past : List Event) (u : ℕ) (c : Command) (j : JobId) → is_active (row_of setting (Own u c ∷ past) j.tenant) j ≡ true → was_released setting past j ≡ true
-  active_before past u c j =
-      any_if_all (λ (a : ActiveTask). same_job (job_of j.tenant a) j) (was_released setting past j ≡ true) (row_of setting (Own u c ∷ past) j.tenant).active
-      (own_row setting (λ (row : Row). AllByRecursion WasReleased row.active) past c j.tenant (eqb u j.tenant)
-      (kept_by_command WasReleased (next_tick setting past) (tenancy_at setting.config j.tenant) c (row_of setting past j.tenant)
-      (record { each = before; at = (releases setting base past j.tenant).at })).each
-      before)
-    where
-      WasReleased : ActiveTask → Type 0
-      WasReleased a = same_job (job_of j.tenant a) j ≡ true → was_released setting past j ≡ true
-
-      before : AllByRecursion WasReleased (row_of setting past j.tenant).active
-      before = all_if_any (λ (a : ActiveTask). same_job (job_of j.tenant a) j) (was_released setting past j ≡ true) (row_of setting past j.tenant).active (released_if_active past j)
-
-  pub released_own : (past : List Event) (u : ℕ) (c : Command) (j : JobId) → was_released setting (Own u c ∷ past) j ≡ was_released setting past j
-  released_own past u c j = absorbed (is_active (row_of setting (Own u c ∷ past) j.tenant) j) (was_released setting past j) (active_before past u c j)
-
-  pub released_done : (past : List Event) (i j : JobId) → was_released setting (Done i ∷ past) j ≡ was_released setting past j
-  released_done past i j = absorbed (is_active (row_of setting (Done i ∷ past) j.tenant) j) (was_released setting past j) (released_if_active past j)
-
-  -- an instant releases under its own number
-  active_behind : (past : List Event) (frame : List ℤ) (j : JobId) → is_active (row_of setting (Tick frame ∷ past) j.tenant) j ≡ true
-      → (j.tick ≡ next_tick setting past) ⊎ (was_released setting past j ≡ true)
-  active_behind past frame j =
-      any_if_all (λ (a : ActiveTask). same_job (job_of j.tenant a) j) Either (row_of setting (Tick frame ∷ past) j.tenant).active
-      (kept_by_instant IsEither (next_tick setting past) (λ a e same. inl (sym (ap (λ (k : JobId). k.tick) (same_job_is (job_of j.tenant a) j same)) ∙ e))
-      (own_instant setting past frame j.tenant) (row_of setting past j.tenant) (record { each = before; at = (releases setting base past j.tenant).at })).0
-    where
-      Either : Type 0
-      Either = (j.tick ≡ next_tick setting past) ⊎ (was_released setting past j ≡ true)
-
-      IsEither : ActiveTask → Type 0
-      IsEither a = same_job (job_of j.tenant a) j ≡ true → Either
-
-      before : AllByRecursion IsEither (row_of setting past j.tenant).active
-      before = all_if_any (λ (a : ActiveTask). same_job (job_of j.tenant a) j) Either (row_of setting past j.tenant).active (λ e. inr (released_if_active past j e))
-
   same_active : (past : List Event) (host : HostStanding) (t : ℕ) (j : JobId) → is_legal setting past ≡ true → Stands setting host (host_after setting past) → t < length setting.config.tenants
       → is_active (tenant_at host.tenants t).row j ≡ is_active (row_of setting past t) j
   same_active past host t j legal stands lt =
-      ap (λ (row : Row). is_active row j) (stands.each t lt) ∙ ap (λ row. is_active row j) (same_rows setting base past t legal (is_within t lt))
+      ap (λ (row : Row). is_active row j) (stands.each t lt) ∙ ap (λ row. is_active row j) (same_rows setting base past t legal (is_within setting base t lt))
 
   released_tick : (past : List Event) (frame : List ℤ) (host : HostStanding) (j : JobId) → is_legal setting (Tick frame ∷ past) ≡ true → Stands setting host (host_after setting (Tick frame ∷ past))
       → All (λ (s : Standing). IsKnown s.tenancy s.row) host.tenants
@@ -241,14 +184,14 @@ module _ (setting : Setting) (base : IsBase setting.config setting.base) where
           ∙ complete_at j (next_tick setting past) (tenant_at host.tenants j.tenant).row (has j.tenant no_tenant inside).tasks tick
           (same_active (Tick frame ∷ past) host j.tenant j legal stands lt ∙ e))
       new tick e (inr le) =
-          let bad : true ≡ false = sym e ∙ ap (λ row. is_active row j) (row_outside (Tick frame ∷ past) j.tenant legal le) in
+          let bad : true ≡ false = sym e ∙ ap (λ row. is_active row j) (row_outside setting base (Tick frame ∷ past) j.tenant legal le) in
           absurd (cc)
 
       among_if_active : active ≡ true → (before || among) ≡ true
       among_if_active e = ⊎_elim
           (λ tick. ap (λ b. before || b) (new tick e (cases_lt j.tenant (length setting.config.tenants))) ∙ or_true before)
           (λ h. ap (λ b. b || among) h)
-          (active_behind past frame j e)
+          (active_behind setting base past frame j e)
 
   -- one event more
   pub step_done : (past : List Event) (i : JobId) (host host_new : HostStanding) (texts : List (List ℕ)) (released : List JobId) → may_follow setting past (Done i) ≡ true
@@ -259,7 +202,7 @@ module _ (setting : Setting) (base : IsBase setting.config setting.base) where
     stands = stands;
     as_many = played.as_many;
     each = played.each;
-    names = λ j. played.names j ∙ sym (released_done past i j);
+    names = λ j. played.names j ∙ sym (released_done setting base past i j);
   }
 
   pub step_tick : (past : List Event) (frame : List ℤ) (host host_new : HostStanding) (texts : List (List ℕ)) (released released_new : List JobId) (jobs : List JobValue)
@@ -297,21 +240,21 @@ module _ (setting : Setting) (base : IsBase setting.config setting.base) where
         let is : eqb u t ≡ true = grind (arith, nat_tests) in
         ap (λ k. get_or (set texts u text) k []) (sym same)
         ∙ (get_or-set_same texts u text [] (omega (arith, played.as_many))
-        ∙ (own_text ∙ (ap (λ k. answers_along setting k (Rattle.host_core.specs.Views.command c ∷ view_of setting past k)) same
-        ∙ sym (ap (λ b. answers_along setting t (cond b (Rattle.host_core.specs.Views.command c ∷ view_of setting past t) (view_of setting past t))) is)))))
+        ∙ (own_text ∙ (ap (λ k. answers_along setting k (Rattle.rig_model.specs.Views.command c ∷ view_of setting past k)) same
+        ∙ sym (ap (λ b. answers_along setting t (cond b (Rattle.rig_model.specs.Views.command c ∷ view_of setting past t) (view_of setting past t))) is)))))
         (λ (differ : u ≢ t).
         let is : eqb u t ≡ false = grind (arith, nat_tests) in
         get_or-set_other texts u t text [] (λ e. differ (sym e))
         ∙ (played.each t lt
-        ∙ sym (ap (λ b. answers_along setting t (cond b (Rattle.host_core.specs.Views.command c ∷ view_of setting past t) (view_of setting past t))) is)))
+        ∙ sym (ap (λ b. answers_along setting t (cond b (Rattle.rig_model.specs.Views.command c ∷ view_of setting past t) (view_of setting past t))) is)))
         (cases_eq u t);
-    names = λ j. played.names j ∙ sym (released_own past u c j);
+    names = λ j. played.names j ∙ sym (released_own setting base past u c j);
   }
     where
-      own_text : text ≡ answers_along setting u (Rattle.host_core.specs.Views.command c ∷ view_of setting past u)
+      own_text : text ≡ answers_along setting u (Rattle.rig_model.specs.Views.command c ∷ view_of setting past u)
       own_text =
           printed
-          ∙ (ap (λ before. before ++ (text_of_reply reply ++ 10 ∷ [])) (played.each u (within u may))
+          ∙ (ap (λ before. before ++ (text_of_reply reply ++ 10 ∷ [])) (played.each u (within setting base u may))
           ∙ ap (λ r. answers_of setting past u ++ (text_of_reply r ++ 10 ∷ []))
           (replied ∙ ap (λ row. (after_command setting u c row).reply) (same_rows setting base past u played.legal may)))
 

@@ -6,10 +6,11 @@ use Rattle.std.specs.List.{list_any}
 use Rattle.std.specs.Ordering.{is_eq, nat_cmp, ordering_then}
 use Rattle.std.specs.declared.cmp.Ordering.{Ordering}
 use Rattle.std.specs.declared.cmp.Ordering.TheVariants.{Less, Equal, Greater}
-use Rattle.tenant_jobs.specs.declared.jobs.JobId.{JobId}
-use Rattle.tenant_jobs.specs.Jobs.{JobValue, same_job}
-use Rattle.tenant_jobs.proofs.JobNames.{same_job_is, same_job_self}
-use Rattle.giotto_tasks.proofs.TestLemmas.{or_assoc, or_turned, same_answers}
+use Rattle.rig_model.specs.declared.jobs.JobId.{JobId}
+use Rattle.tenant_jobs.specs.Jobs.{JobValue}
+use Rattle.rig_model.specs.Jobs.{same_job}
+use Rattle.rig_model.proofs.cited.JobNames.{same_job_is, same_job_self}
+use Rattle.giotto_tasks.proofs.cited.TestLemmas.{or_assoc, or_turned, same_answers}
 
 abbrev pub job_cmp : JobId → JobId → Ordering
 job_cmp i j = ordering_then (nat_cmp i.tenant j.tenant) (ordering_then (nat_cmp i.tick j.tick) (slice_cmp nat_cmp i.task j.task))

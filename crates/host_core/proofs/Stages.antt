@@ -2,25 +2,24 @@
 use Rattle.std.proofs.Common.{◌≡◌, ℕ, ◌+◌, ◌<◌, Bool, true, List, [], ◌∷◌, ◌++◌, length, take, reverse, get_or, refl, sym, ap, subst, ◌∙◌, append_assoc, length-append, ◌≤◌, arith}
 use Rattle.std.specs.Prelude.{slice_get}
 use Rattle.std.proofs.lemmas.List.{length-reverse, reverse-append}
-use Rattle.giotto_tasks.proofs.ListLemmas.{reverse_more}
+use Rattle.giotto_tasks.proofs.cited.ListLemmas.{reverse_more}
 use Rattle.rig_config.specs.Roster.{Rig}
-use Rattle.tenant_jobs.specs.declared.jobs.JobId.{JobId}
-use Rattle.host_core.specs.Base.{new_base}
+use Rattle.rig_model.specs.declared.jobs.JobId.{JobId}
+use Rattle.rig_model.specs.Base.{new_base, Setting}
 use Rattle.host_core.specs.HostStanding.{HostStanding}
-use Rattle.host_core.specs.Legal.{is_legal}
-use Rattle.host_core.specs.Plays.{IsSettingOf}
-use Rattle.host_core.specs.Setting.{Setting}
-use Rattle.host_core.specs.Sources.{is_source, sources_before, stays}
-use Rattle.host_core.specs.Trials.{IsTrial}
-use Rattle.host_core.specs.declared.events.Event.{Event}
+use Rattle.rig_model.specs.Legal.{is_legal}
+use Rattle.rig_model.specs.Plays.{IsSettingOf, IsTrial}
+use Rattle.rig_model.specs.Sources.{is_source, sources_before, stays}
+use Rattle.rig_model.specs.declared.events.Event.{Event}
 use Rattle.host_core.specs.declared.plays.Stage.{Stage}
 use Rattle.host_core.specs.declared.trials.Flow.{Flow}
 use Rattle.host_core.specs.inner.Playing.{IsPlayed, IsStage}
 use Rattle.host_core.specs.inner.Trials.{AllLeadBack, AreBoth, AreFlowsBefore, IsNoted, is_reached, marked, marks_from}
 use Rattle.host_core.proofs.Flows.{lead_back}
 use Rattle.host_core.proofs.Marks.{as_many_marks, kept_by_marks, mark_at}
-use Rattle.host_core.proofs.SourceSets.{same_marks}
-use Rattle.host_core.proofs.TwoWorlds.{kept_answers, kept_legal}
+use Rattle.host_core.proofs.SameMarks.{same_marks}
+use Rattle.rig_laws.proofs.cited.TwoWorlds.{kept_answers}
+use Rattle.rig_laws.proofs.cited.TwoWorlds.{kept_legal}
 
 -- the setting of a new host of a configuration
 abbrev pub setting_of : Rig → Setting

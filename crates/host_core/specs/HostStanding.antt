@@ -3,19 +3,19 @@ use Rattle.std.specs.Prelude.{◌≡◌, ◌<◌, ℕ, ℤ, List, [], map, lengt
 use Rattle.std.specs.List.{flat_map, enumerate_from}
 use Rattle.std.specs.Option.{option_and_then}
 use Rattle.rig_config.specs.declared.TenantConfig.{TenantConfig}
-use Rattle.tenant_jobs.specs.declared.jobs.JobId.{JobId}
-use Rattle.host_core.specs.Completions.{with_completions}
-use Rattle.host_core.specs.Host.{after_event, host_after}
-use Rattle.host_core.specs.declared.events.Event.{Event}
-use Rattle.host_core.specs.HostState.{HostState, row_at, is_counted}
-use Rattle.host_core.specs.Lines.{value_of_line}
-use Rattle.host_core.specs.Setting.{Setting}
+use Rattle.rig_model.specs.declared.jobs.JobId.{JobId}
+use Rattle.rig_model.specs.Completions.{with_completions}
+use Rattle.rig_model.specs.Host.{after_event, host_after}
+use Rattle.rig_model.specs.declared.events.Event.{Event}
+use Rattle.rig_model.specs.HostState.{HostState, row_at, is_counted}
+use Rattle.rig_model.specs.LineValues.{value_of_line}
+use Rattle.rig_model.specs.Base.{Setting}
 use Rattle.instant_engine.specs.Tenants.{ArePlaced, tenant_at}
 use Rattle.tenant_jobs.specs.Finished.{TableEntry, has_result}
 use Rattle.tenant_jobs.specs.Jobs.{JobValue}
-use Rattle.tenant_state.specs.Jobs.{job_of}
+use Rattle.rig_model.specs.Jobs.{job_of}
 use Rattle.tenant_state.specs.Standing.{Standing, empty_standing, at_rest, StandsFor, outstanding_tasks, awaited_job}
-use Rattle.host_core.specs.Tenancies.{owner_at}
+use Rattle.rig_model.specs.Tenancies.{owner_at}
 use Rattle.rig_config.specs.Roster.{Rig, budgets_at}
 use Rattle.tenant_grants.specs.Grants.{no_rows}
 

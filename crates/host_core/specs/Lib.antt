@@ -1,15 +1,2 @@
-pub mod Answers
-pub mod Base
-pub mod Completions
-pub mod Host
 pub mod HostStanding
-pub mod HostState
-pub mod Legal
-pub mod Lines
-pub mod Plays
-pub mod Setting
-pub mod Sources
-pub mod Tenancies
-pub mod Trials
-pub mod Views
 pub mod inner

@@ -1,31 +1,31 @@
 //! The host of a rig: all its tenants, on one clock.
 
-ghost use Rattle.std.specs.Prelude.{◌≡◌, ◌≢◌, ◌<◌, ◌≤◌, ◌+◌, ◌-◌, ◌^◌, ◌↔◌, ◌||◌, length, map, is_some, if◌then◌else◌, IsOk, IsSome, IfOk, IfSome, OnOk, OnErr, OnSome, Ok, Err, None, false};
+ghost use Rattle.std.specs.Prelude.{◌≡◌, ◌≢◌, ◌<◌, ◌≤◌, ◌+◌, ◌-◌, ◌^◌, ◌↔◌, ◌||◌, length, map, is_some, if◌then◌else◌, IsOk, IsSome, IfOk, IfSome, OnOk, OnErr, OnSome, Ok, Err, None, true, false};
 ghost use Rattle.std.specs.List.{All};
-ghost use Rattle.instant_engine.specs.inner.Tables.{IsTaskTable};
+ghost use Rattle.instant_engine.specs.cited.Tables.{IsTaskTable};
 ghost use Rattle.instant_engine.specs.Tenants.{ArePlaced, most_of, released_from, tenant_at};
-ghost use Rattle.instant_engine.specs.inner.Tenants.{is_active_among};
-ghost use Rattle.instant_engine.specs.inner.Halves.{IsReady};
-ghost use Rattle.host_core.specs.HostState.{row_at, awaits};
+ghost use Rattle.instant_engine.specs.cited.Tenants.{is_active_among};
+ghost use Rattle.instant_engine.specs.cited.Halves.{IsReady};
+ghost use Rattle.rig_model.specs.HostState.{row_at, is_awaited};
 ghost use Rattle.host_core.specs.HostStanding.{ForEachState, IsOwn, TakesCompletions, TakesEvent, new_host, awaited_in, line_of, outstanding_count, outstanding_from, outstanding_jobs, outstanding_of};
-ghost use Rattle.host_core.specs.Lines.{value_of_line, writer_of};
-ghost use Rattle.host_core.specs.Tenancies.{roster_of};
-ghost use Rattle.host_core.specs.Views.{after_command};
-ghost use Rattle.host_core.specs.declared.events.Event.{Event};
+ghost use Rattle.rig_model.specs.LineValues.{value_of_line, writer_of};
+ghost use Rattle.rig_model.specs.Tenancies.{roster_of};
+ghost use Rattle.rig_model.specs.Views.{after_command};
+ghost use Rattle.rig_model.specs.declared.events.Event.{Event};
 ghost use Rattle.host_core.specs.declared.hosts.Counted.{Counted};
 ghost use Rattle.host_core.specs.declared.hosts.TickFault.{TickFault};
 ghost use Rattle.tenant_grants.specs.Grants.{bind_at};
 ghost use Rattle.tenant_jobs.specs.Finished.{has_result};
-ghost use Rattle.tenant_jobs.specs.inner.Finished.{is_entered};
-ghost use Rattle.tenant_jobs.specs.declared.jobs.JobId.{JobId};
+ghost use Rattle.tenant_jobs.specs.cited.Finished.{is_entered};
+ghost use Rattle.rig_model.specs.declared.jobs.JobId.{JobId};
 ghost use Rattle.tenant_lines.specs.declared.replies.Refusal.{Refusal};
 ghost use Rattle.tenant_lines.specs.declared.replies.Reply.{Reply};
-ghost use Rattle.tenant_state.specs.Commands.{takes_memory};
+ghost use Rattle.tenant_state.specs.Memory.{takes_memory};
 ghost use Rattle.tenant_state.specs.Standing.{IsKnown, Standing, at_rest};
 
 use crate::new_tenants::{new_tenant, places};
 use giotto_tasks::names::Name;
-use instant_engine::instants::{instant, instant_without_jobs, ready};
+use instant_engine::instants::{advance, instant, ready};
 use instant_engine::{Done, Finished, Job, JobId, Jobs, run_job};
 use rig_config::{Config, TenantId};
 use std::alloc::{AllocError, Global};
@@ -47,6 +47,17 @@ pub enum TickFault {
     /// Want of memory.
     #[error("no memory for the jobs of the instant")]
     Memory,
+}
+
+impl From<AllocError> for TickFault {
+    ghost use Rattle.std.specs.Prelude.{◌≡◌};
+    ghost use Rattle.host_core.specs.declared.hosts.TickFault.TheVariants.{Memory};
+
+    ghost from_gives = { λ _ fault. fault ≡ Memory };
+
+    fn from(_error: AllocError) -> TickFault {
+        TickFault::Memory
+    }
 }
 
 /// What became of a completion.
@@ -73,7 +84,7 @@ pub struct Host {
 impl Model for Host {
     ghost use Rattle.std.specs.Prelude.{map};
     ghost use Rattle.std.specs.Coded.{codes};
-    ghost use Rattle.giotto_text.specs.inner.ProgramCodes.{program_code};
+    ghost use Rattle.giotto_text.specs.cited.ProgramCodes.{program_code};
     ghost use Rattle.host_core.specs.HostStanding.{HostStanding};
     ghost use Rattle.host_core.specs.inner.HostStanding.{IsHost};
     ghost use Rattle.tenant_state.specs.Standing.{at_rest};
@@ -126,7 +137,7 @@ impl Host {
     {
         let tenant = &mut self.tenants[tenant];
         let reply = tenant.command(command);
-        let _ = tenant.next_tick();
+        tenant.known();
         tenant.leave(&mut self.finished);
         reply
     }
@@ -146,18 +157,7 @@ impl Host {
         ensures room { most_of self.old.tenants ≡ 0 → result ≢ Err TickFault.Memory }
         ensures known { OnOk result (All (λ (s : Standing). IsKnown s.tenancy s.row) self.new.tenants) }
     {
-        self.check(frame)?;
-        let Some(most) = all_ready(self.tenants.as_mut_slice(), &mut self.finished) else {
-            return Err(TickFault::Memory);
-        };
-        let Ok(mut jobs) = Jobs::with_room(self.alloc, most) else {
-            return Err(TickFault::Memory);
-        };
-        let tenants = self.tenants.as_mut_slice();
-        let granted = self.granted.as_mut_slice();
-        instant(tenants, frame, granted, &mut self.finished, &mut jobs);
-        self.clock += 1;
-        Ok(jobs)
+        self.next_instant(frame, true)
     }
 
     /// An instant of all tenants, as `tick`, where nobody takes its jobs.
@@ -171,15 +171,34 @@ impl Host {
         ensures clock_ended { result ≡ Err TickFault.ClockEnded ↔ ((length frame.now ≡ self.old.config.lines) × (self.old.clock ≡ 2 ^ 64 - 1)) }
         ensures room { most_of self.old.tenants ≡ 0 → result ≢ Err TickFault.Memory }
     {
+        self.next_instant(frame, false)?;
+        Ok(())
+    }
+
+    // An instant of all tenants, with its jobs where they are taken, else none.
+    #[inline(always)]
+    fn next_instant(&mut self, frame: &[i64], takes_jobs: bool) -> Result<Jobs, TickFault>
+        ensures step { OnOk result (TakesEvent (Event.Tick frame.now) self.old self.new) }
+        ensures jobs { takes_jobs ≡ true → IfOk result (λ jobs. jobs.jobs ≡ released_from self.old.clock 0 self.new.tenants) }
+        ensures refused { OnErr result (self.new ≡ self.old) }
+        ensures bad_frame { result ≡ Err TickFault.BadFrame ↔ length frame.now ≢ self.old.config.lines }
+        ensures clock_ended { result ≡ Err TickFault.ClockEnded ↔ ((length frame.now ≡ self.old.config.lines) × (self.old.clock ≡ 2 ^ 64 - 1)) }
+        ensures room { most_of self.old.tenants ≡ 0 → result ≢ Err TickFault.Memory }
+        ensures known { OnOk result (All (λ (s : Standing). IsKnown s.tenancy s.row) self.new.tenants) }
+    {
         self.check(frame)?;
-        if all_ready(self.tenants.as_mut_slice(), &mut self.finished).is_none() {
-            return Err(TickFault::Memory);
-        }
+        let most = all_ready(self.tenants.as_mut_slice(), &mut self.finished).ok_or(AllocError)?;
+        let room = if takes_jobs { most } else { 0 };
+        let mut jobs = Jobs::with_room(self.alloc, room)?;
         let tenants = self.tenants.as_mut_slice();
         let granted = self.granted.as_mut_slice();
-        instant_without_jobs(tenants, frame, granted, &mut self.finished);
+        if takes_jobs {
+            instant(tenants, frame, granted, &mut self.finished, &mut jobs);
+        } else {
+            advance(tenants, frame, granted, &mut self.finished);
+        }
         self.clock += 1;
-        Ok(())
+        Ok(jobs)
     }
 
     // Whether an instant with this frame may come.
@@ -204,7 +223,7 @@ impl Host {
         ensures counted { result ≡ Counted.Counted ↔ awaited_in self.old done.id ≡ Some done }
         ensures late { result ≡ Counted.Late → self.new ≡ self.old }
         ensures answer { IsOwn self.old done
-            → ForEachState self.old (λ setting state. result ≡ (if awaits state done.id then Counted.Counted else Counted.Late)) }
+            → ForEachState self.old (λ setting state. result ≡ (if is_awaited state done.id then Counted.Counted else Counted.Late)) }
         ensures step { IsOwn self.old done → TakesEvent (Event.Done done.id) self.old self.new }
         ensures left { result ≡ Counted.Counted → outstanding_count self.old ≡ outstanding_count self.new + 1 }
     {
@@ -242,7 +261,7 @@ impl Host {
     /// A share of the task's body is refused, which is asked for only where the completion is awaited.
     pub fn job(&self, id: &JobId) -> Result<Option<Job>, AllocError>
         ensures job { IfOk result (λ job. job ≡ awaited_in self.now id.now) }
-        ensures awaited { IfOk result (λ job. ForEachState self.now (λ setting state. is_some job ≡ awaits state id.now)) }
+        ensures awaited { IfOk result (λ job. ForEachState self.now (λ setting state. is_some job ≡ is_awaited state id.now)) }
         ensures never_refused { awaited_in self.now id.now ≡ None → IsOk result }
     {
         if id.tenant >= self.tenants.len() {

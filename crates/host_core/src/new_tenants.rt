@@ -2,7 +2,7 @@
 
 ghost use Rattle.std.specs.Prelude.{◌≡◌, ◌<◌, IfOk, length};
 ghost use Rattle.host_core.specs.inner.HostStanding.{most_binds};
-ghost use Rattle.host_core.specs.Tenancies.{owner_at, roster_of};
+ghost use Rattle.rig_model.specs.Tenancies.{owner_at, roster_of};
 ghost use Rattle.rig_config.specs.Roster.{budgets_at};
 ghost use Rattle.tenant_grants.specs.Grants.{no_rows};
 ghost use Rattle.tenant_state.specs.Standing.{empty_standing};

@@ -2,15 +2,16 @@
 
 ghost use Rattle.std.specs.Prelude.{◌≡◌, ◌≢◌, ◌<◌, ◌++◌, ◌∷◌, ◌||◌, ℕ, false, List, [], length, reverse, slice_index_or, IfOk, OnOk, IsOk, IsTrue, Err, None};
 ghost use Rattle.std.specs.List.{All, list_any};
-ghost use Rattle.host_core.specs.Legal.{may_follow};
+ghost use Rattle.rig_model.specs.Legal.{may_follow};
 ghost use Rattle.host_core.specs.HostStanding.{awaited_in};
 ghost use Rattle.host_core.specs.inner.Playing.{IsStage, IsPlayedOn, IsLate, HasPlace};
-ghost use Rattle.host_core.specs.Plays.{IsSettingOf, AreAnswers, IsLeastIllegal};
-ghost use Rattle.host_core.specs.Setting.{Setting};
-ghost use Rattle.tenant_jobs.specs.Jobs.{JobValue, same_job};
-ghost use Rattle.tenant_jobs.specs.declared.jobs.JobId.{JobId};
+ghost use Rattle.rig_model.specs.Plays.{IsSettingOf, AreAnswers, IsLeastIllegal};
+ghost use Rattle.rig_model.specs.Base.{Setting};
+ghost use Rattle.tenant_jobs.specs.Jobs.{JobValue};
+ghost use Rattle.rig_model.specs.Jobs.{same_job};
+ghost use Rattle.rig_model.specs.declared.jobs.JobId.{JobId};
 ghost use Rattle.tenant_lines.specs.Replies.{text_of_reply};
-ghost use Rattle.host_core.specs.declared.events.Event.{Event};
+ghost use Rattle.rig_model.specs.declared.events.Event.{Event};
 ghost use Rattle.host_core.specs.declared.plays.PlayFault.{PlayFault};
 ghost use Rattle.tenant_lines.specs.declared.replies.Refusal.{Refusal};
 ghost use Rattle.tenant_lines.specs.declared.replies.Reply.{Reply};
@@ -40,6 +41,17 @@ pub enum PlayFault {
     Memory,
 }
 
+impl From<AllocError> for PlayFault {
+    ghost use Rattle.std.specs.Prelude.{◌≡◌};
+    ghost use Rattle.host_core.specs.declared.plays.PlayFault.TheVariants.{Memory};
+
+    ghost from_gives = { λ _ fault. fault ≡ Memory };
+
+    fn from(_error: AllocError) -> PlayFault {
+        PlayFault::Memory
+    }
+}
+
 // A host, what each tenant has been answered, and the names of all jobs that were released.
 #[derive(Drop)]
 pub(crate) struct Stage {
@@ -59,9 +71,7 @@ pub fn play(alloc: Global, config: &Config, events: &[Event]) -> Result<Vec<Text
     ensures illegal { (setting : Setting) → IsSettingOf config.now setting → (i : ℕ) → result ≡ Err (PlayFault.Illegal i) → IsLeastIllegal setting events.now i }
     ensures tenant { result ≢ Err PlayFault.NoTenant }
 {
-    let Ok(mut stage) = Stage::new(alloc, config) else {
-        return Err(PlayFault::Memory);
-    };
+    let mut stage = Stage::new(alloc, config)?;
     match stage.play_all(alloc, events) {
         Ok(()) => Ok(stage.texts),
         Err(fault) => {
@@ -112,9 +122,7 @@ impl Stage {
         if !self.may_follow(event) {
             return Err(PlayFault::Illegal(place));
         }
-        let Ok(()) = self.play(alloc, event) else {
-            return Err(PlayFault::Memory);
-        };
+        self.play(alloc, event)?;
         Ok(())
     }
 

@@ -2,13 +2,12 @@
 
 ghost use Rattle.std.specs.Prelude.{◌≡◌, ◌≢◌, ◌≤◌, ◌<◌, ◌↔◌, ◌&&◌, ◌||◌, ◌==◌, ℕ, List, [], ◌∷◌, false, length, reverse, IfOk, OnOk, Err};
 ghost use Rattle.host_core.specs.HostStanding.{ForEachState};
-ghost use Rattle.host_core.specs.HostState.{row_at};
-ghost use Rattle.host_core.specs.Legal.{is_legal};
-ghost use Rattle.host_core.specs.Plays.{IsLeastIllegal, IsSettingOf};
-ghost use Rattle.host_core.specs.Setting.{Setting};
-ghost use Rattle.host_core.specs.Sources.{is_source, stays, suppliers_of};
-ghost use Rattle.host_core.specs.Trials.{IsTrial};
-ghost use Rattle.host_core.specs.declared.events.Event.{Event};
+ghost use Rattle.rig_model.specs.HostState.{row_at};
+ghost use Rattle.rig_model.specs.Legal.{is_legal};
+ghost use Rattle.rig_model.specs.Plays.{IsLeastIllegal, IsSettingOf, IsTrial};
+ghost use Rattle.rig_model.specs.Base.{Setting};
+ghost use Rattle.rig_model.specs.Sources.{is_source, stays, suppliers_of};
+ghost use Rattle.rig_model.specs.declared.events.Event.{Event};
 ghost use Rattle.host_core.specs.declared.plays.PlayFault.{PlayFault};
 ghost use Rattle.host_core.specs.inner.Playing.{IsStage};
 ghost use Rattle.host_core.specs.inner.Trials.{AllLeadBack, AreBoth, AreFlows, AreFlowsBefore, IsNoted, has_flow, is_reached, marked, marks_from};
@@ -87,9 +86,7 @@ fn play_both(
     ensures tenant { result ≢ Err PlayFault.NoTenant }
 {
     let (whole, flows) = play_whole(alloc, config, events)?;
-    let Ok(stays) = marks(alloc, events, flows.as_slice(), tenant) else {
-        return Err(PlayFault::Memory);
-    };
+    let stays = marks(alloc, events, flows.as_slice(), tenant)?;
     let kept = play_kept(alloc, config, events, stays.as_slice())?;
     Ok(Both { whole, kept, stays })
 }
@@ -106,9 +103,7 @@ fn play_whole(
     ensures illegal { (setting : Setting) → IsSettingOf config.now setting → (i : ℕ) → result ≡ Err (PlayFault.Illegal i) → IsLeastIllegal setting events.now i }
     ensures tenant { result ≢ Err PlayFault.NoTenant }
 {
-    let Ok(mut stage) = Stage::new(alloc, config) else {
-        return Err(PlayFault::Memory);
-    };
+    let mut stage = Stage::new(alloc, config)?;
     let flows = play_noting(alloc, &mut stage, events)?;
     Ok((stage, flows))
 }
@@ -128,9 +123,7 @@ fn play_noting(
     let mut noted = Vec::new(alloc);
     for i in 0..events.len() {
         let event = &events[i];
-        let Ok(()) = note_flows(alloc, &mut noted, stage, event) else {
-            return Err(PlayFault::Memory);
-        };
+        note_flows(alloc, &mut noted, stage, event)?;
         stage.play_next(alloc, i, event)?;
     }
     Ok(noted)
@@ -246,12 +239,8 @@ fn play_kept(
     ensures illegal { (setting : Setting) → IsSettingOf config.now setting → (i : ℕ) → result ≡ Err (PlayFault.Illegal i) → is_legal setting (reverse (marked events.now stays.now)) ≡ false }
     ensures tenant { result ≢ Err PlayFault.NoTenant }
 {
-    let Ok(kept) = kept(alloc, events, stays) else {
-        return Err(PlayFault::Memory);
-    };
-    let Ok(mut stage) = Stage::new(alloc, config) else {
-        return Err(PlayFault::Memory);
-    };
+    let kept = kept(alloc, events, stays)?;
+    let mut stage = Stage::new(alloc, config)?;
     stage.play_all(alloc, kept.as_slice())?;
     Ok(stage)
 }

@@ -1,51 +1,48 @@
 -- What an instant of all tenants does, from what its halves and the table's changes do.
-use Rattle.std.proofs.Common.{◌≡◌, ℕ, ◌+◌, ◌<◌, ◌≤◌, ⊎_elim, Bool, true, false, cond, not, ◌&&◌, ◌||◌, ℤ, List, [], length, map, get_or, drop, Option, Some, None, refl, sym, ap, ◌∙◌, subst, arith}
+use Rattle.std.proofs.Common.{◌≡◌, ℕ, ◌+◌, ◌-◌, ◌<◌, ◌≤◌, ⊎_elim, Bool, true, false, cond, not, ◌&&◌, ◌||◌, ℤ, List, [], length, map, drop, Option, Some, None, refl, sym, ap, ◌∙◌, subst, arith}
 use Rattle.std.specs.Prelude.{is_some, IfSome, sum}
-use Rattle.std.specs.List.{All, AllByRecursion}
-use Rattle.std.specs.Option.{option_and_then}
+use Rattle.std.specs.List.{All, AllByRecursion, flat_map}
+use Rattle.std.specs.Option.{option_and_then, option_map}
 use Rattle.std.proofs.Math.ListN as lists
 use Rattle.std.proofs.lemmas.Bool.{cases_lt, or_from, true≢false, false≢true, false_from_ne_true}
 use Rattle.std.proofs.lemmas.List.{get_or_default, length-map}
-use Rattle.std.proofs.lemmas.List.Folds.{list_any-append, list_any_at}
+use Rattle.std.proofs.lemmas.List.Concat.{length-flat_map}
+use Rattle.std.proofs.lemmas.List.Folds.{list_any-append}
 use Rattle.std.proofs.lemmas.List.Sums.{sum-map}
 use Rattle.std.proofs.lemmas.Simd.{map-map}
-use Rattle.tenant_jobs.specs.declared.jobs.JobId.{JobId}
+use Rattle.rig_model.specs.declared.jobs.JobId.{JobId}
 use Rattle.tenant_jobs.specs.declared.jobs.JobResult.{JobResult}
 use Rattle.tenant_jobs.specs.Finished.{TableEntry, entry_in, result_in, has_result}
-use Rattle.tenant_jobs.specs.inner.Finished.{is_entered, result_of}
-use Rattle.tenant_jobs.specs.Jobs.{JobValue, same_job}
-use Rattle.instant_engine.specs.Grants.{granted_by, granted_from, granted_to}
+use Rattle.tenant_jobs.specs.cited.Finished.{is_entered, result_of}
+use Rattle.rig_model.specs.Jobs.{same_job, job_of, has_job}
+use Rattle.rig_model.specs.Granted.{granted_by, granted_from, granted_to, granted_along}
 use Rattle.giotto_tasks.specs.Names.{same_name}
 use Rattle.std.proofs.lemmas.List.Quantifiers.{position-Some}
-use Rattle.std.specs.Option.{option_map}
-use Rattle.tenant_exchange.specs.Granted.{granted_along}
-use Rattle.tenant_grants.specs.Grants.{granted_value, name_in, offer_of, place_in}
+use Rattle.tenant_grants.specs.Grants.{granted_value, name_of_place, offer_of, place_in}
 use Rattle.tenant_grants.specs.declared.rows.Bind.{Bind}
-use Rattle.tenant_state.specs.FirstHalf.{due_tasks, first_half_of, unfinished_tasks}
-use Rattle.tenant_state.specs.Instants.{LocalInstant, after_instant}
-use Rattle.tenant_state.specs.Readers.{actuator_value}
-use Rattle.tenant_state.specs.Jobs.{job_of, job_in, has_job}
-use Rattle.tenant_state.specs.Row.{ActiveTask, Row}
+use Rattle.rig_model.specs.FirstHalf.{due_tasks, first_half_of, unfinished_tasks}
+use Rattle.rig_model.specs.Instants.{LocalInstant, after_instant}
+use Rattle.rig_model.specs.Row.{actuator_value, ActiveTask, Row}
+use Rattle.tenant_state.specs.Jobs.{job_in, released_at}
 use Rattle.tenant_state.specs.Standing.{Standing, StandsFor, no_tenant, most_released, with_last}
-use Rattle.tenant_state.specs.Tenancy.{Tenancy}
-use Rattle.tenant_state.specs.inner.Standing.{HasItsEntries, HasItsResults, AreReleased}
-use Rattle.tenant_state.specs.inner.Halves.{IsFirstHalf, first_half_by}
-use Rattle.tenant_state.specs.SecondHalf.{second_half_of}
-use Rattle.tenant_slots.specs.Readings.{readings_within}
-use Rattle.instant_engine.specs.inner.Instants.{AreInstants, AreStepped, IsBetween, StandForRows, instant_by}
-use Rattle.instant_engine.specs.inner.Tables.{IsTaskTable}
+use Rattle.rig_model.specs.Tenancies.{Tenancy}
+use Rattle.tenant_state.specs.cited.Standing.{HasItsEntries, HasItsResults, AreReleased, without_ended}
+use Rattle.tenant_state.specs.cited.Halves.{IsFirstHalf, first_half_by}
+use Rattle.rig_model.specs.SecondHalf.{second_half_of}
+use Rattle.rig_model.specs.Readings.{readings_within}
+use Rattle.instant_engine.specs.cited.Instants.{AreInstants, AreStepped, IsBetween, StandForRows, instant_by}
+use Rattle.instant_engine.specs.cited.Tables.{IsTaskTable}
 use Rattle.instant_engine.specs.Tenants.{ArePlaced, most_of, tenant_at}
-use Rattle.instant_engine.specs.inner.Tenants.{HaveRoster, binds_of, granted_at, is_active_among, roster_among, rows_of}
-use Rattle.instant_engine.specs.inner.Halves.{AreEarly, AreGranted, AreReleasedJobs, AreSecondHalves, AreToldEnded, IsReady, IsSecondHalfAndKnown, is_ended_among, is_released_among, without_ended}
-use Rattle.giotto_tasks.proofs.ListLemmas.{all_map, all_with, find_passes}
-use Rattle.tenant_jobs.proofs.JobNames.{same_job_is, same_job_self}
-use Rattle.tenant_state.proofs.ActiveTasks.{keeps_first_half, kept_by_instant, kept_by_second_half}
-use Rattle.tenant_state.proofs.JobNames.{own_jobs_active}
-use Rattle.tenant_state.proofs.NoneDue.{none_due_behind}
-use Rattle.instant_engine.proofs.Entered.{none_outside}
-use Rattle.instant_engine.proofs.Loops.{placed_behind}
+use Rattle.instant_engine.specs.cited.Tenants.{HaveRoster, binds_of, granted_at, is_active_among, roster_among, rows_of}
+use Rattle.instant_engine.specs.cited.Halves.{AreGranted, AreSecondHalves, AreToldEnded, CanGiveJobs, IsReady, IsSecondHalfAndKnown, is_ended_among, is_released_among, last_jobs}
+use Rattle.giotto_tasks.proofs.cited.ListLemmas.{all_map, all_with, find_passes}
+use Rattle.rig_model.proofs.cited.JobNames.{same_job_is, own_jobs_active}
+use Rattle.rig_laws.proofs.cited.ActiveTasks.{keeps_first_half}
+use Rattle.rig_laws.proofs.cited.ActiveTasks.{kept_by_instant, kept_by_second_half}
+use Rattle.tenant_state.proofs.cited.NoneDue.{none_due_behind}
+use Rattle.instant_engine.proofs.Entered.{none_outside, older_and_newer}
+use Rattle.instant_engine.proofs.cited.Loops.{placed_behind, sums_within}
 use Rattle.instant_engine.proofs.Named.{holds_of_job}
-use Rattle.instant_engine.proofs.Released.{older_and_newer}
 
 outside : (tenants : List Standing) (t : ℕ) → length tenants ≤ t → tenant_at tenants t ≡ no_tenant
 outside tenants t past = lists.get_or-eq_default tenants no_tenant past
@@ -54,7 +51,7 @@ none_active : (tenants : List Standing) (j : JobId) → length tenants ≤ j.ten
 none_active tenants j past = ap (λ (s : Standing). has_job s.tenancy.owner.place s.row.active j) (outside tenants j.tenant past)
 
 -- what holds of each tenant by its place
-all_at : (P : Standing → Type 0) (tenants : List Standing) → ((t : ℕ) → t < length tenants → P (tenant_at tenants t)) → All P tenants
+pub all_at : (P : Standing → Type 0) (tenants : List Standing) → ((t : ℕ) → t < length tenants → P (tenant_at tenants t)) → All P tenants
 all_at P tenants each t d lt = subst P (get_or_default tenants t no_tenant d lt) (each t lt)
 
 -- tenants without what ended
@@ -82,10 +79,9 @@ placed_kept tenants placed t lt = ap (λ (s : Standing). s.tenancy.owner.place) 
 -- tenants between the halves of an instant, and before it
 pub record AreHalfway (before kept : List Standing) : Type 0 where
   pub as_many : length kept ≡ length before
-  pub rest : All (λ (s : Standing). s.ended ≡ []) kept
+  pub rest : All (λ (s : Standing). s.ready.ended ≡ []) kept
   pub ended_due : All (λ (s : Standing). due_tasks s.row ≡ []) kept
   pub placed : ArePlaced kept
-  pub early : AreEarly kept
   pub ready : All IsReady kept
   pub few : most_of kept ≤ most_of before
 
@@ -155,14 +151,6 @@ module _ {before : List Standing} {entries : List TableEntry} (placed : ArePlace
         let own : StandsFor s s.row = λ k. record s.row { records = sym (between t no_tenant within).known.few_records k } in
         ap due_tasks ((first.each t within).step s.row own) ∙ none_due_behind (unfinished_tasks (λ a. has_result entries (job_of s.tenancy.owner.place a)) s.row) s.row)
 
-    early_middle : AreEarly middle
-    early_middle =
-        all_at (λ s. AllByRecursion (λ (a : ActiveTask). a.release < s.row.next_tick) s.row.active) middle
-        (λ t lt.
-        let within : t < length before = omega (arith, first.as_many) in
-        subst (λ n. AllByRecursion (λ (a : ActiveTask). a.release < n) (tenant_at middle t).row.active) (sym (first.each t within).next_tick)
-        (kept_by_half (λ a. a.release < (tenant_at before t).row.next_tick) t within (between t no_tenant within).known.early))
-
     active_before : (j : JobId) → j.tenant < length before → is_active_among middle j ≡ true → is_active_among before j ≡ true
     active_before j lt =
         let s : Standing = tenant_at middle j.tenant in
@@ -184,7 +172,7 @@ module _ {before : List Standing} {entries : List TableEntry} (placed : ArePlace
 
         past : length before ≤ j.tenant → is_ended_among middle j ≡ (is_entered entries j && not (is_active_among middle j))
         past le =
-            ap (λ (s : Standing). has_job s.tenancy.owner.place s.ended j) (outside middle j.tenant (omega (arith, le, first.as_many)))
+            ap (λ (s : Standing). has_job s.tenancy.owner.place s.ready.ended j) (outside middle j.tenant (omega (arith, le, first.as_many)))
             ∙ (ap (λ b. b && not (is_active_among middle j)) (sym (none_active before j le)) ∙ entered)
 
     pub counts_halfway : (P : ℕ → Type 0) (kept : List Standing) → kept ≡ map without_ended middle → All (λ (s : Standing). P s.row.next_tick) before → All (λ (s : Standing). P s.row.next_tick) kept
@@ -198,10 +186,9 @@ module _ {before : List Standing} {entries : List TableEntry} (placed : ArePlace
     pub halfway : (kept : List Standing) → kept ≡ map without_ended middle → All IsReady middle → most_of middle ≤ most_of before → AreHalfway before kept
     halfway kept same ready fewer = rw (same) (record {
       as_many = length-map middle without_ended ∙ first.as_many;
-      rest = all_at (λ s. s.ended ≡ []) (map without_ended middle) (λ t lt. ap (λ (s : Standing). s.ended) (at_kept middle t));
+      rest = all_at (λ s. s.ready.ended ≡ []) (map without_ended middle) (λ t lt. ap (λ (s : Standing). s.ready.ended) (at_kept middle t));
       ended_due = let Ended : Standing → Type 0 = λ s. due_tasks s.row ≡ [] in all_kept Ended Ended middle (λ s e. e) ended_middle;
       placed = placed_kept middle placed_middle;
-      early = let Early : Standing → Type 0 = λ s. AllByRecursion (λ (a : ActiveTask). a.release < s.row.next_tick) s.row.active in all_kept Early Early middle (λ s e. e) early_middle;
       ready = all_kept IsReady IsReady middle (λ s r. record { room = r.room; shares = r.shares }) ready;
       few = omega (arith, most_kept middle, fewer);
     })
@@ -267,7 +254,7 @@ module _ {before : List Standing} {entries : List TableEntry} (placed : ArePlace
             by None e = refl
             by (Some u) e =
                 let lt : u < length before = omega (arith, (position-Some (λ n. same_name n b.tenant) (roster_among before) u [] e).0, shared.whole) in
-                λ k. option_and_then (λ o. option_map (granted_value o) (actuator_value (kept_row u lt k) b.actuator)) (offer_of (same_offers u lt k) b.actuator (name_in (roster_among before) t))
+                λ k. option_and_then (λ o. option_map (granted_value o) (actuator_value (kept_row u lt k) b.actuator)) (offer_of (same_offers u lt k) b.actuator (name_of_place (roster_among before) t))
 
         same_granted_to : (t : ℕ) → t < length before
             → granted_along (without_ended (tenant_at middle t)).row.binds (granted_at (map without_ended middle) t granted) ≡ granted_to (roster_among before) rows halves t
@@ -342,15 +329,31 @@ module _ {before : List Standing} {entries : List TableEntry} (placed : ArePlace
               let released : AreReleased kept.row a.row = (second.each t (omega (arith, lt, length-map middle without_ended, first.as_many))).released in
               not_active j lt (holds_of_job (λ i. i.tick ≡ kept.row.next_tick) a.tenancy.owner.place (drop (length kept.row.active) a.row.active) j released.newer holds ∙ count)
 
-      pub jobs_new : (left : List TableEntry) → ((j : JobId) → entry_in left j ≡ cond (is_active_among middle j) (entry_in entries j) None) → (jobs : List JobValue)
-          → AreReleasedJobs (map without_ended middle) after jobs → All (λ (k : JobValue). is_entered left k.id ≡ false) jobs
-      jobs_new left stays jobs released i d lt =
-          let id : JobId = (get_or jobs i d).id in
-          by id (sym (released.names id) ∙ list_any_at (λ (k : JobValue). same_job k.id id) jobs i d lt (same_job_self id)) (is_active_among middle id) (stays id)
-        where
-          by : (j : JobId) → is_released_among (map without_ended middle) after j ≡ true → (b : Bool) → entry_in left j ≡ cond b (entry_in entries j) None → is_entered left j ≡ false
-          by j holds true same = ap is_some same ∙ released_anew j holds
-          by j holds false same = ap is_some same
+      -- the jobs of what was released, which are no more than can be released, and the tenants can give them
+      its_last : (t : ℕ) → t < length (map without_ended middle)
+          → last_jobs (tenant_at after t) ≡ released_at (tenant_at (map without_ended middle) t).tenancy.owner.place (tenant_at (map without_ended middle) t).row.next_tick (tenant_at after t).row
+      its_last t lt =
+          let half = (second.each t lt).half in
+          let last : (tenant_at after t).row.next_tick - 1 ≡ (tenant_at (map without_ended middle) t).row.next_tick = omega (arith, half.next_tick) in
+          λ k. released_at (half.tenancy k).owner.place (last k) (tenant_at after t).row
+
+      pub few_jobs : most_of (map without_ended middle) ≤ most_of before → length (flat_map last_jobs after) ≤ most_of before
+      few_jobs fewer =
+          omega (
+            arith,
+            length-flat_map last_jobs after,
+            sums_within (λ s. length (last_jobs s)) (λ (s : Standing). most_released s.row) no_tenant no_tenant after (map without_ended middle) second.as_many
+                (λ t lt. let within : t < length (map without_ended middle) = omega (arith, lt, second.as_many) in omega (arith, ap length (its_last t within), (second.each t within).few)),
+            fewer,
+          )
+
+      pub can_give : All IsReady (map without_ended middle) → All CanGiveJobs after
+      can_give ready =
+          all_at CanGiveJobs after
+          (λ t lt some.
+          let within : t < length (map without_ended middle) = omega (arith, lt, second.as_many) in
+          let half = second.each t within in
+          half.shared ((ready t no_tenant within).shares (omega (arith, some, ap length (its_last t within), half.few))))
 
       -- the table without what ended, and with what was released
       module _ (left new : List TableEntry) (stays : (j : JobId) → entry_in left j ≡ cond (is_active_among middle j) (entry_in entries j) None)

@@ -1,21 +1,25 @@
 -- What the second halves made active is entered, tenant by tenant.
-use Rattle.std.proofs.Common.{◌≡◌, ℕ, ◌+◌, ◌<◌, ◌≤◌, ◌≢◌, ⊎_elim, false, cond, length, set, drop, List, [], Some, None, refl, sym, ap, ◌∙◌, arith}
+use Rattle.std.proofs.Common.{◌≡◌, ℕ, ◌+◌, ◌<◌, ◌≤◌, ◌≢◌, ⊎_elim, false, cond, length, set, drop, List, [], ◌++◌, Some, None, refl, sym, ap, ◌∙◌, arith}
 use Rattle.std.specs.List.{AllByRecursion}
 use Rattle.std.specs.Prelude.{is_some}
 use Rattle.std.proofs.Math.ListN as lists
 use Rattle.std.proofs.lemmas.Bool.{cases_eq, cases_lt}
-use Rattle.std.proofs.lemmas.List.{get_or-set_same, get_or-set_other, drop_all}
-use Rattle.tenant_jobs.specs.declared.jobs.JobId.{JobId}
+use Rattle.std.proofs.lemmas.List.{get_or-set_same, get_or-set_other, drop_all, take-append-drop}
+use Rattle.rig_model.specs.declared.jobs.JobId.{JobId}
 use Rattle.tenant_jobs.specs.Finished.{TableEntry, entry_in}
-use Rattle.tenant_jobs.specs.inner.Finished.{is_entered}
-use Rattle.tenant_state.specs.Jobs.{job_of, has_job}
-use Rattle.tenant_state.specs.Row.{ActiveTask}
+use Rattle.tenant_jobs.specs.cited.Finished.{is_entered}
+use Rattle.rig_model.specs.Jobs.{job_of, has_job}
+use Rattle.rig_model.specs.Row.{ActiveTask, Row}
 use Rattle.tenant_state.specs.Standing.{Standing, no_tenant}
-use Rattle.tenant_state.specs.inner.Standing.{AreReleased}
+use Rattle.tenant_state.specs.cited.Standing.{AreReleased}
 use Rattle.instant_engine.specs.Tenants.{tenant_at}
-use Rattle.instant_engine.specs.inner.Halves.{is_released_among}
-use Rattle.giotto_tasks.proofs.ListLemmas.{all_map}
+use Rattle.instant_engine.specs.cited.Halves.{is_released_among}
+use Rattle.giotto_tasks.proofs.cited.ListLemmas.{all_map}
 use Rattle.instant_engine.proofs.Named.{other_tenant}
+
+-- what an instant made active stands behind what was
+pub older_and_newer : (before after : Row) → AreReleased before after → after.active ≡ before.active ++ drop (length before.active) after.active
+older_and_newer before after released = sym (take-append-drop (length before.active) after.active) ∙ ap (λ xs. xs ++ drop (length before.active) after.active) released.older
 
 -- what the first `i` tenants released is entered
 pub record AreEnteredTo (i : ℕ) (before now : List Standing) (old entries : List TableEntry) : Type 0 where

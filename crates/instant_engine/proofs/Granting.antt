@@ -7,14 +7,14 @@ use Rattle.std.proofs.lemmas.List.Quantifiers.{position-Some}
 use Rattle.std.proofs.lemmas.Option.{slice_get-get_or}
 use Rattle.giotto_tasks.specs.declared.names.Name.{Name}
 use Rattle.giotto_tasks.specs.Names.{same_name}
-use Rattle.giotto_tasks.proofs.ListLemmas.{find_is_any, some_same}
-use Rattle.instant_engine.specs.Grants.{granted_by, granted_from}
+use Rattle.giotto_tasks.proofs.cited.ListLemmas.{find_is_any, some_same}
+use Rattle.rig_model.specs.Granted.{granted_by, granted_from}
 use Rattle.instant_engine.specs.Tenants.{tenant_at}
-use Rattle.instant_engine.specs.inner.Tenants.{HaveRoster, roster_among, rows_of}
-use Rattle.tenant_grants.specs.Grants.{bind_at, granted_value, is_offer_of, name_in, offer_of, offers, place_in, with_place}
+use Rattle.instant_engine.specs.cited.Tenants.{HaveRoster, roster_among, rows_of}
+use Rattle.tenant_grants.specs.Grants.{bind_at, granted_value, is_offer_of, name_of_place, offer_of, offers, place_in, with_place}
 use Rattle.tenant_grants.specs.declared.rows.Bind.{Bind}
 use Rattle.tenant_grants.specs.declared.rows.Offer.{Offer}
-use Rattle.tenant_state.specs.Readers.{actuator_value}
+use Rattle.rig_model.specs.Row.{actuator_value}
 use Rattle.tenant_state.specs.Standing.{Standing}
 
 -- the supplier of a bind is in the roster
@@ -55,16 +55,16 @@ by_offer (Some o) (Some z) = refl
 pub granted_there : (tenants : List Standing) (place i u : ℕ) (sensor actuator : Name) (x s : Standing) → HaveRoster tenants → place < length tenants → x ≡ tenant_at tenants place → s ≡ tenant_at tenants u → u < length tenants
     → bind_at x.tenancy.owner.roster x.row.binds i ≡ Some (sensor, u, actuator)
     → option_and_then (granted_by (roster_among tenants) (rows_of tenants) (rows_of tenants) place) (slice_get (rows_of tenants place).binds i)
-    ≡ cond (offers s.row.offers actuator (name_in s.tenancy.owner.roster place)) (actuator_value s.row actuator) None
+    ≡ cond (offers s.row.offers actuator (name_of_place s.tenancy.owner.roster place)) (actuator_value s.row actuator) None
 granted_there tenants place i u sensor actuator x s shared lt own supplier below bound =
     let roster : x.tenancy.owner.roster ≡ roster_among tenants = ap (λ (y : Standing). y.tenancy.owner.roster) own ∙ shared.same place lt in
     let its : s.tenancy.owner.roster ≡ roster_among tenants = ap (λ (y : Standing). y.tenancy.owner.roster) supplier ∙ shared.same u below in
     let at : bind_at (roster_among tenants) (rows_of tenants place).binds i ≡ Some (sensor, u, actuator) = (λ k. bind_at (sym roster k) (sym own k).row.binds i) ∙ bound in
     through_bind (roster_among tenants) (rows_of tenants place).binds i (granted_from (roster_among tenants) (rows_of tenants) (rows_of tenants) place)
     ∙ ap (option_and_then (λ (y : Name × ℕ × Name). granted_from (roster_among tenants) (rows_of tenants) (rows_of tenants) place y.2 y.1)) at
-    ∙ by_offer (offer_of (rows_of tenants u).offers actuator (name_in (roster_among tenants) place)) (actuator_value (rows_of tenants u) actuator)
-    ∙ ap (λ b. cond b (actuator_value (rows_of tenants u) actuator) None) (find_is_any (is_offer_of actuator (name_in (roster_among tenants) place)) (rows_of tenants u).offers)
-    ∙ (λ k. cond (offers (sym supplier k).row.offers actuator (name_in (sym its k) place)) (actuator_value (sym supplier k).row actuator) None)
+    ∙ by_offer (offer_of (rows_of tenants u).offers actuator (name_of_place (roster_among tenants) place)) (actuator_value (rows_of tenants u) actuator)
+    ∙ ap (λ b. cond b (actuator_value (rows_of tenants u) actuator) None) (find_is_any (is_offer_of actuator (name_of_place (roster_among tenants) place)) (rows_of tenants u).offers)
+    ∙ (λ k. cond (offers (sym supplier k).row.offers actuator (name_of_place (sym its k) place)) (actuator_value (sym supplier k).row actuator) None)
 
 -- what stands before the places that are written
 pub written_others : (old new : List (Option ℤ)) (first n from : ℕ) → from + n ≤ first → take first new ≡ take first old → take n (drop from new) ≡ take n (drop from old)

@@ -4,14 +4,15 @@ use Rattle.std.specs.Prelude.{is_some}
 use Rattle.std.proofs.Math.ListN as lists
 use Rattle.std.proofs.lemmas.Bool.{cases_eq, cases_lt}
 use Rattle.std.proofs.lemmas.List.{ext_get_or, length-map}
-use Rattle.tenant_jobs.specs.declared.jobs.JobId.{JobId}
+use Rattle.rig_model.specs.declared.jobs.JobId.{JobId}
 use Rattle.tenant_jobs.specs.Finished.{TableEntry, entry_in}
-use Rattle.tenant_state.specs.Jobs.{has_job}
+use Rattle.rig_model.specs.Jobs.{has_job}
 use Rattle.tenant_state.specs.Standing.{Standing, no_tenant}
-use Rattle.instant_engine.specs.inner.Instants.{AreStepped}
+use Rattle.tenant_state.specs.cited.Standing.{without_ended}
+use Rattle.instant_engine.specs.cited.Instants.{AreStepped}
 use Rattle.instant_engine.specs.Tenants.{tenant_at}
-use Rattle.instant_engine.specs.inner.Tenants.{is_active_among}
-use Rattle.instant_engine.specs.inner.Halves.{AreToldEnded, is_ended_among, without_ended}
+use Rattle.instant_engine.specs.cited.Tenants.{is_active_among}
+use Rattle.instant_engine.specs.cited.Halves.{AreToldEnded, is_ended_among}
 use Rattle.instant_engine.proofs.Named.{other_tenant}
 
 -- the entries of what ended in the first `i` tenants left the table
@@ -23,12 +24,12 @@ pub left_none : (tenants : List Standing) (entries : List TableEntry) → AreLef
 left_none tenants entries = record { left = λ j lt. absurd (omega arith); others = λ j le. refl }
 
 pub left_more : (i : ℕ) (tenants : List Standing) (x : Standing) (before now next : List TableEntry) → x ≡ tenant_at tenants i → x.tenancy.owner.place ≡ i
-    → ((j : JobId) → entry_in next j ≡ cond (has_job x.tenancy.owner.place x.ended j) None (entry_in now j)) → AreLeftTo i tenants before now → AreLeftTo (i + 1) tenants before next
+    → ((j : JobId) → entry_in next j ≡ cond (has_job x.tenancy.owner.place x.ready.ended j) None (entry_in now j)) → AreLeftTo i tenants before now → AreLeftTo (i + 1) tenants before next
 left_more i tenants x before now next here own leaves so_far = record {
   left = λ j lt. ⊎_elim
       (λ (e : j.tenant ≡ i).
       leaves j
-      ∙ ap (λ b. cond b None (entry_in now j)) (ap (λ (s : Standing). has_job s.tenancy.owner.place s.ended j) (here ∙ ap (tenant_at tenants) (sym e)))
+      ∙ ap (λ b. cond b None (entry_in now j)) (ap (λ (s : Standing). has_job s.tenancy.owner.place s.ready.ended j) (here ∙ ap (tenant_at tenants) (sym e)))
       ∙ ap (cond (is_ended_among tenants j) None) (so_far.others j (omega (arith, e))))
       (λ (differ : j.tenant ≢ i). other j differ ∙ so_far.left j (omega arith))
       (cases_eq j.tenant i);
@@ -36,7 +37,7 @@ left_more i tenants x before now next here own leaves so_far = record {
 }
   where
     other : (j : JobId) → j.tenant ≢ i → entry_in next j ≡ entry_in now j
-    other j differ = leaves j ∙ ap (λ b. cond b None (entry_in now j)) (other_tenant x.tenancy.owner.place x.ended j (λ e. differ (sym (sym own ∙ e))))
+    other j differ = leaves j ∙ ap (λ b. cond b None (entry_in now j)) (other_tenant x.tenancy.owner.place x.ready.ended j (λ e. differ (sym (sym own ∙ e))))
 
 -- where the tasks that ended are those with an entry that are active no longer, the entries of the active ones are left
 remaining : (active : Bool) (o : Option TableEntry) → cond (is_some o && not active) None o ≡ cond active o None
@@ -53,7 +54,7 @@ left_all i tenants before now past told done j =
     ∙ remaining (is_active_among tenants j) (entry_in before j)
   where
     none_outside : i ≤ j.tenant → is_ended_among tenants j ≡ false
-    none_outside le = ap (λ (s : Standing). has_job s.tenancy.owner.place s.ended j) (lists.get_or-eq_default tenants no_tenant (omega (arith, le, past)))
+    none_outside le = ap (λ (s : Standing). has_job s.tenancy.owner.place s.ready.ended j) (lists.get_or-eq_default tenants no_tenant (omega (arith, le, past)))
 
 -- behind this each tenant is without what ended
 pub without_each : (before after : List Standing) → AreStepped (λ t x y. y ≡ without_ended x) before after → after ≡ map without_ended before

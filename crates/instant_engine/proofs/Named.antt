@@ -3,12 +3,11 @@ use Rattle.std.proofs.Common.{◌≡◌, ℕ, ◌≢◌, true, false, ◌&&◌, 
 use Rattle.std.specs.List.{AllByRecursion}
 use Rattle.std.proofs.lemmas.Bool.{ne_eqb}
 use Rattle.giotto_tasks.specs.Names.{same_name}
-use Rattle.tenant_jobs.specs.declared.jobs.JobId.{JobId}
-use Rattle.tenant_jobs.specs.Jobs.{same_job}
-use Rattle.tenant_state.specs.Jobs.{job_of, has_job}
-use Rattle.tenant_state.specs.Row.{ActiveTask}
-use Rattle.giotto_tasks.proofs.ListLemmas.{all_map, any_if_all}
-use Rattle.tenant_jobs.proofs.JobNames.{same_job_is}
+use Rattle.rig_model.specs.declared.jobs.JobId.{JobId}
+use Rattle.rig_model.specs.Jobs.{same_job, job_of, has_job}
+use Rattle.rig_model.specs.Row.{ActiveTask}
+use Rattle.giotto_tasks.proofs.cited.ListLemmas.{all_map, any_if_all}
+use Rattle.rig_model.proofs.cited.JobNames.{same_job_is}
 
 -- none has the job of another tenant
 pub other_tenant : (t : ℕ) (xs : List ActiveTask) (j : JobId) → t ≢ j.tenant → has_job t xs j ≡ false

@@ -1,4 +1,2 @@
-pub mod Grants
-pub mod Instants
 pub mod Tenants
-pub mod inner
+pub mod cited

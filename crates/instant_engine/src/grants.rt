@@ -2,9 +2,9 @@
 
 ghost use Rattle.std.specs.Prelude.{◌≡◌, ◌<◌, ◌≤◌, ◌+◌, drop, length, map, slice_get, take};
 ghost use Rattle.std.specs.Option.{option_and_then};
-ghost use Rattle.instant_engine.specs.Grants.{granted_by};
-ghost use Rattle.instant_engine.specs.inner.Tenants.{HaveRoster, binds_of, roster_among, rows_of};
-ghost use Rattle.instant_engine.specs.inner.Halves.{AreGranted};
+ghost use Rattle.rig_model.specs.Granted.{granted_by};
+ghost use Rattle.instant_engine.specs.cited.Tenants.{HaveRoster, binds_of, roster_among, rows_of};
+ghost use Rattle.instant_engine.specs.cited.Halves.{AreGranted};
 
 use rig_config::TenantId;
 use tenant_state::tenants::Tenant;

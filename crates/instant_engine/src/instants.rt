@@ -1,18 +1,19 @@
 //! An instant of all tenants.
 
-ghost use Rattle.std.specs.Prelude.{◌≡◌, ◌<◌, ◌≤◌, ◌-◌, ◌^◌, ℕ, [], if◌then◌else◌, length, map, All, IfSome, IsSome, OnSome, Some, None, false};
-ghost use Rattle.instant_engine.specs.inner.Instants.{AreInstants, AreStepped, IsBetween};
-ghost use Rattle.instant_engine.specs.inner.Tables.{IsTaskTable};
+ghost use Rattle.std.specs.Prelude.{◌≡◌, ◌<◌, ◌≤◌, ◌-◌, ◌^◌, ◌++◌, ℕ, [], if◌then◌else◌, length, map, All, IfSome, IsSome, OnSome, Some, None, false};
+ghost use Rattle.std.specs.List.{flat_map};
+ghost use Rattle.instant_engine.specs.cited.Instants.{AreInstants, AreStepped, IsBetween};
+ghost use Rattle.instant_engine.specs.cited.Tables.{IsTaskTable};
 ghost use Rattle.instant_engine.specs.Tenants.{ArePlaced, most_of, released_from, tenant_at};
-ghost use Rattle.instant_engine.specs.inner.Tenants.{HaveRoster, binds_of, granted_at, is_active_among};
-ghost use Rattle.instant_engine.specs.inner.Halves.{AreEarly, AreReleasedJobs, AreSecondHalves, AreToldEnded, IsReady, is_released_among, without_ended};
+ghost use Rattle.instant_engine.specs.cited.Tenants.{HaveRoster, binds_of, granted_at, is_active_among};
+ghost use Rattle.instant_engine.specs.cited.Halves.{AreSecondHalves, AreToldEnded, CanGiveJobs, IsReady, is_released_among, last_jobs};
 ghost use Rattle.tenant_jobs.specs.Finished.{entry_in, result_in};
-ghost use Rattle.tenant_jobs.specs.inner.Finished.{entry_put, is_entered};
-ghost use Rattle.tenant_jobs.specs.declared.jobs.JobId.{JobId};
-ghost use Rattle.tenant_state.specs.FirstHalf.{due_tasks};
-ghost use Rattle.tenant_state.specs.inner.Halves.{IsFirstHalf};
+ghost use Rattle.tenant_jobs.specs.cited.Finished.{entry_put, is_entered};
+ghost use Rattle.rig_model.specs.declared.jobs.JobId.{JobId};
+ghost use Rattle.rig_model.specs.FirstHalf.{due_tasks};
+ghost use Rattle.tenant_state.specs.cited.Halves.{IsFirstHalf};
 ghost use Rattle.tenant_state.specs.Standing.{Standing, at_rest};
-ghost use Rattle.tenant_state.specs.inner.Standing.{HasItsEntries, HasItsResults};
+ghost use Rattle.tenant_state.specs.cited.Standing.{HasItsEntries, HasItsResults, without_ended};
 
 use crate::grants::grant;
 use tenant_jobs::finished::Finished;
@@ -37,10 +38,8 @@ pub fn ready(tenants: &mut [Tenant]) -> Option<usize>
     Some(most)
 }
 
-/// An instant of all tenants, whose numbers are below the greatest: the first half of each, then all granted values at once, and then the
-/// second half of each. `frame` has the input value of each line, and `granted` a place for each bind, whatever stands there. The tenants are ready, and the table, which is that of their active tasks, has room
-/// for all that they can release, as have the jobs, of which there are none. Behind it the jobs are those of the tasks that were released,
-/// tenant by tenant. Takes no memory.
+/// An instant of all tenants, as `advance`, with its jobs: those of the tasks that it releases, tenant by tenant. There are no jobs before,
+/// and room for all that can be released. Takes no memory.
 pub fn instant(
     tenants: &mut [Tenant],
     frame: &[i64],
@@ -64,16 +63,15 @@ pub fn instant(
     ensures table { IsTaskTable tenants.new finished.new.entries }
     ensures jobs { (n : ℕ) → All (λ (s : Standing). s.row.next_tick ≡ n) tenants.old → jobs.new.jobs ≡ released_from n 0 tenants.new }
 {
-    first_halves(tenants, finished);
-    keep(tenants, finished);
-    grant(tenants, granted);
-    second_halves(tenants, frame, granted, jobs);
-    finished.enter(jobs);
-    note_keys(tenants, jobs);
+    advance(tenants, frame, granted, finished);
+    add_jobs(tenants, jobs);
 }
 
-/// An instant of all tenants, as `instant`, where nobody takes its jobs.
-pub fn instant_without_jobs(
+/// An instant of all tenants, whose numbers are below the greatest: the first half of each, then all granted values at once, and then the
+/// second half of each. `frame` has the input value of each line, and `granted` a place for each bind, whatever stands there. The tenants
+/// are ready, and the table, which is that of their active tasks, has room for all that they can release. Behind it the tenants can give
+/// the jobs of what was released, which are no more than they can release. Takes no memory.
+pub fn advance(
     tenants: &mut [Tenant],
     frame: &[i64],
     granted: &mut [Option<i64>],
@@ -91,11 +89,28 @@ pub fn instant_without_jobs(
     ensures entries { (j : JobId) → entry_in finished.new.entries j
         ≡ (if is_active_among tenants.new j then Some (record { id = j; result = result_in finished.old.entries j }) else None) }
     ensures table { IsTaskTable tenants.new finished.new.entries }
+    ensures shares { All CanGiveJobs tenants.new }
+    ensures few { length (flat_map last_jobs tenants.new) ≤ most_of tenants.old }
 {
     first_halves(tenants, finished);
     keep(tenants, finished);
     grant(tenants, granted);
-    second_halves_without_jobs(tenants, frame, granted, finished);
+    second_halves(tenants, frame, granted, finished);
+}
+
+// Adds the jobs of the tasks that the last instant released, tenant by tenant.
+fn add_jobs(tenants: &mut [Tenant], jobs: &mut Jobs)
+    requires later { All (λ (s : Standing). 0 < s.row.next_tick) tenants.old }
+    requires shares { All CanGiveJobs tenants.old }
+    requires room { length (flat_map last_jobs tenants.old) ≤ jobs.old.room }
+    ensures rest { map at_rest tenants.new ≡ map at_rest tenants.old }
+    ensures jobs { jobs.new.jobs ≡ jobs.old.jobs ++ flat_map last_jobs tenants.old }
+{
+    for i in 0..tenants.len() {
+        let tenant = &mut tenants[i];
+        let last = tenant.next_tick() - 1;
+        tenant.add_jobs(last, jobs);
+    }
 }
 
 /// Takes the entries of the tasks that are active no longer out of the table; the tenants tell which they are. Takes no memory.
@@ -126,39 +141,14 @@ fn first_halves(tenants: &mut [Tenant], finished: &Finished)
     }
 }
 
-// The second half of each tenant, with what is granted through its binds.
-fn second_halves(tenants: &mut [Tenant], frame: &[i64], granted: &[Option<i64>], jobs: &mut Jobs)
-    requires rest { All (λ (s : Standing). s.ended ≡ []) tenants.old }
-    requires ended_due { All (λ (s : Standing). due_tasks s.row ≡ []) tenants.old }
-    requires counts { All (λ (s : Standing). s.row.next_tick < 2 ^ 64 - 1) tenants.old }
-    requires places { binds_of tenants.old ≤ length granted.now }
-    requires placed { ArePlaced tenants.old }
-    requires early { AreEarly tenants.old }
-    requires ready { All IsReady tenants.old }
-    requires none { jobs.old.jobs ≡ [] }
-    requires jobs { most_of tenants.old ≤ jobs.old.room }
-    ensures halves { AreSecondHalves frame.now granted.now tenants.old tenants.new }
-    ensures released { AreReleasedJobs tenants.old tenants.new jobs.new.jobs }
-    ensures jobs { (n : ℕ) → All (λ (s : Standing). s.row.next_tick ≡ n) tenants.old → jobs.new.jobs ≡ released_from n 0 tenants.new }
-{
-    let mut first = 0;
-    for i in 0..tenants.len() {
-        let tenant = &mut tenants[i];
-        let behind = first + tenant.bind_count();
-        tenant.phase_two(frame, &granted[first..behind], jobs);
-        let _ = tenant.next_tick();
-        first = behind;
-    }
-}
-
-// The second half of each tenant, where nobody takes the jobs. What is released is entered.
-fn second_halves_without_jobs(
+// The second half of each tenant, with what is granted through its binds. What is released is entered.
+fn second_halves(
     tenants: &mut [Tenant],
     frame: &[i64],
     granted: &[Option<i64>],
     finished: &mut Finished,
 )
-    requires rest { All (λ (s : Standing). s.ended ≡ []) tenants.old }
+    requires rest { All (λ (s : Standing). s.ready.ended ≡ []) tenants.old }
     requires ended_due { All (λ (s : Standing). due_tasks s.row ≡ []) tenants.old }
     requires counts { All (λ (s : Standing). s.row.next_tick < 2 ^ 64 - 1) tenants.old }
     requires places { binds_of tenants.old ≤ length granted.now }
@@ -175,22 +165,9 @@ fn second_halves_without_jobs(
         let tenant = &mut tenants[i];
         let before = tenant.active();
         let behind = first + tenant.bind_count();
-        tenant.phase_two_without_jobs(frame, &granted[first..behind]);
+        tenant.second_half(frame, &granted[first..behind]);
         tenant.enter(before, finished);
-        let _ = tenant.next_tick();
+        tenant.known();
         first = behind;
-    }
-}
-
-// Each tenant notes the keys of these jobs, which the last instant released, tenant by tenant.
-fn note_keys(tenants: &mut [Tenant], jobs: &Jobs)
-    ensures { tenants.new ≡ tenants.old }
-{
-    let mut next = 0;
-    for i in 0..tenants.len() {
-        if next >= jobs.len() {
-            return;
-        }
-        next = tenants[i].note_keys(jobs, next);
     }
 }

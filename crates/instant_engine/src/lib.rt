@@ -3,6 +3,9 @@
 //! [`instants::instant`] goes from one instant to the next. Completed jobs stand in one table of all active tasks, [`finished::Finished`],
 //! and in no tenant: an instant takes from it the results of what ends, takes the entries of what ended out, and enters what it released.
 //!
+//! What an instant of all tenants is for each of them, and what is granted between its halves, is defined in `Instants.antt` and
+//! `Granted.antt` of the crate `rig_model`; `specs/Tenants.antt` says what tenants stand for together.
+//!
 //! The names of jobs and of that table are those of `tenant_jobs`, and stand here too.
 #![tactic(auto)]
 

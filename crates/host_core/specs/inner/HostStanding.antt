@@ -1,10 +1,10 @@
 -- What is known of a host at any time.
 use Rattle.std.specs.Prelude.{◌≡◌, ◌<◌, ◌≤◌, ℕ, List, Option, ℤ, length, All}
 use Rattle.std.specs.List.{sum_by}
-use Rattle.instant_engine.specs.inner.Instants.{IsBetween}
-use Rattle.instant_engine.specs.inner.Tables.{IsTaskTable}
+use Rattle.instant_engine.specs.cited.Instants.{IsBetween}
+use Rattle.instant_engine.specs.cited.Tables.{IsTaskTable}
 use Rattle.instant_engine.specs.Tenants.{ArePlaced, tenant_at}
-use Rattle.host_core.specs.Tenancies.{tenancy_at}
+use Rattle.rig_model.specs.Tenancies.{tenancy_at}
 use Rattle.rig_config.specs.Roster.{Rig}
 use Rattle.rig_config.specs.declared.TenantConfig.{TenantConfig}
 use Rattle.tenant_jobs.specs.Finished.{TableEntry}

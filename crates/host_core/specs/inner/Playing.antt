@@ -1,17 +1,16 @@
 -- What playing a list of events has come to.
 use Rattle.std.specs.Prelude.{◌≡◌, ◌<◌, ⊤, ℕ, true, List, [], ◌∷◌, length, slice_index_or, None}
 use Rattle.std.specs.List.{list_any}
-use Rattle.host_core.specs.declared.events.Event.{Event}
-use Rattle.host_core.specs.declared.events.Event.TheVariants.{Own, Tick, Done}
+use Rattle.rig_model.specs.declared.events.Event.{Event}
+use Rattle.rig_model.specs.declared.events.Event.TheVariants.{Own, Tick, Done}
 use Rattle.host_core.specs.declared.plays.Stage.{Stage}
-use Rattle.tenant_jobs.specs.declared.jobs.JobId.{JobId}
-use Rattle.host_core.specs.Answers.{answers_of}
-use Rattle.host_core.specs.Base.{IsBase}
-use Rattle.host_core.specs.Host.{host_after}
+use Rattle.rig_model.specs.declared.jobs.JobId.{JobId}
+use Rattle.rig_model.specs.Answers.{answers_of}
+use Rattle.rig_model.specs.Base.{IsBase, Setting}
+use Rattle.rig_model.specs.Host.{host_after}
 use Rattle.host_core.specs.HostStanding.{HostStanding, Stands, awaited_in}
-use Rattle.host_core.specs.Legal.{may_follow, was_released, is_legal}
-use Rattle.host_core.specs.Setting.{Setting}
-use Rattle.tenant_jobs.specs.Jobs.{same_job}
+use Rattle.rig_model.specs.Legal.{may_follow, was_released, is_legal}
+use Rattle.rig_model.specs.Jobs.{same_job}
 use Rattle.rig_config.specs.Roster.{Rig}
 
 -- The host, each tenant's text and the names of the released jobs are those behind these events, the newest first.

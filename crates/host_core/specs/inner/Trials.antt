@@ -2,15 +2,15 @@
 use Rattle.std.specs.Prelude.{◌≡◌, ◌+◌, ⊤, ℕ, Bool, ◌==◌, ◌&&◌, ◌||◌, if◌then◌else◌, List, [], ◌∷◌, length, reverse}
 use Rattle.std.specs.List.{list_any}
 use Rattle.host_core.specs.HostStanding.{HostStanding, ForEachState}
-use Rattle.host_core.specs.HostState.{row_at}
-use Rattle.host_core.specs.Setting.{Setting}
-use Rattle.host_core.specs.Sources.{is_source, kept_of, sources_before, stays, suppliers_of}
-use Rattle.host_core.specs.declared.events.Event.{Event}
-use Rattle.host_core.specs.declared.events.Event.TheVariants.{Own, Tick, Done}
+use Rattle.rig_model.specs.HostState.{row_at}
+use Rattle.rig_model.specs.Base.{Setting}
+use Rattle.rig_model.specs.Sources.{is_source, kept_of, sources_before, stays, suppliers_of}
+use Rattle.rig_model.specs.declared.events.Event.{Event}
+use Rattle.rig_model.specs.declared.events.Event.TheVariants.{Own, Tick, Done}
 use Rattle.host_core.specs.declared.plays.Stage.{Stage}
 use Rattle.host_core.specs.declared.trials.Flow.{Flow}
 use Rattle.host_core.specs.inner.Playing.{IsStage}
-use Rattle.tenant_state.specs.Row.{Row}
+use Rattle.rig_model.specs.Row.{Row}
 
 -- one of these flows is from the tenant at place u to that at place t
 abbrev pub has_flow : List Flow → ℕ → ℕ → Bool

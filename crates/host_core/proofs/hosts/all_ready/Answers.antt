@@ -1,7 +1,7 @@
 use Rattle.std.proofs.Common.{◌≡◌, ◌+◌, ◌∙◌, arith}
 use Rattle.std.specs.Prelude.{IsOk}
 use Rattle.std.proofs.lemmas.Bool.{false≢true}
-use Rattle.host_core.proofs.AtRest.{same_most}
+use Rattle.instant_engine.proofs.cited.AtRest.{same_most}
 use Rattle.host_core.proofs.hosts.all_ready.Goals as goal
 
 pub returns-in_err-entries-clause-never_refused : goal.returns-in_err-entries-clause-never_refused

@@ -1,11 +1,11 @@
 use Rattle.std.proofs.Common.{◌≡◌, Some, refl, sym, ap, subst, ◌∙◌}
 use Rattle.std.specs.Prelude.{IfSome}
-use Rattle.host_core.specs.declared.events.Event.TheVariants.{Done}
-use Rattle.host_core.specs.Host.{after_event}
+use Rattle.rig_model.specs.declared.events.Event.TheVariants.{Done}
+use Rattle.rig_model.specs.Host.{after_event}
 use Rattle.host_core.specs.HostStanding.{Stands, awaited_in}
-use Rattle.tenant_jobs.specs.declared.jobs.JobId.{JobId}
+use Rattle.rig_model.specs.declared.jobs.JobId.{JobId}
 use Rattle.tenant_jobs.specs.Jobs.{JobValue}
-use Rattle.host_core.proofs.HostSteps.{awaited_name_in}
+use Rattle.host_core.proofs.cited.HostSteps.{awaited_name_in}
 use Rattle.host_core.proofs.hosts.complete.Goals as goal
 
 pub returns-clause-counted : goal.returns-clause-counted

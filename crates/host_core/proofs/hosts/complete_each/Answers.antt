@@ -3,16 +3,16 @@ use Rattle.std.proofs.lemmas.List.{get_or_default, take_all}
 use Rattle.std.proofs.lemmas.List.Sums.{sum-map, sum_by_more}
 use Rattle.std.specs.List.{sum_by}
 use Rattle.instant_engine.specs.Tenants.{tenant_at}
-use Rattle.instant_engine.specs.inner.Tenants.{is_active_among}
-use Rattle.tenant_jobs.specs.declared.jobs.JobId.{JobId}
+use Rattle.instant_engine.specs.cited.Tenants.{is_active_among}
+use Rattle.rig_model.specs.declared.jobs.JobId.{JobId}
 use Rattle.tenant_jobs.specs.Finished.{entry_in, has_result}
-use Rattle.tenant_state.specs.Jobs.{job_of}
+use Rattle.rig_model.specs.Jobs.{job_of}
 use Rattle.tenant_state.specs.Standing.{Standing, no_tenant}
-use Rattle.tenant_state.specs.inner.Standing.{HasItsResults, has_active}
-use Rattle.giotto_tasks.proofs.ListLemmas.{all_of, same_filter}
-use Rattle.giotto_tasks.proofs.TestLemmas.{or_assoc}
+use Rattle.tenant_state.specs.cited.Standing.{HasItsResults, has_active}
+use Rattle.giotto_tasks.proofs.cited.ListLemmas.{all_of, same_filter}
+use Rattle.giotto_tasks.proofs.cited.TestLemmas.{or_assoc}
 use Rattle.host_core.proofs.HostTables.{active_more, has_its_entries, none_before, table_completed}
-use Rattle.host_core.proofs.Outstanding.{number_outstanding, counted_in_all}
+use Rattle.host_core.proofs.cited.Outstanding.{number_outstanding, counted_in_all}
 use Rattle.host_core.proofs.hosts.complete_each.Goals as goal
 
 or_false : (b : Bool) → (b || false) ≡ b

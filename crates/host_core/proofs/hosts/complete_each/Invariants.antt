@@ -1,10 +1,10 @@
 use Rattle.std.proofs.Common.{◌≡◌, ◌≤◌, ◌*◌, ◌-◌, ◌^◌, ◌||◌, take}
 use Rattle.std.specs.List.{sum_by}
-use Rattle.instant_engine.specs.inner.Tables.{IsTaskTable}
-use Rattle.instant_engine.specs.inner.Tenants.{is_active_among}
-use Rattle.tenant_jobs.specs.declared.jobs.JobId.{JobId}
+use Rattle.instant_engine.specs.cited.Tables.{IsTaskTable}
+use Rattle.instant_engine.specs.cited.Tenants.{is_active_among}
+use Rattle.rig_model.specs.declared.jobs.JobId.{JobId}
 use Rattle.tenant_jobs.specs.Finished.{has_result}
-use Rattle.host_core.proofs.Outstanding.{number_outstanding}
+use Rattle.host_core.proofs.cited.Outstanding.{number_outstanding}
 use Rattle.host_core.proofs.hosts.complete_each.Given as goal
 
 abbrev pub invariant-loop-tenant : goal.invariant-loop-tenant

@@ -1,7 +1,8 @@
 use Rattle.std.proofs.Common.{◌≡◌, ◌||◌, length}
 use Rattle.std.specs.List.{list_any}
-use Rattle.tenant_jobs.specs.declared.jobs.JobId.{JobId}
-use Rattle.tenant_jobs.specs.Jobs.{JobValue, same_job}
+use Rattle.rig_model.specs.declared.jobs.JobId.{JobId}
+use Rattle.tenant_jobs.specs.Jobs.{JobValue}
+use Rattle.rig_model.specs.Jobs.{same_job}
 use Rattle.host_core.proofs.plays.add_names.Given as goal
 
 abbrev pub invariant-loop-job : goal.invariant-loop-job

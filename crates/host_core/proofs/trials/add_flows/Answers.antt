@@ -1,8 +1,8 @@
 use Rattle.std.proofs.Common.{◌∙◌, ◌≡◌, ◌<◌, ◌&&◌, ◌||◌, eqb, length, ap, take, arith}
 use Rattle.std.proofs.Math.Seq.{take-length}
-use Rattle.host_core.specs.HostState.{row_at}
-use Rattle.host_core.specs.Sources.{is_source}
-use Rattle.host_core.specs.Tenancies.{roster_of}
+use Rattle.rig_model.specs.HostState.{row_at}
+use Rattle.rig_model.specs.Sources.{is_source}
+use Rattle.rig_model.specs.Tenancies.{roster_of}
 use Rattle.host_core.specs.inner.Trials.{has_flow}
 use Rattle.host_core.proofs.Flows.{flow_of_bind, named, no_flow_of_bind}
 use Rattle.host_core.proofs.trials.add_flows.Goals as goal

@@ -1,8 +1,8 @@
 use Rattle.std.proofs.Common.{◌≡◌, ◌&&◌, ◌||◌, ◌==◌, ℕ, take}
 use Rattle.host_core.specs.HostStanding.{ForEachState}
-use Rattle.host_core.specs.HostState.{row_at}
-use Rattle.host_core.specs.Sources.{is_source}
-use Rattle.host_core.specs.Tenancies.{roster_of}
+use Rattle.rig_model.specs.HostState.{row_at}
+use Rattle.rig_model.specs.Sources.{is_source}
+use Rattle.rig_model.specs.Tenancies.{roster_of}
 use Rattle.host_core.specs.inner.Trials.{has_flow}
 use Rattle.host_core.proofs.Flows.{named}
 use Rattle.host_core.proofs.trials.add_flows.Given as goal

@@ -1,5 +1,5 @@
 use Rattle.std.proofs.Common.{◌≡◌, ◌≤◌, ℕ, length, take}
-use Rattle.host_core.specs.Sources.{is_source}
+use Rattle.rig_model.specs.Sources.{is_source}
 use Rattle.host_core.specs.inner.Trials.{is_reached}
 use Rattle.host_core.proofs.trials.add_suppliers.Given as goal
 

@@ -1,6 +1,6 @@
 use Rattle.std.proofs.Common.{◌∙◌, ◌&&◌, ◌||◌, eqb, ap}
-use Rattle.host_core.specs.HostState.{row_at}
-use Rattle.host_core.specs.Sources.{is_source, suppliers_of}
+use Rattle.rig_model.specs.HostState.{row_at}
+use Rattle.rig_model.specs.Sources.{is_source, suppliers_of}
 use Rattle.host_core.proofs.Flows.{one_tenant_more}
 use Rattle.host_core.proofs.trials.flows.Goals as goal
 

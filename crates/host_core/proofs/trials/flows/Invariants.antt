@@ -1,8 +1,8 @@
 use Rattle.std.proofs.Common.{◌≡◌, ◌&&◌, ℕ}
 use Rattle.std.specs.Prelude.{nat_lt}
 use Rattle.host_core.specs.HostStanding.{ForEachState}
-use Rattle.host_core.specs.HostState.{row_at}
-use Rattle.host_core.specs.Sources.{is_source, suppliers_of}
+use Rattle.rig_model.specs.HostState.{row_at}
+use Rattle.rig_model.specs.Sources.{is_source, suppliers_of}
 use Rattle.host_core.specs.inner.Trials.{has_flow}
 use Rattle.host_core.proofs.trials.flows.Given as goal
 

@@ -1,6 +1,6 @@
 use Rattle.std.proofs.Common.{◌∙◌, ◌∷◌, ◌++◌, [], sym, ap, take, true, false}
 use Rattle.host_core.specs.inner.Trials.{marked}
-use Rattle.host_core.specs.declared.events.Event.{Event}
+use Rattle.rig_model.specs.declared.events.Event.{Event}
 use Rattle.std.proofs.lemmas.List.{append-nil}
 use Rattle.host_core.proofs.Marks.{kept_more}
 use Rattle.host_core.proofs.trials.kept.Goals as goal

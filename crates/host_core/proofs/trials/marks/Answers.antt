@@ -1,6 +1,6 @@
 use Rattle.std.proofs.Common.{◌∙◌, ◌∷◌, ◌++◌, [], ap, reverse, arith}
 use Rattle.std.specs.Prelude.{◌-◌}
-use Rattle.host_core.specs.Sources.{stays}
+use Rattle.rig_model.specs.Sources.{stays}
 use Rattle.host_core.specs.inner.Trials.{is_reached, marks_from}
 use Rattle.host_core.proofs.Stages.{one_back}
 use Rattle.host_core.proofs.trials.marks.Goals as goal

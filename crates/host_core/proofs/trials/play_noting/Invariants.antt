@@ -1,5 +1,5 @@
 use Rattle.std.proofs.Common.{◌≡◌, [], length, take, reverse}
-use Rattle.host_core.specs.Setting.{Setting}
+use Rattle.rig_model.specs.Base.{Setting}
 use Rattle.host_core.specs.inner.Playing.{IsPlayed}
 use Rattle.host_core.specs.inner.Trials.{AllLeadBack}
 use Rattle.host_core.proofs.trials.play_noting.Given as goal

@@ -1,9 +1,9 @@
 use Rattle.std.proofs.Common.{◌≡◌, ◌≢◌, ◌+◌, ⊎_elim, length, map, take, drop, refl, sym, ap, subst, ◌∙◌, arith}
 use Rattle.std.proofs.lemmas.Bool.{cases_eq}
-use Rattle.instant_engine.specs.Grants.{granted_by}
-use Rattle.instant_engine.specs.inner.Tenants.{binds_of, granted_at, roster_among, rows_of}
+use Rattle.rig_model.specs.Granted.{granted_by}
+use Rattle.instant_engine.specs.cited.Tenants.{binds_of, granted_at, roster_among, rows_of}
 use Rattle.instant_engine.proofs.Granting.{written_others}
-use Rattle.instant_engine.proofs.Loops.{binds_next, binds_upto, binds_within}
+use Rattle.instant_engine.proofs.cited.Loops.{binds_next, binds_upto, binds_within}
 use Rattle.instant_engine.proofs.grants.grant.Goals as goal
 
 pub loop-place-init : goal.loop-place-init

@@ -1,6 +1,6 @@
 use Rattle.std.proofs.Common.{◌≡◌, ◌<◌, ℕ, length, map, take}
-use Rattle.instant_engine.specs.Grants.{granted_by}
-use Rattle.instant_engine.specs.inner.Tenants.{binds_of, granted_at, roster_among, rows_of}
+use Rattle.rig_model.specs.Granted.{granted_by}
+use Rattle.instant_engine.specs.cited.Tenants.{binds_of, granted_at, roster_among, rows_of}
 use Rattle.instant_engine.proofs.grants.grant.Given as goal
 
 abbrev pub invariant-loop-place : goal.invariant-loop-place

@@ -1,7 +1,7 @@
 use Rattle.std.proofs.Common.{◌≡◌, ◌+◌, drop, length, map, take, refl, ap, sym, ◌∙◌, arith, length-set}
 use Rattle.std.proofs.lemmas.List.{get_or_default, length-map, take_all}
-use Rattle.instant_engine.specs.Grants.{granted_by}
-use Rattle.instant_engine.specs.inner.Tenants.{roster_among, rows_of}
+use Rattle.rig_model.specs.Granted.{granted_by}
+use Rattle.instant_engine.specs.cited.Tenants.{roster_among, rows_of}
 use Rattle.tenant_state.specs.Standing.{Standing, no_tenant}
 use Rattle.instant_engine.proofs.Granting.{others_before, written_more}
 use Rattle.instant_engine.proofs.grants.grant_to.Goals as goal

@@ -1,6 +1,6 @@
 use Rattle.std.proofs.Common.{◌≡◌, drop, length, map, take}
-use Rattle.instant_engine.specs.Grants.{granted_by}
-use Rattle.instant_engine.specs.inner.Tenants.{roster_among, rows_of}
+use Rattle.rig_model.specs.Granted.{granted_by}
+use Rattle.instant_engine.specs.cited.Tenants.{roster_among, rows_of}
 use Rattle.instant_engine.proofs.grants.grant_to.Given as goal
 
 abbrev pub invariant-loop-i : goal.invariant-loop-i

@@ -2,11 +2,11 @@ use Rattle.std.proofs.Common.{◌≡◌, ◌<◌, cond, length, None, Some, sym,
 use Rattle.std.specs.Prelude.{slice_get}
 use Rattle.std.specs.Option.{option_and_then}
 use Rattle.std.proofs.lemmas.List.{get_or_default}
-use Rattle.instant_engine.specs.Grants.{granted_by}
+use Rattle.rig_model.specs.Granted.{granted_by}
 use Rattle.instant_engine.specs.Tenants.{tenant_at}
-use Rattle.instant_engine.specs.inner.Tenants.{roster_among, rows_of}
+use Rattle.instant_engine.specs.cited.Tenants.{roster_among, rows_of}
 use Rattle.tenant_grants.specs.Grants.{bind_at}
-use Rattle.tenant_state.specs.Readers.{actuator_value}
+use Rattle.rig_model.specs.Row.{actuator_value}
 use Rattle.tenant_state.specs.Standing.{Standing, no_tenant}
 use Rattle.instant_engine.proofs.Granting.{bound_within, granted_there}
 use Rattle.instant_engine.proofs.grants.granted_by.Goals as goal

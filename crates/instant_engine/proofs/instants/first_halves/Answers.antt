@@ -1,11 +1,11 @@
 use Rattle.std.proofs.Common.{◌<◌, length, get_or, ap, sym, subst, ◌∙◌, arith}
 use Rattle.std.proofs.lemmas.List.Elements.{All-set}
 use Rattle.std.proofs.lemmas.List.Sums.{sum_by-set}
-use Rattle.tenant_state.specs.inner.Halves.{IsFirstHalf}
-use Rattle.instant_engine.specs.inner.Halves.{IsReady}
+use Rattle.tenant_state.specs.cited.Halves.{IsFirstHalf}
+use Rattle.instant_engine.specs.cited.Halves.{IsReady}
 use Rattle.tenant_state.specs.Standing.{Standing, no_tenant, most_released}
-use Rattle.tenant_state.specs.inner.Standing.{HasItsEntries, HasItsResults}
-use Rattle.instant_engine.proofs.Loops.{stepped_more, stepped_all, unstepped}
+use Rattle.tenant_state.specs.cited.Standing.{HasItsEntries, HasItsResults}
+use Rattle.instant_engine.proofs.cited.Loops.{stepped_more, stepped_all, unstepped}
 use Rattle.instant_engine.proofs.instants.first_halves.Goals as goal
 
 pub phase_one-requires : goal.phase_one-requires
@@ -13,7 +13,7 @@ phase_one-requires c =
     let inside : c.loop-i.i < length c.args.tenants.now = omega (arith, c.loop-i-test.true) in
     let here = unstepped _ c.loop-i.i c.args.tenants.now c.loop-i.tenants c.index-tenants-i.result inside c.loop-i.invariant.halves in
     record {
-      rest = ap (λ (s : Standing). s.ended) here ∙ (c.requires.between c.loop-i.i no_tenant inside).rest;
+      rest = ap (λ (s : Standing). s.ready.ended) here ∙ (c.requires.between c.loop-i.i no_tenant inside).rest;
       entries = subst (λ s. HasItsEntries s c.args.finished.now.entries) (sym here) (c.requires.entries c.loop-i.i no_tenant inside);
       results = subst (λ s. HasItsResults s c.args.finished.now.entries) (sym here) (c.requires.results c.loop-i.i no_tenant inside);
     }

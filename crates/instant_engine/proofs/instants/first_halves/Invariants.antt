@@ -1,10 +1,10 @@
 use Rattle.std.proofs.Common.{◌≡◌, ◌≤◌}
 use Rattle.std.specs.List.{All}
-use Rattle.tenant_state.specs.inner.Halves.{IsFirstHalf}
-use Rattle.instant_engine.specs.inner.Halves.{IsReady}
+use Rattle.tenant_state.specs.cited.Halves.{IsFirstHalf}
+use Rattle.instant_engine.specs.cited.Halves.{IsReady}
 use Rattle.instant_engine.specs.Tenants.{most_of}
-use Rattle.instant_engine.specs.inner.Tenants.{binds_of}
-use Rattle.instant_engine.proofs.Loops.{AreSteppedTo}
+use Rattle.instant_engine.specs.cited.Tenants.{binds_of}
+use Rattle.instant_engine.proofs.cited.Loops.{AreSteppedTo}
 use Rattle.instant_engine.proofs.instants.first_halves.Given as goal
 
 abbrev pub invariant-loop-i : goal.invariant-loop-i

@@ -1,68 +1,37 @@
-use Rattle.std.proofs.Common.{◌≡◌, ◌<◌, ◌-◌, ◌^◌, cond, map, Some, None, ap, subst, ◌∙◌, arith}
-use Rattle.tenant_jobs.specs.declared.jobs.JobId.{JobId}
-use Rattle.tenant_jobs.specs.Finished.{entry_in}
-use Rattle.tenant_jobs.specs.JobLists.{JobList}
-use Rattle.instant_engine.specs.inner.Halves.{AreGranted, AreReleasedJobs, AreSecondHalves, is_released_among, without_ended}
-use Rattle.instant_engine.specs.inner.Tenants.{binds_of}
-use Rattle.instant_engine.proofs.Between.{AreHalfway, binds_kept, roster_halfway, all_its_entries, told, placed_middle, halfway, counts_halfway, instants, jobs_new, entries_behind, table_behind}
+use Rattle.std.proofs.Common.{◌≡◌, ℕ, ◌+◌, ◌<◌, ◌++◌, cond, length, Some, None, sym, ap, ◌∙◌, arith}
+use Rattle.std.specs.List.{flat_map}
+use Rattle.tenant_jobs.specs.Finished.{result_in}
+use Rattle.tenant_state.specs.Standing.{Standing, no_tenant}
+use Rattle.rig_model.specs.Tenancies.{Tenancy}
+use Rattle.instant_engine.specs.cited.Halves.{last_jobs}
+use Rattle.instant_engine.specs.cited.Instants.{AreInstants}
+use Rattle.instant_engine.proofs.cited.AtRest.{active_at_rest, instants_at_rest, same_jobs, table_at_rest}
+use Rattle.instant_engine.proofs.Between.{all_at}
+use Rattle.instant_engine.proofs.cited.Loops.{jobs_of_instant}
 use Rattle.instant_engine.proofs.instants.instant.Goals as goal
 
-pub first_halves-requires : goal.first_halves-requires
-first_halves-requires c = record { between = c.requires.between; entries = all_its_entries c.requires.placed c.requires.between c.requires.table; results = c.requires.table.results }
-
-pub keep-requires : goal.keep-requires
-keep-requires c = record {
-  placed = placed_middle c.requires.placed c.requires.between c.requires.table c.first_halves.ensures.halves;
-  told = told c.requires.placed c.requires.between c.requires.table c.first_halves.ensures.halves;
+pub add_jobs-requires : goal.add_jobs-requires
+add_jobs-requires c = record {
+  later = all_at (λ s. 0 < s.row.next_tick) c.advance.new.tenants (λ t lt.
+      omega (arith, (c.advance.ensures.instants.moved.each t (omega (arith, lt, c.advance.ensures.instants.moved.as_many))).next_tick));
+  shares = c.advance.ensures.shares;
+  room = omega (arith, c.advance.ensures.few, c.requires.jobs);
 }
-
-pub grant-requires : goal.grant-requires
-grant-requires c = record {
-  rosters = rw (c.keep.ensures.tenants) (roster_halfway c.requires.placed c.requires.between c.requires.table c.first_halves.ensures.halves c.requires.rosters);
-  places = omega (arith, ap binds_of c.keep.ensures.tenants, binds_kept c.first_halves.new.tenants, c.first_halves.ensures.binds, c.requires.places);
-}
-
-pub second_halves-requires : goal.second_halves-requires
-second_halves-requires c =
-    let half : AreHalfway c.args.tenants.now c.keep.new.tenants =
-    halfway c.requires.placed c.requires.between c.requires.table c.first_halves.ensures.halves c.keep.new.tenants c.keep.ensures.tenants (c.first_halves.ensures.ready c.requires.ready) c.first_halves.ensures.fewer in
-    record {
-      rest = half.rest;
-      ended_due = half.ended_due;
-      counts = counts_halfway c.requires.placed c.requires.between c.requires.table c.first_halves.ensures.halves (λ n. n < 2 ^ 64 - 1) c.keep.new.tenants c.keep.ensures.tenants c.requires.counts;
-      places = omega (arith, c.grant.auto.granted, ap binds_of c.keep.ensures.tenants, binds_kept c.first_halves.new.tenants, c.first_halves.ensures.binds, c.requires.places);
-      placed = half.placed;
-      early = half.early;
-      ready = half.ready;
-      none = c.requires.none;
-      jobs = omega (arith, half.few, c.requires.jobs);
-    }
-
-pub enter-requires : goal.enter-requires
-enter-requires c =
-    let half : AreHalfway c.args.tenants.now c.keep.new.tenants =
-    halfway c.requires.placed c.requires.between c.requires.table c.first_halves.ensures.halves c.keep.new.tenants c.keep.ensures.tenants (c.first_halves.ensures.ready c.requires.ready) c.first_halves.ensures.fewer in
-    let passed = subst (λ ts. AreGranted ts c.grant.new.granted) c.keep.ensures.tenants c.grant.ensures.granted in
-    let second = subst (λ ts. AreSecondHalves c.args.frame.now c.grant.new.granted ts c.second_halves.new.tenants) c.keep.ensures.tenants c.second_halves.ensures.halves in
-    let released = subst (λ ts. AreReleasedJobs ts c.second_halves.new.tenants c.second_halves.new.jobs.jobs) c.keep.ensures.tenants c.second_halves.ensures.released in
-    record {
-      room = omega (arith, c.second_halves.ensures.released.few, half.few, c.requires.entries, c.keep.ensures.room);
-      new = jobs_new c.requires.placed c.requires.between c.requires.table c.first_halves.ensures.halves c.args.frame.now c.grant.new.granted c.requires.rosters passed second c.keep.new.finished.entries c.keep.ensures.entries c.second_halves.new.jobs.jobs released;
-      differ = released.differ;
-    }
 
 pub returns : goal.returns
 returns c =
-    let passed = subst (λ ts. AreGranted ts c.grant.new.granted) c.keep.ensures.tenants c.grant.ensures.granted in
-    let second = subst (λ ts. AreSecondHalves c.args.frame.now c.grant.new.granted ts c.second_halves.new.tenants) c.keep.ensures.tenants c.second_halves.ensures.halves in
-    let released = subst (λ ts. AreReleasedJobs ts c.second_halves.new.tenants c.second_halves.new.jobs.jobs) c.keep.ensures.tenants c.second_halves.ensures.released in
-    let enters : (j : JobId) → entry_in c.enter.new.self.entries j ≡ cond (is_released_among (map without_ended c.first_halves.new.tenants) c.second_halves.new.tenants j) (Some (record { id = j; result = None })) (entry_in c.keep.new.finished.entries j) =
-    λ j. c.enter.ensures.entries j ∙ ap (λ b. cond b (Some (record { id = j; result = None })) (entry_in c.keep.new.finished.entries j)) (released.names j) in
-    rw (c.note_keys.ensures) (record {
-      instants = instants c.requires.placed c.requires.between c.requires.table c.first_halves.ensures.halves c.args.frame.now c.grant.new.granted c.requires.rosters passed second;
-      entries = entries_behind c.requires.placed c.requires.between c.requires.table c.first_halves.ensures.halves c.args.frame.now c.grant.new.granted c.requires.rosters passed second c.keep.new.finished.entries c.enter.new.self.entries c.keep.ensures.entries enters;
-      table = table_behind c.requires.placed c.requires.between c.requires.table c.first_halves.ensures.halves c.args.frame.now c.grant.new.granted c.requires.rosters passed second c.keep.new.finished.entries c.enter.new.self.entries c.keep.ensures.entries enters;
+    let mid = c.advance.new.tenants in
+    let new = c.add_jobs.new.tenants in
+    let rest = c.add_jobs.ensures.rest in
+    let is : AreInstants c.args.frame.now c.args.finished.now.entries c.args.tenants.now new = instants_at_rest c.args.frame.now c.args.finished.now.entries c.args.tenants.now mid new rest c.advance.ensures.instants in
+    record {
+      instants = is;
+      entries = λ j. c.advance.ensures.entries j
+          ∙ ap (λ b. cond b (Some (record { id = j; result = result_in c.args.finished.now.entries j })) None) (sym (active_at_rest mid new rest j));
+      table = table_at_rest c.advance.new.finished.entries mid new rest c.advance.ensures.table;
       jobs = λ n counts.
-          ap (λ (l : JobList). l.jobs) c.enter.ensures.jobs
-          ∙ c.second_halves.ensures.jobs n (counts_halfway c.requires.placed c.requires.between c.requires.table c.first_halves.ensures.halves (λ k. k ≡ n) c.keep.new.tenants c.keep.ensures.tenants counts);
-    })
+          c.add_jobs.ensures.jobs ∙ ap (λ js. js ++ flat_map last_jobs mid) c.requires.none ∙ sym (same_jobs mid new rest)
+          ∙ jobs_of_instant n 0 new
+          (λ t lt. let within : t < length c.args.tenants.now = omega (arith, lt, is.moved.as_many) in omega (arith, ap (λ (y : Tenancy). y.owner.place) (is.moved.each t within).tenancy, c.requires.placed t within))
+          (λ t lt. let within : t < length c.args.tenants.now = omega (arith, lt, is.moved.as_many) in (is.moved.each t within).next_tick ∙ ap (λ k. k + 1) (counts t no_tenant within));
+    }

@@ -1,9 +1,10 @@
 use Rattle.std.proofs.Common.{◌≡◌, ◌<◌, length, get_or, ap, ◌∙◌, arith}
 use Rattle.tenant_state.specs.Standing.{Standing}
+use Rattle.tenant_state.specs.cited.Standing.{without_ended}
 use Rattle.instant_engine.specs.Tenants.{tenant_at}
-use Rattle.instant_engine.specs.inner.Halves.{without_ended}
+use Rattle.instant_engine.specs.cited.Halves.{}
 use Rattle.instant_engine.proofs.Kept.{left_none, left_more, left_all, without_each}
-use Rattle.instant_engine.proofs.Loops.{stepped_none, stepped_more, stepped_all, unstepped}
+use Rattle.instant_engine.proofs.cited.Loops.{stepped_none, stepped_more, stepped_all, unstepped}
 use Rattle.instant_engine.proofs.instants.keep.Goals as goal
 
 pub loop-i-init : goal.loop-i-init

@@ -1,8 +1,9 @@
 use Rattle.std.proofs.Common.{◌≡◌, ◌≤◌}
-use Rattle.instant_engine.specs.inner.Halves.{without_ended}
+use Rattle.instant_engine.specs.cited.Halves.{}
 use Rattle.instant_engine.proofs.Kept.{AreLeftTo}
-use Rattle.instant_engine.proofs.Loops.{AreSteppedTo}
+use Rattle.instant_engine.proofs.cited.Loops.{AreSteppedTo}
 use Rattle.instant_engine.proofs.instants.keep.Given as goal
+use Rattle.tenant_state.specs.cited.Standing.{without_ended}
 
 abbrev pub invariant-loop-i : goal.invariant-loop-i
 invariant-loop-i l = record {

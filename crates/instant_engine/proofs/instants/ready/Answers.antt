@@ -1,11 +1,11 @@
 use Rattle.std.proofs.Common.{rules, ◌<◌, length, ap, arith}
 use Rattle.std.proofs.lemmas.List.Elements.{AllWithin-more_set}
-use Rattle.instant_engine.specs.inner.Halves.{IsReady}
-use Rattle.tenant_state.specs.Row.{Row}
+use Rattle.instant_engine.specs.cited.Halves.{IsReady}
+use Rattle.rig_model.specs.Row.{Row}
 use Rattle.std.proofs.lemmas.List.Sums.{sum_by-take-le}
 use Rattle.tenant_state.specs.Standing.{Standing, most_released}
-use Rattle.instant_engine.proofs.AtRest.{readied, same_length, same_most}
-use Rattle.instant_engine.proofs.Loops.{most_more, none_of_one}
+use Rattle.instant_engine.proofs.cited.AtRest.{readied, same_length, same_most}
+use Rattle.instant_engine.proofs.cited.Loops.{most_more, none_of_one}
 use Rattle.instant_engine.proofs.instants.ready.Goals as goal
 
 pub returns-in_default-clause-rest : goal.returns-in_default-clause-rest

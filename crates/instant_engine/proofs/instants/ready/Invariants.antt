@@ -1,6 +1,6 @@
 use Rattle.std.proofs.Common.{◌≡◌, map, take}
 use Rattle.std.specs.List.{AllWithin}
-use Rattle.instant_engine.specs.inner.Halves.{IsReady}
+use Rattle.instant_engine.specs.cited.Halves.{IsReady}
 use Rattle.instant_engine.specs.Tenants.{most_of}
 use Rattle.tenant_state.specs.Standing.{at_rest}
 use Rattle.instant_engine.proofs.instants.ready.Given as goal

@@ -1,44 +1,57 @@
-use Rattle.std.proofs.Common.{◌≡◌, ◌+◌, ◌-◌, ◌<◌, drop, take, length, get_or, refl, ap, sym, subst, ◌∙◌, arith}
+use Rattle.std.proofs.Common.{◌≡◌, ◌+◌, ◌-◌, ◌<◌, ◌≤◌, take, false, cond, length, length-drop, drop, get_or, Some, None, refl, ap, sym, subst, ◌∙◌, arith}
 use Rattle.std.specs.List.{AllByRecursion}
-use Rattle.tenant_state.specs.FirstHalf.{due_tasks}
-use Rattle.tenant_state.specs.Row.{ActiveTask}
-use Rattle.tenant_state.specs.Standing.{Standing, no_tenant}
-use Rattle.tenant_state.specs.Tenancy.{Tenancy}
-use Rattle.tenant_state.specs.inner.Standing.{HasRoom, HasShares}
-use Rattle.tenant_state.specs.inner.Halves.{IsSecondHalf}
+use Rattle.tenant_jobs.specs.Finished.{entry_in}
+use Rattle.tenant_jobs.specs.cited.Finished.{is_entered}
+use Rattle.rig_model.specs.Jobs.{has_job, job_of}
+use Rattle.rig_model.specs.FirstHalf.{due_tasks}
+use Rattle.rig_model.specs.Row.{ActiveTask}
+use Rattle.tenant_state.specs.Standing.{IsKnown, Standing, no_tenant}
+use Rattle.rig_model.specs.Tenancies.{Tenancy}
+use Rattle.tenant_state.specs.cited.Standing.{HasRoom}
+use Rattle.tenant_state.specs.cited.Halves.{IsSecondHalf}
 use Rattle.instant_engine.specs.Tenants.{tenant_at}
-use Rattle.instant_engine.specs.inner.Tenants.{granted_at}
-use Rattle.instant_engine.specs.inner.Halves.{IsReady}
-use Rattle.instant_engine.proofs.Loops.{binds_more, binds_within, stepped_more, stepped_none, stepped_all, unstepped, most_left, jobs_more}
-use Rattle.instant_engine.proofs.Released.{released_none, released_more, released_all}
+use Rattle.instant_engine.specs.cited.Tenants.{granted_at}
+use Rattle.instant_engine.proofs.Entered.{entered_none, entered_more, entered_all, not_yet}
+use Rattle.instant_engine.proofs.cited.Loops.{binds_more, binds_within, stepped_more, stepped_none, stepped_all, unstepped, most_left}
 use Rattle.instant_engine.proofs.instants.second_halves.Goals as goal
 
 pub loop-i-init : goal.loop-i-init
-loop-i-init c = record {
-  first = refl;
-  halves = stepped_none _ c.args.tenants.now;
-  space = c.requires.jobs;
-  released = released_none c.args.tenants.now c.args.jobs.now.jobs c.requires.none;
-  jobs = λ n counts. c.requires.none;
-}
+loop-i-init c = record { first = refl; halves = stepped_none _ c.args.tenants.now; space = c.requires.room; entered = entered_none c.args.tenants.now c.args.finished.now.entries }
 
-pub phase_two-requires : goal.phase_two-requires
-phase_two-requires c =
-    let d : Standing = c.index-tenants-i.result in
+pub second_half-requires : goal.second_half-requires
+second_half-requires c =
     let inside : c.loop-i.i < length c.args.tenants.now = omega (arith, c.loop-i-test.true) in
-    let here = unstepped _ c.loop-i.i c.args.tenants.now c.loop-i.tenants d inside c.loop-i.invariant.halves in
-    let ready : IsReady (tenant_at c.args.tenants.now c.loop-i.i) = c.requires.ready c.loop-i.i no_tenant inside in
+    let here = unstepped _ c.loop-i.i c.args.tenants.now c.loop-i.tenants c.index-tenants-i.result inside c.loop-i.invariant.halves in
     record {
-      rest = ap (λ (s : Standing). s.ended) here ∙ c.requires.rest c.loop-i.i no_tenant inside;
+      rest = ap (λ (s : Standing). s.ready.ended) here ∙ c.requires.rest c.loop-i.i no_tenant inside;
       ended_due = ap (λ (s : Standing). due_tasks s.row) here ∙ c.requires.ended_due c.loop-i.i no_tenant inside;
       next_tick = omega (arith, ap (λ (s : Standing). s.row.next_tick) here, c.requires.counts c.loop-i.i no_tenant inside);
-      room = subst HasRoom (sym here) ready.room;
-      shares = subst HasShares (sym here) ready.shares;
-      jobs = omega (arith, c.loop-i.invariant.space, most_left _ c.loop-i.i c.args.tenants.now c.loop-i.tenants d inside c.loop-i.invariant.halves);
+      room = subst HasRoom (sym here) (c.requires.ready c.loop-i.i no_tenant inside).room;
     }
 
-pub slice_bounds-phase_two-end : goal.slice_bounds-phase_two-end
-slice_bounds-phase_two-end c =
+pub enter-requires : goal.enter-requires
+enter-requires c =
+    let d : Standing = c.index-tenants-i.result in
+    let x : Standing = get_or c.loop-i.tenants c.loop-i.i d in
+    let s : Standing = c.second_half.new.self in
+    let inside : c.loop-i.i < length c.args.tenants.now = omega (arith, c.loop-i-test.true) in
+    let here : x ≡ tenant_at c.args.tenants.now c.loop-i.i = unstepped _ c.loop-i.i c.args.tenants.now c.loop-i.tenants d inside c.loop-i.invariant.halves in
+    record {
+      room = omega (
+        arith,
+        c.active-before.ensures,
+        c.loop-i.invariant.space,
+        most_left _ c.loop-i.i c.args.tenants.now c.loop-i.tenants d inside c.loop-i.invariant.halves,
+        length-drop c.active-before.result s.row.active,
+        c.second_half.ensures.released.few,
+      );
+      new = subst (λ k. AllByRecursion (λ (a : ActiveTask). is_entered c.loop-i.finished.entries (job_of s.tenancy.owner.place a) ≡ false) (drop k s.row.active)) (sym c.active-before.ensures)
+          (not_yet c.loop-i.i c.args.tenants.now c.loop-i.tenants x s c.args.finished.now.entries c.loop-i.finished.entries inside here (ap (λ (s : Standing). s.tenancy.owner.place) here ∙ c.requires.placed c.loop-i.i inside)
+          (ap (λ (y : Tenancy). y.owner.place) c.second_half.ensures.half.tenancy) c.second_half.ensures.released c.requires.new c.loop-i.invariant.entered);
+    }
+
+pub slice_bounds-second_half-end : goal.slice_bounds-second_half-end
+slice_bounds-second_half-end c =
     let inside : c.loop-i.i < length c.args.tenants.now = omega (arith, c.loop-i-test.true) in
     omega (
       arith,
@@ -53,29 +66,38 @@ pub loop-i-preserved : goal.loop-i-preserved
 loop-i-preserved c =
     let d : Standing = c.index-tenants-i.result in
     let x : Standing = get_or c.loop-i.tenants c.loop-i.i d in
+    let s : Standing = c.second_half.new.self in
     let inside : c.loop-i.i < length c.args.tenants.now = omega (arith, c.loop-i-test.true) in
     let within : c.loop-i.i < length c.loop-i.tenants = omega (arith, inside, c.loop-i.invariant.halves.as_many) in
     let here : x ≡ tenant_at c.args.tenants.now c.loop-i.i = unstepped _ c.loop-i.i c.args.tenants.now c.loop-i.tenants d inside c.loop-i.invariant.halves in
-    let own : x.tenancy.owner.place ≡ c.loop-i.i = ap (λ (s : Standing). s.tenancy.owner.place) here ∙ c.requires.placed c.loop-i.i inside in
-    let left = most_left _ c.loop-i.i c.args.tenants.now c.loop-i.tenants d inside c.loop-i.invariant.halves in
+    let known : IsKnown s.tenancy s.row = subst (λ (y : Standing). IsKnown y.tenancy y.row) c.enter.ensures.same c.known.ensures.row in
     let its_grants : take (c.loop-i.first + c.bind_count.result - c.loop-i.first) (drop c.loop-i.first c.args.granted.now) ≡ granted_at c.args.tenants.now c.loop-i.i c.args.granted.now =
     let many : c.loop-i.first + c.bind_count.result - c.loop-i.first ≡ length (tenant_at c.args.tenants.now c.loop-i.i).row.binds = omega (arith, c.bind_count.ensures, ap (λ (y : Standing). length y.row.binds) here) in
     λ k. take (many k) (drop (c.loop-i.invariant.first k) c.args.granted.now) in
     record {
       first = omega (arith, c.loop-i.invariant.first, c.bind_count.ensures, binds_more _ c.loop-i.i c.args.tenants.now c.loop-i.tenants d inside c.loop-i.invariant.halves);
-      halves = stepped_more _ c.loop-i.i c.args.tenants.now c.loop-i.tenants d c.phase_two.new.self inside c.loop-i.invariant.halves
-          (record { half = subst (λ zs. IsSecondHalf c.args.frame.now zs (get_or c.loop-i.tenants c.loop-i.i d) c.phase_two.new.self) its_grants c.phase_two.ensures.half; released = c.phase_two.ensures.released; known = c.next_tick.ensures.known; binds = c.next_tick.ensures.binds });
-      space = omega (arith, c.loop-i.invariant.space, c.phase_two.ensures.room, left);
-      released = released_more c.loop-i.i c.args.tenants.now c.loop-i.tenants x c.phase_two.new.self c.loop-i.jobs.jobs c.phase_two.new.jobs.jobs within here own (ap (λ (y : Tenancy). y.owner.place) c.phase_two.ensures.half.tenancy) left
-          (subst (λ (s : Standing). AllByRecursion (λ (a : ActiveTask). a.release < s.row.next_tick) s.row.active) (sym here) (c.requires.early c.loop-i.i no_tenant inside))
-          c.phase_two.ensures.released c.next_tick.ensures.known c.phase_two.ensures.jobs c.loop-i.invariant.released;
-      jobs = λ n counts.
-          jobs_more n c.loop-i.i c.loop-i.tenants c.phase_two.new.self x c.loop-i.jobs.jobs c.phase_two.new.jobs.jobs within own
-          (ap (λ (s : Standing). s.row.next_tick) here ∙ counts c.loop-i.i no_tenant inside) c.phase_two.ensures.jobs (c.loop-i.invariant.jobs n counts);
+      halves = rw (c.enter.ensures.same)
+          (stepped_more _ c.loop-i.i c.args.tenants.now c.loop-i.tenants d s inside c.loop-i.invariant.halves
+          (record { half = subst (λ zs. IsSecondHalf c.args.frame.now zs (get_or c.loop-i.tenants c.loop-i.i d) c.second_half.new.self) its_grants c.second_half.ensures.half; released = c.second_half.ensures.released; few = c.second_half.ensures.few; shared = c.second_half.ensures.shared; known = known; binds = subst (λ (y : Standing). length y.row.binds ≤ y.tenancy.owner.most_binds) c.enter.ensures.same c.known.ensures.binds }));
+      space = omega (
+        arith,
+        c.active-before.ensures,
+        c.loop-i.invariant.space,
+        most_left _ c.loop-i.i c.args.tenants.now c.loop-i.tenants d inside c.loop-i.invariant.halves,
+        length-drop c.active-before.result s.row.active,
+        c.second_half.ensures.released.few,
+        c.enter.ensures.room,
+      );
+      entered = rw (c.enter.ensures.same)
+          (entered_more c.loop-i.i c.args.tenants.now c.loop-i.tenants x s c.args.finished.now.entries c.loop-i.finished.entries c.enter.new.finished.entries within here
+          (ap (λ (s : Standing). s.tenancy.owner.place) here ∙ c.requires.placed c.loop-i.i inside) (ap (λ (y : Tenancy). y.owner.place) c.second_half.ensures.half.tenancy)
+          (λ j. c.enter.ensures.entries j
+          ∙ ap (λ k. cond (has_job s.tenancy.owner.place (drop k s.row.active) j) (Some (record { id = j; result = None })) (entry_in c.loop-i.finished.entries j)) c.active-before.ensures) c.loop-i.invariant.entered);
     }
-
-pub returns-clause-released : goal.returns-clause-released
-returns-clause-released c = released_all c.loop-i.i c.args.tenants.now c.loop-i.tenants c.loop-i.jobs.jobs (omega (arith, c.loop-i-test.false, c.loop-i.invariant.halves.as_many)) c.loop-i.invariant.released
 
 pub returns-clause-halves : goal.returns-clause-halves
 returns-clause-halves c = stepped_all _ c.loop-i.i c.args.tenants.now c.loop-i.tenants (omega (arith, c.loop-i-test.false)) c.loop-i.invariant.halves
+
+pub returns-clause-entries : goal.returns-clause-entries
+returns-clause-entries c =
+    entered_all c.loop-i.i c.args.tenants.now c.loop-i.tenants c.args.finished.now.entries c.loop-i.finished.entries (omega (arith, c.loop-i-test.false, c.loop-i.invariant.halves.as_many)) c.loop-i.invariant.entered

@@ -6,10 +6,9 @@ use Rattle.instant_engine.specs.Tenants.{tenant_at}
 use Rattle.tenant_grants.specs.Grants.{bind_at}
 use Rattle.tenant_grants.specs.declared.rows.Bind.{Bind}
 use Rattle.tenant_state.specs.Standing.{Standing, no_tenant}
-use Rattle.tenant_state.specs.Tenancy.{Tenancy}
-use Rattle.host_core.specs.HostState.{row_at}
+use Rattle.rig_model.specs.Tenancies.{Tenancy, roster_of}
+use Rattle.rig_model.specs.HostState.{row_at}
 use Rattle.host_core.specs.HostStanding.{HostStanding}
-use Rattle.host_core.specs.Tenancies.{roster_of}
 use Rattle.host_core.proofs.AtRest.{standing}
 use Rattle.host_core.proofs.HostBinds.{here_binds, same_binds}
 use Rattle.host_core.proofs.hosts.Host.bind_at.Goals as goal

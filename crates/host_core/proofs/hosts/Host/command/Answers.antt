@@ -1,15 +1,16 @@
 use Rattle.std.proofs.Common.{◌≡◌, ◌<◌, [], length, map, set, sym, ap, subst, ◌∙◌}
 use Rattle.std.proofs.lemmas.List.{get_or_default}
-use Rattle.host_core.specs.Host.{after_event}
-use Rattle.host_core.specs.declared.events.Event.TheVariants.{Own}
+use Rattle.rig_model.specs.Host.{after_event}
+use Rattle.rig_model.specs.declared.events.Event.TheVariants.{Own}
 use Rattle.host_core.specs.HostStanding.{HostStanding, Stands}
 use Rattle.host_core.specs.inner.HostStanding.{IsWhole}
 use Rattle.instant_engine.specs.Tenants.{tenant_at}
-use Rattle.tenant_state.specs.Commands.{takes_memory}
-use Rattle.tenant_state.specs.Tenancy.{Tenancy}
+use Rattle.tenant_state.specs.Memory.{takes_memory}
+use Rattle.rig_model.specs.Tenancies.{Tenancy}
 use Rattle.tenant_state.specs.Standing.{Standing, at_rest, no_tenant}
+use Rattle.tenant_state.specs.cited.Standing.{without_ended}
 use Rattle.host_core.proofs.AtRest.{here_at_rest, standing, stands_inside, stands_outside}
-use Rattle.host_core.proofs.HostSteps.{own_outcome, stands_after_command}
+use Rattle.host_core.proofs.cited.HostSteps.{own_outcome, stands_after_command}
 use Rattle.host_core.proofs.HostTables.{command_still, whole_behind}
 use Rattle.host_core.proofs.hosts.Host.command.Goals as goal
 use Rattle.host_core.proofs.hosts.Host.command.Goals.{After-self-1}
@@ -30,7 +31,7 @@ pub invariant_of-self : goal.invariant_of-self
 invariant_of-self c = record {
   whole = subst (λ (s : Standing). IsWhole c.self.inside.config c.self.inside.clock (set c.self.inside.tenants.items c.args.tenant s) c.leave.new.finished.entries) (sym c.leave.ensures.same)
       (whole_behind c.self.inside.tenants.items c.self.inside.finished.entries c.leave.new.finished.entries c.args.tenant c.index_mut-tenant.result.now c.command-reply.new.self c.self.invariant.whole (among c) (here c)
-      c.command-reply.ensures.tenancy c.command-reply.ensures.next_tick c.next_tick.ensures.known c.next_tick.ensures.binds c.command-reply.ensures.ended c.command-reply.ensures.active c.leave.ensures.entries);
+      c.command-reply.ensures.tenancy c.command-reply.ensures.next_tick c.known.ensures.row c.known.ensures.binds c.command-reply.ensures.ended c.command-reply.ensures.active c.leave.ensures.entries);
   places = c.self.invariant.places;
 }
 
@@ -44,17 +45,17 @@ returns-clause-reply c = λ given setting state stands.
 pub returns-clause-step : goal.returns-clause-step
 returns-clause-step c = λ given setting state stands.
     let host : HostStanding = standing c.self.inside in
-    let behind : HostStanding = record host { tenants = set host.tenants c.args.tenant (record c.command-reply.new.self { ended = [] }); entries = c.leave.new.finished.entries } in
+    let behind : HostStanding = record host { tenants = set host.tenants c.args.tenant (without_ended c.command-reply.new.self); entries = c.leave.new.finished.entries } in
     let inside : Stands setting host state = stands_inside setting host state (subst (λ h. Stands setting h state) (sym c.self.view_is) stands) in
     let outcome = own_outcome setting host state c.args.tenant c.args.command c.index_mut-tenant.result.now c.command-reply.new.self c.command-reply.result inside (within c) c.self.invariant.whole.tenancies
     c.index_mut-tenant.ensures.value c.command-reply.ensures.step given in
     let count = c.command-reply.ensures.next_tick ∙ ap (λ (s : Standing). s.row.next_tick) (here c) ∙ (c.self.invariant.whole.known c.args.tenant no_tenant (among c)).0 in
     let place = ap (λ (y : Tenancy). y.owner.place) (c.command-reply.ensures.tenancy ∙ ap (λ (s : Standing). s.tenancy) (here c)) ∙ c.self.invariant.whole.placed c.args.tenant (among c) in
     let still = command_still c.self.inside.tenants.items c.self.inside.finished.entries c.leave.new.finished.entries c.args.tenant c.index_mut-tenant.result.now c.command-reply.new.self c.self.invariant.whole (among c) (here c)
-    c.command-reply.ensures.tenancy c.command-reply.ensures.next_tick c.next_tick.ensures.known c.next_tick.ensures.binds c.command-reply.ensures.ended c.command-reply.ensures.active c.leave.ensures.entries in
+    c.command-reply.ensures.tenancy c.command-reply.ensures.next_tick c.known.ensures.row c.known.ensures.binds c.command-reply.ensures.ended c.command-reply.ensures.active c.leave.ensures.entries in
     subst (λ (s : Standing). Stands setting (record behind { tenants = map at_rest (set host.tenants c.args.tenant s) }) (after_event setting state (Own c.args.tenant c.args.command))) (sym c.leave.ensures.same)
     (stands_outside setting behind (after_event setting state (Own c.args.tenant c.args.command))
-    (stands_after_command setting host state c.args.tenant c.args.command (record c.command-reply.new.self { ended = [] }) c.leave.new.finished.entries inside
+    (stands_after_command setting host state c.args.tenant c.args.command (without_ended c.command-reply.new.self) c.leave.new.finished.entries inside
     (subst (λ (k : Rig). c.args.tenant < length k.tenants) inside.same_config (within c)) outcome.stands count place c.self.invariant.whole.placed still))
 
 pub returns-clause-room : goal.returns-clause-room

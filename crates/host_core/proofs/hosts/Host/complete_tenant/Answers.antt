@@ -1,12 +1,12 @@
 use Rattle.std.proofs.Common.{◌≡◌, ◌<◌, ◌||◌, false, map, length, sym, ap, subst, ◌∙◌}
 use Rattle.std.proofs.lemmas.List.{get_or_default}
 use Rattle.instant_engine.specs.Tenants.{tenant_at}
-use Rattle.tenant_jobs.specs.declared.jobs.JobId.{JobId}
+use Rattle.rig_model.specs.declared.jobs.JobId.{JobId}
 use Rattle.tenant_jobs.specs.Finished.{entry_in, has_result}
 use Rattle.tenant_state.specs.Standing.{Standing, at_rest, no_tenant}
-use Rattle.tenant_state.specs.inner.Standing.{HasItsResults, has_active}
-use Rattle.host_core.specs.Host.{host_after}
-use Rattle.host_core.specs.HostState.{HostState}
+use Rattle.tenant_state.specs.cited.Standing.{HasItsResults, has_active}
+use Rattle.rig_model.specs.Host.{host_after}
+use Rattle.rig_model.specs.HostState.{HostState}
 use Rattle.host_core.specs.HostStanding.{HostStanding, Stands, outstanding_of}
 use Rattle.host_core.proofs.AtRest.{standing, stands_inside, stands_outside, outstanding_at_rest_of}
 use Rattle.host_core.proofs.Completed.{after_done, host_after_done, stands_completed_at}

@@ -1,19 +1,19 @@
 use Rattle.std.proofs.Common.{◌≡◌, ◌<◌, ◌≤◌, ◌+◌, true, false, Some, ◌∷◌, List, length, map, get_or, refl, sym, ap, subst, ◌∙◌, arith}
 use Rattle.std.proofs.lemmas.List.{get_or_default}
 use Rattle.instant_engine.specs.Tenants.{tenant_at}
-use Rattle.tenant_jobs.specs.declared.jobs.JobId.{JobId}
+use Rattle.rig_model.specs.declared.jobs.JobId.{JobId}
 use Rattle.tenant_jobs.specs.Finished.{has_result}
-use Rattle.tenant_jobs.specs.inner.Finished.{is_entered}
+use Rattle.tenant_jobs.specs.cited.Finished.{is_entered}
 use Rattle.tenant_state.specs.Standing.{Standing, at_rest, no_tenant, released_job}
 use Rattle.host_core.specs.HostStanding.{HostStanding, Stands, IsOwn, outstanding_jobs}
-use Rattle.host_core.specs.HostState.{HostState}
-use Rattle.host_core.specs.Setting.{Setting}
+use Rattle.rig_model.specs.HostState.{HostState}
+use Rattle.rig_model.specs.Base.{Setting}
 use Rattle.host_core.specs.declared.hosts.Counted.TheVariants as became
 use Rattle.host_core.proofs.AtRest.{outstanding_at_rest, standing, stands_inside, stands_outside}
 use Rattle.host_core.proofs.Completion.{ComesTo, awaited_own, awaited_parts, awaited_without, comes_to, past_roster}
-use Rattle.host_core.proofs.HostSteps.{stands_after_done}
+use Rattle.host_core.proofs.cited.HostSteps.{stands_after_done}
 use Rattle.host_core.proofs.HostTables.{active_if_released, entered_if_released, has_added, whole_done}
-use Rattle.host_core.proofs.Outstanding.{one_fewer_in}
+use Rattle.host_core.proofs.cited.Outstanding.{one_fewer_in}
 use Rattle.host_core.proofs.hosts.Host.done.Goals as goal
 use Rattle.host_core.proofs.hosts.Host.done.Goals.{then-not-awaits-via-then-not-awaits, then-not-awaits-via-else-not-awaits+then-has}
 

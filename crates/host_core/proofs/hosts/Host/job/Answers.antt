@@ -1,9 +1,9 @@
 use Rattle.std.proofs.Common.{◌≡◌, ◌<◌, length, sym, ap, subst, ◌∙◌, arith}
 use Rattle.std.specs.Prelude.{is_some, IfOk}
-use Rattle.host_core.specs.HostState.{awaits}
+use Rattle.rig_model.specs.HostState.{is_awaited}
 use Rattle.host_core.specs.HostStanding.{HostStanding, ForEachState, awaited_in}
 use Rattle.host_core.proofs.AtRest.{awaited_here, standing}
-use Rattle.host_core.proofs.HostSteps.{job_awaits, told_as}
+use Rattle.host_core.proofs.cited.HostSteps.{job_awaits, told_as}
 use Rattle.tenant_state.specs.Standing.{awaited_job}
 use Rattle.host_core.proofs.hosts.Host.job.Goals as goal
 
@@ -18,7 +18,7 @@ pub returns-clause-awaited : goal.returns-clause-awaited
 returns-clause-awaited c =
     let host : HostStanding = standing c.self.inside in
     let within : c.args.id.now.tenant < length host.tenants = omega (arith, c.if-id-len.false) in
-    subst (λ (h : HostStanding). IfOk c.job.result (λ job. ForEachState h (λ setting state. is_some job ≡ awaits state c.args.id.now))) c.self.view_is
+    subst (λ (h : HostStanding). IfOk c.job.result (λ job. ForEachState h (λ setting state. is_some job ≡ is_awaited state c.args.id.now))) c.self.view_is
     (job_awaits host c.args.id.now c.index.result.now c.job.result within c.index.ensures c.self.invariant.whole.known c.self.invariant.whole.placed c.job.ensures.job)
 
 pub returns-clause-never_refused : goal.returns-clause-never_refused

@@ -4,7 +4,7 @@ use Rattle.std.proofs.lemmas.Simd.{map-map}
 use Rattle.host_core.specs.HostStanding.{new_host}
 use Rattle.tenant_jobs.specs.Finished.{TaskTable}
 use Rattle.tenant_state.specs.Standing.{Standing, at_rest}
-use Rattle.host_core.proofs.NewHost.{begun}
+use Rattle.host_core.proofs.cited.NewHost.{begun}
 use Rattle.host_core.proofs.NewTenants.{new_more, new_all, new_whole}
 use Rattle.host_core.proofs.hosts.Host.new.Goals as goal
 use Rattle.rig_config.specs.Roster.{Rig}

@@ -1,6 +1,6 @@
 use Rattle.std.proofs.Common.{◌≡◌, ◌≤◌, ◌*◌, ◌-◌, ◌^◌, take, map}
 use Rattle.std.specs.Prelude.{sum}
-use Rattle.host_core.proofs.Outstanding.{number_outstanding}
+use Rattle.host_core.proofs.cited.Outstanding.{number_outstanding}
 use Rattle.host_core.proofs.hosts.Host.outstanding.Given as goal
 
 abbrev pub invariant-loop-tenant : goal.invariant-loop-tenant

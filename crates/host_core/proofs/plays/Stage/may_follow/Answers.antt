@@ -1,5 +1,5 @@
 use Rattle.std.proofs.Common.{◌∙◌, sym, ap, length}
-use Rattle.host_core.specs.Legal.{may_follow}
+use Rattle.rig_model.specs.Legal.{may_follow}
 use Rattle.host_core.proofs.Played.{tick_legal}
 use Rattle.host_core.proofs.ReleasedNames.{found_in}
 use Rattle.host_core.proofs.plays.Stage.may_follow.Goals as goal

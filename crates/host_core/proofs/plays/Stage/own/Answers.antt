@@ -1,11 +1,11 @@
 use Rattle.std.proofs.Common.{[], ◌∷◌, ◌++◌, ◌∙◌, ap, subst}
 use Rattle.std.proofs.lemmas.List.{get_or_default}
 use Rattle.std.proofs.lemmas.Result.{on_ok_weaker}
-use Rattle.host_core.specs.Host.{after_event, host_after}
-use Rattle.host_core.specs.HostState.{row_at}
+use Rattle.rig_model.specs.Host.{after_event, host_after}
+use Rattle.rig_model.specs.HostState.{row_at}
 use Rattle.host_core.specs.HostStanding.{Stands}
-use Rattle.host_core.specs.Views.{after_command}
-use Rattle.host_core.specs.declared.events.Event.TheVariants.{Own}
+use Rattle.rig_model.specs.Views.{after_command}
+use Rattle.rig_model.specs.declared.events.Event.TheVariants.{Own}
 use Rattle.tenant_lines.specs.Replies.{text_of_reply}
 use Rattle.host_core.proofs.Played.{step_own}
 use Rattle.host_core.proofs.plays.Stage.own.Goals as goal

@@ -3,7 +3,7 @@ use Rattle.host_core.specs.inner.Playing.{IsPlayed}
 use Rattle.host_core.specs.declared.plays.PlayFault.TheVariants.{Illegal}
 use Rattle.host_core.proofs.plays.Stage.play_all.Goals as goal
 use Rattle.host_core.proofs.Played.{least_illegal, passed_on}
-use Rattle.giotto_tasks.proofs.ListLemmas.{reverse_more}
+use Rattle.giotto_tasks.proofs.cited.ListLemmas.{reverse_more}
 
 pub loop-i-preserved : goal.loop-i-preserved
 loop-i-preserved c = λ setting is.

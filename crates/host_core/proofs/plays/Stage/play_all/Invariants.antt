@@ -1,6 +1,6 @@
 use Rattle.std.proofs.Common.{[], take, reverse}
 use Rattle.host_core.specs.inner.Playing.{IsPlayed}
-use Rattle.host_core.specs.Setting.{Setting}
+use Rattle.rig_model.specs.Base.{Setting}
 use Rattle.host_core.proofs.plays.Stage.play_all.Given as goal
 
 abbrev pub invariant-loop-i : goal.invariant-loop-i

@@ -1,4 +1,4 @@
-use Rattle.host_core.specs.Host.{host_after}
+use Rattle.rig_model.specs.Host.{host_after}
 use Rattle.host_core.proofs.Played.{step_tick}
 use Rattle.host_core.proofs.plays.Stage.tick.Goals as goal
 

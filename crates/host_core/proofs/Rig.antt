@@ -1,7 +1,0 @@
--- The rig of the examples: the built-in configuration, and a new host.
-use Rattle.rig_config.specs.BuiltIn.{built_in_config}
-use Rattle.host_core.specs.Base.{new_base}
-use Rattle.host_core.specs.Setting.{Setting}
-
-abbrev pub rig : Setting
-rig = record { config = built_in_config; base = new_base built_in_config 0 }

@@ -1,0 +1,21 @@
+-- The marks go by the members of the sources alone.
+use Rattle.std.proofs.Common.{◌≡◌, ℕ, Bool, true, ◌||◌, eqb, List, [], ◌∷◌, ◌++◌, refl, sym, ap, ◌∙◌, arith}
+use Rattle.std.specs.List.{list_any, flat_map}
+use Rattle.std.proofs.lemmas.Bool.{eq-eqb}
+use Rattle.std.proofs.lemmas.Bool.Decides.{nat_tests}
+use Rattle.std.proofs.lemmas.List.Folds.{list_any-append}
+use Rattle.giotto_tasks.proofs.cited.TestLemmas.{either, or_true, same_answers}
+use Rattle.rig_model.specs.Base.{Setting}
+use Rattle.rig_model.specs.Sources.{is_source, sources_before, stays, suppliers_of}
+use Rattle.rig_model.specs.Views.{row_of}
+use Rattle.rig_model.specs.declared.events.Event.{Event}
+use Rattle.rig_model.specs.declared.events.Event.TheVariants.{Own, Tick, Done}
+use Rattle.host_core.specs.inner.Trials.{marks_from}
+use Rattle.rig_laws.proofs.cited.SourceSets.{SameSources, same_before, same_stays}
+
+module _ (setting : Setting) where
+  pub same_marks : (past : List Event) (ss ts : List ℕ) → SameSources ss ts → marks_from setting ss past ≡ marks_from setting ts past
+  same_marks [] ss ts same = refl
+  same_marks (e ∷ past) ss ts same =
+      ap (λ b. b ∷ marks_from setting (sources_before setting e past ss) past) (same_stays setting e ss ts same)
+      ∙ ap (λ ms. stays ts e ∷ ms) (same_marks past (sources_before setting e past ss) (sources_before setting e past ts) (same_before setting e past ss ts same))

@@ -1,0 +1,4 @@
+pub mod HostSteps
+pub mod LineValues
+pub mod NewHost
+pub mod Outstanding

@@ -1,7 +1,0 @@
-use Rattle.std.proofs.Common.{sym, ap, ◌∙◌}
-use Rattle.host_core.specs.Answers.{answers_of}
-use Rattle.host_core.proofs.TwoWorlds.{kept_answers}
-use Rattle.host_core.proofs.laws.equal_kept_lists_give_equal_answers.Goals as goal
-
-pub returns : goal.returns
-returns c = λ setting past others t same. sym (kept_answers setting past t) ∙ (ap (λ kept. answers_of setting kept t) same ∙ kept_answers setting others t)

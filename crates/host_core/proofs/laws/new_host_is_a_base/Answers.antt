@@ -1,5 +1,0 @@
-use Rattle.host_core.proofs.LaterBase.{new_is_base}
-use Rattle.host_core.proofs.laws.new_host_is_a_base.Goals as goal
-
-pub returns : goal.returns
-returns c = new_is_base

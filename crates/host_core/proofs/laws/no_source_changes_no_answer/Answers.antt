@@ -1,8 +1,0 @@
-use Rattle.host_core.proofs.OtherTenants.{same_kept, same_answers}
-use Rattle.host_core.proofs.laws.no_source_changes_no_answer.Goals as goal
-
-pub returns-clause-kept : goal.returns-clause-kept
-returns-clause-kept c = same_kept
-
-pub returns-clause-answers : goal.returns-clause-answers
-returns-clause-answers c = same_answers

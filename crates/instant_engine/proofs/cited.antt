@@ -1,0 +1,2 @@
+pub mod AtRest
+pub mod Loops
