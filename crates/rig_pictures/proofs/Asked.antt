@@ -1,22 +1,22 @@
 -- Behind a question the host stands behind the same events.
 use Rattle.std.proofs.Common.{◌≡◌, ℕ, Bool, true, false, ◌&&◌, List, refl, ap, ◌∙◌, subst, set}
 use Rattle.std.proofs.lemmas.List.{set-get_or}
-use Rattle.host_core.specs.Host.{host_after, with_rows}
-use Rattle.host_core.specs.HostState.{HostState, row_at, is_counted}
+use Rattle.rig_model.specs.Host.{host_after, with_rows}
+use Rattle.rig_model.specs.HostState.{HostState, row_at, is_counted}
 use Rattle.host_core.specs.HostStanding.{HostStanding, Stands, TakesEvent}
-use Rattle.host_core.specs.Setting.{Setting}
-use Rattle.host_core.specs.Tenancies.{tenancy_at}
-use Rattle.host_core.specs.Views.{after_command}
-use Rattle.host_core.specs.declared.events.Event.{Event}
-use Rattle.host_core.specs.declared.events.Event.TheVariants.{Own}
-use Rattle.host_core.proofs.HostSteps.{counted_still}
-use Rattle.host_core.proofs.LaterBase.{later_is_base}
-use Rattle.rig_script.specs.inner.HostAnswers.{IsHostAfter}
+use Rattle.rig_model.specs.Base.{Setting}
+use Rattle.rig_model.specs.Tenancies.{tenancy_at}
+use Rattle.rig_model.specs.Views.{after_command}
+use Rattle.rig_model.specs.declared.events.Event.{Event}
+use Rattle.rig_model.specs.declared.events.Event.TheVariants.{Own}
+use Rattle.host_core.proofs.cited.HostSteps.{counted_still}
+use Rattle.rig_laws.proofs.cited.LaterBase.{later_is_base}
+use Rattle.rig_script.specs.cited.HostAnswers.{IsHostAfter}
 use Rattle.tenant_lines.specs.declared.commands.Command.{Command}
 use Rattle.tenant_lines.specs.declared.commands.Command.TheVariants.{ShowMode, ShowAll}
-use Rattle.tenant_state.specs.Jobs.{is_active}
-use Rattle.tenant_state.specs.Row.{Row, empty_row}
-use Rattle.tenant_state.specs.Commands.{show_all}
+use Rattle.rig_model.specs.Jobs.{is_active}
+use Rattle.rig_model.specs.Row.{Row, empty_row}
+use Rattle.rig_model.specs.Commands.{show_all}
 use Rattle.giotto_text.specs.Program.{GiottoProgram}
 use Rattle.std.specs.Prelude.{Option, Some, None}
 use Rattle.rig_pictures.specs.inner.Questions.{IsQuestion}

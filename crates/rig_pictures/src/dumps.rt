@@ -2,7 +2,8 @@
 
 ghost use Rattle.std.specs.Prelude.{OnOk};
 ghost use Rattle.std.specs.Io.KnownBytes.{Appends};
-ghost use Rattle.rig_script.specs.Script.{ForNewHostReading, script_text_of};
+ghost use Rattle.rig_script.specs.BrokenOff.{ForNewHostReading};
+ghost use Rattle.rig_model.specs.Script.{script_text_of};
 
 use crate::watching::{Scene, Watch, watched_script};
 use rig_config::Config;
@@ -26,14 +27,9 @@ pub fn script_with_dump<R: Read, W: Write>(
     ensures { OnOk result (ForNewHostReading config.now (R.remaining reader.old) (λ setting bytes.
         Appends (W.contents writer.old) (W.contents writer.new) (script_text_of setting bytes))) }
 {
-    let Ok(watcher) = DumpWatcher::new(alloc, config) else {
-        return Err(ScriptFault::Memory);
-    };
+    let watcher = DumpWatcher::new(alloc, config)?;
     let watcher = watched_script(alloc, reader, writer, config, watcher)?;
-    match watcher.dump.text(alloc) {
-        Ok(text) => Ok(text),
-        Err(_) => Err(ScriptFault::Memory),
-    }
+    Ok(watcher.dump.text(alloc)?)
 }
 
 // Writes a dump of what it sees.

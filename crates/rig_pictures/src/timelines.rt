@@ -20,14 +20,9 @@ pub fn timeline<R: Read>(
     config: &Config,
     tenant: Option<TenantId>,
 ) -> Result<String, ScriptFault> {
-    let Ok(run) = Run::new(alloc, tenant) else {
-        return Err(ScriptFault::Memory);
-    };
+    let run = Run::new(alloc, tenant)?;
     let run = watched_script(alloc, reader, &mut io::sink(), config, run)?;
-    match picture(alloc, config, &run) {
-        Ok(picture) => Ok(picture),
-        Err(_) => Err(ScriptFault::Memory),
-    }
+    Ok(picture(alloc, config, &run)?)
 }
 
 // The picture of a run.

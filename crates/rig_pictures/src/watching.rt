@@ -3,7 +3,8 @@
 ghost use Rattle.std.specs.Prelude.{OnOk};
 ghost use Rattle.std.specs.Io.KnownBytes.{Appends};
 ghost use Rattle.rig_pictures.specs.inner.Questions.{StaysBehind};
-ghost use Rattle.rig_script.specs.Script.{ForNewHostReading, script_text_of};
+ghost use Rattle.rig_script.specs.BrokenOff.{ForNewHostReading};
+ghost use Rattle.rig_model.specs.Script.{script_text_of};
 
 use crate::questions::views_of;
 use host_core::hosts::Host;
@@ -94,7 +95,7 @@ impl<W: Watch> Watched<W> {
 }
 
 impl<W: Watch> Answers for Watched<W> {
-    ghost use Rattle.rig_script.specs.inner.HostAnswers.{IsHostAfter};
+    ghost use Rattle.rig_script.specs.cited.HostAnswers.{IsHostAfter};
 
     ghost stands = { λ watched setting past. IsHostAfter setting watched.host past };
 
@@ -125,9 +126,7 @@ pub fn watched_script<R: Read, W: Write, P: Watch + Drop>(
     ensures { OnOk result (ForNewHostReading config.now (R.remaining reader.old) (λ setting bytes.
         Appends (W.contents writer.old) (W.contents writer.new) (script_text_of setting bytes))) }
 {
-    let Ok(host) = Host::new(alloc, config, 0) else {
-        return Err(ScriptFault::Memory);
-    };
+    let host = Host::new(alloc, config, 0)?;
     let mut lines = Lines::new(alloc);
     let mut watched = Watched {
         host,
@@ -135,9 +134,7 @@ pub fn watched_script<R: Read, W: Write, P: Watch + Drop>(
         is_whole: true,
     };
     answer_lines(alloc, &mut lines, reader, writer, &mut watched)?;
-    let Ok(()) = watched.end(alloc) else {
-        return Err(ScriptFault::Memory);
-    };
+    watched.end(alloc)?;
     let Watched {
         host: _,
         watcher,

@@ -2,16 +2,18 @@
 use Rattle.std.proofs.Common.{◌≡◌, ℕ, Bool, true, List, [], Option, Some, None, IfSome, Result, Ok, Err, IfOk, Vec, sym, subst}
 use Rattle.std.specs.declared.alloc.AllocError.{AllocError}
 use Rattle.std.specs.declared.alloc.Global.{Global}
-use Rattle.host_core.specs.declared.events.Event.{Event}
+use Rattle.rig_model.specs.declared.events.Event.{Event}
 use Rattle.tenant_sources.specs.declared.tables.Addition.{Addition}
 use Rattle.host_core.specs.HostStanding.{HostStanding, new_host}
-use Rattle.tenant_sources.specs.Links.{AreAdded, IsLinkTable, Links, with_links}
-use Rattle.host_core.specs.Plays.{IsSettingOf}
-use Rattle.host_core.specs.Setting.{Setting}
+use Rattle.tenant_sources.specs.cited.Additions.{AreAdded, with_links}
+use Rattle.tenant_sources.specs.Links.{IsLinkTable, Links}
+use Rattle.rig_model.specs.Plays.{IsSettingOf}
+use Rattle.rig_model.specs.Base.{Setting}
 use Rattle.rig_config.specs.Roster.{Rig}
-use Rattle.rig_script.specs.Lines.{cut}
-use Rattle.rig_script.specs.Script.{ForNewHostReading, past_after}
-use Rattle.rig_script.proofs.NewScript.{starts}
+use Rattle.rig_model.specs.TextLines.{cut}
+use Rattle.rig_script.specs.BrokenOff.{ForNewHostReading}
+use Rattle.rig_model.specs.Script.{past_after}
+use Rattle.rig_script.proofs.cited.NewScript.{starts}
 use Rattle.rig_retests.specs.inner.Watching.{IsAddedTo, IsWatching}
 
 pub followed : (host later : HostStanding) (config : Rig) → host ≡ new_host config 0 → (before after : Links) (whole : Bool) (known : Option (List ℕ)) (Left : List ℕ → Type 0) → IfSome known Left

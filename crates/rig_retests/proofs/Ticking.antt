@@ -2,23 +2,24 @@
 use Rattle.std.proofs.Common.{◌≡◌, ◌⊎◌, ◌+◌, ◌-◌, ◌^◌, ◌==◌, ℕ, nat_lt, Bool, true, false, ℤ, List, [], ◌∷◌, ◌++◌, length, map, reverse, Option, Some, None, codes, inl, inr, refl, sym, ap, subst, ◌∙◌, arith}
 use Rattle.std.specs.Fmt.{decimal}
 use Rattle.giotto_tasks.specs.declared.names.Name.{Name}
-use Rattle.host_core.specs.declared.events.Event.{Event}
-use Rattle.host_core.specs.declared.events.Event.TheVariants.{Own, Tick, Done}
+use Rattle.rig_model.specs.declared.events.Event.{Event}
+use Rattle.rig_model.specs.declared.events.Event.TheVariants.{Own, Tick, Done}
 use Rattle.tenant_sources.specs.declared.tables.Addition.{Addition}
 use Rattle.host_core.specs.HostStanding.{HostStanding}
-use Rattle.host_core.specs.Legal.{next_tick}
-use Rattle.tenant_sources.specs.Links.{AreAdded, IsLinkTable, Links, with_links}
-use Rattle.host_core.specs.Setting.{Setting}
-use Rattle.host_core.specs.Views.{after_command, row_of}
-use Rattle.host_core.proofs.AloneAlong.{same_clock}
-use Rattle.host_core.proofs.Completed.{first_done}
+use Rattle.rig_model.specs.Legal.{next_tick}
+use Rattle.tenant_sources.specs.cited.Additions.{AreAdded, with_links}
+use Rattle.tenant_sources.specs.Links.{IsLinkTable, Links}
+use Rattle.rig_model.specs.Base.{Setting}
+use Rattle.rig_model.specs.Views.{after_command, row_of}
+use Rattle.rig_laws.proofs.cited.AloneAlong.{same_clock}
+use Rattle.rig_laws.proofs.cited.Places.{first_done}
 use Rattle.rig_config.specs.Roster.{place_of}
-use Rattle.rig_script.specs.Answered.{reply_line}
-use Rattle.rig_script.specs.declared.speakers.Speaker.{Speaker}
-use Rattle.rig_script.specs.declared.speakers.Speaker.TheVariants.{Nobody, Operator, Tenant, Unknown}
-use Rattle.rig_script.specs.inner.HostAnswers.{IsHostAfter}
-use Rattle.rig_script.specs.Script.{Step, OperatorLine, tick, work, work_of, line_values, lines_step, speaker_of, operator_line_of, operator_refusal, operator_step, tenant_step, tick_step, work_step, work_step_of, line_step, only_answered, err_who, outstanding_at, outstanding_after, past_behind}
-use Rattle.tenant_jobs.specs.declared.jobs.JobId.{JobId}
+use Rattle.rig_model.specs.Answered.{reply_line}
+use Rattle.rig_model.specs.declared.speakers.Speaker.{Speaker}
+use Rattle.rig_model.specs.declared.speakers.Speaker.TheVariants.{Nobody, Operator, Tenant, Unknown}
+use Rattle.rig_script.specs.cited.HostAnswers.{IsHostAfter}
+use Rattle.rig_model.specs.Script.{Step, OperatorLine, tick, work, work_of, line_values, lines_step, speaker_of, operator_line_of, operator_refusal, operator_step, tenant_step, tick_step, work_step, work_step_of, line_step, only_answered, err_who, outstanding_at, outstanding_after, past_behind}
+use Rattle.rig_model.specs.declared.jobs.JobId.{JobId}
 use Rattle.tenant_lines.specs.declared.commands.Command.{Command}
 use Rattle.tenant_lines.specs.CommandLine.{command_of_line}
 use Rattle.tenant_lines.specs.Replies.{text_of_reply}

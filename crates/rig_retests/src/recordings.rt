@@ -48,9 +48,7 @@ pub fn recorded<R: Read>(
     reader: &mut R,
     config: &Config,
 ) -> Result<Recording, ScriptFault> {
-    let Ok(host) = Host::new(alloc, config, 0) else {
-        return Err(ScriptFault::Memory);
-    };
+    let host = Host::new(alloc, config, 0)?;
     let mut recorder = Recorder::new(alloc, host);
     recorder.take_all(alloc, reader)?;
     Ok(recorder.recording)
@@ -97,10 +95,7 @@ impl Recorder {
 
     // Answers and records a line.
     fn take_line(&mut self, alloc: Global, number: usize, text: String) -> Result<(), ScriptFault> {
-        match self.record_line(alloc, number, text) {
-            Ok(()) => Ok(()),
-            Err(_) => Err(ScriptFault::Memory),
-        }
+        Ok(self.record_line(alloc, number, text)?)
     }
 
     // The same.

@@ -2,14 +2,16 @@
 
 ghost use Rattle.std.specs.Prelude.{◌≡◌, ◌≢◌, true, false, [], None, List, ℕ, IfOk, IsOk};
 ghost use Rattle.std.specs.List.{All};
-ghost use Rattle.host_core.specs.Legal.{is_legal, next_tick};
-ghost use Rattle.tenant_sources.specs.Links.{IsChain, IsLinkTable, IsPlaceOf, is_source_of, link_in};
-ghost use Rattle.host_core.specs.Setting.{Setting};
-ghost use Rattle.host_core.specs.declared.events.Event.{Event};
+ghost use Rattle.rig_model.specs.Legal.{is_legal, next_tick};
+ghost use Rattle.tenant_sources.specs.Links.{IsChain, IsLinkTable, is_source_of, link_in};
+ghost use Rattle.tenant_sources.specs.cited.Additions.{IsPlaceOf};
+ghost use Rattle.rig_model.specs.Base.{Setting};
+ghost use Rattle.rig_model.specs.declared.events.Event.{Event};
 ghost use Rattle.rig_config.specs.Roster.{is_tenant};
 ghost use Rattle.rig_retests.specs.inner.Watching.{IsAddedTo};
-ghost use Rattle.rig_script.specs.Lines.{cut};
-ghost use Rattle.rig_script.specs.Script.{ForNewHostReading, past_after};
+ghost use Rattle.rig_model.specs.TextLines.{cut};
+ghost use Rattle.rig_script.specs.BrokenOff.{ForNewHostReading};
+ghost use Rattle.rig_model.specs.Script.{past_after};
 
 use host_core::hosts::Host;
 use rig_config::{Config, TenantId};
@@ -146,12 +148,8 @@ pub fn retests_of<R: Read>(
 ) -> Result<Retests, ScriptFault>
     ensures { IfOk result (λ retests. ForNewHostReading config.now (R.remaining reader.old) (λ setting bytes. IsLinkTable setting (past_after setting [] (cut bytes)) retests)) }
 {
-    let Ok(host) = Host::new(alloc, config, 0) else {
-        return Err(ScriptFault::Memory);
-    };
-    let Ok(table) = SourceTable::new(alloc, config.tenants().len()) else {
-        return Err(ScriptFault::Memory);
-    };
+    let host = Host::new(alloc, config, 0)?;
+    let table = SourceTable::new(alloc, config.tenants().len())?;
     let mut lines = Lines::new(alloc);
     let mut watched = Watched {
         host,

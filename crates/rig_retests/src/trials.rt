@@ -41,10 +41,7 @@ pub fn text_of_trial<R: Read>(
     let Ok(trial) = trial(alloc, config, recording.events.as_slice(), tenant) else {
         return Err(ScriptFault::Memory);
     };
-    match text_of_both(alloc, config, tenant, &recording, &trial) {
-        Ok(text) => Ok(text),
-        Err(_) => Err(ScriptFault::Memory),
-    }
+    Ok(text_of_both(alloc, config, tenant, &recording, &trial)?)
 }
 
 // The rows, and what stands below them.

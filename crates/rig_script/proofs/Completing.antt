@@ -2,26 +2,26 @@
 use Rattle.std.proofs.Common.{◌≡◌, ℕ, ◌<◌, true, ◌||◌, not, List, [], ◌∷◌, ◌++◌, length, map, reverse, ap, ◌∙◌, subst, arith}
 use Rattle.std.specs.List.{enumerate_from, AllByRecursion}
 use Rattle.std.proofs.lemmas.Bool.{and_from}
-use Rattle.host_core.specs.declared.events.Event.{Event}
-use Rattle.host_core.specs.declared.events.Event.TheVariants.{Done}
+use Rattle.rig_model.specs.declared.events.Event.{Event}
+use Rattle.rig_model.specs.declared.events.Event.TheVariants.{Done}
 use Rattle.rig_config.specs.declared.TenantConfig.{TenantConfig}
-use Rattle.tenant_jobs.specs.declared.jobs.JobId.{JobId}
-use Rattle.host_core.specs.Completions.{has_completion}
-use Rattle.host_core.specs.Host.{host_after}
-use Rattle.host_core.specs.HostState.{row_at, is_counted}
+use Rattle.rig_model.specs.declared.jobs.JobId.{JobId}
+use Rattle.rig_model.specs.Completions.{has_completion}
+use Rattle.rig_model.specs.Host.{host_after}
+use Rattle.rig_model.specs.HostState.{row_at, is_counted}
 use Rattle.instant_engine.specs.Tenants.{tenant_at}
 use Rattle.host_core.specs.HostStanding.{HostStanding, Stands, outstanding_jobs, outstanding_of}
-use Rattle.host_core.specs.Legal.{was_released, is_legal}
-use Rattle.host_core.specs.Setting.{Setting}
-use Rattle.host_core.specs.Views.{row_of}
-use Rattle.tenant_state.specs.Jobs.{job_of, is_active}
-use Rattle.giotto_tasks.proofs.ListLemmas.{all_map, all_flat, all_filtered}
-use Rattle.giotto_tasks.proofs.TestLemmas.{or_true}
-use Rattle.tenant_state.proofs.JobNames.{own_jobs_active}
-use Rattle.rig_script.specs.inner.HostAnswers.{IsHostAfter}
-use Rattle.rig_script.specs.Script.{outstanding_at, outstanding_after}
-use Rattle.host_core.proofs.Completed.{first_done}
-use Rattle.host_core.proofs.Outstanding.{awaited_at, code_awaits}
+use Rattle.rig_model.specs.Legal.{was_released, is_legal}
+use Rattle.rig_model.specs.Base.{Setting}
+use Rattle.rig_model.specs.Views.{row_of}
+use Rattle.rig_model.specs.Jobs.{job_of, is_active}
+use Rattle.giotto_tasks.proofs.cited.ListLemmas.{all_map, all_flat, all_filtered}
+use Rattle.giotto_tasks.proofs.cited.TestLemmas.{or_true}
+use Rattle.rig_model.proofs.cited.JobNames.{own_jobs_active}
+use Rattle.rig_script.specs.cited.HostAnswers.{IsHostAfter}
+use Rattle.rig_model.specs.Script.{outstanding_at, outstanding_after}
+use Rattle.rig_laws.proofs.cited.Places.{first_done}
+use Rattle.host_core.proofs.cited.Outstanding.{awaited_at, code_awaits}
 use Rattle.rig_script.proofs.Outstanding.{same_outstanding, same_outstanding_at}
 
 module _ (setting : Setting) where

@@ -1,6 +1,6 @@
 -- Counting the reads that gave bytes.
 use Rattle.std.proofs.Common.{◌≡◌, ℕ, ◌+◌, ◌≤◌, List, ◌++◌, length, Option, Some, None, sym, ap, ◌∙◌, append_assoc, length-append, arith}
-use Rattle.rig_script.specs.inner.Reading.{AreReads, AreCounted, IsLeft, reads_of}
+use Rattle.rig_script.specs.cited.Reading.{AreReads, AreCounted, IsLeft, reads_of}
 use Rattle.rig_script.specs.declared.lines.Lines.{Lines}
 
 both_reads : (m n : ℕ) (xs ys zs : List ℕ) → AreReads m xs ys → AreReads n ys zs → AreReads (m + n) xs zs

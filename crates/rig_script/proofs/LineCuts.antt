@@ -17,7 +17,8 @@ use Rattle.tokio_util.specs.Codec.Next.{decoded, at_end}
 use Rattle.tokio_util.specs.Codec.Lines.{newline_from, without_carriage_return, Scan, line, too_long, unfinished, read_line, at_line_start, IsOutOfMemory, Answers, AnswersAtEnd, gives_lines}
 use Rattle.tokio_util.specs.Codec.LinesLaws.{read_line_found, read_line_long, read_line_short}
 use Rattle.tenant_lines.specs.Words.{joined_to_first}
-use Rattle.rig_script.specs.Lines.{cut, without_last_cr, text_of_line}
+use Rattle.rig_model.specs.TextLines.{cut, without_last_cr, text_of_line}
+use Rattle.rig_model.specs.declared.limits.TheConstants.{MAX_LINE}
 
 -- the place of the first LF, or the length
 abbrev pub first_lf : List ℕ → ℕ
@@ -112,14 +113,14 @@ is_text_without_cr xs u =
       | inr e ↦ subst IsUtf8 e u
     ]
 
-pub text_of_short : (xs : List ℕ) → length xs ≤ 16384 → IsUtf8 (without_last_cr xs) → text_of_line xs ≡ Some (without_last_cr xs)
+pub text_of_short : (xs : List ℕ) → length xs ≤ MAX_LINE → IsUtf8 (without_last_cr xs) → text_of_line xs ≡ Some (without_last_cr xs)
 text_of_short xs short u = let text = is_utf8-from_IsUtf8 xs (is_text_with_cr xs u) in grind (arith, nat_tests, text)
 
-text_of_long : (xs : List ℕ) → 16384 < length xs → text_of_line xs ≡ None
+text_of_long : (xs : List ℕ) → MAX_LINE < length xs → text_of_line xs ≡ None
 text_of_long xs long = grind (arith, nat_tests)
 
 text_of_no_text : (xs : List ℕ) → ¬ IsUtf8 (without_last_cr xs) → text_of_line xs ≡ None
-text_of_no_text xs h = by (nat_le (length xs) 16384) (is_utf8 xs) refl
+text_of_no_text xs h = by (nat_le (length xs) MAX_LINE) (is_utf8 xs) refl
   where
     by : (a b : Bool) → is_utf8 xs ≡ b → (if a && b then Some (without_last_cr xs) else None) ≡ None
     by a true e = absurd (h (is_text_without_cr xs (IsUtf8-from_is_utf8 xs e)))
@@ -128,15 +129,15 @@ text_of_no_text xs h = by (nat_le (length xs) 16384) (is_utf8 xs) refl
 
 -- what the front of xs is, by what the codec finds there
 abbrev Scanned : List ℕ → Scan → Type 0
-Scanned xs (line text rest) = (raw : List ℕ) × (cut xs ≡ raw ∷ cut rest) × (length raw ≤ 16384) × (text ≡ without_last_cr raw)
-Scanned xs (too_long rest) = (raw : List ℕ) × (later : List (List ℕ)) × (cut xs ≡ raw ∷ later) × (16384 < length raw)
-Scanned xs (unfinished is_dropped kept) = (is_dropped ≡ false) × (kept ≡ xs) × (length xs ≤ 16384) × (0 < length xs → cut xs ≡ xs ∷ [])
+Scanned xs (line text rest) = (raw : List ℕ) × (cut xs ≡ raw ∷ cut rest) × (length raw ≤ MAX_LINE) × (text ≡ without_last_cr raw)
+Scanned xs (too_long rest) = (raw : List ℕ) × (later : List (List ℕ)) × (cut xs ≡ raw ∷ later) × (MAX_LINE < length raw)
+Scanned xs (unfinished is_dropped kept) = (is_dropped ≡ false) × (kept ≡ xs) × (length xs ≤ MAX_LINE) × (0 < length xs → cut xs ≡ xs ∷ [])
 
 lf_from_start : (xs : List ℕ) → newline_from 0 xs ≡ first_lf xs
 unfolding newline_from
 lf_from_start xs = omega arith
 
-scanned : (xs : List ℕ) → Scanned xs (read_line 16384 0 xs)
+scanned : (xs : List ℕ) → Scanned xs (read_line MAX_LINE 0 xs)
 scanned xs =
     let same = lf_from_start xs in
     let n = newline_from 0 xs in
@@ -144,31 +145,31 @@ scanned xs =
       | inl found ↦
           let whole = cut_at_lf xs (rw (← same) found) in
           let front : length (take (first_lf xs) xs) ≡ first_lf xs = length-take-le (first_lf xs) xs (omega arith) in
-          elim (cases_lt 16384 n) [
-            | inl far ↦ subst (Scanned xs) (sym (read_line_long 16384 0 xs far (omega arith))) (take (first_lf xs) xs, cut (drop (first_lf xs + 1) xs), whole, omega arith)
-            | inr near ↦ subst (Scanned xs) (sym (read_line_found 16384 0 xs found near))
+          elim (cases_lt MAX_LINE n) [
+            | inl far ↦ subst (Scanned xs) (sym (read_line_long MAX_LINE 0 xs far (omega arith))) (take (first_lf xs) xs, cut (drop (first_lf xs + 1) xs), whole, omega arith)
+            | inr near ↦ subst (Scanned xs) (sym (read_line_found MAX_LINE 0 xs found near))
                 (take n xs, rw same whole, rw same (omega arith), without_cr_same (take n xs))
           ]
       | inr missing ↦
           let alone = cut_without_lf xs (rw (← same) missing) in
-          elim (cases_lt 16384 (length xs)) [
-            | inl long ↦ subst (Scanned xs) (sym (read_line_long 16384 0 xs (omega arith) long)) (xs, [], alone (omega arith), long)
-            | inr short ↦ subst (Scanned xs) (sym (read_line_short 16384 0 xs missing short)) (refl, refl, short, alone)
+          elim (cases_lt MAX_LINE (length xs)) [
+            | inl long ↦ subst (Scanned xs) (sym (read_line_long MAX_LINE 0 xs (omega arith) long)) (xs, [], alone (omega arith), long)
+            | inr short ↦ subst (Scanned xs) (sym (read_line_short MAX_LINE 0 xs missing short)) (refl, refl, short, alone)
           ]
     ]
 
 -- the first line of xs is the text, or no text of a line, and ys is what follows it
 abbrev pub Cuts : List ℕ → Result (String Global) LinesCodecError → LinesCodec → List ℕ → Type 0
-Cuts xs (Ok text) t ys = (t ≡ at_line_start 16384) × (raw : List ℕ) × (cut xs ≡ raw ∷ cut ys) × (text_of_line raw ≡ Some (string_bytes text))
+Cuts xs (Ok text) t ys = (t ≡ at_line_start MAX_LINE) × (raw : List ℕ) × (cut xs ≡ raw ∷ cut ys) × (text_of_line raw ≡ Some (string_bytes text))
 Cuts xs (Err e) t ys = IsOutOfMemory {T = ℕ} (Err e) ⊎ (¬ IsOutOfMemory {T = ℕ} (Err e) × ((raw : List ℕ) × (later : List (List ℕ)) × (cut xs ≡ raw ∷ later) × (text_of_line raw ≡ None)))
 
 -- the same where the input ends: nothing is answered for nothing and for a CR alone
 abbrev pub CutsLast : List ℕ → Result (Option (String Global)) LinesCodecError → LinesCodec → List ℕ → Type 0
-CutsLast xs (Ok None) t ys = (t ≡ at_line_start 16384) × (ys ≡ xs) × ((xs ≡ []) ⊎ (xs ≡ 13 ∷ []))
+CutsLast xs (Ok None) t ys = (t ≡ at_line_start MAX_LINE) × (ys ≡ xs) × ((xs ≡ []) ⊎ (xs ≡ 13 ∷ []))
 CutsLast xs (Ok (Some text)) t ys = Cuts xs (Ok text) t ys
 CutsLast xs (Err e) t ys = Cuts xs (Err e) t ys
 
-text_found : (raw text : List ℕ) (x : String Global) → length raw ≤ 16384 → text ≡ without_last_cr raw → string_bytes x ≡ text → text_of_line raw ≡ Some (string_bytes x)
+text_found : (raw text : List ℕ) (x : String Global) → length raw ≤ MAX_LINE → text ≡ without_last_cr raw → string_bytes x ≡ text → text_of_line raw ≡ Some (string_bytes x)
 text_found raw text x short e f =
     let g : string_bytes x ≡ without_last_cr raw = f ∙ e in
     text_of_short raw short (subst IsUtf8 g (IsUtf8-string_bytes x)) ∙ ap (λ zs. Some zs) (sym g)
@@ -176,10 +177,10 @@ text_found raw text x short e f =
 not_memory : (e : Error) → error_kind e ≡ InvalidData → ¬ (error_kind e ≡ OutOfMemory)
 not_memory e is m = cc
 
-pub decoded_cuts : (xs : List ℕ) (r : Result (String Global) LinesCodecError) (t : LinesCodec) (ys : List ℕ) → gives_lines (at_line_start 16384) xs (decoded r t ys) → Cuts xs r t ys
-decoded_cuts xs r t ys h = by (read_line 16384 0 xs) r (scanned xs) h
+pub decoded_cuts : (xs : List ℕ) (r : Result (String Global) LinesCodecError) (t : LinesCodec) (ys : List ℕ) → gives_lines (at_line_start MAX_LINE) xs (decoded r t ys) → Cuts xs r t ys
+decoded_cuts xs r t ys h = by (read_line MAX_LINE 0 xs) r (scanned xs) h
   where
-    by : (s : Scan) (r : Result (String Global) LinesCodecError) → Scanned xs s → Answers 16384 s r t ys → Cuts xs r t ys
+    by : (s : Scan) (r : Result (String Global) LinesCodecError) → Scanned xs s → Answers MAX_LINE s r t ys → Cuts xs r t ys
     by (line text rest) (Ok x) s (inl a) = (a.1, s.0, rw a.2 s.1, text_found s.0 text x s.2 s.3 a.0)
     by (line text rest) (Ok x) s (inr a) = absurd a.0
     by (line text rest) (Err MaxLineLengthExceeded) s (inl a) = absurd a.0
@@ -192,8 +193,8 @@ decoded_cuts xs r t ys h = by (read_line 16384 0 xs) r (scanned xs) h
         inr (subst (λ f. ¬ IsOutOfMemory {T = ℕ} (Err f)) (sym is) (λ m. m), (s.0, s.1, s.2, text_of_long s.0 s.3))
     by (unfinished is_dropped kept) r s a = absurd a
 
-pub last_cuts : (xs : List ℕ) (r : Result (Option (String Global)) LinesCodecError) (t : LinesCodec) (ys : List ℕ) → gives_lines (at_line_start 16384) xs (at_end r t ys) → CutsLast xs r t ys
-last_cuts xs r t ys h = by (read_line 16384 0 xs) r (scanned xs) h
+pub last_cuts : (xs : List ℕ) (r : Result (Option (String Global)) LinesCodecError) (t : LinesCodec) (ys : List ℕ) → gives_lines (at_line_start MAX_LINE) xs (at_end r t ys) → CutsLast xs r t ys
+last_cuts xs r t ys h = by (read_line MAX_LINE 0 xs) r (scanned xs) h
   where
     some_of : (zs : List ℕ) → 0 < length (without_carriage_return zs) → 0 < length zs
     some_of zs h = go zs (subst (λ l. 0 < length l) (without_cr_same zs) h)
@@ -209,7 +210,7 @@ last_cuts xs r t ys h = by (read_line 16384 0 xs) r (scanned xs) h
         go [] h = absurd (h IsUtf8-nil)
         go (z ∷ zs) h = omega arith
 
-    by : (s : Scan) (r : Result (Option (String Global)) LinesCodecError) → Scanned xs s → AnswersAtEnd 16384 s r t ys → CutsLast xs r t ys
+    by : (s : Scan) (r : Result (Option (String Global)) LinesCodecError) → Scanned xs s → AnswersAtEnd MAX_LINE s r t ys → CutsLast xs r t ys
     by (line text rest) r s a = absurd a
     by (too_long rest) r s a = absurd a
     by (unfinished true kept) r s a = let wrong = s.0 in cc

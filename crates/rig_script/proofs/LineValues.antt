@@ -2,19 +2,18 @@
 use Rattle.std.proofs.Common.{◌≡◌, ℕ, zero, suc, ◌+◌, ◌<◌, true, ℤ, List, ◌++◌, length, Option, Some, None, codes, refl, ap, ◌∙◌, arith}
 use Rattle.std.proofs.lemmas.Bool.Decides.{nat_tests}
 use Rattle.std.specs.Fmt.{signed_decimal}
-use Rattle.host_core.specs.Base.{IsBase}
-use Rattle.host_core.specs.Host.{host_after}
+use Rattle.rig_model.specs.Base.{IsBase, Setting}
+use Rattle.rig_model.specs.Host.{host_after}
 use Rattle.host_core.specs.HostStanding.{HostStanding, Stands, line_of}
-use Rattle.host_core.specs.HostState.{row_at}
-use Rattle.host_core.specs.Legal.{is_legal}
-use Rattle.host_core.specs.Lines.{value_of_line}
-use Rattle.host_core.specs.Setting.{Setting}
-use Rattle.host_core.specs.Views.{row_of}
-use Rattle.host_core.specs.declared.events.Event.{Event}
-use Rattle.host_core.proofs.AloneAlong.{same_rows}
-use Rattle.host_core.proofs.LineValues.{line_of_rows, same_values}
+use Rattle.rig_model.specs.HostState.{row_at}
+use Rattle.rig_model.specs.Legal.{is_legal}
+use Rattle.rig_model.specs.LineValues.{value_of_line}
+use Rattle.rig_model.specs.Views.{row_of}
+use Rattle.rig_model.specs.declared.events.Event.{Event}
+use Rattle.rig_laws.proofs.cited.AloneAlong.{same_rows}
+use Rattle.host_core.proofs.cited.LineValues.{line_of_rows, same_values}
 use Rattle.rig_config.specs.Roster.{is_tenant}
-use Rattle.rig_script.specs.Script.{text_of_lines}
+use Rattle.rig_model.specs.Script.{text_of_lines}
 
 -- one line more
 pub told_more : (f : ℕ → ℤ) (k : ℕ) → text_of_lines f (k + 1) ≡ text_of_lines f k ++ (codes " " ++ signed_decimal (f k))

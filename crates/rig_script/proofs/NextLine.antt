@@ -10,14 +10,15 @@ use Rattle.rig_script.specs.declared.faults.ScriptFault.{ScriptFault}
 use Rattle.rig_script.specs.declared.faults.ScriptFault.TheVariants.{Read}
 use Rattle.rig_script.specs.declared.lines.Line.{Line}
 use Rattle.rig_script.specs.declared.lines.Line.TheVariants.{Whole, Bad, End}
-use Rattle.rig_script.specs.Lines.{cut}
-use Rattle.rig_script.specs.inner.Reading.{IsReading, IsNextLine}
+use Rattle.rig_model.specs.TextLines.{cut}
+use Rattle.rig_script.specs.cited.Reading.{IsReading, IsNextLine}
 use Rattle.rig_script.proofs.LineCuts.{text_of_short, decoded_cuts, last_cuts}
+use Rattle.rig_model.specs.declared.limits.TheConstants.{MAX_LINE}
 
 -- `IsLeft` of the parts
 abbrev pub IsLeftIn : LinesCodec → List ℕ → Option (List ℕ) → Bool → List ℕ → Type 0
 IsLeftIn codec now rest ended bytes = IsSomeAnd rest (λ more.
-    (ended ≡ true → more ≡ []) × (codec ≡ at_line_start 16384) × (bytes ≡ now ++ more))
+    (ended ≡ true → more ≡ []) × (codec ≡ at_line_start MAX_LINE) × (bytes ≡ now ++ more))
 
 pub reading_starts : (codec : LinesCodec) (now : List ℕ) (rest : Option (List ℕ)) (ended : Bool) (bytes : List ℕ) → IsLeftIn codec now rest ended bytes → IsReading bytes codec now rest ended
 reading_starts codec now None ended bytes h = absurd h
@@ -29,11 +30,11 @@ reading_resumes bytes codec now (Some more) ended t ys h again = (h.0, λ next f
 
 -- what is found over what was read, carried to the whole stream
 carried : (bytes : List ℕ) (codec : LinesCodec) (now more : List ℕ) (ended : Bool) (r : Result (String Global) LinesCodecError) (t : LinesCodec) (ys : List ℕ)
-    → IsReading bytes codec now (Some more) ended → gives_lines codec now (decoded r t ys) → gives_lines (at_line_start 16384) bytes (decoded r t (ys ++ more))
+    → IsReading bytes codec now (Some more) ended → gives_lines codec now (decoded r t ys) → gives_lines (at_line_start MAX_LINE) bytes (decoded r t (ys ++ more))
 carried bytes codec now more ended r t ys h found = h.1 (decoded r t (ys ++ more)) (lines_stable codec now r t ys more found)
 
 carried_last : (bytes : List ℕ) (codec : LinesCodec) (now more : List ℕ) (r : Result (Option (String Global)) LinesCodecError) (t : LinesCodec) (ys : List ℕ)
-    → IsReading bytes codec now (Some more) true → gives_lines codec now (at_end r t ys) → gives_lines (at_line_start 16384) bytes (at_end r t ys)
+    → IsReading bytes codec now (Some more) true → gives_lines codec now (at_end r t ys) → gives_lines (at_line_start MAX_LINE) bytes (at_end r t ys)
 carried_last bytes codec now more r t ys h found =
     let none : more ≡ [] = h.0 refl in
     h.1 (at_end r t ys) (subst (λ l. gives_lines codec l (at_end r t ys)) (sym (ap (λ l. now ++ l) none ∙ append-nil now)) found)

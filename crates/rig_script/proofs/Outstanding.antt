@@ -1,24 +1,23 @@
 -- The jobs that a host awaits are those of the definitions.
 use Rattle.std.proofs.Common.{◌≡◌, ℕ, ◌<◌, Bool, true, false, not, ◌&&◌, List, length, map, filter, refl, ap, ◌∙◌, arith}
 use Rattle.std.proofs.lemmas.Bool.Decides.{nat_tests}
-use Rattle.host_core.specs.declared.events.Event.{Event}
+use Rattle.rig_model.specs.declared.events.Event.{Event}
 use Rattle.rig_config.specs.declared.TenantConfig.{TenantConfig}
 use Rattle.rig_config.specs.Roster.{is_tenant}
-use Rattle.host_core.specs.Base.{IsBase}
-use Rattle.host_core.specs.Completions.{has_completion}
-use Rattle.host_core.specs.Host.{host_after}
-use Rattle.host_core.specs.HostState.{row_at, is_counted}
-use Rattle.host_core.specs.Legal.{is_legal}
-use Rattle.host_core.specs.Setting.{Setting}
-use Rattle.host_core.specs.Views.{row_of}
-use Rattle.tenant_state.specs.Jobs.{job_of, is_active}
-use Rattle.tenant_state.specs.Row.{Row}
-use Rattle.giotto_tasks.proofs.ListLemmas.{all_map, all_mapped, same_filter}
-use Rattle.host_core.proofs.NewHost.{nobody}
-use Rattle.host_core.proofs.AloneAlong.{same_rows, same_awaits}
-use Rattle.host_core.proofs.Outstanding.{jobs_at, all_jobs, places_from_start}
-use Rattle.tenant_state.proofs.JobNames.{own_jobs_active}
-use Rattle.rig_script.specs.Script.{outstanding_at, outstanding_after}
+use Rattle.rig_model.specs.Base.{IsBase, Setting}
+use Rattle.rig_model.specs.Completions.{has_completion}
+use Rattle.rig_model.specs.Host.{host_after}
+use Rattle.rig_model.specs.HostState.{row_at, is_counted}
+use Rattle.rig_model.specs.Legal.{is_legal}
+use Rattle.rig_model.specs.Views.{row_of}
+use Rattle.rig_model.specs.Jobs.{job_of, is_active}
+use Rattle.rig_model.specs.Row.{Row}
+use Rattle.giotto_tasks.proofs.cited.ListLemmas.{all_map, all_mapped, same_filter}
+use Rattle.rig_laws.proofs.cited.Places.{nobody}
+use Rattle.rig_laws.proofs.cited.AloneAlong.{same_rows, same_awaits}
+use Rattle.host_core.proofs.cited.Outstanding.{jobs_at, all_jobs, places_from_start}
+use Rattle.rig_model.proofs.cited.JobNames.{own_jobs_active}
+use Rattle.rig_model.specs.Script.{outstanding_at, outstanding_after}
 
 module _ (setting : Setting) where
   tenant_is : (t : ℕ) → t < length setting.config.tenants → is_tenant setting.config t ≡ true

@@ -7,8 +7,8 @@ use Rattle.giotto_tasks.specs.Names.{same_name}
 use Rattle.rig_config.specs.declared.TenantConfig.{TenantConfig}
 use Rattle.rig_config.specs.Roster.{Rig, place_of}
 use Rattle.tenant_lines.specs.Words.{first_word_of}
-use Rattle.rig_script.specs.declared.speakers.Speaker.TheVariants.{Nobody, Operator, Tenant, Unknown}
-use Rattle.rig_script.specs.Script.{operator, speaker_of}
+use Rattle.rig_model.specs.declared.speakers.Speaker.TheVariants.{Nobody, Operator, Tenant, Unknown}
+use Rattle.rig_model.specs.Script.{operator, speaker_of}
 
 -- a place that was found is one of the roster
 pub place_within : (config : Rig) (x : Name) (u : ℕ) → place_of config x ≡ Some u → u < length config.tenants

@@ -7,27 +7,28 @@ use Rattle.std.specs.Fmt.{decimal}
 use Rattle.std.specs.declared.alloc.AllocError.{AllocError}
 use Rattle.giotto_tasks.specs.Names.{same_name}
 use Rattle.giotto_text.specs.Bytes.{is_name}
-use Rattle.host_core.specs.declared.events.Event.{Event}
-use Rattle.host_core.specs.declared.events.Event.TheVariants.{Own, Tick}
+use Rattle.rig_model.specs.declared.events.Event.{Event}
+use Rattle.rig_model.specs.declared.events.Event.TheVariants.{Own, Tick}
 use Rattle.tenant_lines.specs.declared.commands.Command.{Command}
 use Rattle.tenant_lines.specs.declared.replies.Reply.{Reply}
-use Rattle.host_core.specs.Host.{after_event, host_after}
-use Rattle.host_core.specs.HostState.{row_at}
+use Rattle.rig_model.specs.Host.{after_event, host_after}
+use Rattle.rig_model.specs.HostState.{row_at}
 use Rattle.host_core.specs.HostStanding.{HostStanding, Stands, line_of}
-use Rattle.host_core.specs.Lines.{value_of_line}
-use Rattle.host_core.specs.Legal.{next_tick, may_follow, is_legal}
-use Rattle.host_core.specs.Setting.{Setting}
-use Rattle.host_core.specs.Views.{after_command, row_of}
+use Rattle.rig_model.specs.LineValues.{value_of_line}
+use Rattle.rig_model.specs.Legal.{next_tick, may_follow, is_legal}
+use Rattle.rig_model.specs.Base.{Setting}
+use Rattle.rig_model.specs.Views.{after_command, row_of}
 use Rattle.rig_config.specs.Roster.{Rig, is_tenant, place_of}
 use Rattle.tenant_lines.specs.CommandLine.{command_of_line}
 use Rattle.tenant_lines.specs.Replies.{text_of_reply}
 use Rattle.tenant_lines.specs.Words.{words_of, first_word_of, behind_first_word, values_of_words}
-use Rattle.host_core.proofs.AloneAlong.{same_rows, same_clock}
-use Rattle.tenant_lines.proofs.WordLemmas.{words_first, words_none}
+use Rattle.rig_laws.proofs.cited.AloneAlong.{same_rows}
+use Rattle.rig_laws.proofs.cited.AloneAlong.{same_clock}
+use Rattle.tenant_lines.proofs.cited.WordLemmas.{words_first, words_none}
 use Rattle.rig_script.proofs.LineValues.{same_lines}
-use Rattle.rig_script.specs.Answered.{reply_line}
-use Rattle.rig_script.specs.inner.HostAnswers.{IsHostAfter}
-use Rattle.rig_script.specs.Script.{Step, line_values, work_of, operator, operator_line_of, operator_step, lines_step, text_of_lines, work_step, work_step_of, outstanding_at, tenant_step, only_answered}
+use Rattle.rig_model.specs.Answered.{reply_line}
+use Rattle.rig_script.specs.cited.HostAnswers.{IsHostAfter}
+use Rattle.rig_model.specs.Script.{Step, line_values, work_of, operator, operator_line_of, operator_step, lines_step, text_of_lines, work_step, work_step_of, outstanding_at, tenant_step, only_answered}
 use Rattle.rig_script.specs.inner.Script.{IsCarriedOut}
 
 -- this text was answered, and the events have happened

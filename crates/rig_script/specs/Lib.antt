@@ -1,5 +1,3 @@
-pub mod Answered
-pub mod Lines
-pub mod Script
-pub mod TenantReplies
+pub mod BrokenOff
+pub mod cited
 pub mod inner

@@ -1,4 +1,2 @@
 pub mod Faults
-pub mod HostAnswers
-pub mod Reading
 pub mod Script

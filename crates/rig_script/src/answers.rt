@@ -2,14 +2,15 @@
 
 ghost use Rattle.std.specs.Prelude.{◌≡◌, ◌≤◌, ◌+◌, ℕ, List, [], All, Err, IfErr, OnOk, length};
 ghost use Rattle.std.specs.Io.KnownBytes.{Appends, Keeps};
-ghost use Rattle.host_core.specs.Setting.{Setting};
-ghost use Rattle.host_core.specs.declared.events.Event.{Event};
-ghost use Rattle.rig_script.specs.Answered.{bye_bad_line, err_memory, IsText};
-ghost use Rattle.rig_script.specs.inner.Script.{IsUnanswered};
-ghost use Rattle.rig_script.specs.Lines.{cut};
-ghost use Rattle.rig_script.specs.inner.Reading.{IsLeft, reads_of};
-ghost use Rattle.rig_script.specs.inner.Script.{IsCarriedOut, ForEachPast, ForEachPastAndLines};
-ghost use Rattle.rig_script.specs.Script.{AreBrokenOff, speaker_of, line_step, memory_reply, reply_to_line, past_after, past_behind, script_from};
+ghost use Rattle.rig_model.specs.Base.{Setting};
+ghost use Rattle.rig_model.specs.declared.events.Event.{Event};
+ghost use Rattle.rig_model.specs.Answered.{bye_bad_line, err_memory, IsText};
+ghost use Rattle.rig_script.specs.inner.Script.{IsUnanswered, IsCarriedOut, ForEachPast, ForEachPastAndLines};
+ghost use Rattle.rig_model.specs.TextLines.{cut};
+ghost use Rattle.rig_script.specs.cited.Reading.{IsLeft, reads_of};
+ghost use Rattle.rig_script.specs.BrokenOff.{AreBrokenOff};
+ghost use Rattle.rig_model.specs.Script.{speaker_of, line_step, memory_reply, reply_to_line, past_after, past_behind, script_from};
+ghost use Rattle.rig_model.specs.declared.limits.TheConstants.{MAX_READS};
 
 use crate::faults::ScriptFault;
 use crate::lines::{Line, Lines};
@@ -58,7 +59,7 @@ pub fn answer_lines<R: Read, W: Write, A: Answers>(
         → All IsText (cut bytes) → IsLeft lines.new (R.remaining reader.new) []) }
     ensures fault { IfErr result (λ fault. ForEachPastAndLines (A.stands answers.old) lines.old (R.remaining reader.old)
         (AreBrokenOff (Appends (W.contents writer.old) (W.contents writer.new)) fault)) }
-    ensures turns { result ≡ Err ScriptFault.Turns → (bytes : List ℕ) → IsLeft lines.old (R.remaining reader.old) bytes → 1048576 ≤ reads_of lines.old + length bytes }
+    ensures turns { result ≡ Err ScriptFault.Turns → (bytes : List ℕ) → IsLeft lines.old (R.remaining reader.old) bytes → MAX_READS ≤ reads_of lines.old + length bytes }
 {
     for _line in 0..u64::MAX {
         match lines.next_line(reader, writer)? {

@@ -3,6 +3,7 @@
 ghost use Rattle.std.specs.Prelude.{◌≡◌};
 ghost use Rattle.rig_script.specs.inner.Faults.{text_of_fault};
 
+use std::alloc::AllocError;
 use thiserror::Error;
 
 /// Why a script ended before its input did.
@@ -20,6 +21,17 @@ pub enum ScriptFault {
     /// Want of memory for a reply.
     #[error("no memory for a reply")]
     Memory,
+}
+
+impl From<AllocError> for ScriptFault {
+    ghost use Rattle.std.specs.Prelude.{◌≡◌};
+    ghost use Rattle.rig_script.specs.declared.faults.ScriptFault.TheVariants.{Memory};
+
+    ghost from_gives = { λ _ fault. fault ≡ Memory };
+
+    fn from(_error: AllocError) -> ScriptFault {
+        ScriptFault::Memory
+    }
 }
 
 impl ScriptFault {

@@ -4,10 +4,12 @@ ghost use Rattle.std.specs.Prelude.{◌≡◌, [], ◌∷◌, ◌++◌, ◌<◌,
 ghost use Rattle.std.specs.Io.KnownBytes.{Appends};
 ghost use Rattle.tenant_lines.specs.Words.{words_of};
 ghost use Rattle.host_core.specs.HostStanding.{line_of};
-ghost use Rattle.rig_script.specs.Answered.{reply_line, IsText};
-ghost use Rattle.rig_script.specs.Lines.{cut};
-ghost use Rattle.rig_script.specs.inner.HostAnswers.{CarriesOut, IsHostAfter};
-ghost use Rattle.rig_script.specs.Script.{tenant_step, operator_step, text_of_lines, work_step, work_step_of, outstanding_after, script_text_of, IsScriptBrokenOff, ForNewHostReading};
+ghost use Rattle.rig_model.specs.Answered.{reply_line, IsText};
+ghost use Rattle.rig_model.specs.TextLines.{cut};
+ghost use Rattle.rig_script.specs.cited.HostAnswers.{CarriesOut, IsHostAfter};
+ghost use Rattle.rig_model.specs.Script.{tenant_step, operator_step, text_of_lines, work_step, work_step_of, outstanding_after, script_text_of};
+ghost use Rattle.rig_script.specs.BrokenOff.{IsScriptBrokenOff, ForNewHostReading};
+ghost use Rattle.rig_model.specs.declared.limits.TheConstants.{MAX_READS};
 
 use crate::answers::{Answers, answer_lines};
 use crate::faults::ScriptFault;
@@ -60,11 +62,9 @@ pub fn script<R: Read, W: Write>(
     ensures end { OnOk result (IfSome (R.remaining reader.old) (λ bytes. All IsText (cut bytes) → R.remaining reader.new ≡ Some [])) }
     ensures fault { IfErr result (λ fault. ForNewHostReading config.now (R.remaining reader.old)
         (IsScriptBrokenOff (R.remaining reader.new) (Appends (W.contents writer.old) (W.contents writer.new)) fault)) }
-    ensures turns { result ≡ Err ScriptFault.Turns → IfSome (R.remaining reader.old) (λ bytes. 1048576 ≤ length bytes) }
+    ensures turns { result ≡ Err ScriptFault.Turns → IfSome (R.remaining reader.old) (λ bytes. MAX_READS ≤ length bytes) }
 {
-    let Ok(mut host) = Host::new(alloc, config, 0) else {
-        return Err(ScriptFault::Memory);
-    };
+    let mut host = Host::new(alloc, config, 0)?;
     let mut lines = Lines::new(alloc);
     answer_lines(alloc, &mut lines, reader, writer, &mut host)
 }

@@ -5,14 +5,13 @@
 //! ```
 //!
 //! [`lines`] cuts what a reader gives, [`speakers`] tells who speaks in a line, [`answers`] has whoever answers lines, and
-//! [`script`] is a host that answers them. `specs/Lines.antt` says how bytes are cut, `specs/Script.antt` what a
-//! script is answered.
+//! [`script`] is a host that answers them. In the crate `rig_model` `TextLines.antt` says how bytes are cut, and `Script.antt` what
+//! a script is answered; `specs/BrokenOff.antt` says what was written before a fault.
 #![tactic(auto)]
 
 pub mod answers;
 pub mod faults;
 mod host_answers;
-pub mod laws;
 pub mod lines;
 pub mod speakers;
 

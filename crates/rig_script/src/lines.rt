@@ -3,20 +3,19 @@
 ghost use Rattle.std.specs.Prelude.{◌≡◌, ◌≢◌, ◌≤◌, ◌+◌, ℕ, true, false, List, Option, Some, IfErr, OnOk, Err};
 ghost use Rattle.std.specs.Io.KnownBytes.{Keeps};
 ghost use Rattle.tokio_util.specs.Codec.Lines.{IsOutOfMemory};
-ghost use Rattle.rig_script.specs.inner.Reading.{IsReadingOf, IsLeft, IsNextLine, AreCounted, reads_of};
+ghost use Rattle.rig_model.specs.declared.limits.TheConstants.{MAX_READS};
+ghost use Rattle.rig_script.specs.cited.Reading.{IsReadingOf, IsLeft, IsNextLine, AreCounted, reads_of};
 
 use crate::faults::ScriptFault;
 use bytes::BytesMut;
+use rig_model::limits::{MAX_LINE, MAX_READS};
 use std::alloc::Global;
 use std::io;
 use std::io::{Read, Write};
 use tokio_util::codec::{Decoder, LinesCodec, LinesCodecError};
 
-// How many bytes a line may have before its LF.
-const MAX_LINE: usize = 16384;
-
-// How many reads may give bytes without the end of the input.
-const MAX_READS: u32 = 1048576;
+// How many bytes a read may give.
+const PAGE: usize = 4096;
 
 /// What the next line is.
 #[derive(Drop)]
@@ -76,7 +75,7 @@ impl Lines {
         ensures line { (bytes : List ℕ) → IsLeft self.old (R.remaining reader.old) bytes → IsNextLine bytes result (IsLeft self.new (R.remaining reader.new)) }
         ensures faults { IfErr result (λ fault. fault ≢ ScriptFault.Memory) }
         ensures count { AreCounted (reads_of self.old) (reads_of self.new) (R.remaining reader.old) (R.remaining reader.new) }
-        ensures turns { result ≡ Err ScriptFault.Turns → 1048576 ≤ reads_of self.new }
+        ensures turns { result ≡ Err ScriptFault.Turns → MAX_READS ≤ reads_of self.new }
         ensures written { Keeps (W.contents writer.old) (W.contents writer.new) }
     {
         for _read in 0..=MAX_READS {
@@ -125,12 +124,12 @@ impl Lines {
         ensures count { AreCounted (reads_of self.old) (reads_of self.new) (R.remaining reader.old) (R.remaining reader.new) }
         ensures further { OnOk result (self.new.at_end ≡ false → reads_of self.new ≡ reads_of self.old + 1) }
         ensures stays { reads_of self.old ≤ reads_of self.new }
-        ensures turns { result ≡ Err ScriptFault.Turns → 1048576 ≤ reads_of self.new }
+        ensures turns { result ≡ Err ScriptFault.Turns → MAX_READS ≤ reads_of self.new }
     {
         if self.reads() >= MAX_READS {
             return Err(ScriptFault::Turns);
         }
-        let mut page = [0u8; 4096];
+        let mut page = [0u8; PAGE];
         match reader.read(&mut page) {
             Err(_) => Err(ScriptFault::Read),
             Ok(0) => {

@@ -1,23 +1,11 @@
 //! Who speaks in a line of a script.
 
 ghost use Rattle.std.specs.Prelude.{◌≡◌};
-ghost use Rattle.rig_script.specs.Script.{addressee_of, speaker_of};
+ghost use Rattle.rig_model.specs.Script.{addressee_of, speaker_of};
 
-use rig_config::{Config, TenantId};
+use rig_config::Config;
+pub use rig_model::speakers::Speaker;
 use tenant_lines::words;
-
-/// Who speaks in a line.
-#[derive(Clone, Copy, Debug, PartialEq, Eq)]
-pub enum Speaker {
-    /// The line is blank.
-    Nobody,
-    /// The line begins with `op`.
-    Operator,
-    /// The line begins with the name of the tenant at this place of the roster.
-    Tenant(TenantId),
-    /// The line begins with another word.
-    Unknown,
-}
 
 /// Who speaks in a line, by its first word.
 pub fn who_speaks(config: &Config, line: &str) -> Speaker

@@ -3,13 +3,13 @@ use Rattle.std.proofs.Common.{◌≡◌, ◌⊎◌, ◌<◌, ◌-◌, ◌^◌, �
 use Rattle.std.proofs.lemmas.Bool.{or_right}
 use Rattle.std.proofs.lemmas.Bool.Decides.{nat_tests}
 use Rattle.std.proofs.lemmas.List.{append_assoc, append-nil}
-use Rattle.giotto_tasks.proofs.ListLemmas.{some_same}
-use Rattle.giotto_tasks.proofs.TestLemmas.{either}
-use Rattle.host_core.specs.declared.events.Event.{Event}
+use Rattle.giotto_tasks.proofs.cited.ListLemmas.{some_same}
+use Rattle.giotto_tasks.proofs.cited.TestLemmas.{either}
+use Rattle.rig_model.specs.declared.events.Event.{Event}
 use Rattle.tenant_sources.specs.declared.tables.Link.{Link}
-use Rattle.host_core.specs.Legal.{is_legal, next_tick}
+use Rattle.rig_model.specs.Legal.{is_legal, next_tick}
 use Rattle.tenant_sources.specs.Links.{IsChain, first_link, is_source_of}
-use Rattle.host_core.specs.Setting.{Setting}
+use Rattle.rig_model.specs.Base.{Setting}
 use Rattle.tenant_sources.proofs.FirstLinks.{leads, none_to_itself, own_source, source_is_linked, tick_fits}
 
 module _ (setting : Setting) (past : List Event) (u : ℕ) where

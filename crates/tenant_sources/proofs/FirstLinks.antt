@@ -9,19 +9,19 @@ use Rattle.std.proofs.lemmas.List.Elements.{filter_map-append}
 use Rattle.std.proofs.lemmas.List.Folds.{find-append}
 use Rattle.std.proofs.lemmas.Option.{get_or_from_slice_get}
 use Rattle.std.proofs.lemmas.List.Quantifiers.{position-Some}
-use Rattle.giotto_tasks.proofs.ListLemmas.{find_is_any, is_some-option_map, some_same}
-use Rattle.giotto_tasks.proofs.TestLemmas.{either}
+use Rattle.giotto_tasks.proofs.cited.ListLemmas.{find_is_any, is_some-option_map, some_same}
+use Rattle.giotto_tasks.proofs.cited.TestLemmas.{either}
 use Rattle.giotto_tasks.specs.declared.names.Name.{Name}
 use Rattle.giotto_tasks.specs.Names.{same_name}
-use Rattle.host_core.specs.declared.events.Event.{Event}
-use Rattle.host_core.specs.declared.events.Event.TheVariants.{Own, Tick, Done}
+use Rattle.rig_model.specs.declared.events.Event.{Event}
+use Rattle.rig_model.specs.declared.events.Event.TheVariants.{Own, Tick, Done}
 use Rattle.tenant_sources.specs.declared.tables.Link.{Link}
-use Rattle.host_core.specs.Legal.{is_legal, may_follow, next_tick}
+use Rattle.rig_model.specs.Legal.{is_legal, may_follow, next_tick}
 use Rattle.tenant_sources.specs.Links.{first_link, is_source_of, link_at, placed_binds}
-use Rattle.host_core.specs.Setting.{Setting}
-use Rattle.host_core.specs.Sources.{suppliers_of}
-use Rattle.host_core.specs.Tenancies.{roster_of}
-use Rattle.host_core.specs.Views.{row_of}
+use Rattle.rig_model.specs.Base.{Setting}
+use Rattle.rig_model.specs.Sources.{suppliers_of}
+use Rattle.rig_model.specs.Tenancies.{roster_of}
+use Rattle.rig_model.specs.Views.{row_of}
 use Rattle.rig_config.specs.declared.TenantConfig.{TenantConfig}
 use Rattle.tenant_grants.specs.declared.rows.Bind.{Bind}
 use Rattle.tenant_grants.specs.Grants.{bind_at, place_in, with_place}

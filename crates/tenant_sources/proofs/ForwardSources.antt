@@ -4,12 +4,12 @@ use Rattle.std.specs.List.{list_any}
 use Rattle.std.proofs.Math.Bool.{or-false}
 use Rattle.std.proofs.lemmas.List.{append-nil}
 use Rattle.std.proofs.lemmas.List.Folds.{list_any-append}
-use Rattle.host_core.specs.declared.events.Event.{Event}
-use Rattle.host_core.specs.declared.events.Event.TheVariants.{Own, Tick, Done}
+use Rattle.rig_model.specs.declared.events.Event.{Event}
+use Rattle.rig_model.specs.declared.events.Event.TheVariants.{Own, Tick, Done}
 use Rattle.tenant_sources.specs.Links.{is_source_of}
-use Rattle.host_core.specs.Setting.{Setting}
-use Rattle.host_core.specs.Sources.{is_source, sources_from, suppliers_of}
-use Rattle.host_core.specs.Views.{row_of}
+use Rattle.rig_model.specs.Base.{Setting}
+use Rattle.rig_model.specs.Sources.{is_source, sources_from, suppliers_of}
+use Rattle.rig_model.specs.Views.{row_of}
 
 shuffled : (a b c d : Bool) → ((a || b) || (c || d)) ≡ ((a || c) || (b || d))
 shuffled true b c d = refl

@@ -7,12 +7,13 @@ use Rattle.std.proofs.lemmas.List.Elements.{All-append}
 use Rattle.tenant_sources.specs.declared.tables.Addition.{Addition}
 use Rattle.tenant_sources.specs.declared.tables.Link.{Link}
 use Rattle.tenant_sources.specs.inner.Links.{Adds, IsSquare, next_link}
-use Rattle.tenant_sources.specs.Links.{IsPlaceOf, Links, has_source, link_at, link_in, with_links}
-use Rattle.host_core.specs.Setting.{Setting}
-use Rattle.host_core.specs.Tenancies.{roster_of}
+use Rattle.tenant_sources.specs.cited.Additions.{IsPlaceOf, has_source, with_links}
+use Rattle.tenant_sources.specs.Links.{Links, link_at, link_in}
+use Rattle.rig_model.specs.Base.{Setting}
+use Rattle.rig_model.specs.Tenancies.{roster_of}
 use Rattle.tenant_grants.specs.declared.rows.Bind.{Bind}
 use Rattle.tenant_grants.specs.Grants.{with_place}
-use Rattle.tenant_state.specs.Row.{Row}
+use Rattle.rig_model.specs.Row.{Row}
 use Rattle.tenant_sources.proofs.FirstLinks.{Placed}
 use Rattle.tenant_sources.proofs.LinkTables.{is_at, link_with_link, with_links_many, with_links_square, with_one_more}
 

@@ -4,23 +4,24 @@ use Rattle.std.specs.Option.{option_or}
 use Rattle.std.proofs.lemmas.Bool.{or_parts}
 use Rattle.std.proofs.lemmas.Bool.Decides.{nat_tests}
 use Rattle.std.proofs.lemmas.List.{get_or-replicate, length-map, length-replicate}
-use Rattle.host_core.specs.declared.events.Event.{Event}
-use Rattle.host_core.specs.declared.events.Event.TheVariants.{Tick}
+use Rattle.rig_model.specs.declared.events.Event.{Event}
+use Rattle.rig_model.specs.declared.events.Event.TheVariants.{Tick}
 use Rattle.tenant_sources.specs.declared.tables.Addition.{Addition}
 use Rattle.tenant_sources.specs.declared.tables.Link.{Link}
-use Rattle.host_core.specs.Host.{host_after}
+use Rattle.rig_model.specs.Host.{host_after}
 use Rattle.host_core.specs.HostStanding.{HostStanding, ForEachState, Stands}
-use Rattle.host_core.specs.HostState.{row_at}
-use Rattle.host_core.specs.Legal.{IsHistory, next_tick}
+use Rattle.rig_model.specs.HostState.{row_at}
+use Rattle.rig_model.specs.Legal.{IsHistory, next_tick}
 use Rattle.tenant_sources.specs.inner.Links.{Adds, IsSquare, next_link}
-use Rattle.tenant_sources.specs.Links.{IsLinkTable, IsPlaceOf, Links, first_link, has_source, is_source_of, link_at, link_in, placed_binds, with_links}
-use Rattle.host_core.specs.Setting.{Setting}
-use Rattle.host_core.specs.Tenancies.{roster_of}
-use Rattle.host_core.specs.Views.{row_of}
+use Rattle.tenant_sources.specs.Links.{IsLinkTable, Links, first_link, is_source_of, link_at, link_in, placed_binds}
+use Rattle.tenant_sources.specs.cited.Additions.{IsPlaceOf, has_source, with_links}
+use Rattle.rig_model.specs.Base.{Setting}
+use Rattle.rig_model.specs.Tenancies.{roster_of}
+use Rattle.rig_model.specs.Views.{row_of}
 use Rattle.rig_config.specs.declared.TenantConfig.{TenantConfig}
 use Rattle.rig_config.specs.Roster.{Rig}
-use Rattle.tenant_state.specs.Row.{Row}
-use Rattle.host_core.proofs.AloneAlong.{same_clock, same_rows}
+use Rattle.rig_model.specs.Row.{Row}
+use Rattle.rig_laws.proofs.cited.AloneAlong.{same_clock, same_rows}
 use Rattle.tenant_sources.proofs.FirstLinks.{Placed, same_found, source_is_linked}
 use Rattle.tenant_sources.proofs.LinkTables.{with_links_many}
 

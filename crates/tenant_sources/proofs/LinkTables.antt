@@ -9,7 +9,8 @@ use Rattle.std.proofs.lemmas.List.{get_or-map, get_or-set_same, get_or-set_other
 use Rattle.tenant_sources.specs.declared.tables.Addition.{Addition}
 use Rattle.tenant_sources.specs.declared.tables.Link.{Link}
 use Rattle.tenant_sources.specs.inner.Links.{IsSquare}
-use Rattle.tenant_sources.specs.Links.{IsPlaceOf, Links, link_in, with_link, with_links}
+use Rattle.tenant_sources.specs.cited.Additions.{IsPlaceOf, with_link, with_links}
+use Rattle.tenant_sources.specs.Links.{Links, link_in}
 
 abbrev pub row_in : Links → ℕ → List (Option Link)
 row_in links t = get_or links t []

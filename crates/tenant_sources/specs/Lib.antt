@@ -1,2 +1,3 @@
 pub mod Links
+pub mod cited
 pub mod inner

@@ -1,20 +1,17 @@
 -- The binds through which tenants come to have sources, and a table of them. Lists of events have the newest first.
-use Rattle.std.specs.Prelude.{◌≡◌, ◌<◌, ℕ, Bool, ◌==◌, ◌||◌, if◌then◌else◌, ℤ, List, [], ◌∷◌, length, is_some, slice_index_or, slice_set, Option, Some, None, option_map}
+use Rattle.std.specs.Prelude.{◌≡◌, ◌<◌, ℕ, Bool, if◌then◌else◌, List, [], ◌∷◌, length, slice_index_or, Option, Some, None, option_map}
 use Rattle.std.specs.List.{filter_map, find}
 use Rattle.giotto_tasks.specs.declared.names.Name.{Name}
-use Rattle.host_core.specs.declared.events.Event.{Event}
-use Rattle.host_core.specs.declared.events.Event.TheVariants.{Own, Tick, Done}
-use Rattle.tenant_sources.specs.declared.tables.Addition.{Addition}
+use Rattle.rig_model.specs.declared.events.Event.{Event}
+use Rattle.rig_model.specs.declared.events.Event.TheVariants.{Own, Tick, Done}
 use Rattle.tenant_sources.specs.declared.tables.Link.{Link}
 use Rattle.tenant_grants.specs.Grants.{with_place}
-use Rattle.tenant_state.specs.Row.{Row}
-use Rattle.host_core.specs.Host.{host_after}
-use Rattle.host_core.specs.HostStanding.{HostStanding, Stands}
-use Rattle.host_core.specs.Legal.{IsHistory, next_tick}
-use Rattle.host_core.specs.Setting.{Setting}
-use Rattle.host_core.specs.Sources.{is_source, sources_of}
-use Rattle.host_core.specs.Tenancies.{roster_of}
-use Rattle.host_core.specs.Views.{row_of}
+use Rattle.rig_model.specs.Row.{Row}
+use Rattle.rig_model.specs.Legal.{next_tick}
+use Rattle.rig_model.specs.Base.{Setting}
+use Rattle.rig_model.specs.Sources.{is_source, sources_of}
+use Rattle.rig_model.specs.Tenancies.{roster_of}
+use Rattle.rig_model.specs.Views.{row_of}
 
 -- a bind at this tick: its sensor, its supplier's place, and the supplier's actuator
 abbrev pub link_at : ℕ → Name × ℕ × Name → Link
@@ -26,22 +23,6 @@ Links = List (List (Option Link))
 
 abbrev pub link_in : Links → ℕ → ℕ → Option Link
 link_in links t u = slice_index_or (slice_index_or links t []) u None
-
--- u is a source of t by its links; each tenant is its own
-abbrev pub has_source : Links → ℕ → ℕ → Bool
-has_source links t u = t == u || is_some (link_in links t u)
-
--- the table has a place for it
-abbrev pub IsPlaceOf : Links → Addition → Type 0
-IsPlaceOf links a = (a.tenant < length links) × (a.source < length links)
-
--- one link more, where none stands
-abbrev pub with_link : Links → Addition → Links
-with_link links a = if is_some (link_in links a.tenant a.source) then links else slice_set links a.tenant (slice_set (slice_index_or links a.tenant []) a.source (Some a.link))
-
-abbrev pub with_links : Links → List Addition → Links
-with_links links [] = links
-with_links links (a ∷ rest) = with_links (with_link links a) rest
 
 module _ (setting : Setting) where
   -- The tenant at place u is a source of t somewhere in this list: at its beginning, since a source at one place is one at each earlier place.
@@ -72,8 +53,3 @@ module _ (setting : Setting) where
 pub record IsLinkTable (setting : Setting) (past : List Event) (links : Links) : Type 0 where
   pub as_many : length links ≡ length setting.config.tenants
   pub each : (t u : ℕ) → t < length setting.config.tenants → u < length setting.config.tenants → link_in links t u ≡ first_link setting past t u
-
--- These links are what an instant adds, if it comes next: behind it the table with them is the table of all events.
-abbrev pub AreAdded : Links → HostStanding → List Addition → Type 0
-AreAdded links host added = (setting : Setting) (past : List Event) (frame : List ℤ) → IsHistory setting past → Stands setting host (host_after setting past)
-    → IsLinkTable setting past links → IsLinkTable setting (Tick frame ∷ past) (with_links links added)

@@ -1,13 +1,13 @@
 -- Questions: commands behind which all is as before.
 use Rattle.std.specs.Prelude.{◌≡◌, List}
 use Rattle.host_core.specs.HostStanding.{HostStanding}
-use Rattle.host_core.specs.Setting.{Setting}
-use Rattle.host_core.specs.declared.events.Event.{Event}
-use Rattle.rig_script.specs.inner.HostAnswers.{IsHostAfter}
+use Rattle.rig_model.specs.Base.{Setting}
+use Rattle.rig_model.specs.declared.events.Event.{Event}
+use Rattle.rig_script.specs.cited.HostAnswers.{IsHostAfter}
 use Rattle.tenant_lines.specs.declared.commands.Command.{Command}
-use Rattle.tenant_state.specs.Commands.{commanded}
-use Rattle.tenant_state.specs.Row.{Row}
-use Rattle.tenant_state.specs.Tenancy.{Tenancy}
+use Rattle.rig_model.specs.Commands.{commanded}
+use Rattle.rig_model.specs.Row.{Row}
+use Rattle.rig_model.specs.Tenancies.{Tenancy}
 
 -- a command behind which each row is as it was
 abbrev pub IsQuestion : Command → Type 0

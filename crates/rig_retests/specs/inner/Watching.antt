@@ -3,11 +3,12 @@ use Rattle.std.specs.Prelude.{◌≡◌, Bool, true, List, Result, Ok, Err, Vec}
 use Rattle.std.specs.declared.alloc.AllocError.{AllocError}
 use Rattle.std.specs.declared.alloc.Global.{Global}
 use Rattle.host_core.specs.HostStanding.{HostStanding}
-use Rattle.tenant_sources.specs.Links.{IsLinkTable, Links, with_links}
-use Rattle.host_core.specs.Setting.{Setting}
-use Rattle.host_core.specs.declared.events.Event.{Event}
+use Rattle.tenant_sources.specs.Links.{IsLinkTable, Links}
+use Rattle.tenant_sources.specs.cited.Additions.{with_links}
+use Rattle.rig_model.specs.Base.{Setting}
+use Rattle.rig_model.specs.declared.events.Event.{Event}
 use Rattle.tenant_sources.specs.declared.tables.Addition.{Addition}
-use Rattle.rig_script.specs.inner.HostAnswers.{IsHostAfter}
+use Rattle.rig_script.specs.cited.HostAnswers.{IsHostAfter}
 
 -- the host stands behind these events, and the table is theirs where it is whole
 abbrev pub IsWatching : Setting → HostStanding → Links → Bool → List Event → Type 0

@@ -4,12 +4,12 @@ use Rattle.rig_script.specs.declared.faults.ScriptFault.{ScriptFault}
 use Rattle.rig_script.specs.declared.faults.ScriptFault.TheVariants.{Write, Memory}
 use Rattle.std.specs.declared.alloc.AllocError.{AllocError}
 use Rattle.std.specs.declared.alloc.Global.{Global}
-use Rattle.host_core.specs.declared.events.Event.{Event}
-use Rattle.rig_script.specs.Script.{Step}
-use Rattle.host_core.specs.Setting.{Setting}
+use Rattle.rig_model.specs.declared.events.Event.{Event}
+use Rattle.rig_model.specs.Script.{Step}
+use Rattle.rig_model.specs.Base.{Setting}
 use Rattle.rig_script.specs.declared.lines.Lines.{Lines}
-use Rattle.rig_script.specs.Lines.{cut}
-use Rattle.rig_script.specs.inner.Reading.{IsLeft}
+use Rattle.rig_model.specs.TextLines.{cut}
+use Rattle.rig_script.specs.cited.Reading.{IsLeft}
 
 -- why a line was not answered: a write failed, or the reply found no memory, and then `Said` holds
 abbrev pub IsUnanswered : ScriptFault → Type 0 → Type 0

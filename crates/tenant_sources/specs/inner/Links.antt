@@ -5,9 +5,10 @@ use Rattle.std.specs.Option.{option_or}
 use Rattle.giotto_tasks.specs.declared.names.Name.{Name}
 use Rattle.tenant_sources.specs.declared.tables.Addition.{Addition}
 use Rattle.tenant_sources.specs.declared.tables.Link.{Link}
-use Rattle.tenant_sources.specs.Links.{Links, has_source, link_at, link_in, placed_binds, with_links}
-use Rattle.host_core.specs.Setting.{Setting}
-use Rattle.tenant_state.specs.Row.{Row}
+use Rattle.tenant_sources.specs.Links.{Links, link_at, link_in, placed_binds}
+use Rattle.tenant_sources.specs.cited.Additions.{has_source, with_links}
+use Rattle.rig_model.specs.Base.{Setting}
+use Rattle.rig_model.specs.Row.{Row}
 
 -- as many places in each row as there are rows
 pub record IsSquare (links : Links) : Type 0 where

@@ -1,11 +1,13 @@
 use Rattle.std.proofs.Common.{rules, ◌≡◌, ◌≤◌, ℕ, List, [], ◌∷◌, All, Some, length, ap, ◌∙◌, refl, sym, arith}
-use Rattle.rig_script.specs.Answered.{IsText}
-use Rattle.rig_script.specs.Lines.{cut}
-use Rattle.rig_script.specs.inner.Reading.{IsLeft, reads_of}
-use Rattle.rig_script.specs.Script.{reply_to_line, past_behind}
-use Rattle.rig_script.proofs.AnsweredLines.{come_further, texts_further, bad_is_no_text, on_ok, cut_short}
+use Rattle.rig_model.specs.Answered.{IsText}
+use Rattle.rig_model.specs.TextLines.{cut}
+use Rattle.rig_script.specs.cited.Reading.{IsLeft, reads_of}
+use Rattle.rig_model.specs.Script.{reply_to_line, past_behind}
+use Rattle.rig_laws.proofs.cited.AnsweredLines.{come_further}
+use Rattle.rig_laws.proofs.cited.AnsweredLines.{texts_further, bad_is_no_text, on_ok, cut_short}
 use Rattle.rig_script.proofs.CountedReads.{both_counted, counted_left}
 use Rattle.rig_script.proofs.answers.answer_lines.Goals as goal
+use Rattle.rig_model.specs.declared.limits.TheConstants.{MAX_READS}
 
 pub returns-in-Bad-clause-end : goal.returns-in-Bad-clause-end
 returns-in-Bad-clause-end g c =
@@ -58,5 +60,5 @@ returns-in_err-line-clause-turns g c = λ is bytes left.
     let counted = both_counted (reads_of c.args.lines.now) (reads_of l.lines) (reads_of c.next_line.new.self) (remaining c.args.reader.now) (remaining l.reader) (remaining c.next_line.new.reader)
     l.invariant.counted c.in_err-line.ensures.count in
     let few = counted_left c.args.lines.now (remaining c.args.reader.now) bytes left (reads_of c.next_line.new.self) (remaining c.next_line.new.reader) counted in
-    let many : 1048576 ≤ reads_of c.next_line.new.self = c.in_err-line.ensures.turns (search rules) in
+    let many : MAX_READS ≤ reads_of c.next_line.new.self = c.in_err-line.ensures.turns (search rules) in
     omega (arith, few, many)

@@ -1,11 +1,11 @@
 use Rattle.std.proofs.Common.{ℕ, ◌≤◌, ◌+◌, List, length, All}
-use Rattle.host_core.specs.Setting.{Setting}
-use Rattle.host_core.specs.declared.events.Event.{Event}
-use Rattle.rig_script.specs.Answered.{IsText}
-use Rattle.rig_script.specs.Lines.{cut}
-use Rattle.rig_script.specs.inner.Reading.{IsLeft, AreCounted, reads_of}
-use Rattle.rig_script.specs.Script.{reply_to_line, past_behind}
-use Rattle.rig_script.proofs.AnsweredLines.{HasCome}
+use Rattle.rig_model.specs.Base.{Setting}
+use Rattle.rig_model.specs.declared.events.Event.{Event}
+use Rattle.rig_model.specs.Answered.{IsText}
+use Rattle.rig_model.specs.TextLines.{cut}
+use Rattle.rig_script.specs.cited.Reading.{IsLeft, AreCounted, reads_of}
+use Rattle.rig_model.specs.Script.{reply_to_line, past_behind}
+use Rattle.rig_laws.proofs.cited.AnsweredLines.{HasCome}
 use Rattle.rig_script.proofs.answers.answer_lines.Given as goal
 
 abbrev pub invariant-loop-line : goal.invariant-loop-line

@@ -1,7 +1,7 @@
 use Rattle.std.proofs.Common.{◌≡◌, List, length, refl, ap, ◌∙◌}
-use Rattle.tenant_jobs.specs.declared.jobs.JobId.{JobId}
-use Rattle.rig_script.specs.inner.HostAnswers.{IsHostAfter}
-use Rattle.rig_script.specs.Script.{outstanding_after, work_step}
+use Rattle.rig_model.specs.declared.jobs.JobId.{JobId}
+use Rattle.rig_script.specs.cited.HostAnswers.{IsHostAfter}
+use Rattle.rig_model.specs.Script.{outstanding_after, work_step}
 use Rattle.rig_script.proofs.Completing.{all_completed, names_are}
 use Rattle.rig_script.proofs.Steps.{step_done}
 use Rattle.rig_script.proofs.host_answers.complete_all.Goals as goal

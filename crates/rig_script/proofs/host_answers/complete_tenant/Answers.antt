@@ -1,8 +1,8 @@
 use Rattle.std.proofs.Common.{◌≡◌, ◌<◌, List, Some, length, refl, sym, ap, ◌∙◌}
 use Rattle.rig_config.specs.Roster.{Rig, place_of}
-use Rattle.tenant_jobs.specs.declared.jobs.JobId.{JobId}
-use Rattle.rig_script.specs.inner.HostAnswers.{IsHostAfter}
-use Rattle.rig_script.specs.Script.{outstanding_at, work_step}
+use Rattle.rig_model.specs.declared.jobs.JobId.{JobId}
+use Rattle.rig_script.specs.cited.HostAnswers.{IsHostAfter}
+use Rattle.rig_model.specs.Script.{outstanding_at, work_step}
 use Rattle.rig_script.proofs.Completing.{completed_at, names_at}
 use Rattle.rig_script.proofs.Speaking.{place_within}
 use Rattle.rig_script.proofs.Steps.{step_done, tenant_found}

@@ -1,8 +1,8 @@
 use Rattle.std.proofs.Common.{◌≡◌, ◌<◌, [], ◌∷◌, List, ℕ, codes, length, refl, ap, ◌∙◌, sym, subst, arith}
 use Rattle.std.proofs.lemmas.Bool.Decides.{nat_tests}
 use Rattle.tenant_lines.specs.Words.{words_of, first_word_of}
-use Rattle.tenant_lines.proofs.WordLemmas.{words_none}
-use Rattle.rig_script.specs.Script.{operator_line_of}
+use Rattle.tenant_lines.proofs.cited.WordLemmas.{words_none}
+use Rattle.rig_model.specs.Script.{operator_line_of}
 use Rattle.rig_script.proofs.Steps.{lines_told, lines_with_more, operator_refused}
 use Rattle.rig_script.proofs.host_answers.lines.Goals as goal
 

@@ -1,8 +1,8 @@
 use Rattle.std.proofs.Common.{codes, refl, sym, subst, arith}
 use Rattle.tenant_lines.specs.Words.{words_of}
-use Rattle.rig_script.specs.inner.HostAnswers.{IsHostAfter}
+use Rattle.rig_script.specs.cited.HostAnswers.{IsHostAfter}
 use Rattle.rig_script.specs.inner.Script.{IsCarriedOut}
-use Rattle.rig_script.specs.Script.{operator_step}
+use Rattle.rig_model.specs.Script.{operator_step}
 use Rattle.rig_script.proofs.Steps.{words_with, other_line, operator_refused}
 use Rattle.rig_script.proofs.host_answers.operator_line.Goals as goal
 

@@ -1,8 +1,8 @@
 use Rattle.std.proofs.Common.{◌≡◌, IfOk, string_bytes, ◌∙◌, subst}
-use Rattle.host_core.specs.Host.{host_after}
+use Rattle.rig_model.specs.Host.{host_after}
 use Rattle.tenant_lines.specs.declared.replies.Refusal.TheVariants.{Memory}
 use Rattle.tenant_lines.specs.declared.replies.Reply.TheVariants.{Refused}
-use Rattle.rig_script.specs.Answered.{reply_line}
+use Rattle.rig_model.specs.Answered.{reply_line}
 use Rattle.rig_script.proofs.Steps.{command_done}
 use Rattle.rig_script.proofs.host_answers.tenant_line.Goals as goal
 

@@ -1,6 +1,6 @@
 use Rattle.std.proofs.Common.{◌≡◌, ◌++◌, codes, string_bytes}
 use Rattle.host_core.specs.HostStanding.{line_of}
-use Rattle.rig_script.specs.Script.{text_of_lines}
+use Rattle.rig_model.specs.Script.{text_of_lines}
 use Rattle.rig_script.proofs.host_answers.text_of_lines.Given as goal
 
 abbrev pub invariant-loop-line : goal.invariant-loop-line

@@ -1,5 +1,5 @@
 use Rattle.std.proofs.Common.{rules, ◌≡◌, ◌<◌, ◌^◌, Some, Err, ap, ◌∙◌, sym}
-use Rattle.host_core.specs.Host.{host_after}
+use Rattle.rig_model.specs.Host.{host_after}
 use Rattle.tenant_lines.specs.Words.{words_of, values_of_words}
 use Rattle.rig_script.proofs.Steps.{tick_done, tick_ended}
 use Rattle.rig_script.proofs.host_answers.tick.Goals as goal

@@ -2,10 +2,10 @@ use Rattle.std.proofs.Common.{◌≡◌, ◌<◌, ◌∷◌, [], true, false, Li
 use Rattle.std.proofs.lemmas.Bool.Decides.{nat_tests}
 use Rattle.giotto_text.specs.Bytes.{is_name}
 use Rattle.tenant_lines.specs.Words.{words_of, first_word_of, behind_first_word}
-use Rattle.tenant_lines.proofs.WordLemmas.{words_none}
-use Rattle.rig_script.specs.inner.HostAnswers.{IsHostAfter}
+use Rattle.tenant_lines.proofs.cited.WordLemmas.{words_none}
+use Rattle.rig_script.specs.cited.HostAnswers.{IsHostAfter}
 use Rattle.rig_script.specs.inner.Script.{IsCarriedOut}
-use Rattle.rig_script.specs.Script.{operator_step, work_step_of}
+use Rattle.rig_model.specs.Script.{operator_step, work_step_of}
 use Rattle.rig_script.proofs.Steps.{work_with_name, work_with_no_name, work_with_more, tenant_worked, operator_refused}
 use Rattle.rig_script.proofs.host_answers.work.Goals as goal
 use Rattle.rig_script.proofs.host_answers.work.Goals.{else-is_name-via-then-is_name+else-is_empty-2, else-is_name-via-else-is_name}

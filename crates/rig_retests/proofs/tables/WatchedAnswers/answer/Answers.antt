@@ -1,8 +1,8 @@
 use Rattle.std.proofs.Common.{sym, subst, ◌∙◌}
 use Rattle.host_core.specs.HostStanding.{HostStanding}
 use Rattle.tenant_sources.specs.Links.{IsLinkTable, Links}
-use Rattle.rig_script.specs.inner.HostAnswers.{IsHostAfter}
-use Rattle.rig_script.specs.Script.{past_behind}
+use Rattle.rig_script.specs.cited.HostAnswers.{IsHostAfter}
+use Rattle.rig_model.specs.Script.{past_behind}
 use Rattle.rig_retests.proofs.Following.{kept}
 use Rattle.rig_retests.proofs.Ticking.{table_goes_on, table_stays}
 use Rattle.rig_retests.proofs.tables.WatchedAnswers.answer.Goals as goal

@@ -1,5 +1,5 @@
 use Rattle.std.proofs.Common.{◌≤◌, rules, arith}
-use Rattle.rig_script.specs.inner.Reading.{reads_of}
+use Rattle.rig_script.specs.cited.Reading.{reads_of}
 use Rattle.rig_script.proofs.CountedReads.{both_counted}
 use Rattle.rig_script.proofs.NextLine.{IsLeftIn, line_next, unread_next}
 use Rattle.rig_script.proofs.lines.Lines.next_line.Goals as goal

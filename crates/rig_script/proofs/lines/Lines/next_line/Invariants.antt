@@ -1,6 +1,6 @@
 use Rattle.std.proofs.Common.{◌≡◌, ℕ, ◌≤◌, ◌+◌, false, List}
 use Rattle.std.specs.Io.KnownBytes.{Keeps}
-use Rattle.rig_script.specs.inner.Reading.{IsReadingOf, IsLeft, AreCounted, reads_of}
+use Rattle.rig_script.specs.cited.Reading.{IsReadingOf, IsLeft, AreCounted, reads_of}
 use Rattle.rig_script.proofs.lines.Lines.next_line.Given as goal
 
 abbrev pub invariant-loop-read : goal.invariant-loop-read

@@ -1,6 +1,7 @@
 use Rattle.std.proofs.Common.{List, ◌∷◌, ◌++◌, [], take, sym, ap, ◌∙◌}
 use Rattle.std.proofs.lemmas.List.{take_more}
-use Rattle.tenant_sources.specs.Links.{Links, with_link, with_links}
+use Rattle.tenant_sources.specs.Links.{Links}
+use Rattle.tenant_sources.specs.cited.Additions.{with_link, with_links}
 use Rattle.tenant_sources.specs.declared.tables.Addition.{Addition}
 use Rattle.tenant_sources.proofs.LinkTables.{with_one_more}
 use Rattle.tenant_sources.proofs.tables.SourceTable.add.Goals as goal

@@ -1,5 +1,5 @@
 use Rattle.std.proofs.Common.{◌≡◌, length, take}
-use Rattle.tenant_sources.specs.Links.{with_links}
+use Rattle.tenant_sources.specs.cited.Additions.{with_links}
 use Rattle.tenant_sources.proofs.tables.SourceTable.add.Given as goal
 
 abbrev pub invariant-loop-addition : goal.invariant-loop-addition

@@ -1,8 +1,8 @@
 use Rattle.std.proofs.Common.{◌≤◌, ◌+◌, List, length, sym, subst, ◌∙◌, arith}
 use Rattle.std.specs.List.{All}
 use Rattle.tenant_sources.specs.declared.tables.Addition.{Addition}
-use Rattle.host_core.specs.HostState.{row_at}
-use Rattle.tenant_sources.specs.Links.{IsPlaceOf}
+use Rattle.rig_model.specs.HostState.{row_at}
+use Rattle.tenant_sources.specs.cited.Additions.{IsPlaceOf}
 use Rattle.tenant_sources.specs.inner.Links.{Adds, IsSquare, next_link}
 use Rattle.tenant_sources.proofs.LinkAdditions.{New, adds_all, adds_begin, adds_none, adds_one, all_with, first_of}
 use Rattle.tenant_sources.proofs.LinkTables.{code_many}

@@ -1,7 +1,7 @@
 use Rattle.std.specs.List.{All}
 use Rattle.host_core.specs.HostStanding.{ForEachState}
-use Rattle.host_core.specs.HostState.{row_at}
-use Rattle.tenant_sources.specs.Links.{IsPlaceOf}
+use Rattle.rig_model.specs.HostState.{row_at}
+use Rattle.tenant_sources.specs.cited.Additions.{IsPlaceOf}
 use Rattle.tenant_sources.specs.inner.Links.{Adds, next_link}
 use Rattle.tenant_sources.proofs.LinkAdditions.{first_of}
 use Rattle.tenant_sources.proofs.tables.SourceTable.add_of.Given as goal

@@ -1,8 +1,8 @@
 use Rattle.std.proofs.Common.{◌≡◌, ◌<◌, ◌+◌, true, false, cond, Some, None, List, length, find, filter_map, refl, sym, ap, ◌∙◌, arith}
 use Rattle.std.proofs.lemmas.List.{take_all}
-use Rattle.host_core.specs.HostState.{row_at}
-use Rattle.tenant_sources.specs.Links.{has_source}
-use Rattle.host_core.specs.Tenancies.{roster_of}
+use Rattle.rig_model.specs.HostState.{row_at}
+use Rattle.tenant_sources.specs.cited.Additions.{has_source}
+use Rattle.rig_model.specs.Tenancies.{roster_of}
 use Rattle.tenant_grants.specs.Grants.{with_place}
 use Rattle.tenant_grants.specs.declared.rows.Bind.{Bind}
 use Rattle.tenant_sources.proofs.FirstLinks.{Placed, found_next, found_before}

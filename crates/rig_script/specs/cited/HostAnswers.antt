@@ -2,13 +2,12 @@
 use Rattle.std.specs.Prelude.{◌≡◌, true, List, Result, String}
 use Rattle.std.specs.declared.alloc.AllocError.{AllocError}
 use Rattle.std.specs.declared.alloc.Global.{Global}
-use Rattle.host_core.specs.Base.{IsBase}
+use Rattle.rig_model.specs.Base.{IsBase, Setting}
 use Rattle.host_core.specs.HostStanding.{HostStanding, Stands}
-use Rattle.host_core.specs.Host.{host_after}
-use Rattle.host_core.specs.Legal.{is_legal}
-use Rattle.host_core.specs.Setting.{Setting}
-use Rattle.host_core.specs.declared.events.Event.{Event}
-use Rattle.rig_script.specs.Script.{Step}
+use Rattle.rig_model.specs.Host.{host_after}
+use Rattle.rig_model.specs.Legal.{is_legal}
+use Rattle.rig_model.specs.declared.events.Event.{Event}
+use Rattle.rig_model.specs.Script.{Step}
 use Rattle.rig_script.specs.inner.Script.{IsCarriedOut}
 
 -- the host stands for what these events, the newest first, make of the rig

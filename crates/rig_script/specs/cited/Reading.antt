@@ -9,7 +9,9 @@ use Rattle.rig_script.specs.declared.faults.ScriptFault.{ScriptFault}
 use Rattle.rig_script.specs.declared.lines.Line.{Line}
 use Rattle.rig_script.specs.declared.lines.Line.TheVariants.{Whole, Bad, End}
 use Rattle.rig_script.specs.declared.lines.Lines.{Lines}
-use Rattle.rig_script.specs.Lines.{cut, text_of_line}
+use Rattle.rig_model.specs.TextLines.{cut, text_of_line}
+use Rattle.rig_model.specs.declared.limits.TheConstants.{MAX_LINE}
+use Rattle.rig_script.specs.declared.lines.TheConstants.{PAGE}
 
 -- what a codec may find next
 abbrev pub Found : Type 0
@@ -18,7 +20,7 @@ Found = Next LinesCodec (String Global) LinesCodecError
 -- whatever the codec finds in what was read and the rest, one at the start of a line finds in these bytes
 abbrev pub IsReading : List ℕ → LinesCodec → List ℕ → Option (List ℕ) → Bool → Type 0
 IsReading bytes codec now rest at_end = IsSomeAnd rest (λ more.
-    (at_end ≡ true → more ≡ []) × ((next : Found) → gives_lines codec (now ++ more) next → gives_lines (at_line_start 16384) bytes next))
+    (at_end ≡ true → more ≡ []) × ((next : Found) → gives_lines codec (now ++ more) next → gives_lines (at_line_start MAX_LINE) bytes next))
 
 -- the same of what these lines have read
 abbrev pub IsReadingOf : Lines → Option (List ℕ) → List ℕ → Type 0
@@ -28,12 +30,12 @@ IsReadingOf lines rest bytes = IsReading bytes lines.codec lines.buffer.items re
 abbrev pub reads_of : Lines → ℕ
 reads_of lines = lines.reads
 
--- this many reads, each of which took 1 to 4,096 bytes from the front of `before`, left `after`
+-- this many reads, each of which took 1 to a page of bytes from the front of `before`, left `after`
 pub record AreReads (count : ℕ) (before after : List ℕ) : Type 0 where
   pub taken : List ℕ
   pub split : before ≡ taken ++ after
   pub least : count ≤ length taken
-  pub most : length taken ≤ 4096 * count
+  pub most : length taken ≤ PAGE * count
 
 -- From the number of reads `old` to the number `new`: each read that gave bytes was counted, and nothing else. What the reader
 -- had and what it has tells so, where it is known.
@@ -45,7 +47,7 @@ AreCounted old new (Some before) (Some after) = (count : ℕ) × (new ≡ old + 
 -- these bytes are left of the stream, and a line begins with them; `remaining` is what the reader still has, if that is known
 abbrev pub IsLeft : Lines → Option (List ℕ) → List ℕ → Type 0
 IsLeft lines remaining bytes = IsSomeAnd remaining (λ more.
-    (lines.at_end ≡ true → more ≡ []) × (lines.codec ≡ at_line_start 16384) × (bytes ≡ lines.buffer.items ++ more))
+    (lines.at_end ≡ true → more ≡ []) × (lines.codec ≡ at_line_start MAX_LINE) × (bytes ≡ lines.buffer.items ++ more))
 
 -- What the next line of these bytes is, where `Left` holds of the bytes that are left behind it. A fault says nothing.
 abbrev pub IsNextLine : List ℕ → Result Line ScriptFault → (List ℕ → Type 0) → Type 0

@@ -1,21 +1,22 @@
 -- A script begins with a new host.
 use Rattle.std.proofs.Common.{◌≡◌, ◌≤◌, ◌+◌, ℕ, List, [], ◌∷◌, ◌++◌, length, All, Option, Some, None, refl, sym, ap, subst, inr, arith}
 use Rattle.std.specs.Prelude.{Result, Ok, Err, IfSome, IfErr, OnOk}
-use Rattle.host_core.specs.Base.{IsBase, new_base}
+use Rattle.rig_model.specs.Base.{IsBase, new_base, Setting}
 use Rattle.host_core.specs.HostStanding.{HostStanding, Stands, new_host}
-use Rattle.host_core.specs.Setting.{Setting}
-use Rattle.host_core.specs.declared.events.Event.{Event}
-use Rattle.host_core.specs.Plays.{IsSettingOf}
-use Rattle.host_core.proofs.LaterBase.{new_is_base}
-use Rattle.host_core.proofs.NewHost.{new_stands}
-use Rattle.rig_script.specs.Answered.{IsText}
-use Rattle.rig_script.specs.inner.HostAnswers.{IsHostAfter}
-use Rattle.rig_script.specs.Lines.{cut}
-use Rattle.rig_script.specs.inner.Reading.{IsLeft, reads_of}
+use Rattle.rig_model.specs.declared.events.Event.{Event}
+use Rattle.rig_model.specs.Plays.{IsSettingOf}
+use Rattle.rig_laws.proofs.cited.LaterBase.{new_is_base}
+use Rattle.host_core.proofs.cited.NewHost.{new_stands}
+use Rattle.rig_model.specs.Answered.{IsText}
+use Rattle.rig_script.specs.cited.HostAnswers.{IsHostAfter}
+use Rattle.rig_model.specs.TextLines.{cut}
+use Rattle.rig_script.specs.cited.Reading.{IsLeft, reads_of}
 use Rattle.rig_script.specs.declared.lines.Lines.{Lines}
-use Rattle.rig_script.specs.Script.{script_from, script_text_of, AreBrokenOff, IsScriptBrokenOff, ForNewHostReading}
+use Rattle.rig_model.specs.Script.{script_from, script_text_of}
+use Rattle.rig_script.specs.BrokenOff.{AreBrokenOff, IsScriptBrokenOff, ForNewHostReading}
 use Rattle.rig_script.specs.declared.faults.ScriptFault.{ScriptFault}
 use Rattle.rig_config.specs.Roster.{Rig}
+use Rattle.rig_model.specs.declared.limits.TheConstants.{MAX_READS}
 
 -- what a reader has is left of new lines
 pub all_left : (lines : Lines) (known : Option (List ℕ)) → ((bytes : List ℕ) → IsLeft lines (Some bytes) bytes) → IfSome known (IsLeft lines known)
@@ -39,7 +40,7 @@ none_left (Ok x) new later (Some bytes) after left h = λ all. nothing_left late
 
 -- a script that has as many reads has as many bytes
 pub many_bytes : (new : Lines) (known : Option (List ℕ)) → ((bytes : List ℕ) → IsLeft new (Some bytes) bytes) → reads_of new ≡ 0
-    → ((bytes : List ℕ) → IsLeft new known bytes → 1048576 ≤ reads_of new + length bytes) → IfSome known (λ bytes. 1048576 ≤ length bytes)
+    → ((bytes : List ℕ) → IsLeft new known bytes → MAX_READS ≤ reads_of new + length bytes) → IfSome known (λ bytes. MAX_READS ≤ length bytes)
 many_bytes new None left none many = tt
 many_bytes new (Some bytes) left none many = let all = many bytes (left bytes) in omega (arith, none, all)
 

@@ -1,0 +1,2 @@
+pub mod HostAnswers
+pub mod Reading
