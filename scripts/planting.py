@@ -12,33 +12,44 @@ import subprocess
 
 from kit import rt, rtlib
 
-ROW = re.compile(rb"\d+ (\d+) (\d+) (\w+) (.*)")
+ROW = re.compile(rb"(\d+) (\d+) (\d+) (\w+) (.*)")
 
 
 class Token:
-    """A token of Rattle's code: its first byte, the byte behind it, its text."""
+    """A token: its line, its first byte, the byte behind it, whether it is of Rattle's code, a clause or something else, its text."""
 
-    def __init__(self, start, end, text):
-        self.start, self.end, self.text = start, end, text
+    def __init__(self, line, start, end, kind, text):
+        self.line, self.start, self.end, self.kind, self.text = line, start, end, kind, text
 
 
-def tokens_of(path):
-    """The tokens of a file's code, without clauses, ghost items, comments and literals."""
-    ran = subprocess.run([rtlib.RATTLE, "fmt", "--tokens", path], capture_output=True)
-    if ran.returncode:
-        raise ValueError(f"rattle can't read {path}: {ran.stderr.decode(errors='replace').strip()[:200]}")
-    rows = (ROW.fullmatch(line) for line in ran.stdout.splitlines())
-    return [Token(int(it[1]), int(it[2]), json.loads(it[4])) for it in rows if it and it[3] == b"Code"]
+def tokens_of(*paths):
+    """The tokens of each of these files, but for comments, by its path."""
+    ran = subprocess.run([rtlib.RATTLE, "fmt", "--tokens", *paths], capture_output=True) if paths else None
+    if ran and ran.returncode:
+        raise ValueError(f"rattle can't read {', '.join(paths)}: {ran.stderr.decode(errors='replace').strip()[:200]}")
+    found = {path: [] for path in paths}
+    for line in ran.stdout.splitlines() if ran else []:
+        if line.startswith(b"file "):
+            own = found[paths[int(line[5:])]]
+        elif it := ROW.fullmatch(line):
+            own.append(Token(int(it[1]), int(it[2]), int(it[3]), it[4].decode(), json.loads(it[5])))
+    return found
+
+
+def code_of(tokens):
+    """The tokens of Rattle's code, without clauses, ghost items and literals."""
+    return [it for it in tokens if it.kind == "Code"]
 
 
 class Function:
     """A function of a file: its place in bytes (`start` with its attributes, `head` at `fn`, `body` at the brace, `end`),
-    its name, the inline modules and the type that it stands in, and whether it can't stand there twice."""
+    its name, whether it is `pub`, the inline modules and the type that it stands in, whether it is of a trait or in a macro,
+    and whether it can't stand there twice."""
 
-    def __init__(self, start, head, name):
-        self.start, self.head, self.name = start, head, name
+    def __init__(self, start, head, name, is_public):
+        self.start, self.head, self.name, self.is_public = start, head, name, is_public
         self.body = self.end = self.type = None
-        self.modules, self.is_single, self.is_of_trait = [], False, False
+        self.modules, self.is_single, self.is_of_trait, self.is_of_macro = [], False, False, False
 
     def holds(self, start, end):
         """Whether these bytes lie in its body."""
@@ -55,6 +66,7 @@ class Function:
                 self.is_of_trait |= self.type is None
             else:
                 self.is_of_trait = True
+                self.is_of_macro |= header[:1] == ["macro_rules"]
         self.is_single = self.is_of_trait or self.calls_itself(body)
 
     def calls_itself(self, body):
@@ -64,6 +76,11 @@ class Function:
             if body[at].text == self.name and body[at + 1].text == "(" and is_own:
                 return True
         return False
+
+
+def is_public(header):
+    """Whether an item's header begins with `pub` alone, so that other crates can name it."""
+    return re.search(r"\bpub (?!\()", " ".join(header) + " ") is not None
 
 
 def without_attributes(header):
@@ -86,7 +103,11 @@ def type_of(header):
 
 def functions_of(path):
     """The functions of a file that have a body, in their order, but for those that stand in another one."""
-    tokens = tokens_of(path)
+    return functions_in(code_of(tokens_of(path)[path]))
+
+
+def functions_in(tokens):
+    """The functions whose tokens of code these are."""
     found, blocks, since, depth, begun = [], [], [], 0, None
     for at, token in enumerate(tokens):
         text = token.text
@@ -108,7 +129,7 @@ def functions_of(path):
         else:
             since.append(token)
             if at and tokens[at - 1].text == "fn" and re.fullmatch(r"\w+", text):
-                begun = Function(since[0].start, tokens[at - 1].start, text)
+                begun = Function(since[0].start, tokens[at - 1].start, text, is_public([it.text for it in since]))
     return found
 
 
