@@ -17,7 +17,7 @@ RUST_USE = re.compile(r"^\s*(?:pub )?use ([\w:]+?)(?:::\{([^}]*)\})?;", re.M)
 START = re.compile(r"( *)(?:(?:abbrev|unfoldable) )?(?:pub )?(?:(record|data) )?([^\s:({]+)")
 WORD = r"[^\W\d][\w'-]*"
 BINDERS = [rf"λ ((?:{WORD} ?)+)\.(?=\s)", rf"[({{]((?:{WORD} )+):", rf"\blet ({WORD})"]
-TYPE = re.compile(r"^( *)(?:pub(?:\([a-z]+\))? )?(?:enum|struct|type) (\w+)", re.M)
+TYPE = re.compile(r"^( *)(?:pub(?:\([a-z]+\))? )?(?:enum|struct|type|const) (\w+)", re.M)
 CALL = re.compile(r"(\w+)::(?:(\w+)::)?(\w+)")
 
 
@@ -151,7 +151,8 @@ class Sources:
         if crate not in crates():
             return module, False
         if rest.startswith("declared."):
-            return self.declared(crate, rest.split(".")[1:]), True
+            parts = [*rest.split(".")[1:], *([name] if rest.endswith(".TheConstants") else [])]
+            return self.declared(crate, parts), True
         file = self.definitions.get(f"crates/{crate}/specs/{rest.replace('.', '/')}.antt")
         found = file.own.get(name) if file else None
         if found is None:
@@ -159,7 +160,7 @@ class Sources:
         return found, name in found.constructors
 
     def declared(self, crate, parts):
-        """The type of src/ that a module of specs.declared is made from."""
+        """The type or the constant of src/ that a module of specs.declared is made from."""
         parts = [it for it in parts if not it.startswith("The")]
         own = [it for path, it in self.sources.items() if path.startswith(f"crates/{crate}/src/")]
         for path in (f"crates/{crate}/src/{'/'.join(parts[:-1]) or 'lib'}.rt", f"crates/{crate}/src/main.rt"):
@@ -174,9 +175,9 @@ class Sources:
         return found[0]
 
     def exported(self, crate, name):
-        """Where a type of a lower crate is that the root of this one exports, as a list of crate, modules and name."""
-        root = self.sources.get(f"crates/{crate}/src/lib.rt")
-        for path, braced in RUST_USE.findall(root.text if root else ""):
+        """Where a type of a lower crate is that this one exports, as a list of crate, modules and name."""
+        texts = [it.text for path, it in self.sources.items() if path.startswith(f"crates/{crate}/src/")]
+        for path, braced in (found for text in texts for found in RUST_USE.findall(text)):
             whole = [f"{path}::{it.strip()}" for it in braced.split(",")] if braced else [path]
             for parts in (it.split("::") for it in whole):
                 if parts[-1] == name and parts[0] in crates() and parts[0] != crate:
