@@ -5,6 +5,7 @@ pub mod Base
 pub mod Commands
 pub mod CommonPeriods
 pub mod Completions
+pub mod DifferingScripts
 pub mod Due
 pub mod FirstHalf
 pub mod GrantCommands

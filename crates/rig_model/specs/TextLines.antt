@@ -1,5 +1,5 @@
 -- How bytes are cut into lines.
-use Rattle.std.specs.Prelude.{ℕ, nat_le, ◌&&◌, ◌==◌, if◌then◌else◌, List, [], ◌∷◌, length, Option, Some, None}
+use Rattle.std.specs.Prelude.{ℕ, nat_le, ◌&&◌, ◌==◌, if◌then◌else◌, List, [], ◌∷◌, length, take, filter, Option, Some, None}
 use Rattle.std.specs.Str.{is_utf8}
 use Rattle.rig_model.specs.declared.limits.TheConstants.{MAX_LINE}
 use Rattle.tenant_lines.specs.Words.{joined_to_first}
@@ -8,6 +8,14 @@ use Rattle.tenant_lines.specs.Words.{joined_to_first}
 abbrev pub cut : List ℕ → List (List ℕ)
 cut [] = []
 cut (c ∷ cs) = if c == 10 then [] ∷ cut cs else joined_to_first c (cut cs)
+
+-- how many LFs there are
+abbrev pub lf_count : List ℕ → ℕ
+lf_count bytes = length (filter (λ c. c == 10) bytes)
+
+-- the lines that have come whole with these bytes: as many, from the first on, as there are LFs
+abbrev pub whole_lines : List ℕ → List (List ℕ)
+whole_lines bytes = take (lf_count bytes) (cut bytes)
 
 -- one CR at the end taken off
 abbrev pub without_last_cr : List ℕ → List ℕ

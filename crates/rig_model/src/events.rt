@@ -1,6 +1,9 @@
 //! What happens to a host.
 
-ghost use Rattle.std.specs.Prelude.{◌≡◌, IfOk};
+ghost use Rattle.std.specs.Prelude.{◌≡◌, ◌<◌, ℕ, ℤ, List, length, IfOk, IsErr, IsOk, IsTrue};
+ghost use Rattle.tenant_lines.specs.cited.Copies.{has_text};
+ghost use Rattle.tenant_lines.specs.declared.commands.Command.{Command};
+ghost use Rattle.rig_model.specs.declared.jobs.JobId.{JobId};
 
 use crate::jobs::JobId;
 use giotto_tasks::lists::List;
@@ -20,19 +23,24 @@ pub enum Event {
 }
 
 impl Event {
-    /// An equal event, in memory of its own.
+    /// An equal event, in memory of its own. Takes memory for the text of a `load` or a `replace` that has one and for the values of
+    /// an instant that has some; a completion takes none.
     ///
     /// # Errors
-    /// Want of memory for a command's text or an instant's values.
+    /// Want of memory for that text or these values.
     pub fn copy(&self, alloc: Global) -> Result<Event, AllocError>
-        ensures { IfOk result (λ event. event ≡ self.now) }
+        ensures same { IfOk result (λ event. event ≡ self.now) }
+        ensures command { (tenant : ℕ) (command : Command) → self.now ≡ Event.Own tenant command → IsErr result → IsTrue (has_text command) }
+        ensures instant { (frame : List ℤ) → self.now ≡ Event.Tick frame → IsErr result → 0 < length frame }
+        ensures completion { (id : JobId) → self.now ≡ Event.Done id → IsOk result }
     {
         Ok(match self {
             Event::Own(tenant, command) => Event::Own(*tenant, command.copy(alloc)?),
-            Event::Tick(frame) => Event::Tick(List::from_vec(Vec::from_slice(
-                alloc,
-                frame.as_slice(),
-            )?)),
+            Event::Tick(frame) => {
+                let mut values = Vec::new(alloc);
+                values.extend_from_slice(frame.as_slice())?;
+                Event::Tick(List::from_vec(values))
+            }
             Event::Done(id) => Event::Done(id.copy()),
         })
     }

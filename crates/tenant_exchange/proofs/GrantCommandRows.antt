@@ -1,4 +1,4 @@
--- What commands about grants do to the rows of tenant alpha, of the roster alpha, beta, and what its sensors are granted, computed from the definitions.
+-- What commands about grants do to the rows of tenant alpha, of the roster alpha, beta, which of them take memory, and what its sensors are granted, computed from the definitions.
 use Rattle.std.proofs.Common.{◌≡◌, true, false, pos, [], ◌∷◌, Some, None, codes, refl}
 use Rattle.tenant_grants.specs.Grants.{GrantRows}
 use Rattle.tenant_grants.specs.declared.rows.Row.TheVariants as row
@@ -76,6 +76,27 @@ rows_take_memory = refl
 no_rows_take_none : takes_memory Rows (record alpha { offers = []; binds = [] }) ≡ false
 unfolding alpha
 no_rows_take_none = refl
+
+-- a refused offer or bind takes none, and one whose row may be made does
+refused_offer_takes_none : takes_memory (Offer (codes "a") (codes "beta")) alpha ≡ false
+unfolding alpha
+refused_offer_takes_none = refl
+
+offer_over_budget_takes_none : takes_memory (Offer (codes "b") (codes "beta")) alpha ≡ false
+unfolding alpha
+offer_over_budget_takes_none = refl
+
+offer_takes_memory : takes_memory (Offer (codes "b") (codes "beta")) (record alpha { offers = [] }) ≡ true
+unfolding alpha
+offer_takes_memory = refl
+
+refused_bind_takes_none : takes_memory (Bind (codes "r") (codes "gamma") (codes "x")) alpha ≡ false
+unfolding alpha
+refused_bind_takes_none = refl
+
+bind_takes_memory : takes_memory (Bind (codes "r") (codes "beta") (codes "x")) (record alpha { binds = [] }) ≡ true
+unfolding alpha
+bind_takes_memory = refl
 
 -- a bind through which nothing is granted leaves its sensor out
 one_missing : granted_along ((record { sensor = codes "r"; tenant = codes "beta"; actuator = codes "y" }) ∷ (record { sensor = codes "s"; tenant = codes "beta"; actuator = codes "x" }) ∷ []) (None ∷ Some (pos 7) ∷ [])

@@ -13,7 +13,8 @@ use tenant_lines::grant_lines::GrantCommand;
 use tenant_lines::replies::{Budget, Refusal, Reply};
 
 /// Carries out a command about grants on the rows of the tenant that gives it. A refusal changes nothing, want of memory included.
-/// Only `offer`, `bind`, and `rows` where there is a row, take memory; no other command is refused for it.
+/// Only `offer` and `bind` where the row may be made, and `rows` where there is a row, take memory; nothing else is refused for it.
+/// So where the definitions refuse a command, the reply is that very refusal.
 pub fn carry_out(alloc: Global, grants: &mut Grants, command: GrantCommand) -> Reply
     ensures memory { result ≡ Reply.Refused Refusal.Memory → grants.new ≡ grants.old }
     ensures room { takes_memory command grants.old ≡ false → result ≢ Reply.Refused Refusal.Memory }

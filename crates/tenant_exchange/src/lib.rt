@@ -2,7 +2,7 @@
 //!
 //! [`commands::carry_out`] carries out a command about grants on one tenant's rows; [`sensors::read_sensors`] reads the sensors of
 //! its program, with the values that are granted along its binds. `GrantCommands.antt` and `Granted.antt` of the crate `rig_model`
-//! define both; `specs/Commands.antt` says which commands take memory.
+//! define both; `specs/Memory.antt` says which commands take memory.
 #![tactic(auto)]
 
 pub mod commands;

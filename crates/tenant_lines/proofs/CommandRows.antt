@@ -1,7 +1,9 @@
--- Which lines are commands, computed from the definitions.
-use Rattle.std.proofs.Common.{◌≡◌, [], Some, None, codes, refl}
+-- Which lines are commands, and which of them take memory, computed from the definitions.
+use Rattle.std.proofs.Common.{◌≡◌, true, false, [], Some, None, codes, refl}
+use Rattle.std.specs.Option.{option_map}
 use Rattle.tenant_lines.specs.declared.commands.Command.TheVariants.{Load, Replace, Stop, ShowMode, ShowPort, ShowAll, Trace}
 use Rattle.tenant_lines.specs.CommandLine.{command_of_line}
+use Rattle.tenant_lines.specs.cited.Copies.{has_text}
 
 pub stop_alone : command_of_line (codes " stop\r") ≡ Some Stop
 stop_alone = refl
@@ -60,3 +62,13 @@ blank_alone = refl
 
 pub other_word : command_of_line (codes "replace;") ≡ None
 other_word = refl
+
+-- a text takes memory, and none doesn't
+pub text_takes_memory : option_map has_text (command_of_line (codes "load start m;")) ≡ Some true
+text_takes_memory = refl
+
+pub no_text_takes_none : option_map has_text (command_of_line (codes "load")) ≡ Some false
+no_text_takes_none = refl
+
+pub blank_alone_takes_none : option_map has_text (command_of_line (codes "replace ")) ≡ Some false
+blank_alone_takes_none = refl

@@ -1,9 +1,10 @@
--- The text of a trace, computed from the definitions.
-use Rattle.std.proofs.Common.{◌≡◌, pos, neg_ℤ, [], ◌∷◌, codes, refl}
+-- The text of a trace, and what a copy of one takes, computed from the definitions.
+use Rattle.std.proofs.Common.{◌≡◌, false, pos, neg_ℤ, [], ◌∷◌, codes, refl}
 use Rattle.std.specs.Fmt.{digits}
 use Rattle.tenant_trace.specs.declared.records.Happening.TheVariants.{Start, Mode, Act, Out, Asked, Overrun, Replaced}
 use Rattle.tenant_lines.specs.declared.replies.Reply.TheVariants.{Trace}
 use Rattle.tenant_lines.specs.Replies.{text_of_reply}
+use Rattle.tenant_lines.specs.cited.Copies.{has_list}
 
 -- the adder, started before the first tick, at the end of its first period
 pub trace_of_adder :
@@ -24,3 +25,7 @@ other_records = refl
 
 pub no_records : text_of_reply (Trace []) ≡ codes "ok trace"
 no_records = refl
+
+-- a copy of these takes no memory
+pub no_records_take_none : has_list (Trace []) ≡ false
+no_records_take_none = refl

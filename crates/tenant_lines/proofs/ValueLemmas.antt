@@ -1,7 +1,8 @@
 -- What std's `parse` reads of a word is the word's value.
-use Rattle.std.proofs.Common.{◌≡◌, ℕ, ◌-◌, ◌^◌, ◌<◌, ◌≤◌, ◌==◌, ◌≢◌, Bool, true, false, nat_le, if◌then◌else◌, ℤ, pos, neg_ℤ, List, [], ◌∷◌, ◌++◌, length, get_or, Option, Some, None, Result, Ok, Err, refl, sym, ap, append_assoc, append-nil, arith, rules, w64}
+use Rattle.std.proofs.Common.{◌≡◌, ℕ, ◌-◌, ◌^◌, ◌<◌, ◌≤◌, ◌==◌, ◌≢◌, ◌&&◌, Bool, true, false, nat_le, if◌then◌else◌, ℤ, pos, neg_ℤ, List, [], ◌∷◌, ◌++◌, length, get_or, Option, Some, None, is_some, IsSomeAnd, Result, Ok, Err, refl, sym, ap, ◌∙◌, subst, append_assoc, append-nil, arith, rules, w64}
 use Rattle.std.proofs.lemmas.Bool.{eqb-true}
 use Rattle.std.proofs.lemmas.Bool.Decides.{nat_tests}
+use Rattle.std.proofs.lemmas.List.{length-append}
 use Rattle.std.proofs.lemmas.Str.Parse.{IsNumeralModel, numerals_by_value, parse_signed_plain, parse_signed_minus}
 use Rattle.std.specs.List.{list_all}
 use Rattle.std.specs.Option.{option_map}
@@ -78,3 +79,64 @@ values_end vs line none = rw (words_none line none) (ap Some (append-nil vs))
 pub values_fault : (vs : List ℤ) (line : List ℕ) → 0 < length (first_word_of line) → value_of_word (first_word_of line) ≡ None
     → values_behind vs (values_of_words (words_of line)) ≡ None
 values_fault vs line some is = rw (words_first line some) (rw is refl)
+
+-- whether all words are values: where there is none, they are
+pub are_values_end : (line : List ℕ) → length (first_word_of line) ≡ 0 → is_some (values_of_words (words_of line)) ≡ true
+are_values_end line none = rw (words_none line none) refl
+
+-- by the first word, and the others
+by_first : (w : List ℕ) (ws : List (List ℕ)) → is_some (values_of_words (w ∷ ws)) ≡ (is_some (value_of_word w) && is_some (values_of_words ws))
+by_first w ws = by (value_of_word w) refl (values_of_words ws) refl
+  where
+    by : (o : Option ℤ) → value_of_word w ≡ o → (p : Option (List ℤ)) → values_of_words ws ≡ p
+        → is_some (values_of_words (w ∷ ws)) ≡ (is_some (value_of_word w) && is_some (values_of_words ws))
+    by None e p f = rw e refl
+    by (Some z) e None f = rw (e, f) refl
+    by (Some z) e (Some zs) f = rw (e, f) refl
+
+first_and_others : (line : List ℕ) (b : Bool) → 0 < length (first_word_of line) → is_some (value_of_word (first_word_of line)) ≡ b
+    → is_some (values_of_words (words_of line)) ≡ (b && is_some (values_of_words (words_of (behind_first_word line))))
+first_and_others line b some is =
+    let rest = words_of (behind_first_word line) in
+    rw (words_first line some) (by_first (first_word_of line) rest ∙ ap (λ (a : Bool). a && is_some (values_of_words rest)) is)
+
+pub are_values_fault : (line : List ℕ) → 0 < length (first_word_of line) → is_some (value_of_word (first_word_of line)) ≡ false → is_some (values_of_words (words_of line)) ≡ false
+are_values_fault line some is = first_and_others line false some is
+
+pub are_values_more : (line : List ℕ) → 0 < length (first_word_of line) → is_some (value_of_word (first_word_of line)) ≡ true
+    → is_some (values_of_words (words_of line)) ≡ is_some (values_of_words (words_of (behind_first_word line)))
+are_values_more line some is = first_and_others line true some is
+
+-- the values of one word at least are one at least
+values_long : (w : List ℕ) (ws : List (List ℕ)) (zs : List ℤ) → values_of_words (w ∷ ws) ≡ Some zs → 0 < length zs
+values_long w ws (z ∷ zs) is = omega arith
+values_long w ws [] is = by (value_of_word w) refl (values_of_words ws) refl
+  where
+    by : (o : Option ℤ) → value_of_word w ≡ o → (p : Option (List ℤ)) → values_of_words ws ≡ p → 0 < 0
+    by None e p f = let none : values_of_words (w ∷ ws) ≡ None = rw e refl in cc
+    by (Some z) e None f = let none : values_of_words (w ∷ ws) ≡ None = rw (e, f) refl in cc
+    by (Some z) e (Some ys) f = let some : values_of_words (w ∷ ws) ≡ Some (z ∷ ys) = rw (e, f) refl in cc
+
+-- where the words from one on are values, behind those of the words before it: so are all, and one at least
+pub all_values : (vs : List ℤ) (line rest : List ℕ) → 0 < length (first_word_of rest)
+    → values_behind vs (values_of_words (words_of rest)) ≡ values_of_words (words_of line) → is_some (values_of_words (words_of rest)) ≡ true
+    → IsSomeAnd (values_of_words (words_of line)) (λ (values : List ℤ). 0 < length values)
+all_values vs line rest some so_far are = by (values_of_words (words_of rest)) refl so_far are
+  where
+    by : (o : Option (List ℤ)) → values_of_words (words_of rest) ≡ o → values_behind vs o ≡ values_of_words (words_of line) → is_some o ≡ true
+        → IsSomeAnd (values_of_words (words_of line)) (λ (values : List ℤ). 0 < length values)
+    by None e so are = cc
+    by (Some zs) e so are =
+        let long : 0 < length zs = values_long (first_word_of rest) (words_of (behind_first_word rest)) zs (sym (ap values_of_words (words_first rest some)) ∙ e) in
+        let all_long : 0 < length (vs ++ zs) = omega (arith, long, length-append vs zs) in
+        subst (λ (o : Option (List ℤ)). IsSomeAnd o (λ (values : List ℤ). 0 < length values)) so all_long
+
+-- where one of them is none, no list is that of all
+pub no_values : (vs : List ℤ) (line rest : List ℕ)
+    → values_behind vs (values_of_words (words_of rest)) ≡ values_of_words (words_of line) → is_some (values_of_words (words_of rest)) ≡ false
+    → values_of_words (words_of line) ≡ None
+no_values vs line rest so_far are = by (values_of_words (words_of rest)) so_far are
+  where
+    by : (o : Option (List ℤ)) → values_behind vs o ≡ values_of_words (words_of line) → is_some o ≡ false → values_of_words (words_of line) ≡ None
+    by None so are = sym so
+    by (Some zs) so are = cc

@@ -2,4 +2,5 @@ pub mod CommandLine
 pub mod GrantLines
 pub mod Replies
 pub mod Words
+pub mod cited
 pub mod inner

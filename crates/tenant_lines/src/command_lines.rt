@@ -1,11 +1,11 @@
 //! From the text of a line to a command.
 
-ghost use Rattle.std.specs.Prelude.{◌≡◌, true, IfOk, IfErr, if◌then◌else◌, Some, None};
+ghost use Rattle.std.specs.Prelude.{◌≡◌, ◌<◌, true, IfOk, IfErr, IsErr, if◌then◌else◌, Some, None, length};
 ghost use Rattle.std.specs.Option.{option_map};
 ghost use Rattle.giotto_text.specs.Bytes.{is_name};
 ghost use Rattle.tenant_lines.specs.CommandLine.{alone, command_of_words, command_of_line, own_port_of, port_of_word, port_shown_by, shown_by, text_behind};
 ghost use Rattle.tenant_lines.specs.Words.{words_of};
-ghost use Rattle.tenant_lines.specs.inner.Copies.{has_text};
+ghost use Rattle.tenant_lines.specs.cited.Copies.{has_text};
 
 use crate::commands::Command;
 use crate::grant_lines::grant_command_of;
@@ -32,11 +32,12 @@ pub enum LineFault {
 /// `show port NAME`, `show port TASK.NAME` or `trace`, or a command about grants: `offer NAME to TENANT`, `unoffer NAME to TENANT`,
 /// `bind NAME from TENANT.NAME`, `unbind NAME` or `rows`. NAME, TASK and TENANT have the shape of a program's name.
 ///
-/// The text of `load` and of `replace` is all that follows the one blank behind the word, or nothing; it alone takes memory.
-/// Words of the others are separated by one or more blanks.
+/// The text of `load` and of `replace` is all that follows the one blank behind the word, or nothing; it alone takes memory,
+/// and none where it is nothing. Words of the others are separated by one or more blanks.
 ///
 /// # Errors
-/// `BadCommand` for every other line, and `Memory` where there is want of memory for the text of a `load` or a `replace`.
+/// `BadCommand` for every other line, and `Memory` where there is want of memory for the text of a `load` or a `replace`
+/// that has one.
 pub fn command_of(alloc: Global, line: &str) -> Result<Command, LineFault>
     ensures command { IfOk result (λ c. command_of_line line.now ≡ Some c) }
     ensures none { result ≡ Err LineFault.BadCommand → command_of_line line.now ≡ None }
@@ -49,10 +50,11 @@ pub fn command_of(alloc: Global, line: &str) -> Result<Command, LineFault>
     }
 }
 
-// The text behind the first word.
+// The text behind the first word. Takes no memory where nothing stands there.
 fn text_of(alloc: Global, line: &str) -> Result<Text, LineFault>
     ensures text { IfOk result (λ text. text ≡ text_behind line.now) }
     ensures memory { IfErr result (λ fault. fault ≡ LineFault.Memory) }
+    ensures room { IsErr result → 0 < length (text_behind line.now) }
 {
     Text::from_str(alloc, text_behind(line)).map_err(|_| LineFault::Memory)
 }

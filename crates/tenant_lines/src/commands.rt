@@ -1,7 +1,7 @@
 //! The commands of a tenant.
 
 ghost use Rattle.std.specs.Prelude.{◌≡◌, IsTrue, IsErr, IfOk};
-ghost use Rattle.tenant_lines.specs.inner.Copies.{has_text};
+ghost use Rattle.tenant_lines.specs.cited.Copies.{has_text};
 
 use crate::grant_lines::GrantCommand;
 use crate::ports::PortName;
@@ -32,10 +32,10 @@ pub enum Command {
 }
 
 impl Command {
-    /// An equal command. Takes memory for the text of `load` and `replace` alone.
+    /// An equal command. Takes memory for the text of `load` and `replace` alone, and none where that text is empty.
     ///
     /// # Errors
-    /// Want of memory for that text.
+    /// Want of memory for that text, where it has a byte.
     pub fn copy(&self, alloc: Global) -> Result<Command, AllocError>
         ensures same { IfOk result (λ c. c ≡ self.now) }
         ensures memory { IsErr result → IsTrue (has_text self.now) }

@@ -1,10 +1,10 @@
 //! The replies to a tenant's commands.
 
-ghost use Rattle.std.specs.Prelude.{◌≡◌, ◌↔◌, ◌++◌, codes, IfOk, IsErr, IsTrue, string_bytes};
+ghost use Rattle.std.specs.Prelude.{◌≡◌, ◌↔◌, ◌<◌, ◌++◌, codes, IfOk, IsErr, IsTrue, length, string_bytes};
 ghost use Rattle.std.specs.Fmt.{signed_decimal};
 ghost use Rattle.std.specs.List.{flat_map};
-ghost use Rattle.tenant_lines.specs.inner.Copies.{has_list};
 ghost use Rattle.tenant_lines.specs.Replies.{word_of_budget, text_of_happening, text_of_port, text_of_record, text_of_refusal, text_of_reply, text_of_row, text_of_status, text_of_value};
+ghost use Rattle.tenant_lines.specs.cited.Copies.{has_list};
 
 use crate::ports::PortValue;
 use giotto_tasks::lists::List;
@@ -137,10 +137,11 @@ impl Status {
 }
 
 impl Reply {
-    /// An equal reply. Takes memory for the ports of `show all`, the records of `trace` and the rows of `rows` alone.
+    /// An equal reply. Takes memory for the ports of `show all`, the records of `trace` and the rows of `rows` alone, and none
+    /// where there are none of them.
     ///
     /// # Errors
-    /// Want of memory.
+    /// Want of memory for a list that isn't empty.
     pub fn copy(&self, alloc: Global) -> Result<Reply, AllocError>
         ensures same { IfOk result (λ r. r ≡ self.now) }
         ensures memory { IsErr result → IsTrue (has_list self.now) }
@@ -172,7 +173,8 @@ impl Reply {
 }
 
 fn copy_of_ports(alloc: Global, ports: &[PortValue]) -> Result<List<PortValue>, AllocError>
-    ensures { IfOk result (λ copy. copy ≡ ports.now) }
+    ensures same { IfOk result (λ copy. copy ≡ ports.now) }
+    ensures memory { IsErr result → 0 < length ports.now }
 {
     let mut copy = Vec::new(alloc);
     for port in ports {
@@ -182,7 +184,8 @@ fn copy_of_ports(alloc: Global, ports: &[PortValue]) -> Result<List<PortValue>, 
 }
 
 fn copy_of_records(alloc: Global, records: &[Record]) -> Result<List<Record>, AllocError>
-    ensures { IfOk result (λ copy. copy ≡ records.now) }
+    ensures same { IfOk result (λ copy. copy ≡ records.now) }
+    ensures memory { IsErr result → 0 < length records.now }
 {
     let mut copy = Vec::new(alloc);
     for record in records {
@@ -192,7 +195,8 @@ fn copy_of_records(alloc: Global, records: &[Record]) -> Result<List<Record>, Al
 }
 
 fn copy_of_rows(alloc: Global, rows: &[Row]) -> Result<List<Row>, AllocError>
-    ensures { IfOk result (λ copy. copy ≡ rows.now) }
+    ensures same { IfOk result (λ copy. copy ≡ rows.now) }
+    ensures memory { IsErr result → 0 < length rows.now }
 {
     let mut copy = Vec::new(alloc);
     for row in rows {

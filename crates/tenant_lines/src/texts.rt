@@ -1,6 +1,6 @@
 //! Text of any length.
 
-ghost use Rattle.std.specs.Prelude.{◌≡◌, ◌++◌, [], IfOk, OnOk, OnErr, string_bytes};
+ghost use Rattle.std.specs.Prelude.{◌≡◌, ◌<◌, ◌++◌, [], IfOk, IsErr, OnOk, OnErr, length, string_bytes};
 
 use std::alloc::{AllocError, Global};
 use std::marker::Model;
@@ -27,14 +27,17 @@ impl Text {
         Text { text }
     }
 
-    /// A text of these bytes, which takes memory for them.
+    /// A text of these bytes. Takes memory for them; for no byte it takes none.
     ///
     /// # Errors
-    /// Want of memory.
+    /// Want of memory, where there is a byte.
     pub fn from_str(alloc: Global, text: &str) -> Result<Text, AllocError>
-        ensures { IfOk result (λ t. t ≡ text.now) }
+        ensures text { IfOk result (λ t. t ≡ text.now) }
+        ensures memory { IsErr result → 0 < length text.now }
     {
-        Ok(Text::from_string(String::from_str(alloc, text)?))
+        let mut copy = Text::new(alloc);
+        copy.push_str(text)?;
+        Ok(copy)
     }
 
     /// The empty text. Takes no memory.
@@ -44,12 +47,13 @@ impl Text {
         Text::from_string(String::new(alloc))
     }
 
-    /// An equal text, in memory of its own.
+    /// An equal text, in memory of its own. That of an empty one takes none.
     ///
     /// # Errors
-    /// Want of memory.
+    /// Want of memory, where the text has a byte.
     pub fn copy(&self, alloc: Global) -> Result<Text, AllocError>
-        ensures { IfOk result (λ t. t ≡ self.now) }
+        ensures same { IfOk result (λ t. t ≡ self.now) }
+        ensures memory { IsErr result → 0 < length self.now }
     {
         Text::from_str(alloc, self.as_str())
     }
@@ -64,10 +68,11 @@ impl Text {
     /// Adds these bytes behind the text.
     ///
     /// # Errors
-    /// Want of memory. The text stays as it was then.
+    /// Want of memory, where there is a byte to add. The text stays as it was then.
     pub fn push_str(&mut self, text: &str) -> Result<(), AllocError>
         ensures added { OnOk result (self.new ≡ self.old ++ text.now) }
         ensures refused { OnErr result (self.new ≡ self.old) }
+        ensures memory { IsErr result → 0 < length text.now }
     {
         self.text.push_str(text)
     }

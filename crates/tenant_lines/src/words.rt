@@ -1,6 +1,6 @@
 //! Lines as words: one or more blanks separate words, and mean nothing at the ends.
 
-ghost use Rattle.std.specs.Prelude.{◌≡◌, ◌≤◌, IfOk, length};
+ghost use Rattle.std.specs.Prelude.{◌≡◌, ◌≤◌, ◌<◌, IfOk, IsErr, IsSomeAnd, is_some, length};
 ghost use Rattle.std.specs.List.{prefix_len};
 ghost use Rattle.std.specs.Option.{option_map};
 ghost use Rattle.tenant_lines.specs.Words.{is_blank_of_line, is_word_byte, words_of, from_first_word, first_word_of, behind_first_word, value_of_word, values_of_words};
@@ -47,10 +47,11 @@ fn value_of_word(word: &str) -> Option<i64>
 /// The values of all words of a line, in their order, or `None` where a word has none. Takes memory for the values alone.
 ///
 /// # Errors
-/// Want of memory.
+/// Want of memory, where there is a word and each has a value. Where one has none, that is answered, whatever memory did.
 #[tactic(auto, using(crate::proofs::ValueLemmas::values_fault, crate::proofs::cited::WordLemmas::behind_shorter))]
 pub fn values_of_words(alloc: Global, line: &str) -> Result<Option<Vec<i64>>, AllocError>
-    ensures { IfOk result (λ values. option_map (λ v. v.items) values ≡ values_of_words (words_of line.now)) }
+    ensures values { IfOk result (λ values. option_map (λ v. v.items) values ≡ values_of_words (words_of line.now)) }
+    ensures memory { IsErr result → IsSomeAnd (values_of_words (words_of line.now)) (λ values. 0 < length values) }
 {
     let mut values = Vec::new(alloc);
     let mut rest = line;
@@ -62,7 +63,32 @@ pub fn values_of_words(alloc: Global, line: &str) -> Result<Option<Vec<i64>>, Al
         let Some(value) = value_of_word(word) else {
             return Ok(None);
         };
-        values.push(value)?;
+        // A word without a value is told, also where memory was refused before it.
+        if values.push(value).is_err() {
+            return if are_values(rest) {
+                Err(AllocError)
+            } else {
+                Ok(None)
+            };
+        }
+        rest = behind_first_word(rest);
+    }
+}
+
+// Whether all words of a line have values.
+#[tactic(auto, using(crate::proofs::cited::WordLemmas::behind_shorter))]
+fn are_values(line: &str) -> bool
+    ensures { result ≡ is_some (values_of_words (words_of line.now)) }
+{
+    let mut rest = line;
+    loop {
+        let word = first_word(rest);
+        if word.is_empty() {
+            return true;
+        }
+        if value_of_word(word).is_none() {
+            return false;
+        }
         rest = behind_first_word(rest);
     }
 }

@@ -1,10 +1,11 @@
 -- The jobs of active tasks, and the results that are computed for them.
-use Rattle.std.proofs.Common.{◌≡◌, ℕ, ◌+◌, ◌<◌, ◌↔◌, Bool, true, false, not, ◌&&◌, ◌||◌, cond, List, [], ◌∷◌, map, filter, find, length, drop, get_or, slice_get, option_map, is_some, IfSome, IsSomeAnd, Option, Some, None, refl, sym, ap, ◌∙◌, subst, arith}
+use Rattle.std.proofs.Common.{◌≡◌, ℕ, zero, suc, ◌++◌, append-nil, ◌+◌, ◌<◌, ◌↔◌, Bool, true, false, not, ◌&&◌, ◌||◌, cond, List, [], ◌∷◌, map, filter, find, length, drop, get_or, slice_get, option_map, is_some, IfSome, IsSomeAnd, Option, Some, None, refl, sym, ap, ◌∙◌, subst, arith}
 use Rattle.std.specs.Arc.{arc_value}
 use Rattle.std.specs.List.{list_all, AllByRecursion}
 use Rattle.std.specs.Option.{option_and_then, option_map_or}
 use Rattle.std.proofs.lemmas.Bool.{false≢true, and_parts, false_from_ne_true, not-false}
 use Rattle.std.proofs.lemmas.List.{length-map}
+use Rattle.std.proofs.lemmas.List.Elements.{filter-append}
 use Rattle.std.proofs.lemmas.List.Folds.{list_any_at}
 use Rattle.std.proofs.lemmas.Option.{slice_get_read}
 use Rattle.std.proofs.Math.ListN.{get_or-map}
@@ -101,6 +102,25 @@ module _ (p : GiottoProgram) (t : ℕ) (j : JobId) (tasks : List Active) where
 -- those of these tasks without a result
 abbrev pub left_of : ℕ → List TableEntry → List ActiveTask → List ActiveTask
 left_of t entries tasks = filter (λ a. not (has_result entries (job_of t a))) tasks
+
+-- with one task more behind the others
+module _ (t : ℕ) (entries : List TableEntry) (tasks : List ActiveTask) (a : ActiveTask) where
+  pub left_with : has_result entries (job_of t a) ≡ false → left_of t entries (tasks ++ a ∷ []) ≡ left_of t entries tasks ++ a ∷ []
+  left_with none = filter-append (λ b. not (has_result entries (job_of t b))) tasks (a ∷ []) ∙ ap (λ b. left_of t entries tasks ++ cond (not b) (a ∷ []) []) none
+
+  pub left_without : has_result entries (job_of t a) ≡ true → left_of t entries (tasks ++ a ∷ []) ≡ left_of t entries tasks
+  left_without some =
+      filter-append (λ b. not (has_result entries (job_of t b))) tasks (a ∷ []) ∙ ap (λ b. left_of t entries tasks ++ cond (not b) (a ∷ []) []) some
+      ∙ append-nil (left_of t entries tasks)
+
+pub some_left : (t : ℕ) (entries : List TableEntry) (tasks : List ActiveTask) (i : ℕ) (d : ActiveTask) → i < length tasks → has_result entries (job_of t (get_or tasks i d)) ≡ false → 0 < length (left_of t entries tasks)
+some_left t entries [] i d lt none = absurd (omega (arith, lt))
+some_left t entries (a ∷ rest) zero d lt none = let here : not (has_result entries (job_of t a)) ≡ true = ap not none in rw here (omega arith)
+some_left t entries (a ∷ rest) (suc i) d lt none = by (not (has_result entries (job_of t a))) (some_left t entries rest i d (omega (arith, lt)) none)
+  where
+    by : (b : Bool) → 0 < length (left_of t entries rest) → 0 < length (cond b (a ∷ left_of t entries rest) (left_of t entries rest))
+    by true some = omega (arith, some)
+    by false some = some
 
 module _ (p : GiottoProgram) (t : ℕ) where
   -- the result that came for the task's job, if one did, is that of the job

@@ -1,5 +1,7 @@
 -- Which commands of a tenant take memory, and so can be refused for want of it.
-use Rattle.std.specs.Prelude.{length, Bool, true, false, nat_lt, is_some}
+use Rattle.std.specs.Prelude.{length, Bool, true, false, nat_lt, Option, Some, None}
+use Rattle.giotto_text.specs.Program.{GiottoProgram}
+use Rattle.giotto_rules.specs.Ports.{ports_of}
 use Rattle.tenant_exchange.specs.Memory as grants
 use Rattle.tenant_grants.specs.Grants.{Owner}
 use Rattle.tenant_lines.specs.declared.commands.Command.{Command}
@@ -8,8 +10,13 @@ use Rattle.tenant_lines.specs.declared.commands.Command.TheVariants as command
 use Rattle.rig_model.specs.Row.{Row}
 use Rattle.rig_model.specs.Commands.{grant_rows}
 
+-- a program, with one port at least
+abbrev pub has_port : Option GiottoProgram → Bool
+has_port None = false
+has_port (Some p) = nat_lt 0 (length (ports_of p))
+
 -- whether a command takes memory, and so can be refused for want of it: `load` and `replace` for their program; `show all` for the list of all values,
--- where the tenant has a program; `trace` for the list of records, where there is one; and those about grants that do
+-- where the tenant has a program with a port; `trace` for the list of records, where there is one; and those about grants that do
 abbrev pub takes_memory : Owner → Command → Row → Bool
 takes_memory owner (Load text) row = true
 takes_memory owner (Replace text) row = true
@@ -17,6 +24,6 @@ takes_memory owner Start row = false
 takes_memory owner Stop row = false
 takes_memory owner ShowMode row = false
 takes_memory owner (ShowPort x) row = false
-takes_memory owner ShowAll row = is_some row.program
+takes_memory owner ShowAll row = has_port row.program
 takes_memory owner command.Trace row = nat_lt 0 (length row.records)
 takes_memory owner (Grants c) row = grants.takes_memory c (grant_rows owner row)

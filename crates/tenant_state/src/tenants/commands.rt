@@ -26,8 +26,9 @@ use tenant_slots::names::{mode_name, start_place};
 use tenant_trace::records::Happening;
 
 impl Tenant {
-    /// Carries out a command. A refusal changes nothing, want of memory included. Only `load`, `replace`, `show all` of a tenant with a
-    /// program, `trace` where there is a record, `offer`, `bind`, and `rows` where there is one, take memory; no other command is refused for it.
+    /// Carries out a command. A refusal changes nothing, want of memory included. Only `load`, `replace`, `show all` of a program with a
+    /// port, `trace` where there is a record, `offer` and `bind` where the row may be made, and `rows` where there is one, take memory;
+    /// nothing else is refused for it.
     pub fn command(&mut self, command: Command) -> Reply
         requires rest { self.old.ready.ended ≡ [] }
         ensures memory { result ≡ Reply.Refused Refusal.Memory → self.new ≡ self.old }

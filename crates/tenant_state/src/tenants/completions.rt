@@ -1,6 +1,6 @@
 //! The jobs of a tenant's active tasks, and their results.
 
-ghost use Rattle.std.specs.Prelude.{◌≡◌, ◌<◌, ◌↔◌, ◌||◌, ◌&&◌, if◌then◌else◌, false, true, filter, length, not, IsTrue, IsOk, IfOk, IfSome, None, find, slice_get, option_copied};
+ghost use Rattle.std.specs.Prelude.{◌≡◌, ◌<◌, ◌↔◌, ◌||◌, ◌&&◌, ◌++◌, if◌then◌else◌, false, true, filter, map, length, not, IsTrue, IsOk, IfOk, OnOk, OnErr, IfSome, None, find, slice_get, option_copied};
 ghost use Rattle.std.specs.Arc.{arc_value};
 ghost use Rattle.std.specs.List.{AllByRecursion};
 ghost use Rattle.std.specs.Option.{option_and_then};
@@ -9,7 +9,7 @@ ghost use Rattle.giotto_text.specs.ProgramTrees.{task_of};
 ghost use Rattle.tenant_slots.specs.cited.Places.{IsTaskAt};
 ghost use Rattle.tenant_jobs.specs.Finished.{entry_in, has_result, result_in};
 ghost use Rattle.tenant_jobs.specs.cited.Finished.{entry_put, is_entered};
-ghost use Rattle.rig_model.specs.Jobs.{same_job};
+ghost use Rattle.rig_model.specs.Jobs.{job_of, same_job};
 ghost use Rattle.rig_model.specs.declared.jobs.JobId.{JobId};
 ghost use Rattle.tenant_state.specs.cited.Standing.{has_active, HasItsEntries, HasItsResults};
 ghost use Rattle.tenant_state.specs.Standing.{awaited_job, outstanding_tasks, released_job};
@@ -91,6 +91,30 @@ impl Tenant {
             }
         }
         number
+    }
+
+    /// Puts the names of the jobs of active tasks without a result in this table behind the others, in the order of the tasks.
+    ///
+    /// # Errors
+    /// Want of memory, only where there is such a task.
+    pub fn add_outstanding(
+        &self,
+        finished: &Finished,
+        names: &mut Vec<JobId>,
+    ) -> Result<(), AllocError>
+        ensures names { OnOk result (names.new.items ≡ names.old.items ++ map (job_of self.now.tenancy.owner.place) (outstanding_tasks self.now finished.now.entries)) }
+        ensures memory { OnErr result (0 < length (outstanding_tasks self.now finished.now.entries)) }
+    {
+        let Some(checked) = &self.program else {
+            return Ok(());
+        };
+        let tenant = self.grants.own();
+        for active in self.active.as_slice() {
+            if result_of(checked, tenant, finished, active).is_none() {
+                names.push(job_id(checked, tenant, active))?;
+            }
+        }
+        Ok(())
     }
 
     /// How many active tasks have no result in this table.

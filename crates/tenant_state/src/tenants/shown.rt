@@ -1,11 +1,12 @@
 //! What a tenant shows: its status, and the values of its ports.
 
-ghost use Rattle.std.specs.Prelude.{◌≡◌, ◌≢◌, Err, false, is_some, IfOk, IfErr};
+ghost use Rattle.std.specs.Prelude.{◌≡◌, ◌≢◌, Err, false, IfOk, IfErr};
 ghost use Rattle.tenant_lines.specs.declared.replies.Refusal.{Refusal};
 ghost use Rattle.tenant_lines.specs.declared.replies.Reply.{Reply};
 ghost use Rattle.rig_model.specs.Commands.{show_all, show_port, status_of};
 ghost use Rattle.rig_model.specs.Row.{Row};
 ghost use Rattle.tenant_state.specs.cited.Standing.{IsRefused};
+ghost use Rattle.tenant_state.specs.Memory.{has_port};
 ghost use Rattle.tenant_state.specs.Standing.{StandsFor};
 
 use crate::tenants::{Reason, State, Tenant};
@@ -55,15 +56,18 @@ impl Tenant {
         }
     }
 
-    // The values of all ports of the program. Takes no memory where there is none.
+    // The values of all ports of the program. Takes no memory where there is none, or no port.
     pub(crate) fn all_values(&self) -> Result<List<PortValue>, Refusal>
-        ensures room { is_some self.now.row.program ≡ false → result ≢ Err Refusal.Memory }
+        ensures room { has_port self.now.row.program ≡ false → result ≢ Err Refusal.Memory }
         ensures refused { IfErr result (λ r. r ≢ Refusal.Memory → IsRefused self.now (λ row. show_all row row.program) r) }
         ensures shown { IfOk result (λ all. (row : Row) → StandsFor self.now row → show_all row row.program ≡ record { row = row; reply = Reply.All all }) }
     {
         let Some(checked) = &self.program else {
             return Err(Refusal::NotLoaded);
         };
+        if self.values.is_empty() {
+            return Ok(List::from_vec(Vec::new(self.alloc)));
+        }
         let all = port_values(self.alloc, checked, self.values.as_slice())?;
         Ok(List::from_vec(all))
     }

@@ -1,10 +1,10 @@
-use Rattle.std.proofs.Common.{◌≡◌, List, refl}
+use Rattle.std.proofs.Common.{◌≡◌, false, is_ok, List, refl}
 use Rattle.tenant_grants.specs.Grants.{offered, unoffered, bound}
 use Rattle.tenant_grants.specs.declared.rows.Offer.{Offer}
 use Rattle.tenant_lines.specs.declared.replies.Budget.TheVariants.{Offers, Binds}
 use Rattle.tenant_lines.specs.declared.replies.Reply.TheVariants.{Offered, Unoffered, Bound}
 use Rattle.rig_model.specs.GrantCommands.{with_offers, with_binds}
-use Rattle.tenant_exchange.proofs.Told.{more_told, less_told}
+use Rattle.tenant_exchange.proofs.Told.{more_told, less_told, refused_told, offer_faults, bind_faults}
 use Rattle.tenant_exchange.proofs.commands.carry_out.Goals as goal
 
 pub returns-in-Offer-clause-reply : goal.returns-in-Offer-clause-reply
@@ -25,3 +25,17 @@ returns-in-Bind-clause-reply c = λ other.
     let rows = c.args.grants.now in
     rw c.in-Bind.is (more_told Binds Bound (with_binds rows Bound) (λ x. refl) (λ f. refl) (bound rows.owner rows.binds c.in-Bind.sensor c.in-Bind.tenant c.in-Bind.actuator) c.bind.result c.answer-in-Bind.result
     c.bind.ensures.refused c.bind.ensures.memory c.answer-in-Bind.ensures.done c.answer-in-Bind.ensures.refused other)
+
+pub returns-in-Offer-clause-room : goal.returns-in-Offer-clause-room
+returns-in-Offer-clause-room c = λ none.
+    let rows = c.args.grants.now in
+    let refused : is_ok (offered rows.owner rows.offers c.in-Offer.actuator c.in-Offer.tenant) ≡ false = rw c.in-Offer.is at none in
+    refused_told Offers (offered rows.owner rows.offers c.in-Offer.actuator c.in-Offer.tenant) c.offer.result c.answer.result
+    (offer_faults rows.owner rows.offers c.in-Offer.actuator c.in-Offer.tenant) c.offer.ensures.refused c.answer.ensures.refused refused
+
+pub returns-in-Bind-clause-room : goal.returns-in-Bind-clause-room
+returns-in-Bind-clause-room c = λ none.
+    let rows = c.args.grants.now in
+    let refused : is_ok (bound rows.owner rows.binds c.in-Bind.sensor c.in-Bind.tenant c.in-Bind.actuator) ≡ false = rw c.in-Bind.is at none in
+    refused_told Binds (bound rows.owner rows.binds c.in-Bind.sensor c.in-Bind.tenant c.in-Bind.actuator) c.bind.result c.answer-in-Bind.result
+    (bind_faults rows.owner rows.binds c.in-Bind.sensor c.in-Bind.tenant c.in-Bind.actuator) c.bind.ensures.refused c.answer-in-Bind.ensures.refused refused
