@@ -84,13 +84,13 @@ pub late_completion_is_kept : kept_of rig (reverse late) 1 ≡ reverse late
 late_completion_is_kept = refl
 
 -- Three tenants in a chain: gamma is bound to beta, and beta to alpha.
-abbrev three : Rig
+abbrev pub three : Rig
 three = record {
   lines = 1;
   tenants = built_in_tenant (codes "alpha") (codes "ka") [] ∷ built_in_tenant (codes "beta") (codes "kb") [] ∷ built_in_tenant (codes "gamma") (codes "kc") [] ∷ [];
 }
 
-abbrev three_rig : Setting
+abbrev pub three_rig : Setting
 three_rig = record { config = three; base = new_base three 0 }
 
 -- Beta's bind stands before the first of three instants alone, and gamma's before all.

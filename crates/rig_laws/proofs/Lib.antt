@@ -5,6 +5,7 @@ pub mod FirstRun
 pub mod FirstScript
 pub mod FromABase
 pub mod GrantedRun
+pub mod GuardedScript
 pub mod KeptRun
 pub mod LineRows
 pub mod OtherTenants
@@ -14,6 +15,7 @@ pub mod PortRows
 pub mod RecordRows
 pub mod ReplacementRows
 pub mod Rig
+pub mod ScriptSources
 pub mod Switch
 pub mod SwitchRows
 pub mod WholeHost

@@ -49,13 +49,43 @@ module _ (setting : Setting) where
       more_from later past (sources_before setting x (later ++ past) sources) (sources_before setting x (later ++ past) others)
       (more_before x (later ++ past) sources others more) v e
 
+  -- where the same is kept, the sources have the same rows, and the sources before an instant are the same
+  same_row : (past others : List Event) (sources : List ℕ) (v : ℕ) → is_source sources v ≡ true → kept_from setting sources past ≡ kept_from setting sources others
+      → row_of setting past v ≡ row_of setting others v
+  same_row past others sources v e same =
+      sym (kept_rows setting past sources v e) ∙ (ap (λ events. row_of setting events v) same ∙ kept_rows setting others sources v e)
+
+  pub same_before : (frame : List ℤ) (past others : List Event) (sources : List ℕ) → kept_from setting sources past ≡ kept_from setting sources others
+      → sources_before setting (Tick frame) past sources ≡ sources_before setting (Tick frame) others sources
+  same_before frame past others sources same =
+      ap (λ suppliers. sources ++ suppliers)
+      (flat_same (λ t. suppliers_of setting (row_of setting past t)) (λ t. suppliers_of setting (row_of setting others t)) sources
+      (λ v e. ap (suppliers_of setting) (same_row past others sources v e same)))
+
+  -- with no event in between
+  pub at_place : (frame : List ℤ) (events : List Event) (sources : List ℕ) → sources_before setting (Tick frame) (events ++ []) sources ≡ sources_before setting (Tick frame) events sources
+  at_place frame events sources = ap (λ (l : List Event). sources_before setting (Tick frame) l sources) (append-nil events)
+
+  pub same_froms : (frame : List ℤ) (past others : List Event) (sources : List ℕ) → kept_from setting sources past ≡ kept_from setting sources others
+      → sources_from setting (sources_before setting (Tick frame) past sources) past [] ≡ sources_from setting (sources_before setting (Tick frame) past sources) others []
+      → sources_from setting sources (Tick frame ∷ past) [] ≡ sources_from setting sources (Tick frame ∷ others) []
+  same_froms frame past others sources same froms =
+      ap (λ (s : List ℕ). sources_from setting s past []) (at_place frame past sources)
+      ∙ (froms ∙ ap (λ (s : List ℕ). sources_from setting s others []) (same_before frame past others sources same ∙ sym (at_place frame others sources)))
+
+  pub same_kepts : (frame : List ℤ) (past others : List Event) (sources : List ℕ) → kept_from setting sources past ≡ kept_from setting sources others
+      → kept_from setting (sources_before setting (Tick frame) past sources) past ≡ kept_from setting (sources_before setting (Tick frame) past sources) others
+      → kept_from setting sources (Tick frame ∷ past) ≡ kept_from setting sources (Tick frame ∷ others)
+  same_kepts frame past others sources same kept =
+      ap (λ (events : List Event). Tick frame ∷ events) (kept ∙ ap (λ (s : List ℕ). kept_from setting s others) (same_before frame past others sources same))
+
   module _ (u : ℕ) where
     -- the tenant at place u is no source anywhere in the list, or in the list without what it does
     abbrev IsNoSource : List Event → List ℕ → Type 0
     IsNoSource past sources =
         (is_source (sources_from setting sources past []) u ≡ false) ⊎ (is_source (sources_from setting sources (without_tenant u past) []) u ≡ false)
 
-    refuted : (sources others : List ℕ) → (is_source sources u ≡ true → is_source others u ≡ true) → is_source others u ≡ false → is_source sources u ≡ false
+    pub refuted : (sources others : List ℕ) → (is_source sources u ≡ true → is_source others u ≡ true) → is_source others u ≡ false → is_source sources u ≡ false
     refuted sources others more e = false_from_ne_true _ (λ h. let bad : true ≡ false = sym (more h) ∙ e in absurd (cc))
 
     none_at_end : (past : List Event) (sources : List ℕ) → IsNoSource past sources → is_source sources u ≡ false
@@ -69,7 +99,7 @@ module _ (setting : Setting) where
         × (kept_from setting sources past ≡ kept_from setting sources (without_tenant u past))
 
     -- those behind a tick have no source that those before it don't have
-    fewer_in : (events others : List Event) (sources : List ℕ)
+    pub fewer_in : (events others : List Event) (sources : List ℕ)
         → is_source (sources_from setting (sources ++ flat_map (λ t. suppliers_of setting (row_of setting others t)) sources) events []) u ≡ false
         → is_source (sources_from setting sources events []) u ≡ false
     fewer_in events others sources e =
@@ -83,23 +113,7 @@ module _ (setting : Setting) where
         (λ e. inl (fewer_in past (past ++ []) sources e))
         (λ e. inr (fewer_in (without_tenant u past) (without_tenant u past ++ []) sources e)) absent
 
-    same_row : (past : List Event) (sources : List ℕ) (v : ℕ) → is_source sources v ≡ true → kept_from setting sources past ≡ kept_from setting sources (without_tenant u past)
-        → row_of setting past v ≡ row_of setting (without_tenant u past) v
-    same_row past sources v e same =
-        sym (kept_rows setting past sources v e) ∙ (ap (λ events. row_of setting events v) same ∙ kept_rows setting (without_tenant u past) sources v e)
-
-    same_before : (frame : List ℤ) (past : List Event) (sources : List ℕ) → kept_from setting sources past ≡ kept_from setting sources (without_tenant u past)
-        → sources_before setting (Tick frame) past sources ≡ sources_before setting (Tick frame) (without_tenant u past) sources
-    same_before frame past sources same =
-        ap (λ suppliers. sources ++ suppliers)
-        (flat_same (λ t. suppliers_of setting (row_of setting past t)) (λ t. suppliers_of setting (row_of setting (without_tenant u past) t)) sources
-        (λ v e. ap (suppliers_of setting) (same_row past sources v e same)))
-
-    -- with no event in between
-    at_place : (frame : List ℤ) (events : List Event) (sources : List ℕ) → sources_before setting (Tick frame) (events ++ []) sources ≡ sources_before setting (Tick frame) events sources
-    at_place frame events sources = ap (λ (l : List Event). sources_before setting (Tick frame) l sources) (append-nil events)
-
-    moved : (events : List Event) (sources others : List ℕ) → sources ≡ others → is_source (sources_from setting sources events []) u ≡ false
+    pub moved : (events : List Event) (sources others : List ℕ) → sources ≡ others → is_source (sources_from setting sources events []) u ≡ false
         → is_source (sources_from setting others events []) u ≡ false
     moved events sources others same e = subst (λ (s : List ℕ). is_source (sources_from setting s events []) u ≡ false) same e
 
@@ -110,21 +124,7 @@ module _ (setting : Setting) where
     absent_before frame past sources same (inr e) =
         let rest : List Event = without_tenant u past in
         inr (moved rest (sources_before setting (Tick frame) (rest ++ []) sources) (sources_before setting (Tick frame) past sources)
-        (at_place frame rest sources ∙ sym (same_before frame past sources same)) e)
-
-    same_froms : (frame : List ℤ) (past : List Event) (sources : List ℕ) → kept_from setting sources past ≡ kept_from setting sources (without_tenant u past)
-        → sources_from setting (sources_before setting (Tick frame) past sources) past [] ≡ sources_from setting (sources_before setting (Tick frame) past sources) (without_tenant u past) []
-        → sources_from setting sources (Tick frame ∷ past) [] ≡ sources_from setting sources (Tick frame ∷ without_tenant u past) []
-    same_froms frame past sources same froms =
-        let rest : List Event = without_tenant u past in
-        ap (λ (s : List ℕ). sources_from setting s past []) (at_place frame past sources)
-        ∙ (froms ∙ ap (λ (s : List ℕ). sources_from setting s rest []) (same_before frame past sources same ∙ sym (at_place frame rest sources)))
-
-    same_kepts : (frame : List ℤ) (past : List Event) (sources : List ℕ) → kept_from setting sources past ≡ kept_from setting sources (without_tenant u past)
-        → kept_from setting (sources_before setting (Tick frame) past sources) past ≡ kept_from setting (sources_before setting (Tick frame) past sources) (without_tenant u past)
-        → kept_from setting sources (Tick frame ∷ past) ≡ kept_from setting sources (Tick frame ∷ without_tenant u past)
-    same_kepts frame past sources same kept =
-        ap (λ (events : List Event). Tick frame ∷ events) (kept ∙ ap (λ (s : List ℕ). kept_from setting s (without_tenant u past)) (same_before frame past sources same))
+        (at_place frame rest sources ∙ sym (same_before frame past rest sources same)) e)
 
     same_without : (past : List Event) (sources : List ℕ) → IsNoSource past sources → IsSame past sources
     same_without [] sources absent = (refl, refl)
@@ -165,7 +165,7 @@ module _ (setting : Setting) where
     same_without (Tick frame ∷ past) sources absent =
         let small = same_without past sources (fewer frame past sources absent) in
         let same = same_without past (sources_before setting (Tick frame) past sources) (absent_before frame past sources small.1 absent) in
-        (same_froms frame past sources small.1 same.0, same_kepts frame past sources small.1 same.1)
+        (same_froms frame past (without_tenant u past) sources small.1 same.0, same_kepts frame past (without_tenant u past) sources small.1 same.1)
 
   pub same_kept : (past others : List Event) (t u : ℕ) → is_source (sources_of setting t past []) u ≡ false → without_tenant u past ≡ without_tenant u others
       → kept_of setting past t ≡ kept_of setting others t

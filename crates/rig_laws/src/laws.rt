@@ -1,6 +1,6 @@
 //! Laws of the definitions, each a function without a body that carries it.
 
-ghost use Rattle.std.specs.Prelude.{◌≡◌, ◌++◌, ℕ, List, [], true, false};
+ghost use Rattle.std.specs.Prelude.{◌≡◌, ◌++◌, ℕ, Bool, List, [], true, false};
 ghost use Rattle.rig_model.specs.declared.jobs.JobId.{JobId};
 ghost use Rattle.rig_config.specs.Roster.{is_tenant, Rig};
 ghost use Rattle.rig_model.specs.Base.{IsBase, new_base, Setting};
@@ -11,6 +11,7 @@ ghost use Rattle.rig_model.specs.Sources.{is_source, without_tenant, sources_of,
 ghost use Rattle.rig_model.specs.declared.events.Event.{Event};
 ghost use Rattle.rig_model.specs.Answers.{answers_of};
 ghost use Rattle.rig_model.specs.Views.{row_of, view_of};
+ghost use Rattle.rig_model.specs.DifferingScripts.{DifferInNoSource};
 ghost use Rattle.rig_model.specs.Script.{past_after};
 ghost use Rattle.rig_model.specs.TenantReplies.{own_replies};
 
@@ -78,4 +79,22 @@ pub fn no_source_changes_no_answer()
 pub fn own_replies_are_answers()
     ensures { (setting : Setting) (t : ℕ) (past : List Event) (lines : List (List ℕ)) →
         answers_of setting (past_after setting past lines) t ≡ answers_of setting past t ++ own_replies setting t past lines }
+{}
+
+/// Where none of some tenants is a source of another one anywhere in a script, what the script's text replies to the other one's
+/// commands stays as it is, whatever lines of those tenants are left out, put in or changed. Each `op work` completes the jobs that
+/// are outstanding in its own script, and these may differ. None of those tenants becomes a source by it.
+pub fn no_source_changes_no_reply()
+    ensures sources { (setting : Setting) (tenants : ℕ → Bool) (t : ℕ) (past : List Event) (lines others : List (List ℕ)) →
+        DifferInNoSource setting tenants t past lines others
+        → sources_of setting t (past_after setting past lines) [] ≡ sources_of setting t (past_after setting past others) [] }
+    ensures kept { (setting : Setting) (tenants : ℕ → Bool) (t : ℕ) (past : List Event) (lines others : List (List ℕ)) →
+        DifferInNoSource setting tenants t past lines others
+        → kept_of setting (past_after setting past lines) t ≡ kept_of setting (past_after setting past others) t }
+    ensures answers { (setting : Setting) (tenants : ℕ → Bool) (t : ℕ) (past : List Event) (lines others : List (List ℕ)) →
+        DifferInNoSource setting tenants t past lines others
+        → answers_of setting (past_after setting past lines) t ≡ answers_of setting (past_after setting past others) t }
+    ensures replies { (setting : Setting) (tenants : ℕ → Bool) (t : ℕ) (past : List Event) (lines others : List (List ℕ)) →
+        DifferInNoSource setting tenants t past lines others
+        → own_replies setting t past lines ≡ own_replies setting t past others }
 {}

@@ -1,8 +1,6 @@
+pub mod BrokenScript
 pub mod Completing
-pub mod CountedReads
-pub mod LineCuts
 pub mod LineValues
-pub mod NextLine
 pub mod Outstanding
 pub mod Speaking
 pub mod Steps

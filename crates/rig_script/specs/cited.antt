@@ -1,2 +1,2 @@
 pub mod HostAnswers
-pub mod Reading
+pub mod Past

@@ -1,22 +1,21 @@
 //! A script's lines and who answers them.
 
-ghost use Rattle.std.specs.Prelude.{◌≡◌, ◌≤◌, ◌+◌, ℕ, List, [], All, Err, IfErr, OnOk, length};
+ghost use Rattle.std.specs.Prelude.{◌≡◌, ℕ, List, [], All, Some, Ok, IfErr, IfSome, OnOk};
 ghost use Rattle.std.specs.Io.KnownBytes.{Appends, Keeps};
 ghost use Rattle.rig_model.specs.Base.{Setting};
 ghost use Rattle.rig_model.specs.declared.events.Event.{Event};
 ghost use Rattle.rig_model.specs.Answered.{bye_bad_line, err_memory, IsText};
-ghost use Rattle.rig_script.specs.inner.Script.{IsUnanswered, IsCarriedOut, ForEachPast, ForEachPastAndLines};
+ghost use Rattle.rig_script.specs.cited.Past.{ForEachPast, ForEachPastReading};
+ghost use Rattle.rig_script.specs.inner.Script.{IsUnanswered, IsReplied};
 ghost use Rattle.rig_model.specs.TextLines.{cut};
-ghost use Rattle.rig_script.specs.cited.Reading.{IsLeft, reads_of};
-ghost use Rattle.rig_script.specs.BrokenOff.{AreBrokenOff};
+ghost use Rattle.rig_script.specs.BrokenOff.{AreBrokenOff, AreFewRead};
 ghost use Rattle.rig_model.specs.Script.{speaker_of, line_step, memory_reply, reply_to_line, past_after, past_behind, script_from};
-ghost use Rattle.rig_model.specs.declared.limits.TheConstants.{MAX_READS};
 
 use crate::faults::ScriptFault;
-use crate::lines::{Line, Lines};
 use crate::speakers::{Speaker, addressee};
 use std::alloc::{AllocError, Global};
 use std::io::{Read, Write};
+use text_lines::lines::{Line, Lines};
 
 /// Who answers the lines of a script.
 pub trait Answers {
@@ -32,43 +31,57 @@ pub trait Answers {
     /// # Errors
     /// Where there is want of memory for the reply.
     fn answer(&mut self, alloc: Global, line: &str) -> Result<String, AllocError>
-        ensures { ForEachPast (stands self.old) (λ setting past. IsCarriedOut (line_step setting past line.now) past result (stands self.new setting)) };
+        ensures { ForEachPast (stands self.old) (λ setting past. IsReplied (line_step setting past line.now) past result (stands self.new setting)) };
 }
 
-/// Answers the lines, in their order, until the input ends or a line is too long or no text. Such a
-/// line is answered `host bye bad-line`, and what stands behind it isn't read.
+/// How the lines of a reader ended.
+#[derive(Clone, Copy, Debug, PartialEq, Eq)]
+pub enum Ending {
+    /// The reader has ended, and no byte of it is left.
+    Input,
+    /// A line was too long or no text.
+    BadLine,
+}
+
+/// Answers the lines of a reader, in their order, until it ends or a line is too long or no text. Such a line is answered
+/// `host bye bad-line`, and what stands behind it isn't read.
 ///
 /// The writer is flushed before each read and at the end.
 ///
 /// # Errors
-/// `Read`, `Write` and `Turns` as `Lines::next_line`. `Memory` where there is want of memory for a
-/// reply: `err memory` is written in its place, behind the line's first word, or behind `host` where
-/// nobody has that name.
+/// `Read`, `Write` and `Turns` as `Lines::next_line`, and `Read` also where a line found no memory: just the lines before were answered.
+/// `Memory` where there is want of memory for a reply: `err memory` is written in its place, behind the line's first word, or behind
+/// `host` where nobody has that name.
 pub fn answer_lines<R: Read, W: Write, A: Answers>(
     alloc: Global,
-    lines: &mut Lines,
     reader: &mut R,
     writer: &mut W,
     answers: &mut A,
-) -> Result<(), ScriptFault>
-    ensures written { OnOk result (ForEachPastAndLines (A.stands answers.old) lines.old (R.remaining reader.old) (λ s past lines.
-        Appends (W.contents writer.old) (W.contents writer.new) (script_from s past lines))) }
-    ensures state { OnOk result (ForEachPastAndLines (A.stands answers.old) lines.old (R.remaining reader.old) (λ setting past lines.
-        A.stands answers.new setting (past_after setting past lines))) }
-    ensures end { OnOk result ((bytes : List ℕ) → IsLeft lines.old (R.remaining reader.old) bytes
-        → All IsText (cut bytes) → IsLeft lines.new (R.remaining reader.new) []) }
-    ensures fault { IfErr result (λ fault. ForEachPastAndLines (A.stands answers.old) lines.old (R.remaining reader.old)
-        (AreBrokenOff (Appends (W.contents writer.old) (W.contents writer.new)) fault)) }
-    ensures turns { result ≡ Err ScriptFault.Turns → (bytes : List ℕ) → IsLeft lines.old (R.remaining reader.old) bytes → MAX_READS ≤ reads_of lines.old + length bytes }
+) -> Result<Ending, ScriptFault>
+    ensures written { OnOk result (ForEachPastReading (A.stands answers.old) (R.remaining reader.old) (λ setting past bytes.
+        Appends (W.contents writer.old) (W.contents writer.new) (script_from setting past (cut bytes)))) }
+    ensures state { OnOk result (ForEachPastReading (A.stands answers.old) (R.remaining reader.old) (λ setting past bytes.
+        A.stands answers.new setting (past_after setting past (cut bytes)))) }
+    ensures input { result ≡ Ok Ending.Input → IfSome (R.remaining reader.old) (λ bytes. R.remaining reader.new ≡ Some []) }
+    ensures bad_line { result ≡ Ok Ending.BadLine → IfSome (R.remaining reader.old) (λ bytes. ¬ (All IsText (cut bytes))) }
+    ensures fault { IfErr result (λ fault. ForEachPastReading (A.stands answers.old) (R.remaining reader.old)
+        (AreBrokenOff (R.remaining reader.new) (Appends (W.contents writer.old) (W.contents writer.new)) fault)) }
+    ensures reads { AreFewRead result (R.remaining reader.old) (R.remaining reader.new) }
 {
-    for _line in 0..u64::MAX {
+    let mut lines = Lines::new(alloc);
+    loop {
         match lines.next_line(reader, writer)? {
             Line::Whole(line) => answer_line(alloc, writer, answers, line.as_str())?,
-            Line::Bad => return say_bye(writer),
-            Line::End => return flush(writer),
+            Line::Bad => {
+                say_bye(writer)?;
+                return Ok(Ending::BadLine);
+            }
+            Line::End => {
+                flush(writer)?;
+                return Ok(Ending::Input);
+            }
         }
     }
-    Err(ScriptFault::Turns)
 }
 
 // Writes the reply to a line.

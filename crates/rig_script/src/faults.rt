@@ -4,6 +4,7 @@ ghost use Rattle.std.specs.Prelude.{◌≡◌};
 ghost use Rattle.rig_script.specs.inner.Faults.{text_of_fault};
 
 use std::alloc::AllocError;
+use text_lines::faults::LinesFault;
 use thiserror::Error;
 
 /// Why a script ended before its input did.
@@ -31,6 +32,21 @@ impl From<AllocError> for ScriptFault {
 
     fn from(_error: AllocError) -> ScriptFault {
         ScriptFault::Memory
+    }
+}
+
+impl From<LinesFault> for ScriptFault {
+    ghost use Rattle.std.specs.Prelude.{◌≡◌};
+    ghost use Rattle.rig_script.specs.inner.Faults.{fault_of_lines};
+
+    ghost from_gives = { λ lines fault. fault ≡ fault_of_lines lines };
+
+    fn from(fault: LinesFault) -> ScriptFault {
+        match fault {
+            LinesFault::Read | LinesFault::Memory => ScriptFault::Read,
+            LinesFault::Write => ScriptFault::Write,
+            LinesFault::Turns => ScriptFault::Turns,
+        }
     }
 }
 

@@ -1,19 +1,19 @@
 //! A host that answers the lines of a script.
 
-ghost use Rattle.std.specs.Prelude.{◌≡◌, [], ◌∷◌, ◌++◌, ◌<◌, ◌≤◌, Some, Err, codes, length, All, IfOk, IfErr, IfSome, OnOk, string_bytes};
+ghost use Rattle.std.specs.Prelude.{◌≡◌, [], ◌∷◌, ◌++◌, ◌<◌, Some, codes, length, All, IfOk, IfErr, IfSome, OnOk, string_bytes};
 ghost use Rattle.std.specs.Io.KnownBytes.{Appends};
 ghost use Rattle.tenant_lines.specs.Words.{words_of};
 ghost use Rattle.host_core.specs.HostStanding.{line_of};
 ghost use Rattle.rig_model.specs.Answered.{reply_line, IsText};
 ghost use Rattle.rig_model.specs.TextLines.{cut};
 ghost use Rattle.rig_script.specs.cited.HostAnswers.{CarriesOut, IsHostAfter};
-ghost use Rattle.rig_model.specs.Script.{tenant_step, operator_step, text_of_lines, work_step, work_step_of, outstanding_after, script_text_of};
-ghost use Rattle.rig_script.specs.BrokenOff.{IsScriptBrokenOff, ForNewHostReading};
-ghost use Rattle.rig_model.specs.declared.limits.TheConstants.{MAX_READS};
+ghost use Rattle.rig_script.specs.inner.Records.{AreNone};
+ghost use Rattle.rig_model.specs.Script.{line_step, tenant_step, operator_step, text_of_lines, work_step, work_step_of, outstanding_after, script_text_of};
+ghost use Rattle.rig_script.specs.BrokenOff.{IsScriptBrokenOff, ForNewHostReading, AreFewRead};
 
 use crate::answers::{Answers, answer_lines};
 use crate::faults::ScriptFault;
-use crate::lines::Lines;
+use crate::records::{Record, Unrecorded};
 use crate::speakers::{Speaker, who_speaks};
 use giotto_text::name_bytes::is_name;
 use host_core::hosts::{Host, TickFault};
@@ -32,21 +32,39 @@ impl Answers for Host {
     }
 
     fn answer(&mut self, alloc: Global, line: &str) -> Result<String, AllocError> {
-        let rest = words::behind_first_word(line);
-        match who_speaks(self.config(), line) {
-            Speaker::Nobody => Ok(String::new(alloc)),
-            Speaker::Operator => operator_line(alloc, self, rest),
-            Speaker::Tenant(tenant) => {
-                tenant_line(alloc, self, tenant, words::first_word(line), rest)
-            }
-            Speaker::Unknown => reply_line(alloc, "host", "err who"),
+        carry_out(alloc, self, &mut Unrecorded, line)
+    }
+}
+
+/// Carries out a line of a script: a tenant's by its command, and the operator's by `tick`, `work`, `work TENANT` or `lines`. Who records
+/// its events is told them. The bytes that are written for the line, and no byte where it has no reply.
+///
+/// # Errors
+/// Where there is want of memory: for a command, an instant, its events or the reply.
+pub fn carry_out<R: Record>(
+    alloc: Global,
+    host: &mut Host,
+    events: &mut R,
+    line: &str,
+) -> Result<String, AllocError>
+    ensures { CarriesOut (λ setting past. line_step setting past line.now) (R.tells events.old) (R.tells events.new) host.old host.new result }
+{
+    let rest = words::behind_first_word(line);
+    match who_speaks(host.config(), line) {
+        Speaker::Nobody => Ok(String::new(alloc)),
+        Speaker::Operator => operator_line(alloc, host, events, rest),
+        Speaker::Tenant(tenant) => {
+            let name = words::first_word(line);
+            tenant_line(alloc, host, events, tenant, name, rest)
         }
+        Speaker::Unknown => reply_line(alloc, "host", "err who"),
     }
 }
 
 /// Answers the lines of a reader, in their order, until the input or the script ends: a tenant's by
-/// its command, and the operator's by `tick`, `work` and `work TENANT`. The host is new, and its first tick is 0.
-/// Nothing is left unread where each line is text of at most 16,384 bytes; another line ends the script.
+/// its command, and the operator's by `tick`, `work`, `work TENANT` and `lines`. The host is new, and its first tick is 0.
+/// Nothing is left unread where each line is text of at most 16,384 bytes; another line ends the script. No more than 1,048,576 reads
+/// of 4,096 bytes are ever taken.
 ///
 /// # Errors
 /// `Read`, `Write`, `Turns` and `Memory` as `answer_lines`; `Turns` only where the input has 1,048,576 bytes or more. `Memory` also where
@@ -62,29 +80,31 @@ pub fn script<R: Read, W: Write>(
     ensures end { OnOk result (IfSome (R.remaining reader.old) (λ bytes. All IsText (cut bytes) → R.remaining reader.new ≡ Some [])) }
     ensures fault { IfErr result (λ fault. ForNewHostReading config.now (R.remaining reader.old)
         (IsScriptBrokenOff (R.remaining reader.new) (Appends (W.contents writer.old) (W.contents writer.new)) fault)) }
-    ensures turns { result ≡ Err ScriptFault.Turns → IfSome (R.remaining reader.old) (λ bytes. MAX_READS ≤ length bytes) }
+    ensures reads { AreFewRead result (R.remaining reader.old) (R.remaining reader.new) }
 {
     let mut host = Host::new(alloc, config, 0)?;
-    let mut lines = Lines::new(alloc);
-    answer_lines(alloc, &mut lines, reader, writer, &mut host)
+    answer_lines(alloc, reader, writer, &mut host)?;
+    Ok(())
 }
 
 // The step of a tenant's line, which stands behind its name.
-fn tenant_line(
+fn tenant_line<R: Record>(
     alloc: Global,
     host: &mut Host,
+    events: &mut R,
     tenant: TenantId,
     name: &str,
     line: &str,
 ) -> Result<String, AllocError>
     requires { tenant < length host.old.config.tenants }
-    ensures { CarriesOut (λ setting past. tenant_step setting past tenant name.now line.now) host.old host.new result }
+    ensures { CarriesOut (λ setting past. tenant_step setting past tenant name.now line.now) (R.tells events.old) (R.tells events.new) host.old host.new result }
 {
     let command = match command_of(alloc, line) {
         Ok(command) => command,
         Err(LineFault::BadCommand) => return reply_line(alloc, name, "err bad-command"),
         Err(LineFault::Memory) => return Err(AllocError),
     };
+    events.command(alloc, tenant, &command)?;
     let reply = host.command(tenant, command);
     if reply.is_memory() {
         return Err(AllocError);
@@ -94,28 +114,41 @@ fn tenant_line(
 }
 
 // The step of an operator's line, which stands behind `op`.
-fn operator_line(alloc: Global, host: &mut Host, line: &str) -> Result<String, AllocError>
-    ensures { CarriesOut (λ setting past. operator_step setting past (words_of line.now)) host.old host.new result }
+fn operator_line<R: Record>(
+    alloc: Global,
+    host: &mut Host,
+    events: &mut R,
+    line: &str,
+) -> Result<String, AllocError>
+    ensures { CarriesOut (λ setting past. operator_step setting past (words_of line.now)) (R.tells events.old) (R.tells events.new) host.old host.new result }
 {
     let rest = words::behind_first_word(line);
     match words::first_word(line) {
-        "tick" => tick(alloc, host, rest),
-        "work" => work(alloc, host, rest),
+        "tick" => tick(alloc, host, events, rest),
+        "work" => work(alloc, host, events, rest),
         "lines" => lines(alloc, host, rest),
         _ => reply_line(alloc, "op", "err bad-command"),
     }
 }
 
 // The step of `tick` with these words behind it.
-fn tick(alloc: Global, host: &mut Host, line: &str) -> Result<String, AllocError>
-    ensures { CarriesOut (λ setting past. operator_step setting past (codes "tick" ∷ words_of line.now)) host.old host.new result }
+fn tick<R: Record>(
+    alloc: Global,
+    host: &mut Host,
+    events: &mut R,
+    line: &str,
+) -> Result<String, AllocError>
+    ensures { CarriesOut (λ setting past. operator_step setting past (codes "tick" ∷ words_of line.now)) (R.tells events.old) (R.tells events.new) host.old host.new result }
 {
     let Some(frame) = words::values_of_words(alloc, line)? else {
         return reply_line(alloc, "op", "err bad-command");
     };
     let number = host.clock();
     match host.instant(frame.as_slice()) {
-        Ok(()) => format!(in alloc; "op ok tick {number}\n"),
+        Ok(()) => {
+            events.tick(frame)?;
+            format!(in alloc; "op ok tick {number}\n")
+        }
         Err(TickFault::BadFrame) => reply_line(alloc, "op", "err bad-frame"),
         Err(TickFault::ClockEnded) => reply_line(alloc, "op", "err clock-ended"),
         Err(TickFault::Memory) => Err(AllocError),
@@ -123,41 +156,57 @@ fn tick(alloc: Global, host: &mut Host, line: &str) -> Result<String, AllocError
 }
 
 // The step of `work` with these words behind it.
-fn work(alloc: Global, host: &mut Host, line: &str) -> Result<String, AllocError>
-    ensures { CarriesOut (λ setting past. operator_step setting past (codes "work" ∷ words_of line.now)) host.old host.new result }
+fn work<R: Record>(
+    alloc: Global,
+    host: &mut Host,
+    events: &mut R,
+    line: &str,
+) -> Result<String, AllocError>
+    ensures { CarriesOut (λ setting past. operator_step setting past (codes "work" ∷ words_of line.now)) (R.tells events.old) (R.tells events.new) host.old host.new result }
 {
     let name = words::first_word(line);
     if name.is_empty() {
-        return complete_all(alloc, host);
+        return complete_all(alloc, host, events);
     }
     if is_name(name.as_bytes()) && words::first_word(words::behind_first_word(line)).is_empty() {
-        return complete_tenant(alloc, host, name);
+        return complete_tenant(alloc, host, events, name);
     }
     reply_line(alloc, "op", "err bad-command")
 }
 
 // Runs and completes all outstanding jobs, and says how many they were.
-fn complete_all(alloc: Global, host: &mut Host) -> Result<String, AllocError>
-    ensures { CarriesOut (λ setting past. work_step (outstanding_after setting past)) host.old host.new result }
+fn complete_all<R: Record>(
+    alloc: Global,
+    host: &mut Host,
+    events: &mut R,
+) -> Result<String, AllocError>
+    ensures { CarriesOut (λ setting past. work_step (outstanding_after setting past)) (R.tells events.old) (R.tells events.new) host.old host.new result }
 {
+    events.work(host)?;
     let number = host.complete_all();
     format!(in alloc; "op ok work {number}\n")
 }
 
 // Runs and completes the outstanding jobs of the tenant of this name, and says how many they were.
-fn complete_tenant(alloc: Global, host: &mut Host, name: &str) -> Result<String, AllocError>
-    ensures { CarriesOut (λ setting past. work_step_of setting past name.now) host.old host.new result }
+fn complete_tenant<R: Record>(
+    alloc: Global,
+    host: &mut Host,
+    events: &mut R,
+    name: &str,
+) -> Result<String, AllocError>
+    ensures { CarriesOut (λ setting past. work_step_of setting past name.now) (R.tells events.old) (R.tells events.new) host.old host.new result }
 {
     let Some(tenant) = host.config().place_of(name) else {
         return reply_line(alloc, "op", "err who");
     };
+    events.work_of(host, tenant)?;
     let number = host.complete_tenant(tenant);
     format!(in alloc; "op ok work {number}\n")
 }
 
 // The step of `lines` with these words behind it.
 fn lines(alloc: Global, host: &mut Host, line: &str) -> Result<String, AllocError>
-    ensures { CarriesOut (λ setting past. operator_step setting past (codes "lines" ∷ words_of line.now)) host.old host.new result }
+    ensures { CarriesOut (λ setting past. operator_step setting past (codes "lines" ∷ words_of line.now)) AreNone AreNone host.old host.new result }
 {
     if !words::first_word(line).is_empty() {
         return reply_line(alloc, "op", "err bad-command");

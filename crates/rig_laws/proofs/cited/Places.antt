@@ -1,5 +1,5 @@
 -- Places of a roster, and completions, in a history.
-use Rattle.std.proofs.Common.{[], ◌≡◌, ◌+◌, List, ◌∷◌, ◌++◌, map, reverse, ap, ◌∙◌, append_assoc}
+use Rattle.std.proofs.Common.{[], ◌≡◌, List, ◌∷◌, ◌++◌, map, reverse, ap, ◌∙◌, append_assoc}
 use Rattle.rig_config.specs.declared.TenantConfig.{TenantConfig}
 use Rattle.rig_config.specs.Roster.{no_budgets}
 use Rattle.std.proofs.lemmas.List.{reverse-append}

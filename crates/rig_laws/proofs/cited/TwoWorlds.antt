@@ -86,7 +86,7 @@ module _ (setting : Setting) where
       rest (Some v) all u h = all u (ap (λ b. eqb v u || b) h ∙ or_true (eqb v u))
 
   -- completions of a source's jobs are kept
-  kept_completions : (past : List Event) (sources : List ℕ) (j : JobId) → is_source sources j.tenant ≡ true
+  pub kept_completions : (past : List Event) (sources : List ℕ) (j : JobId) → is_source sources j.tenant ≡ true
       → has_completion setting (kept_from setting sources past) j ≡ has_completion setting past j
   kept_completions [] sources j e = refl
   kept_completions (Own u c ∷ past) sources j e = by (is_source sources u) (kept_completions past sources j e)

@@ -16,7 +16,8 @@ pub record IsHostAfter (setting : Setting) (host : HostStanding) (past : List Ev
   pub legal : is_legal setting past ≡ true
   pub stands : Stands setting host (host_after setting past)
 
--- A host carries out a step: whatever events it stands behind, the step that it has to take there is carried out.
-abbrev pub CarriesOut : (Setting → List Event → Step) → HostStanding → HostStanding → Result (String Global) AllocError → Type 0
-CarriesOut step before after result = (setting : Setting) (past : List Event) → IsHostAfter setting before past
-    → IsCarriedOut (step setting past) past result (IsHostAfter setting after)
+-- A host carries out a step, and who is told was told its events: whatever events it stands behind, the step that it has to take there is
+-- carried out.
+abbrev pub CarriesOut : (Setting → List Event → Step) → (List Event → Type 0) → (List Event → Type 0) → HostStanding → HostStanding → Result (String Global) AllocError → Type 0
+CarriesOut step Before After before after result = (setting : Setting) (past : List Event) → IsHostAfter setting before past
+    → IsCarriedOut (step setting past) past Before After result (IsHostAfter setting after)

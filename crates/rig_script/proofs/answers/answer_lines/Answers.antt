@@ -1,64 +1,196 @@
-use Rattle.std.proofs.Common.{rules, ◌≡◌, ◌≤◌, ℕ, List, [], ◌∷◌, All, Some, length, ap, ◌∙◌, refl, sym, arith}
-use Rattle.rig_model.specs.Answered.{IsText}
+use Rattle.std.proofs.Common.{rules, Some, Ok, Err, IfErr, Result, refl, sym, ap, subst, inl, inr, ◌∙◌}
+use Rattle.std.proofs.lemmas.Result.{err_from_is_err_and}
+use Rattle.std.specs.Io.KnownBytes.{Appends}
 use Rattle.rig_model.specs.TextLines.{cut}
-use Rattle.rig_script.specs.cited.Reading.{IsLeft, reads_of}
 use Rattle.rig_model.specs.Script.{reply_to_line, past_behind}
-use Rattle.rig_laws.proofs.cited.AnsweredLines.{come_further}
-use Rattle.rig_laws.proofs.cited.AnsweredLines.{texts_further, bad_is_no_text, on_ok, cut_short}
-use Rattle.rig_script.proofs.CountedReads.{both_counted, counted_left}
+use Rattle.rig_script.specs.declared.answers.Ending.{Ending}
+use Rattle.rig_script.specs.declared.answers.Ending.TheVariants.{Input, BadLine}
+use Rattle.rig_script.specs.declared.faults.ScriptFault.{ScriptFault}
+use Rattle.rig_script.specs.cited.Past.{ForEachPastReading}
+use Rattle.rig_script.specs.BrokenOff.{AreBrokenOff}
+use Rattle.rig_script.proofs.BrokenScript.{lines_broken, reply_broken, few_read, lines_turns, same_fault, unanswered_no_turns}
+use Rattle.text_lines.specs.cited.Reading.{IsLeft, has_ended, reads_of}
+use Rattle.text_lines.proofs.cited.AnsweredLines.{come_nowhere, come_further, all_written, state_at_end, bye_written, state_at_bye, texts_further, bad_is_no_text, if_known, all_known, kept_on}
+use Rattle.text_lines.proofs.cited.CountedReads.{both_counted}
 use Rattle.rig_script.proofs.answers.answer_lines.Goals as goal
-use Rattle.rig_model.specs.declared.limits.TheConstants.{MAX_READS}
 
-pub returns-in-Bad-clause-end : goal.returns-in-Bad-clause-end
-returns-in-Bad-clause-end g c =
-    let remaining = g.R.Read.remaining in
-    on_ok c.say_bye.result ((bytes : List ℕ) → IsLeft c.args.lines.now (remaining c.args.reader.now) bytes → All IsText (cut bytes) → IsLeft c.next_line.new.self (remaining c.next_line.new.reader) []) (λ bytes left.
-    let so_far = c.loop-line.invariant.reading bytes left in
-    let next = rw c.in-Bad.is at (c.in_ok-line.ensures.line so_far.0 so_far.1) in
-    λ all. absurd (bad_is_no_text (cut bytes) (cut so_far.0) so_far.2 next.0 next.1 next.2 next.3 all))
-
-pub loop-line-preserved : goal.loop-line-preserved
-loop-line-preserved g c =
-    let contents = g.W.Write.contents in
-    let l = c.loop-line in
-    let done = c.in_ok-answer_line-in-Whole.ensures in
+pub loop-lines-init : goal.loop-lines-init
+loop-lines-init g c =
+    let left = g.R.Read.remaining c.args.reader.now in
     record {
-      reading = λ bytes left.
-          let so_far = l.invariant.reading bytes left in
-          let next = rw c.in-Whole.is at (c.in_ok-line.ensures.line so_far.0 so_far.1) in
-          let fewer : length (cut so_far.0) ≡ length (next.0 ∷ cut next.1) = ap (λ (ls : List (List ℕ)). length ls) next.2 in
-          let few = so_far.3 in
-          (next.1, next.4, texts_further (cut bytes) (cut so_far.0) so_far.2 next.0 (cut next.1) next.2, omega (arith, fewer, few));
-      counted =
-          let left = g.R.Read.remaining in
-          both_counted (reads_of c.args.lines.now) (reads_of l.lines) (reads_of c.next_line.new.self) (left c.args.reader.now) (left l.reader) (left c.next_line.new.reader) l.invariant.counted c.in_ok-line.ensures.count;
-      answering = λ setting past bytes stands left.
-          let so_far = l.invariant.answering setting past bytes stands left in
-          let next = rw c.in-Whole.is at (c.in_ok-line.ensures.line so_far.0 so_far.1) in
-          let now = so_far.2 in (
-            next.1,
-            next.4,
-            past_behind setting now c.as_str.result.now,
-            done.stands setting now so_far.3,
-            come_further (reply_to_line setting) (past_behind setting) past (cut bytes) (contents c.args.writer.now) now (cut so_far.0) (contents l.writer) so_far.4
-                (contents c.next_line.new.writer) c.in_ok-line.ensures.written next.0 (cut next.1) c.as_str.result.now (past_behind setting now c.as_str.result.now) (contents c.answer_line.new.writer) next.2
-                (next.3 ∙ ap (λ t. Some t) (sym c.as_str.ensures.value)) refl (done.written setting now so_far.3),
-          );
+      begins = c.new-lines.ensures.begins;
+      counted = search rules;
+      texts = all_known left (λ bytes is. (bytes, subst (λ known. IsLeft c.new-lines.result known bytes) (sym is) (c.new-lines.ensures.left bytes), λ all. all));
+      answering = all_known left (λ bytes is setting past stands. (
+        bytes,
+        subst (λ known. IsLeft c.new-lines.result known bytes) (sym is) (c.new-lines.ensures.left bytes),
+        past,
+        stands,
+        come_nowhere (reply_to_line setting) (past_behind setting) past bytes (g.W.Write.contents c.args.writer.now) (has_ended c.new-lines.result),
+      ));
     }
 
--- as many lines have at least as many bytes
-pub returns-clause-turns : goal.returns-clause-turns
-returns-clause-turns g c = λ is bytes left.
-    let few = (c.loop-line.invariant.reading bytes left).3 in
-    let short = cut_short bytes in
-    omega (arith, few, short)
+pub returns-in-Bad-clause-written : goal.returns-in-Bad-clause-written
+returns-in-Bad-clause-written g c =
+    let l = c.loop-lines in
+    if_known (g.R.Read.remaining c.args.reader.now) _ _ l.invariant.answering (λ bytes far setting past stands.
+    let h = far setting past stands in
+    let next = rw c.in-Bad.is at (c.in_ok-line.ensures.line h.0 h.1) in
+    bye_written (reply_to_line setting) (past_behind setting) past bytes (g.W.Write.contents c.args.writer.now) h.2 h.0 (has_ended l.lines) (g.W.Write.contents l.writer) h.4
+    (g.W.Write.contents c.next_line.new.writer) c.in_ok-line.ensures.written (g.W.Write.contents c.say_bye.new.writer) next c.in_ok-say_bye-in-Bad.ensures.written)
 
-pub returns-in_err-line-clause-turns : goal.returns-in_err-line-clause-turns
-returns-in_err-line-clause-turns g c = λ is bytes left.
-    let remaining = g.R.Read.remaining in
-    let l = c.loop-line in
-    let counted = both_counted (reads_of c.args.lines.now) (reads_of l.lines) (reads_of c.next_line.new.self) (remaining c.args.reader.now) (remaining l.reader) (remaining c.next_line.new.reader)
-    l.invariant.counted c.in_err-line.ensures.count in
-    let few = counted_left c.args.lines.now (remaining c.args.reader.now) bytes left (reads_of c.next_line.new.self) (remaining c.next_line.new.reader) counted in
-    let many : MAX_READS ≤ reads_of c.next_line.new.self = c.in_err-line.ensures.turns (search rules) in
-    omega (arith, few, many)
+pub returns-in-Bad-clause-state : goal.returns-in-Bad-clause-state
+returns-in-Bad-clause-state g c =
+    let l = c.loop-lines in
+    if_known (g.R.Read.remaining c.args.reader.now) _ _ l.invariant.answering (λ bytes far setting past stands.
+    let h = far setting past stands in
+    let next = rw c.in-Bad.is at (c.in_ok-line.ensures.line h.0 h.1) in
+    subst (g.A.Answers.stands l.answers setting) (sym (state_at_bye (reply_to_line setting) (past_behind setting) past bytes (g.W.Write.contents c.args.writer.now) h.2 h.0 (has_ended l.lines) (g.W.Write.contents l.writer) h.4
+    (g.W.Write.contents c.next_line.new.writer) c.in_ok-line.ensures.written next)) h.3)
+
+pub returns-in-Bad-clause-bad_line : goal.returns-in-Bad-clause-bad_line
+returns-in-Bad-clause-bad_line g c = λ is.
+    if_known (g.R.Read.remaining c.args.reader.now) _ _ c.loop-lines.invariant.texts (λ bytes h.
+    let next = rw c.in-Bad.is at (c.in_ok-line.ensures.line h.0 h.1) in
+    bad_is_no_text (cut bytes) (cut h.0) h.2 next.0 next.1 next.2 next.3)
+
+pub returns-in-Bad-clause-reads : goal.returns-in-Bad-clause-reads
+returns-in-Bad-clause-reads g c =
+    let left = g.R.Read.remaining in
+    let l = c.loop-lines in
+    few_read (Ok BadLine) (left c.args.reader.now) (left c.next_line.new.reader) (reads_of c.next_line.new.self)
+    (both_counted 0 (reads_of l.lines) (reads_of c.next_line.new.self) (left c.args.reader.now) (left l.reader) (left c.next_line.new.reader) l.invariant.counted c.in_ok-line.ensures.count)
+    (c.in_ok-line.ensures.bound l.invariant.begins.1) (λ wrong. absurd (cc))
+
+pub returns-in-End-clause-written : goal.returns-in-End-clause-written
+returns-in-End-clause-written g c =
+    let l = c.loop-lines in
+    if_known (g.R.Read.remaining c.args.reader.now) _ _ l.invariant.answering (λ bytes far setting past stands.
+    let h = far setting past stands in
+    let next = rw c.in-End.is at (c.in_ok-line.ensures.line h.0 h.1) in
+    all_written (reply_to_line setting) (past_behind setting) past bytes (g.W.Write.contents c.args.writer.now) h.2 h.0 (has_ended l.lines) (g.W.Write.contents l.writer) h.4
+    (g.W.Write.contents c.flush.new.writer) (kept_on (g.W.Write.contents l.writer) (g.W.Write.contents c.next_line.new.writer) (g.W.Write.contents c.flush.new.writer) c.in_ok-line.ensures.written c.in_ok-flush-in-End.ensures.kept) next.0)
+
+pub returns-in-End-clause-state : goal.returns-in-End-clause-state
+returns-in-End-clause-state g c =
+    let l = c.loop-lines in
+    if_known (g.R.Read.remaining c.args.reader.now) _ _ l.invariant.answering (λ bytes far setting past stands.
+    let h = far setting past stands in
+    let next = rw c.in-End.is at (c.in_ok-line.ensures.line h.0 h.1) in
+    subst (g.A.Answers.stands l.answers setting) (sym (state_at_end (reply_to_line setting) (past_behind setting) past bytes (g.W.Write.contents c.args.writer.now) h.2 h.0 (has_ended l.lines) (g.W.Write.contents l.writer) h.4
+    (g.W.Write.contents c.next_line.new.writer) c.in_ok-line.ensures.written next.0)) h.3)
+
+pub returns-in-End-clause-input : goal.returns-in-End-clause-input
+returns-in-End-clause-input g c = λ is.
+    if_known (g.R.Read.remaining c.args.reader.now) _ _ c.loop-lines.invariant.texts (λ bytes h.
+    let next = rw c.in-End.is at (c.in_ok-line.ensures.line h.0 h.1) in
+    next.1)
+
+pub returns-in-End-clause-reads : goal.returns-in-End-clause-reads
+returns-in-End-clause-reads g c =
+    let left = g.R.Read.remaining in
+    let l = c.loop-lines in
+    few_read (Ok Input) (left c.args.reader.now) (left c.next_line.new.reader) (reads_of c.next_line.new.self)
+    (both_counted 0 (reads_of l.lines) (reads_of c.next_line.new.self) (left c.args.reader.now) (left l.reader) (left c.next_line.new.reader) l.invariant.counted c.in_ok-line.ensures.count)
+    (c.in_ok-line.ensures.bound l.invariant.begins.1) (λ wrong. absurd (cc))
+
+pub returns-in_err-line-clause-fault : goal.returns-in_err-line-clause-fault
+returns-in_err-line-clause-fault g c =
+    let l = c.loop-lines in
+    let left = g.R.Read.remaining in
+    let contents = g.W.Write.contents in
+    let failed = err_from_is_err_and c.from_residual.result c.from_residual.ensures.1 in
+    let fault = c.in_err-line.field-0.0 in
+    subst (λ (r : Result Ending ScriptFault). IfErr r (λ f. ForEachPastReading (g.A.Answers.stands c.args.answers.now) (left c.args.reader.now)
+    (AreBrokenOff (left c.next_line.new.reader) (Appends (contents c.args.writer.now) (contents c.next_line.new.writer)) f))) (sym failed.1)
+    (if_known (left c.args.reader.now) _ _ l.invariant.answering (λ bytes far setting past stands.
+    let h = far setting past stands in
+    subst (λ f. AreBrokenOff (left c.next_line.new.reader) (Appends (contents c.args.writer.now) (contents c.next_line.new.writer)) f setting past bytes) (sym failed.2)
+    (lines_broken setting past bytes (contents c.args.writer.now) h.2 h.0 (has_ended l.lines) (contents l.writer) h.4
+    (contents c.next_line.new.writer) c.in_err-line.ensures.written (left c.next_line.new.reader) fault (has_ended c.next_line.new.self) _ (λ is. c.in_err-line.ensures.no_read is) (c.in_err-line.ensures.line h.0 h.1))))
+
+pub returns-in_err-line-clause-reads : goal.returns-in_err-line-clause-reads
+returns-in_err-line-clause-reads g c =
+    let left = g.R.Read.remaining in
+    let l = c.loop-lines in
+    let failed = err_from_is_err_and c.from_residual.result c.from_residual.ensures.1 in
+    few_read c.from_residual.result (left c.args.reader.now) (left c.next_line.new.reader) (reads_of c.next_line.new.self)
+    (both_counted 0 (reads_of l.lines) (reads_of c.next_line.new.self) (left c.args.reader.now) (left l.reader) (left c.next_line.new.reader) l.invariant.counted c.in_err-line.ensures.count)
+    (c.in_err-line.ensures.bound l.invariant.begins.1)
+    (λ is. c.in_err-line.ensures.turns (ap (λ f. Err f) (lines_turns c.in_err-line.field-0.0 (sym failed.2 ∙ same_fault c.from_residual.result failed.0 failed.1 is))))
+
+pub returns-in_err-answer_line-in-Whole-clause-fault : goal.returns-in_err-answer_line-in-Whole-clause-fault
+returns-in_err-answer_line-in-Whole-clause-fault g c =
+    let l = c.loop-lines in
+    let left = g.R.Read.remaining in
+    let contents = g.W.Write.contents in
+    let given = c.in_ok-line.ensures in
+    let failed = err_from_is_err_and c.from_residual-in_err-answer_line-in-Whole.result c.from_residual-in_err-answer_line-in-Whole.ensures.1 in
+    let fault = c.in_err-answer_line-in-Whole.field-0.0 in
+    subst (λ (r : Result Ending ScriptFault). IfErr r (λ f. ForEachPastReading (g.A.Answers.stands c.args.answers.now) (left c.args.reader.now)
+    (AreBrokenOff (left c.next_line.new.reader) (Appends (contents c.args.writer.now) (contents c.answer_line.new.writer)) f))) (sym (failed.1 ∙ ap (λ f. Err f) failed.2))
+    (if_known (left c.args.reader.now) _ _ l.invariant.answering (λ bytes far setting past stands.
+    let h = far setting past stands in
+    let next = rw c.in-Whole.is at (given.line h.0 h.1) in
+    reply_broken setting past bytes (contents c.args.writer.now) h.2 h.0 (has_ended l.lines) (contents l.writer) h.4
+    (contents c.next_line.new.writer) given.written (left c.next_line.new.reader) fault next.0 next.1 c.as_str.result.now (has_ended c.next_line.new.self) (contents c.answer_line.new.writer) next.2
+    (next.3 ∙ ap (λ t. Some t) (sym c.as_str.ensures.value)) (elim c.in_err-answer_line-in-Whole.ensures.fault [ inl failed ↦ inl failed | inr memory ↦ inr (memory.0, memory.1 setting h.2 h.3) ])))
+
+pub returns-in_err-answer_line-in-Whole-clause-reads : goal.returns-in_err-answer_line-in-Whole-clause-reads
+returns-in_err-answer_line-in-Whole-clause-reads g c =
+    let left = g.R.Read.remaining in
+    let l = c.loop-lines in
+    let failed = err_from_is_err_and c.from_residual-in_err-answer_line-in-Whole.result c.from_residual-in_err-answer_line-in-Whole.ensures.1 in
+    few_read c.from_residual-in_err-answer_line-in-Whole.result (left c.args.reader.now) (left c.next_line.new.reader) (reads_of c.next_line.new.self)
+    (both_counted 0 (reads_of l.lines) (reads_of c.next_line.new.self) (left c.args.reader.now) (left l.reader) (left c.next_line.new.reader) l.invariant.counted c.in_ok-line.ensures.count)
+    (c.in_ok-line.ensures.bound l.invariant.begins.1)
+    (λ is. absurd (unanswered_no_turns c.in_err-answer_line-in-Whole.field-0.0 c.in_err-answer_line-in-Whole.ensures.fault (sym failed.2 ∙ same_fault c.from_residual-in_err-answer_line-in-Whole.result failed.0 failed.1 is)))
+
+pub returns-in_err-say_bye-in-Bad-clause-reads : goal.returns-in_err-say_bye-in-Bad-clause-reads
+returns-in_err-say_bye-in-Bad-clause-reads g c =
+    let left = g.R.Read.remaining in
+    let l = c.loop-lines in
+    let failed = err_from_is_err_and c.from_residual-in_err-say_bye-in-Bad.result c.from_residual-in_err-say_bye-in-Bad.ensures.1 in
+    few_read c.from_residual-in_err-say_bye-in-Bad.result (left c.args.reader.now) (left c.next_line.new.reader) (reads_of c.next_line.new.self)
+    (both_counted 0 (reads_of l.lines) (reads_of c.next_line.new.self) (left c.args.reader.now) (left l.reader) (left c.next_line.new.reader) l.invariant.counted c.in_ok-line.ensures.count)
+    (c.in_ok-line.ensures.bound l.invariant.begins.1)
+    (λ is. let wrong = sym c.in_err-say_bye-in-Bad.ensures.fault ∙ (sym failed.2 ∙ same_fault c.from_residual-in_err-say_bye-in-Bad.result failed.0 failed.1 is) in absurd (cc))
+
+pub returns-in_err-flush-in-End-clause-reads : goal.returns-in_err-flush-in-End-clause-reads
+returns-in_err-flush-in-End-clause-reads g c =
+    let left = g.R.Read.remaining in
+    let l = c.loop-lines in
+    let failed = err_from_is_err_and c.from_residual-in_err-flush-in-End.result c.from_residual-in_err-flush-in-End.ensures.1 in
+    few_read c.from_residual-in_err-flush-in-End.result (left c.args.reader.now) (left c.next_line.new.reader) (reads_of c.next_line.new.self)
+    (both_counted 0 (reads_of l.lines) (reads_of c.next_line.new.self) (left c.args.reader.now) (left l.reader) (left c.next_line.new.reader) l.invariant.counted c.in_ok-line.ensures.count)
+    (c.in_ok-line.ensures.bound l.invariant.begins.1)
+    (λ is. let wrong = sym c.in_err-flush-in-End.ensures.fault ∙ (sym failed.2 ∙ same_fault c.from_residual-in_err-flush-in-End.result failed.0 failed.1 is) in absurd (cc))
+
+pub loop-lines-preserved : goal.loop-lines-preserved
+loop-lines-preserved g c =
+    let contents = g.W.Write.contents in
+    let left = g.R.Read.remaining in
+    let l = c.loop-lines in
+    let given = c.in_ok-line.ensures in
+    let done = c.in_ok-answer_line-in-Whole.ensures in
+    let on = rw c.in-Whole.is at (given.further l.invariant.begins) in
+    record {
+      begins = on.0;
+      counted = both_counted 0 (reads_of l.lines) (reads_of c.next_line.new.self) (left c.args.reader.now) (left l.reader) (left c.next_line.new.reader) l.invariant.counted given.count;
+      texts = if_known (left c.args.reader.now) _ _ l.invariant.texts (λ bytes h.
+          let next = rw c.in-Whole.is at (given.line h.0 h.1) in
+          (next.1, next.4, texts_further (cut bytes) (cut h.0) h.2 next.0 (cut next.1) next.2.0));
+      answering = if_known (left c.args.reader.now) _ _ l.invariant.answering (λ bytes far setting past stands.
+          let h = far setting past stands in
+          let next = rw c.in-Whole.is at (given.line h.0 h.1) in
+          let now = h.2 in
+          let text = c.as_str.result.now in (
+            next.1,
+            next.4,
+            past_behind setting now text,
+            done.stands setting now h.3,
+            come_further (reply_to_line setting) (past_behind setting) past bytes (contents c.args.writer.now) now h.0 (has_ended l.lines) (contents l.writer) h.4
+                (contents c.next_line.new.writer) given.written next.0 next.1 text (past_behind setting now text) (has_ended c.next_line.new.self) (contents c.answer_line.new.writer) next.2 given.stays_ended
+                (next.3 ∙ ap (λ t. Some t) (sym c.as_str.ensures.value)) refl (done.written setting now h.3),
+          ));
+    }

@@ -1,22 +1,24 @@
-use Rattle.std.proofs.Common.{rules, ◌≡◌, ◌<◌, ◌^◌, Some, Err, ap, ◌∙◌, sym}
+use Rattle.std.proofs.Common.{rules, ◌≡◌, ◌<◌, ◌^◌, Some, Err, ◌∷◌, [], ap, subst, ◌∙◌, sym}
 use Rattle.rig_model.specs.Host.{host_after}
+use Rattle.rig_model.specs.declared.events.Event.TheVariants.{Tick}
+use Rattle.rig_script.specs.inner.Records.{IsTold}
 use Rattle.tenant_lines.specs.Words.{words_of, values_of_words}
-use Rattle.rig_script.proofs.Steps.{tick_done, tick_ended}
+use Rattle.rig_script.proofs.Steps.{tick_done, tick_ended, none_told}
 use Rattle.rig_script.proofs.host_answers.tick.Goals as goal
 
 pub returns-in-Ok : goal.returns-in-Ok
-returns-in-Ok c = λ setting past h.
-    let values : values_of_words (words_of c.args.line.now) ≡ Some c.in-Some.frame.items = rw c.in-Some.is at (sym c.in_ok-frame.ensures) in
+returns-in-Ok g c = λ setting past h.
+    let values : values_of_words (words_of c.args.line.now) ≡ Some c.in-Some.frame.items = rw c.in-Some.is at (sym c.in_ok-frame.ensures.values) in
     let values : values_of_words (words_of c.args.line.now) ≡ Some c.as_slice.result.now = values ∙ ap (λ l. Some l) (sym c.as_slice.ensures.value) in
     let low : c.clock-number.result < 2 ^ 64 = search rules in
-    tick_done setting past c.args.host.now c.instant.new.self h c.format.result (words_of c.args.line.now) c.as_slice.result.now values
+    tick_done setting past c.args.host.now c.instant.new.self h c.format.result (g.R.Record.tells c.args.events.now) (g.R.Record.tells c.tick.new.self) (words_of c.args.line.now) c.as_slice.result.now values
     c.clock-number.result c.clock-number.ensures low (λ other. let e = sym c.in-Ok.is ∙ c.instant.ensures.bad_frame.1 other in cc) (λ ended. let e = sym c.in-Ok.is ∙ c.instant.ensures.clock_ended.1 ended in cc)
-    (c.in-Ok.ensures.step setting (host_after setting past) h.stands) c.format.ensures.ok
+    (c.in-Ok.ensures.step setting (host_after setting past) h.stands) c.format.ensures.ok (subst (λ f. IsTold (g.R.Record.tells c.args.events.now) (g.R.Record.tells c.tick.new.self) (Tick f ∷ [])) (sym c.as_slice.ensures.value) c.in_ok-tick-in-Ok.ensures)
 
 pub returns-in-Err-ClockEnded : goal.returns-in-Err-ClockEnded
-returns-in-Err-ClockEnded c = λ setting past h.
-    let values : values_of_words (words_of c.args.line.now) ≡ Some c.in-Some.frame.items = rw c.in-Some.is at (sym c.in_ok-frame.ensures) in
+returns-in-Err-ClockEnded g c = λ setting past h.
+    let values : values_of_words (words_of c.args.line.now) ≡ Some c.in-Some.frame.items = rw c.in-Some.is at (sym c.in_ok-frame.ensures.values) in
     let values : values_of_words (words_of c.args.line.now) ≡ Some c.as_slice.result.now = values ∙ ap (λ l. Some l) (sym c.as_slice.ensures.value) in
     let ended = c.instant.ensures.clock_ended.0 (c.in-Err-ClockEnded.is ∙ ap (λ x. Err x) c.in-Err-ClockEnded.field-0-is) in
-    tick_ended setting past c.args.host.now c.instant.new.self h c.reply_line-in-Err-ClockEnded.result (words_of c.args.line.now) c.as_slice.result.now values ended.0 ended.1
-    c.in-Err-ClockEnded.ensures.refused c.reply_line-in-Err-ClockEnded.ensures
+    tick_ended setting past c.args.host.now c.instant.new.self h c.reply_line-in-Err-ClockEnded.result (g.R.Record.tells c.args.events.now) (g.R.Record.tells c.args.events.now) (words_of c.args.line.now) c.as_slice.result.now values ended.0 ended.1
+    c.in-Err-ClockEnded.ensures.refused c.reply_line-in-Err-ClockEnded.ensures (none_told (g.R.Record.tells c.args.events.now))

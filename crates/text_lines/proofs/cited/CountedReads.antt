@@ -1,7 +1,7 @@
 -- Counting the reads that gave bytes.
-use Rattle.std.proofs.Common.{◌≡◌, ℕ, ◌+◌, ◌≤◌, List, ◌++◌, length, Option, Some, None, sym, ap, ◌∙◌, append_assoc, length-append, arith}
-use Rattle.rig_script.specs.cited.Reading.{AreReads, AreCounted, IsLeft, reads_of}
-use Rattle.rig_script.specs.declared.lines.Lines.{Lines}
+use Rattle.std.proofs.Common.{◌≡◌, ℕ, ◌+◌, ◌*◌, ◌≤◌, List, ◌++◌, length, Option, Some, None, IsSomeAnd, sym, ap, ◌∙◌, append_assoc, length-append, arith}
+use Rattle.text_lines.specs.cited.Reading.{AreReads, AreCounted}
+use Rattle.text_lines.specs.declared.lines.TheConstants.{PAGE}
 
 both_reads : (m n : ℕ) (xs ys zs : List ℕ) → AreReads m xs ys → AreReads n ys zs → AreReads (m + n) xs zs
 both_reads m n xs ys zs one other = record {
@@ -22,13 +22,14 @@ both_counted a b c (Some xs) (Some ys) (Some zs) one other =
     let first = one.1 in let second = other.1 in
     (one.0 + other.0, omega (arith, first, second), both_reads one.0 other.0 xs ys zs one.2 other.2)
 
--- no more reads were counted than bytes were left
-pub counted_left : (lines : Lines) (known : Option (List ℕ)) (bytes : List ℕ) → IsLeft lines known bytes → (count : ℕ) (after : Option (List ℕ)) → AreCounted (reads_of lines) count known after → count ≤ reads_of lines + length bytes
-counted_left lines None bytes left count after counted = absurd left
-counted_left lines (Some more) bytes left count None counted = absurd counted
-counted_left lines (Some more) bytes left count (Some rest) counted =
-    let as_many = counted.1 in
-    let least = counted.2.least in
-    let all : length bytes ≡ length lines.buffer.items + length more = ap (λ (l : List ℕ). length l) left.2 ∙ length-append lines.buffer.items more in
-    let taken : length more ≡ length counted.2.taken + length rest = ap (λ (l : List ℕ). length l) counted.2.split ∙ length-append counted.2.taken rest in
-    omega (arith, as_many, least, all, taken)
+-- what was taken by reads that were counted from the first on
+pub taken_by : (count : ℕ) (bytes : List ℕ) (after : Option (List ℕ)) → AreCounted 0 count (Some bytes) after
+    → IsSomeAnd after (λ more. (taken : List ℕ) × (bytes ≡ taken ++ more) × (count ≤ length taken) × (length taken ≤ PAGE * count))
+taken_by count bytes None counted = absurd counted
+taken_by count bytes (Some more) counted =
+    let reads = counted.2 in
+    let is = counted.1 in
+    let as_many : count ≡ counted.0 = omega (arith, is) in
+    let least = reads.least in
+    let most = reads.most in
+    (reads.taken, reads.split, omega (arith, as_many, least), omega (arith, as_many, most))

@@ -1,6 +1,0 @@
-use Rattle.std.proofs.Common.{◌∙◌, sym}
-use Rattle.rig_script.proofs.Speaking.{tenant_within}
-use Rattle.rig_script.proofs.host_answers.HostAnswers.answer.Goals as goal
-
-pub tenant_line-requires : goal.tenant_line-requires
-tenant_line-requires c = tenant_within c.args.self.now.config c.args.line.now c.in-Tenant.tenant (rw c.config.ensures at (sym c.who_speaks.ensures ∙ c.in-Tenant.is))

@@ -1,0 +1,127 @@
+//! Who is told what the lines of a script do.
+
+ghost use Rattle.std.specs.Prelude.{◌≡◌, ◌<◌, ◌++◌, ◌∷◌, [], List, length, map, OnOk};
+ghost use Rattle.host_core.specs.HostStanding.{outstanding_jobs, outstanding_of};
+ghost use Rattle.rig_model.specs.declared.events.Event.{Event};
+ghost use Rattle.rig_script.specs.inner.Records.{IsTold};
+
+use giotto_tasks::lists::List;
+use host_core::events::Event;
+use host_core::hosts::Host;
+use rig_config::TenantId;
+use std::alloc::{AllocError, Global};
+use tenant_jobs::jobs::JobId;
+use tenant_lines::commands::Command;
+
+/// Who is told what a line does: a tenant's command is one event, answered or refused, and so is an instant; `work` is one for each job
+/// that it completes, in the order of the roster; every other line is none.
+pub trait Record {
+    // it was told these events, the oldest first
+    ghost tells: { Self → List Event → Type 0 };
+
+    /// A command, which is carried out next.
+    ///
+    /// # Errors
+    /// Want of memory.
+    fn command(
+        &mut self,
+        alloc: Global,
+        tenant: TenantId,
+        command: &Command,
+    ) -> Result<(), AllocError>
+        ensures { OnOk result (IsTold (tells self.old) (tells self.new) (Event.Own tenant command.now ∷ [])) };
+
+    /// An instant with this frame, which has happened.
+    ///
+    /// # Errors
+    /// Want of memory.
+    fn tick(&mut self, frame: Vec<i64>) -> Result<(), AllocError>
+        ensures { OnOk result (IsTold (tells self.old) (tells self.new) (Event.Tick frame.items ∷ [])) };
+
+    /// The completions of all outstanding jobs of a host, which are completed next.
+    ///
+    /// # Errors
+    /// Want of memory.
+    fn work(&mut self, host: &Host) -> Result<(), AllocError>
+        ensures { OnOk result (IsTold (tells self.old) (tells self.new) (map Event.Done (outstanding_jobs host.now))) };
+
+    /// The completions of one tenant's outstanding jobs.
+    ///
+    /// # Errors
+    /// Want of memory.
+    fn work_of(&mut self, host: &Host, tenant: TenantId) -> Result<(), AllocError>
+        requires { tenant < length host.now.config.tenants }
+        ensures { OnOk result (IsTold (tells self.old) (tells self.new) (map Event.Done (outstanding_of host.now tenant))) };
+}
+
+/// Nobody is told.
+#[derive(Drop)]
+pub struct Unrecorded;
+
+impl Record for Unrecorded {
+    ghost use Rattle.std.specs.Prelude.{⊤};
+
+    ghost tells = { λ nobody events. ⊤ };
+
+    fn command(
+        &mut self,
+        _alloc: Global,
+        _tenant: TenantId,
+        _command: &Command,
+    ) -> Result<(), AllocError> {
+        Ok(())
+    }
+
+    fn tick(&mut self, _frame: Vec<i64>) -> Result<(), AllocError> {
+        Ok(())
+    }
+
+    fn work(&mut self, _host: &Host) -> Result<(), AllocError> {
+        Ok(())
+    }
+
+    fn work_of(&mut self, _host: &Host, _tenant: TenantId) -> Result<(), AllocError> {
+        Ok(())
+    }
+}
+
+/// The events of the lines, the oldest first.
+impl Record for Vec<Event> {
+    ghost use Rattle.std.specs.Prelude.{◌≡◌};
+
+    ghost tells = { λ told events. told.items ≡ events };
+
+    fn command(
+        &mut self,
+        alloc: Global,
+        tenant: TenantId,
+        command: &Command,
+    ) -> Result<(), AllocError> {
+        let copy = command.copy(alloc)?;
+        self.push(Event::Own(tenant, copy))?;
+        Ok(())
+    }
+
+    fn tick(&mut self, frame: Vec<i64>) -> Result<(), AllocError> {
+        self.push(Event::Tick(List::from_vec(frame)))?;
+        Ok(())
+    }
+
+    fn work(&mut self, host: &Host) -> Result<(), AllocError> {
+        add_completions(self, host.outstanding_jobs()?)
+    }
+
+    fn work_of(&mut self, host: &Host, tenant: TenantId) -> Result<(), AllocError> {
+        add_completions(self, host.outstanding_jobs_of(tenant)?)
+    }
+}
+
+// Puts the completions of these jobs behind the other events.
+fn add_completions(events: &mut Vec<Event>, jobs: Vec<JobId>) -> Result<(), AllocError>
+    ensures { OnOk result (events.new.items ≡ events.old.items ++ map Event.Done jobs.items) }
+{
+    for job in jobs {
+        events.push(Event::Done(job))?;
+    }
+    Ok(())
+}

@@ -1,0 +1,2 @@
+pub mod BeforeFaults
+pub mod cited

@@ -1,0 +1,178 @@
+//! Lines of a reader: at most 16,384 bytes before each LF, one CR at the end taken off, and UTF-8.
+
+ghost use Rattle.std.specs.Prelude.{◌≡◌, ◌≢◌, ◌<◌, ◌≤◌, ◌+◌, ℕ, true, false, List, length, Option, Some, IfErr, IfSome, OnOk, Ok, Err};
+ghost use Rattle.std.specs.Io.KnownBytes.{Keeps};
+ghost use Rattle.tokio_util.specs.Codec.Lines.{IsOutOfMemory};
+ghost use Rattle.rig_model.specs.declared.limits.TheConstants.{MAX_READS};
+ghost use Rattle.text_lines.specs.cited.Reading.{AreAhead, AreAtLineStart, IsReading, IsLeft, IsFurther, IsNextLine, AreCounted, has_ended, left_at_most, reads_of};
+
+use crate::faults::LinesFault;
+use bytes::BytesMut;
+use rig_model::limits::{MAX_LINE, MAX_READS};
+use std::alloc::Global;
+use std::io;
+use std::io::{Read, Write};
+use tokio_util::codec::{Decoder, LinesCodec, LinesCodecError};
+
+/// How many bytes a read may give.
+pub const PAGE: usize = 4096;
+
+/// What the next line is.
+#[derive(Drop)]
+pub enum Line {
+    /// A line, without its LF and without one CR before it.
+    Whole(String),
+    /// The line is longer than 16,384 bytes, or no UTF-8.
+    Bad,
+    /// The input has ended.
+    End,
+}
+
+/// The lines of a reader, which is lent to each call.
+#[derive(Drop)]
+pub struct Lines {
+    alloc: Global,
+    codec: LinesCodec,
+    buffer: BytesMut,
+    reads: u32,
+    at_end: bool,
+}
+
+impl Lines {
+    /// The lines of a reader from which nothing was read yet.
+    pub fn new(alloc: Global) -> Lines
+        ensures left { (bytes : List ℕ) → IsLeft result (Some bytes) bytes }
+        ensures count { reads_of result ≡ 0 }
+        ensures begins { AreAtLineStart result }
+    {
+        Lines {
+            alloc,
+            codec: LinesCodec::new_with_max_length(MAX_LINE),
+            buffer: BytesMut::new(alloc),
+            reads: 0,
+            at_end: false,
+        }
+    }
+
+    /// How many reads gave bytes so far: at most 1,048,576.
+    pub fn reads(&self) -> u32
+        ensures { result ≡ reads_of self.now }
+    {
+        self.reads
+    }
+
+    /// The next line. What the reader has is read only where no line is left of what was read before, and the writer is flushed before
+    /// each read. A read that gives bytes is counted, and nothing else; the last one that may come is the 1,048,576th.
+    ///
+    /// # Errors
+    /// `Read` where a read failed, `Write` where a flush failed, and `Turns` where 1,048,576 reads gave bytes and none of them found the
+    /// end: then all lines were given whose LF was read. `Memory` where there is no memory for the next line.
+    pub fn next_line<R: Read, W: Write>(
+        &mut self,
+        reader: &mut R,
+        writer: &mut W,
+    ) -> Result<Line, LinesFault>
+        ensures line { (bytes : List ℕ) → IsLeft self.old (R.remaining reader.old) bytes
+            → IsNextLine bytes result (R.remaining reader.new) (has_ended self.new) (IsLeft self.new (R.remaining reader.new)) }
+        ensures count { AreCounted (reads_of self.old) (reads_of self.new) (R.remaining reader.old) (R.remaining reader.new) }
+        ensures bound { reads_of self.old ≤ MAX_READS → reads_of self.new ≤ MAX_READS }
+        ensures turns { result ≡ Err LinesFault.Turns → MAX_READS ≤ reads_of self.new }
+        ensures further { AreAtLineStart self.old → IsFurther self.old result self.new }
+        ensures stays_ended { has_ended self.old ≡ true → has_ended self.new ≡ true }
+        ensures no_read { has_ended self.old ≡ true → IfErr result (λ fault. fault ≡ LinesFault.Memory) }
+        ensures written { Keeps (W.contents writer.old) (W.contents writer.new) }
+    {
+        loop {
+            if self.at_end {
+                return self.last_line();
+            }
+            match self.codec.decode(&mut self.buffer) {
+                Ok(None) => {}
+                Ok(Some(text)) => return Ok(Line::Whole(text)),
+                Err(error) => return unread(error),
+            }
+            let Ok(()) = writer.flush() else {
+                return Err(LinesFault::Write);
+            };
+            self.fill(reader)?;
+        }
+    }
+
+    // The next line where the reader has ended.
+    fn last_line(&mut self) -> Result<Line, LinesFault>
+        requires { self.old.at_end ≡ true }
+        ensures line { (remaining : Option (List ℕ)) (bytes : List ℕ) → IsReading self.old.codec self.old.buffer.items → AreAhead self.old remaining bytes
+            → IsNextLine bytes result remaining true (IsLeft self.new remaining) }
+        ensures further { IsReading self.old.codec self.old.buffer.items → reads_of self.old ≤ MAX_READS → IsFurther self.old result self.new }
+        ensures faults { IfErr result (λ fault. fault ≡ LinesFault.Memory) }
+        ensures count { reads_of self.new ≡ reads_of self.old }
+        ensures stays_ended { self.new.at_end ≡ true }
+    {
+        if self.buffer.is_empty() {
+            return Ok(Line::End);
+        }
+        match self.codec.decode_eof(&mut self.buffer) {
+            Ok(Some(text)) => Ok(Line::Whole(text)),
+            Ok(None) => {
+                // A CR alone is a blank line.
+                self.buffer.clear();
+                Ok(Line::Whole(String::new(self.alloc)))
+            }
+            Err(error) => unread(error),
+        }
+    }
+
+    // Reads what there is, up to a page.
+    fn fill<R: Read>(&mut self, reader: &mut R) -> Result<(), LinesFault>
+        requires { self.old.at_end ≡ false }
+        ensures filled { OnOk result ((bytes : List ℕ) → AreAhead self.old (R.remaining reader.old) bytes → AreAhead self.new (R.remaining reader.new) bytes) }
+        ensures reading { OnOk result (IsReading self.old.codec self.old.buffer.items → IsReading self.new.codec self.new.buffer.items) }
+        ensures fewer { OnOk result (left_at_most self.new ≤ left_at_most self.old) }
+        ensures faults { IfErr result (λ fault. fault ≢ LinesFault.Write) }
+        ensures kept { IfErr result (λ fault. fault ≢ LinesFault.Memory → Keeps (R.remaining reader.old) (R.remaining reader.new)) }
+        ensures memory { result ≡ Err LinesFault.Memory → IfSome (R.remaining reader.old) (λ bytes. 0 < length bytes) }
+        ensures count { AreCounted (reads_of self.old) (reads_of self.new) (R.remaining reader.old) (R.remaining reader.new) }
+        ensures further { OnOk result (self.new.at_end ≡ false → reads_of self.new ≡ reads_of self.old + 1) }
+        ensures ended { self.new.at_end ≡ true → reads_of self.new ≡ reads_of self.old }
+        ensures room { OnOk result (reads_of self.old < MAX_READS) }
+        ensures bound { reads_of self.old ≤ MAX_READS → reads_of self.new ≤ MAX_READS }
+        ensures turns { result ≡ Err LinesFault.Turns → MAX_READS ≤ reads_of self.new }
+    {
+        if self.reads() >= MAX_READS {
+            return Err(LinesFault::Turns);
+        }
+        let mut page = [0u8; PAGE];
+        match reader.read(&mut page) {
+            Err(_) => Err(LinesFault::Read),
+            Ok(0) => {
+                self.at_end = true;
+                Ok(())
+            }
+            Ok(len) => {
+                self.reads += 1;
+                let Ok(()) = self.buffer.extend_from_slice(&page[..len]) else {
+                    return Err(LinesFault::Memory);
+                };
+                Ok(())
+            }
+        }
+    }
+}
+
+// What a line that the codec refuses is.
+fn unread(error: LinesCodecError) -> Result<Line, LinesFault>
+    ensures fault { IfErr result (λ fault. fault ≡ LinesFault.Memory) }
+    ensures memory { IsOutOfMemory {T = ℕ} (Err error) → result ≡ Err LinesFault.Memory }
+    ensures other { ¬ IsOutOfMemory {T = ℕ} (Err error) → result ≡ Ok Line.Bad }
+{
+    match error {
+        LinesCodecError::MaxLineLengthExceeded => Ok(Line::Bad),
+        LinesCodecError::Io(error) => {
+            if error.kind() == io::ErrorKind::OutOfMemory {
+                Err(LinesFault::Memory)
+            } else {
+                Ok(Line::Bad)
+            }
+        }
+    }
+}
