@@ -6,6 +6,7 @@ pub mod HostBinds
 pub mod HostInstants
 pub mod HostTables
 pub mod Marks
+pub mod NewHost
 pub mod NewTenants
 pub mod Played
 pub mod ReleasedNames

@@ -12,7 +12,7 @@ use Rattle.rig_model.specs.declared.jobs.JobId.{JobId}
 use Rattle.rig_model.specs.Jobs.{has_job}
 use Rattle.tenant_state.specs.Standing.{Standing, no_tenant}
 use Rattle.tenant_state.specs.cited.Standing.{HasItsResults}
-use Rattle.host_core.proofs.cited.NewHost.{at_place, as_many_places, begun}
+use Rattle.host_core.proofs.NewHost.{at_place, as_many_places, begun}
 use Rattle.rig_laws.proofs.cited.Places.{nobody}
 
 module _ (n : ℕ) (config : Rig) where

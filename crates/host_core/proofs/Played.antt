@@ -20,7 +20,7 @@ use Rattle.rig_model.specs.Answers.{answers_along, answers_of}
 use Rattle.rig_model.specs.Base.{IsBase, new_base, Setting}
 use Rattle.rig_model.specs.Host.{host_after}
 use Rattle.rig_model.specs.HostState.{HostState, row_at}
-use Rattle.host_core.specs.HostStanding.{HostStanding, new_host, Stands}
+use Rattle.host_core.specs.HostStanding.{HostStanding, Stands}
 use Rattle.instant_engine.specs.Tenants.{tenant_at, released_from}
 use Rattle.rig_model.specs.Legal.{next_tick, was_released, may_follow, is_legal}
 use Rattle.host_core.specs.inner.Playing.{IsPlayed}
@@ -45,7 +45,6 @@ use Rattle.rig_laws.proofs.cited.AloneAlong.{same_clock}
 use Rattle.rig_laws.proofs.cited.Histories.{unfinished_of, own_instant, own_row}
 use Rattle.rig_laws.proofs.cited.Histories.{releases}
 use Rattle.rig_laws.proofs.cited.LaterBase.{new_is_base, new_row}
-use Rattle.host_core.proofs.cited.NewHost.{new_stands}
 use Rattle.rig_model.proofs.cited.JobNames.{same_job_is}
 use Rattle.giotto_tasks.proofs.cited.TestLemmas.{absorbed, either, or_true, same_answers}
 use Rattle.giotto_tasks.proofs.cited.ListLemmas.{all_if_any, any_if_all, reverse_more}
@@ -268,15 +267,12 @@ module _ (setting : Setting) (base : IsBase setting.config setting.base) where
       ap (λ n. nat_lt n (2 ^ 64 - 1)) next ∙ sym (ap (λ b. b && nat_lt (next_tick setting past) (2 ^ 64 - 1)) is)
 
 -- no event yet
-pub nothing_played : (setting : Setting) (config : Rig) (host : HostStanding) (texts : List (List ℕ)) → IsSettingOf config setting → host ≡ new_host config 0 → length texts ≡ length config.tenants
+pub nothing_played : (setting : Setting) (config : Rig) (host : HostStanding) (texts : List (List ℕ)) → IsSettingOf config setting → Stands setting host (new_base config 0) → length texts ≡ length config.tenants
     → All (λ text. text ≡ []) texts → IsPlayed setting [] host texts []
 nothing_played setting config host texts is new as_many blank = record {
   base = subst (IsBase setting.config) (sym is.new) (subst (λ (k : Rig). IsBase k (new_base config 0)) (sym is.same_config) (new_is_base config 0));
   legal = refl;
-  stands =
-      subst (λ h. Stands setting h setting.base) (sym new)
-      (subst (Stands setting (new_host config 0)) (sym is.new)
-      (subst (λ (k : Rig). Stands setting (new_host k 0) (new_base k 0)) is.same_config (new_stands setting 0)));
+  stands = subst (Stands setting host) (sym is.new) new;
   as_many = as_many ∙ ap (λ (k : Rig). length k.tenants) (sym is.same_config);
   each = λ t lt. blank t [] (omega (arith, as_many, ap (λ (k : Rig). length k.tenants) is.same_config));
   names = λ j. sym (ap (λ (host : HostState). is_active (row_at host j.tenant) j) is.new ∙ ap (λ row. is_active row j) (new_row config 0 j.tenant));

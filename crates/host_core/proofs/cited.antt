@@ -1,4 +1,3 @@
 pub mod HostSteps
 pub mod LineValues
-pub mod NewHost
 pub mod Outstanding

@@ -1,13 +1,14 @@
 //! The host of a rig: all its tenants, on one clock.
 
-ghost use Rattle.std.specs.Prelude.{◌≡◌, ◌≢◌, ◌<◌, ◌≤◌, ◌+◌, ◌-◌, ◌^◌, ◌↔◌, ◌||◌, length, map, is_some, if◌then◌else◌, IsOk, IsSome, IfOk, IfSome, OnOk, OnErr, OnSome, Ok, Err, None, true, false};
+ghost use Rattle.std.specs.Prelude.{◌≡◌, ◌≢◌, ◌<◌, ◌≤◌, ◌+◌, ◌-◌, ◌^◌, ◌↔◌, ◌||◌, length, map, is_some, if◌then◌else◌, IsOk, IsErr, IsSome, IfOk, IfSome, OnOk, OnErr, OnSome, Ok, Err, None, true, false};
 ghost use Rattle.std.specs.List.{All};
 ghost use Rattle.instant_engine.specs.cited.Tables.{IsTaskTable};
 ghost use Rattle.instant_engine.specs.Tenants.{ArePlaced, most_of, released_from, tenant_at};
 ghost use Rattle.instant_engine.specs.cited.Tenants.{is_active_among};
 ghost use Rattle.instant_engine.specs.cited.Halves.{IsReady};
 ghost use Rattle.rig_model.specs.HostState.{row_at, is_awaited};
-ghost use Rattle.host_core.specs.HostStanding.{ForEachState, IsOwn, TakesCompletions, TakesEvent, new_host, awaited_in, line_of, outstanding_count, outstanding_from, outstanding_jobs, outstanding_of};
+ghost use Rattle.rig_model.specs.Base.{Setting, new_base};
+ghost use Rattle.host_core.specs.HostStanding.{ForEachState, IsOwn, Stands, TakesCompletions, TakesEvent, new_host, awaited_in, line_of, outstanding_count, outstanding_from, outstanding_jobs, outstanding_of};
 ghost use Rattle.rig_model.specs.LineValues.{value_of_line, writer_of};
 ghost use Rattle.rig_model.specs.Tenancies.{roster_of};
 ghost use Rattle.rig_model.specs.Views.{after_command};
@@ -104,7 +105,8 @@ impl Host {
     /// # Errors
     /// Want of memory.
     pub fn new(alloc: Global, config: &Config, first_tick: u64) -> Result<Host, AllocError>
-        ensures { IfOk result (λ host. host ≡ new_host config.now first_tick) }
+        ensures host { IfOk result (λ host. host ≡ new_host config.now first_tick) }
+        ensures base { IfOk result (λ host. (setting : Setting) → setting.config ≡ config.now → Stands setting host (new_base config.now first_tick)) }
     {
         let copy = config.copy(alloc)?;
         let granted = places(alloc, config)?;
@@ -124,8 +126,8 @@ impl Host {
     }
 
     /// Carries out a tenant's command. A refusal changes nothing, want of memory included, and no command changes another tenant.
-    /// Only `load`, `show all` of a tenant with a program, `offer`, `bind`, and `rows` where there is one, are ever refused for want of
-    /// memory.
+    /// Only `load`, `replace`, `show all` of a program with a port, `trace` where there is a record, `offer` and `bind` where the row may be
+    /// made, and `rows` where there is one, are ever refused for want of memory.
     pub fn command(&mut self, tenant: TenantId, command: Command) -> Reply
         requires { tenant < length self.old.config.tenants }
         ensures memory { result ≡ Reply.Refused Refusal.Memory → self.new ≡ self.old }
@@ -314,6 +316,35 @@ impl Host {
         ensures rows { ForEachState self.now (λ setting state. result ≡ bind_at (roster_of setting.config) (row_at state tenant).binds i) }
     {
         self.tenants[tenant].bind_at(i)
+    }
+
+    /// The names of the outstanding jobs, tenant by tenant in the order of the roster.
+    ///
+    /// # Errors
+    /// Want of memory, only where a job is outstanding.
+    pub fn outstanding_jobs(&self) -> Result<Vec<JobId>, AllocError>
+        ensures names { IfOk result (λ names. names.items ≡ outstanding_jobs self.now) }
+        ensures memory { IsErr result → 0 < outstanding_count self.now }
+    {
+        let mut names = Vec::new(self.alloc);
+        for tenant in &self.tenants {
+            tenant.add_outstanding(&self.finished, &mut names)?;
+        }
+        Ok(names)
+    }
+
+    /// The names of one tenant's outstanding jobs.
+    ///
+    /// # Errors
+    /// Want of memory, only where a job of it is outstanding.
+    pub fn outstanding_jobs_of(&self, tenant: TenantId) -> Result<Vec<JobId>, AllocError>
+        requires { tenant < length self.now.config.tenants }
+        ensures names { IfOk result (λ names. names.items ≡ outstanding_of self.now tenant) }
+        ensures memory { IsErr result → 0 < length (outstanding_of self.now tenant) }
+    {
+        let mut names = Vec::new(self.alloc);
+        self.tenants[tenant].add_outstanding(&self.finished, &mut names)?;
+        Ok(names)
     }
 
     /// How many jobs are outstanding: their tasks are active, and not completed. Takes no memory.

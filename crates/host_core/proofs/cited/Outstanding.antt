@@ -1,9 +1,9 @@
 -- The outstanding jobs, how many they are, and which they are in the definitions.
-use Rattle.std.proofs.Common.{◌≡◌, ◌≢◌, ℕ, zero, suc, ◌+◌, ◌<◌, Bool, true, false, cond, not, ◌||◌, List, [], ◌∷◌, ◌++◌, map, filter, length, get_or, refl, sym, ap, ◌∙◌, subst, arith, zero-add, length-append}
+use Rattle.std.proofs.Common.{◌≡◌, ◌≢◌, ℕ, zero, suc, ◌+◌, ◌<◌, Bool, true, false, cond, not, ◌||◌, List, [], ◌∷◌, ◌++◌, map, filter, length, take, get_or, refl, sym, ap, ◌∙◌, subst, arith, zero-add, append-nil, append_assoc, length-append}
 use Rattle.std.specs.List.{AllByRecursion, list_all, list_any, sum_by, flat_map, enumerate_from}
 use Rattle.std.specs.Prelude.{sum}
 use Rattle.std.proofs.lemmas.Bool.{and_from, and_parts, eq-eqb, false_from_ne_true, false≢true}
-use Rattle.std.proofs.lemmas.List.{get_or_default, length-map}
+use Rattle.std.proofs.lemmas.List.{get_or_default, length-map, length-take-le, take_more}
 use Rattle.std.proofs.lemmas.List.Sums.{sum-map, sum_by-cons}
 use Rattle.rig_model.specs.declared.jobs.JobId.{JobId}
 use Rattle.rig_config.specs.declared.TenantConfig.{TenantConfig}
@@ -37,6 +37,37 @@ counted_from entries n (x ∷ xs) =
 -- the tenants' numbers make up that of all
 pub counted_in_all : (entries : List TableEntry) (xs : List Standing) → sum (map (number_outstanding entries) xs) ≡ length (outstanding_from entries 0 xs)
 counted_in_all entries xs = sum-map (number_outstanding entries) xs ∙ counted_from entries 0 xs
+
+-- those of one tenant more
+named_behind : (entries : List TableEntry) (n : ℕ) (xs : List Standing) (y : Standing)
+    → outstanding_from entries n (xs ++ y ∷ []) ≡ outstanding_from entries n xs ++ map (job_of (n + length xs)) (outstanding_tasks y entries)
+named_behind entries n [] y =
+    let here : n ≡ n + 0 = omega arith in
+    append-nil (map (job_of n) (outstanding_tasks y entries)) ∙ ap (λ k. map (job_of k) (outstanding_tasks y entries)) here
+named_behind entries n (x ∷ xs) y =
+    let on : n + 1 + length xs ≡ n + suc (length xs) = omega arith in
+    ap (λ l. map (job_of n) (outstanding_tasks x entries) ++ l) (named_behind entries (n + 1) xs y ∙ ap (λ k. outstanding_from entries (n + 1) xs ++ map (job_of k) (outstanding_tasks y entries)) on)
+    ∙ sym (append_assoc (map (job_of n) (outstanding_tasks x entries)) (outstanding_from entries (n + 1) xs) (map (job_of (n + suc (length xs))) (outstanding_tasks y entries)))
+
+pub named_more : (entries : List TableEntry) (xs : List Standing) (i : ℕ) (x : Standing) → ArePlaced xs → i < length xs → x ≡ tenant_at xs i
+    → outstanding_from entries 0 (take (i + 1) xs) ≡ outstanding_from entries 0 (take i xs) ++ map (job_of x.tenancy.owner.place) (outstanding_tasks x entries)
+named_more entries xs i x placed lt is =
+    let at : 0 + length (take i xs) ≡ x.tenancy.owner.place = omega (arith, length-take-le i xs (omega (arith, lt)), sym (placed i lt) ∙ ap (λ (s : Standing). s.tenancy.owner.place) (sym is)) in
+    ap (outstanding_from entries 0) (take_more xs i no_tenant lt) ∙ named_behind entries 0 (take i xs) (tenant_at xs i)
+    ∙ ap (λ (s : Standing). outstanding_from entries 0 (take i xs) ++ map (job_of (0 + length (take i xs))) (outstanding_tasks s entries)) (sym is)
+    ∙ ap (λ k. outstanding_from entries 0 (take i xs) ++ map (job_of k) (outstanding_tasks x entries)) at
+
+-- where a tenant has one, there is one
+pub some_of_all : (entries : List TableEntry) (n : ℕ) (xs : List Standing) (i : ℕ) (d : Standing) → i < length xs → 0 < length (outstanding_tasks (get_or xs i d) entries) → 0 < length (outstanding_from entries n xs)
+some_of_all entries n [] i d lt some = absurd (omega (arith, lt))
+some_of_all entries n (x ∷ xs) zero d lt some =
+    let all = length-append (map (job_of n) (outstanding_tasks x entries)) (outstanding_from entries (n + 1) xs) in
+    let as_many = length-map (outstanding_tasks x entries) (job_of n) in
+    omega (arith, all, as_many, some)
+some_of_all entries n (x ∷ xs) (suc i) d lt some =
+    let all = length-append (map (job_of n) (outstanding_tasks x entries)) (outstanding_from entries (n + 1) xs) in
+    let rest = some_of_all entries (n + 1) xs i d (omega (arith, lt)) some in
+    omega (arith, all, rest)
 
 -- another release has another job
 pub another_job : (t : ℕ) (a b : ActiveTask) → is_another a b ≡ true → job_of t a ≡ job_of t b → ⊥

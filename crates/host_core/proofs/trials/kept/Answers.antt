@@ -11,7 +11,7 @@ loop-i-preserved c = elim c.if-stays-i.branch [
   | then-stays-i+in_ok-copy+in_ok-push w ↦
       ap (λ v. v.items) w.kept-is
       ∙ (w.in_ok-push.ensures.items
-      ∙ (ap (λ (e : Event). c.loop-i.kept.items ++ e ∷ []) w.in_ok-copy.ensures
+      ∙ (ap (λ (e : Event). c.loop-i.kept.items ++ e ∷ []) w.in_ok-copy.ensures.same
       ∙ (ap (λ es. es ++ c.index-events-i.result ∷ []) c.loop-i.invariant
       ∙ sym (kept_more c.args.events.now c.args.stays.now c.loop-i.i c.index-events-i.result true false c.loop-i-test.true c.requires c.index-events-i.is w.if-stays-i.true))))
   | else-stays-i w ↦

@@ -1,10 +1,11 @@
-use Rattle.std.proofs.Common.{◌≡◌, ◌∙◌, ◌<◌, List, length, map, ap, arith}
+use Rattle.std.proofs.Common.{◌≡◌, ◌∙◌, ◌<◌, List, length, map, ap, sym, subst, arith}
 use Rattle.std.specs.List.{enumerate_from}
 use Rattle.std.proofs.lemmas.Simd.{map-map}
-use Rattle.host_core.specs.HostStanding.{new_host}
+use Rattle.host_core.specs.HostStanding.{Stands, new_host}
+use Rattle.rig_model.specs.Base.{new_base}
 use Rattle.tenant_jobs.specs.Finished.{TaskTable}
 use Rattle.tenant_state.specs.Standing.{Standing, at_rest}
-use Rattle.host_core.proofs.cited.NewHost.{begun}
+use Rattle.host_core.proofs.NewHost.{begun, new_stands}
 use Rattle.host_core.proofs.NewTenants.{new_more, new_all, new_whole}
 use Rattle.host_core.proofs.hosts.Host.new.Goals as goal
 use Rattle.rig_config.specs.Roster.{Rig}
@@ -27,8 +28,8 @@ invariant_of-result c =
       places = rw c.in_ok-copy.ensures (omega (arith, c.in_ok-granted.ensures));
     }
 
-pub returns : goal.returns
-returns c =
+pub returns-clause-host : goal.returns-clause-host
+returns-clause-host c =
     let tenants = c.args.config.now.tenants in
     let same : length c.tenants-place-end.result.now ≡ length tenants = ap length c.tenants-place-end.ensures.value in
     let all = new_all c.args.first_tick c.args.config.now c.loop-place.place c.loop-place.tenants.items (omega (arith, same, c.loop-place-test.false)) c.loop-place.invariant in
@@ -36,3 +37,8 @@ returns c =
     (ap (map at_rest) all ∙ map-map at_rest (begun c.args.config.now c.args.first_tick) (enumerate_from 0 tenants))
     ∙ ap (λ (t : TaskTable). record (new_host c.args.config.now c.args.first_tick) { config = c.in_ok-copy.copy; entries = t.entries }) c.new.ensures
     ∙ ap (λ (k : Rig). record (new_host c.args.config.now c.args.first_tick) { config = k }) c.in_ok-copy.ensures
+
+pub returns-clause-base : goal.returns-clause-base
+returns-clause-base c = λ setting same.
+    subst (λ host. Stands setting host (new_base c.args.config.now c.args.first_tick)) (sym (returns-clause-host c))
+    (subst (λ (k : Rig). Stands setting (new_host k c.args.first_tick) (new_base k c.args.first_tick)) same (new_stands setting c.args.first_tick))
