@@ -11,7 +11,6 @@ use host_core::hosts::Host;
 use rig_config::{Config, TenantId};
 use rig_script::answers::{Answers, answer_lines};
 use rig_script::faults::ScriptFault;
-use rig_script::lines::Lines;
 use rig_script::speakers::{Speaker, who_speaks};
 use std::alloc::{AllocError, Global};
 use std::io::{Read, Write};
@@ -127,13 +126,12 @@ pub fn watched_script<R: Read, W: Write, P: Watch + Drop>(
         Appends (W.contents writer.old) (W.contents writer.new) (script_text_of setting bytes))) }
 {
     let host = Host::new(alloc, config, 0)?;
-    let mut lines = Lines::new(alloc);
     let mut watched = Watched {
         host,
         watcher,
         is_whole: true,
     };
-    answer_lines(alloc, &mut lines, reader, writer, &mut watched)?;
+    answer_lines(alloc, reader, writer, &mut watched)?;
     watched.end(alloc)?;
     let Watched {
         host: _,

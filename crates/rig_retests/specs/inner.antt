@@ -1,2 +1,3 @@
+pub mod Recording
 pub mod Texts
 pub mod Watching

@@ -1,19 +1,20 @@
 //! A script that is recorded: its lines with their replies, and the events that they are.
 
-use giotto_tasks::lists::List;
+ghost use Rattle.std.specs.Prelude.{◌≡◌, [], reverse, IfOk};
+ghost use Rattle.rig_model.specs.Script.{past_after};
+ghost use Rattle.rig_model.specs.TextLines.{cut};
+ghost use Rattle.rig_script.specs.BrokenOff.{ForNewHostReading};
+
 use host_core::events::Event;
-use host_core::hosts::{Host, TickFault};
-use rig_config::{Config, TenantId};
-use rig_script::answers::Answers;
+use host_core::hosts::Host;
+use rig_config::Config;
+use rig_script::answers::{Answers, Ending, answer_lines};
+use rig_script::carry_out;
 use rig_script::faults::ScriptFault;
-use rig_script::lines::{Line, Lines};
 use rig_script::speakers::Speaker;
 use std::alloc::{AllocError, Global};
+use std::io;
 use std::io::Read;
-use std::{io, mem};
-use tenant_jobs::jobs::{JobId, Jobs};
-use tenant_lines::command_lines::{LineFault, command_of};
-use tenant_lines::words;
 
 /// A line of a script that isn't blank.
 #[derive(Drop)]
@@ -47,28 +48,48 @@ pub fn recorded<R: Read>(
     alloc: Global,
     reader: &mut R,
     config: &Config,
-) -> Result<Recording, ScriptFault> {
+) -> Result<Recording, ScriptFault>
+    ensures { IfOk result (λ recording. ForNewHostReading config.now (R.remaining reader.old) (λ setting bytes.
+        recording.events.items ≡ reverse (past_after setting [] (cut bytes)))) }
+{
     let host = Host::new(alloc, config, 0)?;
     let mut recorder = Recorder::new(alloc, host);
-    recorder.take_all(alloc, reader)?;
-    Ok(recorder.recording)
+    let ending = answer_lines(alloc, reader, &mut io::sink(), &mut recorder)?;
+    let Recorder {
+        host: _,
+        answered,
+        recording,
+    } = recorder;
+    let Recording { lines, events, .. } = recording;
+    let bad_line = match ending {
+        Ending::Input => None,
+        Ending::BadLine => Some(answered.saturating_add(1)),
+    };
+    Ok(Recording {
+        lines,
+        events,
+        bad_line,
+    })
 }
 
 // A host that answers, and what was recorded of it.
 #[derive(Drop)]
 struct Recorder {
     host: Host,
-    // The jobs that were released and whose completions may be awaited still.
-    released: Vec<JobId>,
+    // How many lines were answered, blank ones too.
+    answered: usize,
     recording: Recording,
 }
 
 impl Recorder {
     // Before the first line.
-    fn new(alloc: Global, host: Host) -> Recorder {
+    fn new(alloc: Global, host: Host) -> Recorder
+        ensures host { result.host ≡ host }
+        ensures events { result.recording.events.items ≡ [] }
+    {
         Recorder {
             host,
-            released: Vec::new(alloc),
+            answered: 0,
             recording: Recording {
                 lines: Vec::new(alloc),
                 events: Vec::new(alloc),
@@ -77,130 +98,48 @@ impl Recorder {
         }
     }
 
-    // Records the lines of a reader until it or the script ends.
-    fn take_all<R: Read>(&mut self, alloc: Global, reader: &mut R) -> Result<(), ScriptFault> {
-        let mut lines = Lines::new(alloc);
-        for number in 1..usize::MAX {
-            match lines.next_line(reader, &mut io::sink())? {
-                Line::Whole(line) => self.take_line(alloc, number, line)?,
-                Line::Bad => {
-                    self.recording.bad_line = Some(number);
-                    return Ok(());
-                }
-                Line::End => return Ok(()),
-            }
-        }
-        Err(ScriptFault::Turns)
-    }
-
-    // Answers and records a line.
-    fn take_line(&mut self, alloc: Global, number: usize, text: String) -> Result<(), ScriptFault> {
-        Ok(self.record_line(alloc, number, text)?)
-    }
-
-    // The same.
-    fn record_line(
+    // Records a line that was answered, unless it is blank.
+    fn note(
         &mut self,
         alloc: Global,
-        number: usize,
-        text: String,
-    ) -> Result<(), AllocError> {
-        let before = self.recording.events.len();
-        let speaker = self.host.speaker(text.as_str());
-        let reply = match speaker {
-            Speaker::Nobody => return Ok(()),
-            Speaker::Operator => self.operate(alloc, text.as_str())?,
-            Speaker::Tenant(tenant) => self.command(alloc, tenant, text.as_str())?,
-            Speaker::Unknown => self.host.answer(alloc, text.as_str())?,
-        };
-        let events = self.recording.events.len().saturating_sub(before);
+        speaker: Speaker,
+        line: &str,
+        reply: &str,
+        events: usize,
+    ) -> Result<(), AllocError>
+        ensures host { self.new.host ≡ self.old.host }
+        ensures events { self.new.recording.events.items ≡ self.old.recording.events.items }
+    {
+        self.answered = self.answered.saturating_add(1);
+        if speaker == Speaker::Nobody {
+            return Ok(());
+        }
         self.recording.lines.push(RecordedLine {
-            number,
-            text,
+            number: self.answered,
+            text: String::from_str(alloc, line)?,
             speaker,
-            reply,
+            reply: String::from_str(alloc, reply)?,
             events,
         })?;
         Ok(())
     }
-
-    // Answers a tenant's line.
-    fn command(
-        &mut self,
-        alloc: Global,
-        tenant: TenantId,
-        line: &str,
-    ) -> Result<String, AllocError> {
-        match command_of(alloc, words::behind_first_word(line)) {
-            Ok(command) => self.recording.events.push(Event::Own(tenant, command))?,
-            Err(LineFault::BadCommand) => {}
-            Err(LineFault::Memory) => return Err(AllocError),
-        }
-        self.host.answer(alloc, line)
-    }
-
-    // Answers an operator's line.
-    fn operate(&mut self, alloc: Global, line: &str) -> Result<String, AllocError> {
-        let behind = words::behind_first_word(line);
-        if words::first_word(behind) == "tick" {
-            if let Some(frame) = words::values_of_words(alloc, words::behind_first_word(behind))? {
-                return self.tick(alloc, line, frame);
-            }
-        }
-        self.keep_awaited(alloc)?;
-        let reply = self.host.answer(alloc, line)?;
-        self.record_completions(alloc)?;
-        Ok(reply)
-    }
-
-    // Answers `tick` with this frame.
-    fn tick(&mut self, alloc: Global, line: &str, frame: Vec<i64>) -> Result<String, AllocError> {
-        let number = self.host.clock();
-        match self.host.tick(frame.as_slice()) {
-            Ok(jobs) => {
-                self.keep_awaited(alloc)?;
-                add_names(&mut self.released, jobs)?;
-                self.recording
-                    .events
-                    .push(Event::Tick(List::from_vec(frame)))?;
-                format!(in alloc; "op ok tick {number}\n")
-            }
-            Err(TickFault::Memory) => Err(AllocError),
-            // Nothing has changed, and it is refused again.
-            Err(TickFault::BadFrame | TickFault::ClockEnded) => self.host.answer(alloc, line),
-        }
-    }
-
-    // Forgets the released jobs whose completions aren't awaited.
-    fn keep_awaited(&mut self, alloc: Global) -> Result<(), AllocError> {
-        let released = mem::replace(&mut self.released, Vec::new(alloc));
-        for id in released {
-            if self.host.job(&id)?.is_some() {
-                self.released.push(id)?;
-            }
-        }
-        Ok(())
-    }
-
-    // Records the completion of each released job that was awaited, and isn't any more.
-    fn record_completions(&mut self, alloc: Global) -> Result<(), AllocError> {
-        let released = mem::replace(&mut self.released, Vec::new(alloc));
-        for id in released {
-            if self.host.job(&id)?.is_some() {
-                self.released.push(id)?;
-            } else {
-                self.recording.events.push(Event::Done(id))?;
-            }
-        }
-        Ok(())
-    }
 }
 
-// Adds the names of these jobs.
-fn add_names(names: &mut Vec<JobId>, jobs: Jobs) -> Result<(), AllocError> {
-    let mut jobs = jobs;
-    while let Some(job) = jobs.take() {
-        names.push(job.id().copy())?;
+impl Answers for Recorder {
+    ghost use Rattle.rig_retests.specs.inner.Recording.{IsRecorded};
+
+    ghost stands = { λ r setting past. IsRecorded setting r.host r.recording.events.items past };
+
+    fn speaker(&self, line: &str) -> Speaker {
+        self.host.speaker(line)
     }
-    Ok(())
+
+    fn answer(&mut self, alloc: Global, line: &str) -> Result<String, AllocError> {
+        let speaker = self.host.speaker(line);
+        let before = self.recording.events.len();
+        let reply = carry_out(alloc, &mut self.host, &mut self.recording.events, line)?;
+        let events = self.recording.events.len().saturating_sub(before);
+        self.note(alloc, speaker, line, reply.as_str(), events)?;
+        Ok(reply)
+    }
 }

@@ -17,7 +17,6 @@ use host_core::hosts::Host;
 use rig_config::{Config, TenantId};
 use rig_script::answers::{Answers, answer_lines};
 use rig_script::faults::ScriptFault;
-use rig_script::lines::Lines;
 use rig_script::speakers::Speaker;
 use std::alloc::{AllocError, Global};
 use std::io;
@@ -150,7 +149,6 @@ pub fn retests_of<R: Read>(
 {
     let host = Host::new(alloc, config, 0)?;
     let table = SourceTable::new(alloc, config.tenants().len())?;
-    let mut lines = Lines::new(alloc);
     let mut watched = Watched {
         host,
         table,
@@ -158,7 +156,7 @@ pub fn retests_of<R: Read>(
         answered: 0,
         is_whole: true,
     };
-    answer_lines(alloc, &mut lines, reader, &mut io::sink(), &mut watched)?;
+    answer_lines(alloc, reader, &mut io::sink(), &mut watched)?;
     let Watched {
         host: _,
         table,

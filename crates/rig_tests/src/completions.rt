@@ -1,4 +1,4 @@
-//! Completions of a release before a new start, and of another host's job.
+//! Completions of a release before a new start, and of another host's job: one that differs, and one that is just its own.
 
 use giotto_tasks::names::Name;
 use host_core::hosts::{Counted, Host};
@@ -6,11 +6,12 @@ use rig_config::{TenantId, built_in};
 use std::alloc::Global;
 use tenant_jobs::jobs::{Job, JobId, run_job};
 use tenant_lines::commands::Command;
+use tenant_lines::replies::print_reply;
 use tenant_lines::texts::Text;
 
-// Reads a sensor, and adds 1, with a period of 1 tick.
+// Reads a sensor, adds 1, and drives an actuator with the sum, with a period of 2 ticks.
 const ADDER: &str =
-    "sensor s := 0 line 0; output o := 0; task T(i) output o { o := i + 1; } mode m period 1 { taskfreq 1 do T(s); } start m;";
+    "sensor s := 0 line 0; actuator a := 0; output o := 0; task T(i) output o { o := i + 1; } mode m period 2 { actfreq 1 do a := o; taskfreq 1 do T(s); } start m;";
 
 const ALPHA: TenantId = 0;
 
@@ -36,17 +37,17 @@ fn running(alloc: Global, tenants: &[TenantId]) -> Option<Host> {
     Some(host)
 }
 
-// The first job that an instant releases.
-fn first_job(host: &mut Host) -> Option<Job> {
-    let mut jobs = host.tick(&[5]).ok()?;
+// The first job that an instant with this reading releases.
+fn first_job(host: &mut Host, reading: i64) -> Option<Job> {
+    let mut jobs = host.tick(&[reading]).ok()?;
     jobs.take()
 }
 
-// The first job that an instant releases, if it is this tenant's release of T at this tick.
-fn released(host: &mut Host, tenant: TenantId, tick: u64) -> Option<Job> {
+// The first job that an instant with this reading releases, if it is this tenant's release of T at this tick.
+fn released(host: &mut Host, tenant: TenantId, tick: u64, reading: i64) -> Option<Job> {
     let task = Name::new("T")?;
     let id = JobId { tenant, tick, task };
-    let job = first_job(host)?;
+    let job = first_job(host, reading)?;
     if *job.id() == id {
         return Some(job);
     }
@@ -62,27 +63,66 @@ fn becomes(host: &mut Host, job: Job, counted: Counted, outstanding: u128) -> bo
 // Whether of two releases, the second behind a stop and a new start, the first's completion is late, and the second's counts.
 fn counts_the_second_release(alloc: Global) -> Option<bool> {
     let mut host = running(alloc, &[ALPHA])?;
-    let first = released(&mut host, ALPHA, 0)?;
+    let first = released(&mut host, ALPHA, 0, 5)?;
     take(&mut host, ALPHA, Command::Stop);
     take(&mut host, ALPHA, Command::Start);
-    let second = released(&mut host, ALPHA, 1)?;
+    let second = released(&mut host, ALPHA, 1, 5)?;
     let is_late = becomes(&mut host, first, Counted::Late, 1);
     let is_counted = becomes(&mut host, second, Counted::Counted, 0);
     Some(is_late && is_counted)
 }
 
-// Beta's job of a host where it runs alone.
-fn job_of_beta(alloc: Global) -> Option<Job> {
-    let mut host = running(alloc, &[BETA])?;
-    released(&mut host, BETA, 0)
+// A tenant's job of a host where it runs alone, released with this reading.
+fn job_of(alloc: Global, tenant: TenantId, reading: i64) -> Option<Job> {
+    let mut host = running(alloc, &[tenant])?;
+    released(&mut host, tenant, 0, reading)
 }
 
-// Whether that job's completion counts where alpha runs too, whose own job stays outstanding.
+// Whether beta's job of such a host counts where alpha runs too, whose own job stays outstanding.
 fn counts_the_other_hosts_job(alloc: Global) -> Option<bool> {
-    let job = job_of_beta(alloc)?;
+    let job = job_of(alloc, BETA, 5)?;
     let mut host = running(alloc, &[ALPHA, BETA])?;
-    let _alphas = released(&mut host, ALPHA, 0)?;
+    let _alphas = released(&mut host, ALPHA, 0, 5)?;
     Some(becomes(&mut host, job, Counted::Counted, 1))
+}
+
+// Whether alpha is answered this to a command, if it is one of the host's.
+fn is_answered(alloc: Global, host: &mut Host, command: Command, text: &str) -> bool {
+    if ALPHA >= host.config().tenants().len() {
+        return false;
+    }
+    let reply = host.command(ALPHA, command);
+    match print_reply(alloc, &reply) {
+        Ok(printed) => printed.as_str() == text,
+        Err(_) => false,
+    }
+}
+
+// Whether alpha's mode, ports and records are those behind a first instant with the reading 5.
+fn is_behind_its_first_instant(alloc: Global, host: &mut Host) -> bool {
+    let has_mode = is_answered(alloc, host, Command::ShowMode, "ok mode running m 1");
+    let has_ports = is_answered(alloc, host, Command::ShowAll, "ok all s=5 a=0 o=0 T.i=5");
+    let has_records = is_answered(alloc, host, Command::Trace, "ok trace 0:start:m 0:act:a:0");
+    has_mode && has_ports && has_records
+}
+
+// Whether two more instants give alpha the sum for the reading 5.
+fn has_its_own_sum(alloc: Global, host: &mut Host) -> bool {
+    let _ = host.instant(&[7]);
+    let _ = host.instant(&[9]);
+    is_answered(alloc, host, Command::ShowAll, "ok all s=9 a=6 o=6 T.i=9")
+}
+
+// Whether alpha's job of another host, with the name of its own and another input, is late and changes nothing, and its own counts.
+fn counts_its_own_job_alone(alloc: Global) -> Option<bool> {
+    let foreign = job_of(alloc, ALPHA, 6)?;
+    let mut host = running(alloc, &[ALPHA])?;
+    let own = released(&mut host, ALPHA, 0, 5)?;
+    let is_late = becomes(&mut host, foreign, Counted::Late, 1);
+    let is_as_before = is_behind_its_first_instant(alloc, &mut host);
+    let is_counted = becomes(&mut host, own, Counted::Counted, 0);
+    let has_sum = has_its_own_sum(alloc, &mut host);
+    Some(is_late && is_as_before && is_counted && has_sum)
 }
 
 #[test]
@@ -93,4 +133,9 @@ fn completion_before_a_new_start_is_late(rt: HostRuntime) {
 #[test]
 fn completion_of_another_hosts_job_counts(rt: HostRuntime) {
     assert!(rt; counts_the_other_hosts_job(rt.alloc()) == Some(true));
+}
+
+#[test]
+fn completion_of_another_hosts_job_with_other_inputs_is_late(rt: HostRuntime) {
+    assert!(rt; counts_its_own_job_alone(rt.alloc()) == Some(true));
 }

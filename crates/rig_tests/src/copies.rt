@@ -1,23 +1,134 @@
-//! Copies of replies, which no line of the program makes.
+//! Copies of commands, replies and events, which no line of the program shows.
 
 use giotto_tasks::lists::List;
 use giotto_tasks::names::Name;
+use host_core::events::Event;
 use std::alloc::Global;
+use tenant_grants::rows::{Offer, Row};
+use tenant_jobs::jobs::JobId;
+use tenant_lines::command_lines::command_of;
+use tenant_lines::commands::Command;
 use tenant_lines::ports::{PortName, PortValue};
-use tenant_lines::replies::Reply;
+use tenant_lines::replies::{Reply, print_reply};
+use tenant_trace::records::{Happening, Record};
 
-// A copy of the reply to `show all` of a tenant with one port.
-fn copy_of_all(alloc: Global) -> Option<Reply> {
+// The replies to `show all`, `trace` and `rows` with one port, one record and one row.
+fn one_port(alloc: Global) -> Option<Reply> {
     let port = PortName {
         task: None,
         name: Name::new("a")?,
     };
     let mut ports = Vec::new(alloc);
     ports.push(PortValue { port, value: 5 }).ok()?;
-    Reply::All(List::from_vec(ports)).copy(alloc).ok()
+    Some(Reply::All(List::from_vec(ports)))
+}
+
+fn one_record(alloc: Global) -> Option<Reply> {
+    let mut records = Vec::new(alloc);
+    records
+        .push(Record {
+            tick: 7,
+            happening: Happening::Asked,
+        })
+        .ok()?;
+    Some(Reply::Trace(List::from_vec(records)))
+}
+
+fn one_row(alloc: Global) -> Option<Reply> {
+    let offer = Offer {
+        actuator: Name::new("a")?,
+        tenant: Name::new("beta")?,
+    };
+    let mut rows = Vec::new(alloc);
+    rows.push(Row::Offer(offer)).ok()?;
+    Some(Reply::Rows(List::from_vec(rows)))
+}
+
+// The same with nothing to list.
+fn no_port(alloc: Global) -> Option<Reply> {
+    Some(Reply::All(List::from_vec(Vec::new(alloc))))
+}
+
+fn no_record(alloc: Global) -> Option<Reply> {
+    Some(Reply::Trace(List::from_vec(Vec::new(alloc))))
+}
+
+fn no_row(alloc: Global) -> Option<Reply> {
+    Some(Reply::Rows(List::from_vec(Vec::new(alloc))))
+}
+
+// Whether the reply's copy has this text.
+fn copy_has(alloc: Global, reply: Option<Reply>, text: &str) -> Option<bool> {
+    let reply = reply?;
+    let copy = reply.copy(alloc).ok()?;
+    let printed = print_reply(alloc, &copy).ok()?;
+    Some(printed.as_str() == text)
 }
 
 #[test]
-fn copies_a_reply(rt: HostRuntime) {
-    assert!(rt; copy_of_all(rt.alloc()).is_some());
+fn copies_replies(rt: HostRuntime) {
+    let alloc = rt.alloc();
+    assert!(rt; copy_has(alloc, one_port(alloc), "ok all a=5") == Some(true));
+    assert!(rt; copy_has(alloc, one_record(alloc), "ok trace 7:stop:asked") == Some(true));
+    assert!(rt; copy_has(alloc, one_row(alloc), "ok rows offer:a:beta") == Some(true));
+}
+
+#[test]
+fn copies_replies_that_list_nothing(rt: HostRuntime) {
+    let alloc = rt.alloc();
+    assert!(rt; copy_has(alloc, no_port(alloc), "ok all") == Some(true));
+    assert!(rt; copy_has(alloc, no_record(alloc), "ok trace") == Some(true));
+    assert!(rt; copy_has(alloc, no_row(alloc), "ok rows") == Some(true));
+}
+
+// The copy of the command that a line spells.
+fn copy_of_command(alloc: Global, line: &str) -> Option<Command> {
+    let command = command_of(alloc, line).ok()?;
+    command.copy(alloc).ok()
+}
+
+// Whether it is a `load` of this text.
+fn is_load(command: Option<Command>, text: &str) -> bool {
+    match command {
+        Some(Command::Load(own)) => own.as_str() == text,
+        _ => false,
+    }
+}
+
+#[test]
+fn copies_commands(rt: HostRuntime) {
+    let alloc = rt.alloc();
+    assert!(rt; matches!(copy_of_command(alloc, "start"), Some(Command::Start)));
+    assert!(rt; is_load(copy_of_command(alloc, "load"), ""));
+    assert!(rt; is_load(copy_of_command(alloc, "load start m;"), "start m;"));
+}
+
+// The completion of beta's job of T that was released at tick 7.
+fn completion() -> Option<Event> {
+    let task = Name::new("T")?;
+    Some(Event::Done(JobId {
+        tenant: 1,
+        tick: 7,
+        task,
+    }))
+}
+
+// Whether an event is that one.
+fn is_completion(event: &Event) -> bool {
+    match event {
+        Event::Done(id) => id.tenant == 1 && id.tick == 7 && id.task.as_str() == "T",
+        _ => false,
+    }
+}
+
+// Whether that one's copy is.
+fn copies_the_completion(alloc: Global) -> Option<bool> {
+    let event = completion()?;
+    let copy = event.copy(alloc).ok()?;
+    Some(is_completion(&copy))
+}
+
+#[test]
+fn copies_a_completion(rt: HostRuntime) {
+    assert!(rt; copies_the_completion(rt.alloc()) == Some(true));
 }

@@ -6,11 +6,17 @@
 #[cfg(test)]
 mod bodies_and_drivers;
 #[cfg(test)]
+mod clocks;
+#[cfg(test)]
 mod completions;
 #[cfg(test)]
 mod copies;
 #[cfg(test)]
 mod grants;
+#[cfg(test)]
+mod greetings;
+#[cfg(test)]
+mod isolation;
 #[cfg(test)]
 mod plays;
 #[cfg(test)]

@@ -1,9 +1,9 @@
-//! A list of events, and what alpha is answered: worked out by hand from the definitions.
+//! A list of events, what alpha is answered, and an event that can't come: worked out by hand from the definitions.
 
 use giotto_tasks::lists::List;
 use giotto_tasks::names::Name;
 use host_core::events::Event;
-use host_core::plays::play;
+use host_core::plays::{PlayFault, play};
 use rig_config::built_in;
 use std::alloc::{AllocError, Global};
 use tenant_jobs::jobs::JobId;
@@ -50,22 +50,29 @@ fn add_overrun(alloc: Global, events: &mut Vec<Event>, release: u64) -> Result<(
     Ok(())
 }
 
-// What alpha and beta are answered.
-fn answered(alloc: Global, release: u64) -> Option<Vec<Text>> {
+// What alpha and beta are answered; none where there is want of memory for the list.
+fn answered(alloc: Global, release: u64) -> Option<Result<Vec<Text>, PlayFault>> {
     let config = built_in(alloc).ok()?;
     let mut events = Vec::new(alloc);
     add_overrun(alloc, &mut events, release).ok()?;
-    play(alloc, &config, events.as_slice()).ok()
+    Some(play(alloc, &config, events.as_slice()))
 }
 
 // Whether alpha is answered this, and beta nothing.
 fn is_answered(alloc: Global, release: u64, text: &str) -> bool {
     match answered(alloc, release) {
-        Some(texts) => match texts.as_slice() {
+        Some(Ok(texts)) => match texts.as_slice() {
             [alpha, beta] => alpha.as_str() == text && beta.as_str().is_empty(),
             _ => false,
         },
-        None => false,
+        _ => false,
+    }
+}
+
+fn is_refused(alloc: Global, release: u64, why: PlayFault) -> bool {
+    match answered(alloc, release) {
+        Some(Err(fault)) => fault == why,
+        _ => false,
     }
 }
 
@@ -75,4 +82,9 @@ fn completion_of_the_run_before_is_late(rt: HostRuntime) {
     let counted = "ok load\nok start\nok load\nok start\nok mode running m 1\n";
     assert!(rt; is_answered(rt.alloc(), 0, late));
     assert!(rt; is_answered(rt.alloc(), 3, counted));
+}
+
+#[test]
+fn completion_of_a_job_that_was_never_released_is_illegal(rt: HostRuntime) {
+    assert!(rt; is_refused(rt.alloc(), 1, PlayFault::Illegal(8)));
 }

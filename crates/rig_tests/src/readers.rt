@@ -3,7 +3,6 @@
 use rig_config::built_in;
 use rig_script::answers::{Answers, answer_lines};
 use rig_script::faults::ScriptFault;
-use rig_script::lines::Lines;
 use rig_script::script;
 use rig_script::speakers::Speaker;
 use std::alloc::{AllocError, Global};
@@ -93,10 +92,8 @@ impl Answers for NoMemory {
 fn ends_without_memory(alloc: Global, is_unknown: bool, expected: &[u8]) -> bool {
     let mut written = Vec::new(alloc);
     let mut reader = b"\talpha start\nbeta start\n".as_slice();
-    let mut lines = Lines::new(alloc);
     let ends = answer_lines(
         alloc,
-        &mut lines,
         &mut reader,
         &mut written,
         &mut NoMemory { is_unknown },

@@ -1,0 +1,230 @@
+//! Replies to one tenant beside others: nothing of their keys, of their programs, or of how much the host has to do for them. Worked out
+//! by hand from the definitions.
+
+use host_core::hosts::Host;
+use rig_config::{Config, read_config};
+use rig_script::answers::Answers;
+use std::alloc::{AllocError, Global};
+use tenant_lines::words::first_word;
+
+// The other fields of each tenant.
+const FIELDS: &str = "reads = [0]
+writes = []
+bytes = 4096
+ports = 64
+tasks = 16
+modes = 16
+steps = 10000
+trace = 8
+offers = 1
+binds = 1
+";
+
+// Each command of beta, in each state and with each kind of reply. Alpha offers nothing that beta is bound to.
+const LINES: [&str; 65] = [
+    "beta show mode",
+    "beta show all",
+    "beta show port a",
+    "beta start",
+    "beta stop",
+    "beta trace",
+    "beta rows",
+    "beta load",
+    "beta load start m;",
+    "beta load actuator a := 0 line 0; mode m period 1 { } start m;",
+    "beta load sensor s := 0 line 0; sensor g := -1 grant; actuator a := 0; output o := 0; task T(i) output o { o := i + 1; } mode m period 2 { actfreq 1 do a := o; taskfreq 1 do T(s); } start m;",
+    "beta replace mode k period 1 { } start k;",
+    "beta offer a to gamma",
+    "beta offer a to gamma",
+    "beta offer b to gamma",
+    "beta offer b to beta",
+    "beta offer b to delta",
+    "beta unoffer b to gamma",
+    "beta bind g from alpha.a",
+    "beta bind g from gamma.a",
+    "beta bind h from alpha.a",
+    "beta bind h from beta.a",
+    "beta bind h from delta.a",
+    "beta unbind h",
+    "beta rows",
+    "beta show mode",
+    "beta start",
+    "op tick 5",
+    "beta show mode",
+    "beta show port s",
+    "beta show port g",
+    "beta show port T.i",
+    "beta show port T.o",
+    "op work",
+    "op tick 7",
+    "op tick 9",
+    "beta show all",
+    "beta trace",
+    "beta load mode k period 1 { } start k;",
+    "beta start",
+    "beta replace",
+    "beta replace mode k period 1 { } start k;",
+    "op tick 1",
+    "beta show mode",
+    "op tick 1",
+    "beta show mode",
+    "beta show port a",
+    "beta stop",
+    "beta replace mode k period 1 { } start k;",
+    "beta start",
+    "beta stop",
+    "beta show mode",
+    "beta trace",
+    "beta unbind g",
+    "beta unoffer a to gamma",
+    "beta rows",
+    "beta",
+    "beta fly",
+    "beta load;",
+    "beta show port",
+    "beta show port T.",
+    "beta offer a",
+    "beta bind g from alpha",
+    "beta hello alpha kkkkalpha",
+    "beta quit",
+];
+
+// What beta is answered to these.
+const REPLIES: &str = "beta ok mode empty
+beta err not-loaded
+beta err not-loaded
+beta err not-loaded
+beta err not-running
+beta ok trace
+beta ok rows
+beta err syntax 0
+beta err rule 11
+beta err budget lines
+beta ok load
+beta err not-running
+beta ok offer
+beta err twice
+beta err budget offers
+beta err own
+beta err no-tenant
+beta err not-there
+beta ok bind
+beta err twice
+beta err budget binds
+beta err own
+beta err no-tenant
+beta err not-there
+beta ok rows offer:a:gamma bind:g:alpha:a
+beta ok mode loaded m
+beta ok start
+beta ok mode running m 1
+beta ok port s 5
+beta ok port g -1
+beta ok port T.i 5
+beta err no-port
+beta ok all s=9 g=-1 a=6 o=6 T.i=9
+beta ok trace 0:start:m 0:act:a:0 2:out:o:6 2:act:a:6
+beta err running
+beta err running
+beta err syntax 0
+beta ok replace
+beta ok mode running m 0
+beta ok mode stopped overrun T
+beta ok port a 0
+beta err not-running
+beta err not-running
+beta ok start
+beta ok stop
+beta ok mode stopped asked
+beta ok trace 0:start:m 0:act:a:0 2:out:o:6 2:act:a:6 4:stop:overrun:T 5:start:m 5:stop:asked
+beta ok unbind
+beta ok unoffer
+beta ok rows
+beta err bad-command
+beta err bad-command
+beta err bad-command
+beta err bad-command
+beta err bad-command
+beta err bad-command
+beta err bad-command
+beta err bad-command
+beta err bad-command
+";
+
+// Alpha's two jobs have their entries in the host's table before any of beta's and until the end, and what it offers nobody is bound to.
+const BUSY: [&str; 9] = [
+    "alpha load sensor qqqqs := 77 line 0; actuator qqqqa := 4242; output qqqqo := 0; output qqqqp := 0; task qqqqT(qqqqi) output qqqqo { qqqqo := qqqqi * 1000; } task qqqqU(qqqqj) output qqqqp { qqqqp := qqqqj * 2000; } mode qqqqm period 8 { actfreq 1 do qqqqa := qqqqo; taskfreq 1 do qqqqT(qqqqs); taskfreq 1 do qqqqU(qqqqs); } start qqqqm;",
+    "alpha offer qqqqa to beta",
+    "alpha bind qqqqs from gamma.qqqqb",
+    "alpha start",
+    "alpha show all",
+    "gamma load actuator qqqqb := 4343; mode qqqqn period 1 { } start qqqqn;",
+    "gamma offer qqqqb to beta",
+    "gamma start",
+    "alpha load qqqq",
+];
+
+// Alpha has an actuator of the name to which beta is bound, and doesn't offer it.
+const QUIET: [&str; 1] = ["alpha load actuator a := 9; mode m period 1 { } start m;"];
+
+fn add_tenant(alloc: Global, text: &mut String, name: &str, key: &str) -> Result<(), AllocError> {
+    let own = format!(in alloc; "[[tenant]]\nname = \"{name}\"\nkey = \"{key}\"\n")?;
+    text.push_str(own.as_str())?;
+    text.push_str(FIELDS)
+}
+
+// The text of a configuration of alpha, beta and gamma, with these keys of alpha and gamma.
+fn text_of_rig(alloc: Global, alpha: &str, gamma: &str) -> Result<String, AllocError> {
+    let mut text = String::from_str(alloc, "version = 1\nlines = 1\n")?;
+    add_tenant(alloc, &mut text, "alpha", alpha)?;
+    add_tenant(alloc, &mut text, "beta", "kkkkbeta")?;
+    add_tenant(alloc, &mut text, "gamma", gamma)?;
+    Ok(text)
+}
+
+// Adds beta's replies to these lines, before each of which one of the others is answered as long as there is one.
+fn add_replies(
+    alloc: Global,
+    host: &mut Host,
+    lines: &[&str],
+    others: &[&str],
+    text: &mut String,
+) -> Result<(), AllocError> {
+    for i in 0..lines.len() {
+        if i < others.len() {
+            let _ = host.answer(alloc, others[i])?;
+        }
+        let reply = host.answer(alloc, lines[i])?;
+        if first_word(reply.as_str()) == "beta" {
+            text.push_str(reply.as_str())?;
+        }
+    }
+    Ok(())
+}
+
+// What beta is answered in this rig, beside others that are given these lines.
+fn answered(alloc: Global, rig: &Config, others: &[&str]) -> Result<String, AllocError> {
+    let mut host = Host::new(alloc, rig, 0)?;
+    let mut text = String::new(alloc);
+    add_replies(alloc, &mut host, &LINES, others, &mut text)?;
+    Ok(text)
+}
+
+// Whether this is what beta is answered, and nothing of a key or of another's program stands there.
+fn are_beside(alloc: Global, alpha: &str, gamma: &str, others: &[&str]) -> Option<bool> {
+    let text = text_of_rig(alloc, alpha, gamma).ok()?;
+    let rig = read_config(alloc, text.as_str()).ok()?;
+    let replies = answered(alloc, &rig, others).ok()?;
+    let shows_another = replies.as_str().contains("kkkk") || replies.as_str().contains("qqqq");
+    Some(replies.as_str() == REPLIES && !shows_another)
+}
+
+#[test]
+fn replies_show_no_key_and_no_other_tenants_program(rt: HostRuntime) {
+    assert!(rt; are_beside(rt.alloc(), "kkkkalpha", "kkkkgamma", &BUSY) == Some(true));
+}
+
+#[test]
+fn replies_are_the_same_beside_other_keys_and_another_load(rt: HostRuntime) {
+    assert!(rt; are_beside(rt.alloc(), "ka", "kc", &QUIET) == Some(true));
+}
