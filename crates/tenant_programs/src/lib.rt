@@ -10,6 +10,8 @@
 //! }
 //! ```
 //!
+//! [`prepared::prepare`] reads the text of a command before the command is carried out.
+//!
 //! [`shown::port_values`] lists the ports of a program with their values, by their names in replies. Whose program it is, and
 //! what that tenant is doing, isn't known here. Which programs are let in is defined in `Admission.antt` of the crate `rig_model`,
 //! and the values of ports in its `Commands.antt`.
@@ -17,4 +19,5 @@
 
 pub mod admission;
 pub mod budgets;
+pub mod prepared;
 pub mod shown;

@@ -10,25 +10,24 @@ ghost use Rattle.rig_model.specs.Row.{Row, is_running, loaded};
 ghost use Rattle.rig_model.specs.Tenancies.{Tenancy};
 ghost use Rattle.tenant_state.specs.inner.Tenants.{IsBeginning};
 ghost use Rattle.tenant_state.specs.cited.Standing.{AreEnded, AreTasksKept, HoldsOfRow, IsAnswered, IsBehind, IsOutcome, IsRefused};
+ghost use Rattle.tenant_programs.specs.cited.Prepared.{IsReadingOf};
 ghost use Rattle.tenant_state.specs.Standing.{StandsFor};
 
 use crate::tenants::waiting::{Beginning, beginning_of};
 use crate::tenants::{Reason, State, Tenant};
 use giotto_check::Checked;
-use tenant_exchange::commands::carry_out;
+use tenant_exchange::commands;
 use tenant_lines::commands::Command;
 use tenant_lines::ports::PortValue;
 use tenant_lines::replies::{Refusal, Reply};
-use tenant_programs::admission::read_program;
 use tenant_programs::budgets::broken_budget;
+use tenant_programs::prepared::{Prepared, Reading, prepare, program_by_reading};
 use tenant_slots::beginning::reset_ports;
 use tenant_slots::names::{mode_name, start_place};
 use tenant_trace::records::Happening;
 
 impl Tenant {
-    /// Carries out a command. A refusal changes nothing, want of memory included. Only `load`, `replace`, `show all` of a program with a
-    /// port, `trace` where there is a record, `offer` and `bind` where the row may be made, and `rows` where there is one, take memory;
-    /// nothing else is refused for it.
+    /// Carries out a command, as `carry_out`. Its text, if it has one, is read first.
     pub fn command(&mut self, command: Command) -> Reply
         requires rest { self.old.ready.ended ≡ [] }
         ensures memory { result ≡ Reply.Refused Refusal.Memory → self.new ≡ self.old }
@@ -39,12 +38,30 @@ impl Tenant {
         ensures active { (self.new.row.active ≡ []) ⊎ AreTasksKept self.old self.new }
         ensures step { HoldsOfRow self.old (λ row. result ≢ Reply.Refused Refusal.Memory → IsOutcome (commanded self.old.tenancy command row) result self.new) }
     {
+        let prepared = prepare(self.alloc, command);
+        self.carry_out(prepared)
+    }
+
+    /// Carries out a command that is prepared. A refusal changes nothing, want of memory included. Only `load`, `replace`, `show all` of a program with a
+    /// port, `trace` where there is a record, `offer` and `bind` where the row may be made, and `rows` where there is one, take memory;
+    /// nothing else is refused for it.
+    pub fn carry_out(&mut self, prepared: Prepared) -> Reply
+        requires rest { self.old.ready.ended ≡ [] }
+        ensures memory { result ≡ Reply.Refused Refusal.Memory → self.new ≡ self.old }
+        ensures room { takes_memory self.old.tenancy.owner prepared self.old.row ≡ false → result ≢ Reply.Refused Refusal.Memory }
+        ensures tenancy { self.new.tenancy ≡ self.old.tenancy }
+        ensures next_tick { self.new.row.next_tick ≡ self.old.row.next_tick }
+        ensures ended { AreEnded self.old self.new }
+        ensures active { (self.new.row.active ≡ []) ⊎ AreTasksKept self.old self.new }
+        ensures step { HoldsOfRow self.old (λ row. result ≢ Reply.Refused Refusal.Memory → IsOutcome (commanded self.old.tenancy prepared row) result self.new) }
+    {
+        let (command, reading) = prepared.into_parts();
         match command {
-            Command::Load(text) => match self.load(text.as_str()) {
+            Command::Load(text) => match self.load(text.as_str(), reading) {
                 Ok(()) => Reply::Loaded,
                 Err(refusal) => Reply::Refused(refusal),
             },
-            Command::Replace(text) => match self.replace(text.as_str()) {
+            Command::Replace(text) => match self.replace(text.as_str(), reading) {
                 Ok(()) => Reply::Replaced,
                 Err(refusal) => Reply::Refused(refusal),
             },
@@ -69,7 +86,7 @@ impl Tenant {
                 Ok(records) => Reply::Trace(records),
                 Err(_) => Reply::Refused(Refusal::Memory),
             },
-            Command::Grants(command) => carry_out(self.alloc, &mut self.grants, command),
+            Command::Grants(command) => commands::carry_out(self.alloc, &mut self.grants, command),
         }
     }
 
@@ -79,8 +96,9 @@ impl Tenant {
         matches!(self.state, State::Running)
     }
 
-    // Takes the program that the text spells. All that takes memory is made before the first change.
-    fn load(&mut self, text: &str) -> Result<(), Refusal>
+    // Takes the program that the text spells, where this is what it reads as. All that takes memory is made before the first change.
+    fn load(&mut self, text: &str, reading: Reading) -> Result<(), Refusal>
+        requires reading { IsReadingOf text.now reading }
         ensures unchanged { OnErr result (self.new ≡ self.old) }
         ensures tenancy { self.new.tenancy ≡ self.old.tenancy }
         ensures next_tick { self.new.row.next_tick ≡ self.old.row.next_tick }
@@ -88,7 +106,7 @@ impl Tenant {
         ensures loaded { OnOk result (IsAnswered self.old (commanded self.old.tenancy (Command.Load text.now)) Reply.Loaded self.new) }
         ensures none_ended { OnOk result ((self.old.row.active ≡ []) × (self.new.row.active ≡ []) × (self.new.ready.ended ≡ [])) }
     {
-        let program = read_program(self.alloc, text)?;
+        let program = program_by_reading(self.alloc, text, reading)?;
         match self.beginning(text.len(), &program) {
             Ok(beginning) => {
                 self.install(program, beginning);

@@ -13,7 +13,7 @@ ghost use Rattle.tenant_state.specs.declared.tenants.Active.{Active};
 ghost use Rattle.rig_model.specs.Jobs.{job_of};
 ghost use Rattle.tenant_slots.specs.cited.Due.{is_among_due};
 ghost use Rattle.tenant_state.specs.inner.EntryTable.{IsTableOf, AreDueEnded, AreEndsNoted, ends_noted, entries_at, is_left_open, is_task_open};
-ghost use Rattle.rig_model.specs.FirstHalf.{all_ended};
+ghost use Rattle.rig_model.specs.FirstHalf.{all_ended, due_tasks};
 ghost use Rattle.tenant_state.specs.cited.Halves.{IsFirstHalf};
 ghost use Rattle.tenant_state.specs.Standing.{most_released};
 ghost use Rattle.tenant_state.specs.cited.Standing.{HasItsEntries, HasItsResults};
@@ -35,8 +35,25 @@ use tenant_trace::traces::Trace;
 
 impl Tenant {
     /// The first half of an instant. The due tasks write their results, which are in this table, and the due actuators are updated; or
-    /// the tenant is stopped where a due task has no result. Its trace records what happens. Takes no memory.
+    /// the tenant is stopped where a due task has no result. Its trace records what happens. No task is due any longer then. Takes no
+    /// memory.
     pub fn phase_one(&mut self, finished: &Finished)
+        requires rest { self.old.ready.ended ≡ [] }
+        requires entries { HasItsEntries self.old finished.now.entries }
+        requires results { HasItsResults self.old finished.now.entries }
+        ensures half { IsFirstHalf finished.now.entries self.old self.new }
+        ensures room { self.old.ready.room ≤ self.new.ready.room }
+        ensures shared { self.old.ready.shared ≡ true → self.new.ready.shared ≡ true }
+        ensures fewer { most_released self.new.row ≤ most_released self.old.row }
+        ensures none_due { due_tasks self.new.row ≡ [] }
+    {
+        self.known();
+        self.first_half(finished);
+    }
+
+    // The first half of an instant.
+    #[inline(always)]
+    fn first_half(&mut self, finished: &Finished)
         requires rest { self.old.ready.ended ≡ [] }
         requires entries { HasItsEntries self.old finished.now.entries }
         requires results { HasItsResults self.old finished.now.entries }

@@ -12,6 +12,7 @@ ghost use Rattle.rig_model.specs.Commands.{commanded, replace_kept};
 ghost use Rattle.rig_model.specs.FirstHalf.{due_tasks};
 ghost use Rattle.rig_model.specs.Row.{Row, is_running};
 ghost use Rattle.rig_model.specs.SecondHalf.{installed, replaced_if_due};
+ghost use Rattle.tenant_programs.specs.cited.Prepared.{IsReadingOf};
 ghost use Rattle.tenant_state.specs.Standing.{StandsFor, most_released};
 ghost use Rattle.tenant_state.specs.cited.Standing.{AreTasksKept, IsAnswered, IsBehind, IsRefused, IsSettled};
 ghost use Rattle.tenant_state.specs.inner.Tenants.{IsBeginning, IsShareOf, IsWaitingFor};
@@ -24,8 +25,8 @@ use giotto_tasks::bodies::Body;
 use std::alloc::{AllocError, Global};
 use std::sync::Arc;
 use tenant_lines::replies::Refusal;
-use tenant_programs::admission::read_program;
 use tenant_programs::budgets::broken_budget;
+use tenant_programs::prepared::{Reading, program_by_reading};
 use tenant_slots::beginning::{initial_values, no_shares};
 use tenant_slots::names::{mode_name, start_place};
 use tenant_slots::replacement::{Carried, carried_slots, carry_over};
@@ -48,9 +49,10 @@ pub(crate) struct Waiting {
 }
 
 impl Tenant {
-    // Keeps the program that the text spells until it is installed, in place of one that waited. All that takes memory, then and at
-    // the installation, is made before the first change.
-    pub(crate) fn replace(&mut self, text: &str) -> Result<(), Refusal>
+    // Keeps the program that the text spells, where this is what it reads as, until it is installed, in place of one that waited. All
+    // that takes memory, then and at the installation, is made before the first change.
+    pub(crate) fn replace(&mut self, text: &str, reading: Reading) -> Result<(), Refusal>
+        requires reading { IsReadingOf text.now reading }
         ensures unchanged { OnErr result (self.new ≡ self.old) }
         ensures tenancy { self.new.tenancy ≡ self.old.tenancy }
         ensures next_tick { self.new.row.next_tick ≡ self.old.row.next_tick }
@@ -59,7 +61,7 @@ impl Tenant {
         ensures tasks { AreTasksKept self.old self.new }
         ensures ended { self.new.ready.ended ≡ self.old.ready.ended }
     {
-        let program = read_program(self.alloc, text)?;
+        let program = program_by_reading(self.alloc, text, reading)?;
         match self.needs(text.len(), &program) {
             Ok((beginning, carried)) => {
                 self.wait(Waiting {

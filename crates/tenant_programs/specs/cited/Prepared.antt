@@ -1,0 +1,28 @@
+-- What the text of a command reads as, beside the command.
+use Rattle.std.specs.Prelude.{◌≡◌, ℕ, List, [], Option, Result, IfSome}
+use Rattle.giotto_text.specs.Program.{GiottoProgram}
+use Rattle.tenant_lines.specs.declared.commands.Command.{Command}
+use Rattle.tenant_lines.specs.declared.commands.Command.TheVariants.{Load, Replace, Start, Stop, ShowMode, ShowPort, ShowAll, Grants}
+use Rattle.tenant_lines.specs.declared.commands.Command.TheVariants as command
+use Rattle.tenant_lines.specs.declared.replies.Refusal.{Refusal}
+use Rattle.rig_model.specs.Admission.{program_of}
+
+-- where a text was read, that is what it spells: a program, or why there is none
+abbrev pub IsReadingOf : List ℕ → Option (Result GiottoProgram Refusal) → Type 0
+IsReadingOf text reading = IfSome reading (λ read. program_of text ≡ read)
+
+-- the text of a command; only `load` and `replace` have one
+abbrev pub text_of : Command → List ℕ
+text_of (Load text) = text
+text_of (Replace text) = text
+text_of Start = []
+text_of Stop = []
+text_of ShowMode = []
+text_of (ShowPort x) = []
+text_of ShowAll = []
+text_of command.Trace = []
+text_of (Grants c) = []
+
+-- where the text of a command was read, that is what it spells
+abbrev pub IsRead : Command → Option (Result GiottoProgram Refusal) → Type 0
+IsRead command reading = IsReadingOf (text_of command) reading
