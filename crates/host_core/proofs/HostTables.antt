@@ -1,5 +1,5 @@
 -- The table of a host's active tasks behind a command, a completion, and the completion of outstanding jobs.
-use Rattle.std.proofs.Common.{◌≡◌, ◌≢◌, ◌⊎◌, ℕ, ◌+◌, ◌<◌, ◌≤◌, ⊎_elim, inl, inr, Bool, true, false, cond, not, ◌&&◌, ◌||◌, List, [], ◌∷◌, length, get_or, set, length-set, take, Option, Some, None, refl, sym, ap, ◌∙◌, subst, arith}
+use Rattle.std.proofs.Common.{◌≡◌, ◌≢◌, ◌⊎◌, ℕ, ◌+◌, ◌<◌, ◌≤◌, ⊎_elim, inl, inr, Bool, true, false, cond, not, ◌&&◌, ◌||◌, List, [], ◌∷◌, filter, length, get_or, set, length-set, take, Option, Some, None, refl, sym, ap, ◌∙◌, subst, arith}
 use Rattle.std.specs.Prelude.{is_some, IfSome}
 use Rattle.std.specs.List.{AllByRecursion, find, list_all}
 use Rattle.std.specs.Option.{option_and_then, option_map}
@@ -23,9 +23,11 @@ use Rattle.instant_engine.specs.cited.Tenants.{is_active_among}
 use Rattle.rig_model.specs.Tenancies.{Tenancy}
 use Rattle.rig_config.specs.Roster.{Rig}
 use Rattle.host_core.specs.inner.HostStanding.{IsAt, IsWhole}
-use Rattle.giotto_tasks.proofs.cited.ListLemmas.{all_map, all_of, all_pass, any_if_all}
+use Rattle.giotto_tasks.proofs.cited.ListLemmas.{all_map, all_of, all_pass, any_if_all, same_filter}
+use Rattle.instant_engine.proofs.cited.Loops.{sums_within}
+use Rattle.host_core.specs.HostStanding.{outstanding_from}
 use Rattle.host_core.proofs.cited.HostSteps.{AreResultsStill, tenancies_set, placed_set, released_is}
-use Rattle.host_core.proofs.cited.Outstanding.{another_job}
+use Rattle.host_core.proofs.cited.Outstanding.{another_job, counted_from, number_outstanding}
 
 -- a job of a tenant's tasks is of that tenant
 pub own_job : (t : ℕ) (tasks : List ActiveTask) (j : JobId) → has_job t tasks j ≡ true → t ≡ j.tenant
@@ -127,6 +129,14 @@ module _ (tenants : List Standing) (before after : List TableEntry) (u : ℕ) (x
           none true = refl
           none false = refl
 
+  -- none leaves where the tasks are kept
+  none_leaves_kept : AreTasksKept x y → (j : JobId) → leaves j ≡ false
+  none_leaves_kept kept j = ended j ∙ (λ k. has_active x j && not (has_job (tenancy k).owner.place (kept.0 k) j)) ∙ never (has_active x j)
+    where
+      never : (a : Bool) → (a && not a) ≡ false
+      never true = refl
+      never false = refl
+
   stays : (j : JobId) → leaves j ≡ false → result_in after j ≡ result_in before j
   stays j e = ap (option_and_then (λ (e : TableEntry). e.result)) (left j ∙ ap (λ b. cond b None (entry_in before j)) e)
 
@@ -140,19 +150,13 @@ module _ (tenants : List Standing) (before after : List TableEntry) (u : ℕ) (x
       let was : HasItsResults x before = subst (λ (z : Standing). HasItsResults z before) (sym here) (whole.table.results u no_tenant within) in
       let right : HasItsResults y before = λ p has.
       subst (λ (q : ℕ × List ActiveTask). AllByRecursion (λ a. IfSome (result_in before (job_of q.0 a)) (λ r. r ≡ result_of (job_in p q.0 a))) q.1) (λ k. (sym place k, sym e.0 k)) (was p (sym e.1 ∙ has)) in
-      results_moved y before after (λ a. stays (job_of y.tenancy.owner.place a)
-      (ended (job_of y.tenancy.owner.place a)
-      ∙ (λ k. has_active x (job_of y.tenancy.owner.place a) && not (has_job (tenancy k).owner.place (e.0 k) (job_of y.tenancy.owner.place a))) ∙ never (has_active x (job_of y.tenancy.owner.place a)))) right)
+      results_moved y before after (λ a. stays (job_of y.tenancy.owner.place a) (none_leaves_kept e (job_of y.tenancy.owner.place a))) right)
       active))
       (λ (differ : k ≢ u).
       subst (λ (z : Standing). HasItsResults z after) (sym (there k differ))
       (results_moved (tenant_at tenants k) before after (λ a. stays (job_of (tenant_at tenants k).tenancy.owner.place a) (none_leaves (job_of (tenant_at tenants k).tenancy.owner.place a) (λ e. differ (sym (whole.placed k lt) ∙ e))))
       (whole.table.results k no_tenant lt)))
       (cases_eq k u)
-    where
-      never : (a : Bool) → (a && not a) ≡ false
-      never true = refl
-      never false = refl
 
   at_behind : (k : ℕ) → k < length tenants → IsAt clock (tenant_at tenants_behind k)
   at_behind k lt = ⊎_elim
@@ -176,6 +180,39 @@ module _ (tenants : List Standing) (before after : List TableEntry) (u : ℕ) (x
       results = λ k d lt. subst (λ (z : Standing). HasItsResults z after) (sym (get_or_default tenants_behind k d no_tenant lt)) (results_behind k (omega (arith, lt, long_behind)));
     };
   }
+
+  -- where the results of its active tasks stay, a tenant has as many jobs outstanding
+  as_many_still : (z : Standing) → ((a : ActiveTask) → leaves (job_of z.tenancy.owner.place a) ≡ false) → number_outstanding after z ≡ number_outstanding before z
+  as_many_still z none = ap length (same_filter _ _ z.row.active (all_of (λ a. ap (λ r. not (is_some r)) (stays (job_of z.tenancy.owner.place a) (none a))) z.row.active))
+
+  number_behind : (k : ℕ) → k < length tenants → number_outstanding after (tenant_at tenants_behind k) ≤ number_outstanding before (tenant_at tenants k)
+  number_behind k lt = ⊎_elim
+      (λ (same : k ≡ u).
+      let now = ap (number_outstanding after) (ap (tenant_at tenants_behind) same ∙ here_behind) in
+      let was = ap (number_outstanding before) (ap (tenant_at tenants) same ∙ sym here) in
+      ⊎_elim
+      (λ none. omega (arith, now, ap (λ tasks. length (filter (λ a. not (has_result after (job_of y.tenancy.owner.place a))) tasks)) none))
+      (λ kept.
+      let moved : number_outstanding after y ≡ number_outstanding after x = λ i. length (filter (λ a. not (has_result after (job_of (tenancy i).owner.place a))) (kept.0 i)) in
+      omega (arith, now, was, moved, as_many_still x (λ a. none_leaves_kept kept (job_of x.tenancy.owner.place a))))
+      active)
+      (λ (differ : k ≢ u).
+      omega (
+        arith,
+        ap (number_outstanding after) (there k differ),
+        as_many_still (tenant_at tenants k) (λ a. none_leaves (job_of (tenant_at tenants k).tenancy.owner.place a) (λ e. differ (sym (whole.placed k lt) ∙ e))),
+      ))
+      (cases_eq k u)
+
+  -- no more jobs are outstanding behind it
+  pub outstanding_behind : length (outstanding_from after 0 tenants_behind) ≤ length (outstanding_from before 0 tenants)
+  outstanding_behind =
+      omega (
+        arith,
+        counted_from after 0 tenants_behind,
+        counted_from before 0 tenants,
+        sums_within (number_outstanding after) (number_outstanding before) no_tenant no_tenant tenants_behind tenants long_behind (λ t lt. number_behind t (omega (arith, lt, long_behind))),
+      )
 
 -- a job that is released is active, and has its entry
 pub active_if_released : (tenants : List Standing) (entries : List TableEntry) (d : JobValue) {config : Rig} {clock : ℕ} → IsWhole config clock tenants entries → d.id.tenant < length tenants

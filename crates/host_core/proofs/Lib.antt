@@ -4,12 +4,15 @@ pub mod Completion
 pub mod Flows
 pub mod HostBinds
 pub mod HostInstants
+pub mod HostReleases
 pub mod HostTables
+pub mod Listed
 pub mod Marks
 pub mod NewHost
 pub mod NewTenants
 pub mod Played
 pub mod ReleasedNames
+pub mod ReleasedTasks
 pub mod SameMarks
 pub mod Stages
 pub mod cited

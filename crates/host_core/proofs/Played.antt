@@ -1,11 +1,11 @@
 -- One event more that is played: the texts, and the names of the jobs that were released.
 use Rattle.std.proofs.Common.{◌≡◌, ℕ, zero, suc, ◌+◌, ◌<◌, ◌≤◌, ◌≢◌, ◌⊎◌, inl, inr, ⊎_elim, Bool, true, false, cond, ◌&&◌, ◌||◌, eqb, ℤ, List, [], ◌∷◌, ◌++◌, length, take, reverse, map, filter, get_or, set, Option, Some, None, Result, Err, refl, sym, ap, ◌∙◌, subst, length-set, zero-add, arith}
 use Rattle.std.specs.Prelude.{nat_lt, ◌-◌, ◌^◌}
-use Rattle.std.specs.List.{list_any, All, AllByRecursion}
+use Rattle.std.specs.List.{list_any, All}
 use Rattle.std.specs.Option.{option_map_or}
 use Rattle.std.specs.Result.{IsErr, IsErrAnd}
 use Rattle.std.proofs.lemmas.Result.{err_from_is_err_and}
-use Rattle.std.proofs.lemmas.Bool.{cases_eq, cases_lt, and_from, and_parts, eq-eqb}
+use Rattle.std.proofs.lemmas.Bool.{cases_eq, cases_lt, and_from, eq-eqb}
 use Rattle.std.proofs.lemmas.Bool.Decides.{nat_tests}
 use Rattle.std.proofs.lemmas.List.{get_or-set_same, get_or-set_other}
 use Rattle.std.proofs.lemmas.List.Folds.{list_any-append}
@@ -15,7 +15,6 @@ use Rattle.rig_model.specs.declared.events.Event.TheVariants.{Own, Tick, Done}
 use Rattle.tenant_lines.specs.declared.commands.Command.{Command}
 use Rattle.rig_model.specs.declared.jobs.JobId.{JobId}
 use Rattle.tenant_lines.specs.declared.replies.Reply.{Reply}
-use Rattle.std.proofs.Math.ListN.{get_or-eq_default}
 use Rattle.rig_model.specs.Answers.{answers_along, answers_of}
 use Rattle.rig_model.specs.Base.{IsBase, new_base, Setting}
 use Rattle.rig_model.specs.Host.{host_after}
@@ -26,28 +25,21 @@ use Rattle.rig_model.specs.Legal.{next_tick, was_released, may_follow, is_legal}
 use Rattle.host_core.specs.inner.Playing.{IsPlayed}
 use Rattle.rig_model.specs.Plays.{IsLeastIllegal, IsSettingOf}
 use Rattle.host_core.specs.declared.plays.PlayFault.{PlayFault}
-use Rattle.rig_model.specs.Tenancies.{tenancy_at}
 use Rattle.rig_model.specs.Views.{after_command, run_of, view_of, row_of}
-use Rattle.rig_config.specs.Roster.{Rig, budgets_at, is_tenant}
-use Rattle.rig_model.specs.Readings.{readings_within}
-use Rattle.rig_model.specs.FirstHalf.{first_half_of}
+use Rattle.rig_config.specs.Roster.{Rig}
 use Rattle.tenant_jobs.specs.Jobs.{JobValue}
 use Rattle.rig_model.specs.Jobs.{same_job, job_of, is_active}
 use Rattle.tenant_state.specs.Jobs.{job_in, released_at}
 use Rattle.tenant_lines.specs.Replies.{text_of_reply}
-use Rattle.rig_model.specs.Row.{ActiveTask, Row, empty_row}
-use Rattle.rig_model.specs.SecondHalf.{second_half_of}
+use Rattle.rig_model.specs.Row.{ActiveTask, Row}
 use Rattle.tenant_state.specs.Standing.{Standing, no_tenant, IsKnown}
-use Rattle.rig_laws.proofs.cited.ActiveTasks.{kept_by_command}
-use Rattle.rig_laws.proofs.cited.ActiveTasks.{kept_by_instant}
+use Rattle.rig_laws.proofs.cited.Histories.{releases}
 use Rattle.rig_laws.proofs.cited.AloneAlong.{same_rows}
 use Rattle.rig_laws.proofs.cited.AloneAlong.{same_clock}
-use Rattle.rig_laws.proofs.cited.Histories.{unfinished_of, own_instant, own_row}
-use Rattle.rig_laws.proofs.cited.Histories.{releases}
 use Rattle.rig_laws.proofs.cited.LaterBase.{new_is_base, new_row}
 use Rattle.rig_model.proofs.cited.JobNames.{same_job_is}
-use Rattle.giotto_tasks.proofs.cited.TestLemmas.{absorbed, either, or_true, same_answers}
-use Rattle.giotto_tasks.proofs.cited.ListLemmas.{all_if_any, any_if_all, reverse_more}
+use Rattle.giotto_tasks.proofs.cited.TestLemmas.{either, or_true, same_answers}
+use Rattle.giotto_tasks.proofs.cited.ListLemmas.{reverse_more}
 use Rattle.rig_laws.proofs.cited.Releases.{within, is_within, row_outside, released_own, released_done, active_behind}
 
 -- the jobs of one name among those that an instant released

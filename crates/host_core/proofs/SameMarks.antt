@@ -1,15 +1,8 @@
 -- The marks go by the members of the sources alone.
-use Rattle.std.proofs.Common.{◌≡◌, ℕ, Bool, true, ◌||◌, eqb, List, [], ◌∷◌, ◌++◌, refl, sym, ap, ◌∙◌, arith}
-use Rattle.std.specs.List.{list_any, flat_map}
-use Rattle.std.proofs.lemmas.Bool.{eq-eqb}
-use Rattle.std.proofs.lemmas.Bool.Decides.{nat_tests}
-use Rattle.std.proofs.lemmas.List.Folds.{list_any-append}
-use Rattle.giotto_tasks.proofs.cited.TestLemmas.{either, or_true, same_answers}
+use Rattle.std.proofs.Common.{◌≡◌, ℕ, List, [], ◌∷◌, refl, ap, ◌∙◌}
 use Rattle.rig_model.specs.Base.{Setting}
-use Rattle.rig_model.specs.Sources.{is_source, sources_before, stays, suppliers_of}
-use Rattle.rig_model.specs.Views.{row_of}
+use Rattle.rig_model.specs.Sources.{sources_before, stays}
 use Rattle.rig_model.specs.declared.events.Event.{Event}
-use Rattle.rig_model.specs.declared.events.Event.TheVariants.{Own, Tick, Done}
 use Rattle.host_core.specs.inner.Trials.{marks_from}
 use Rattle.rig_laws.proofs.cited.SourceSets.{SameSources, same_before, same_stays}
 

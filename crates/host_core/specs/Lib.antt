@@ -1,2 +1,3 @@
 pub mod HostStanding
+pub mod ListReplies
 pub mod inner

@@ -1,6 +1,6 @@
 //! The host of a rig: all its tenants, on one clock.
 
-ghost use Rattle.std.specs.Prelude.{◌≡◌, ◌≢◌, ◌<◌, ◌≤◌, ◌+◌, ◌-◌, ◌^◌, ◌↔◌, ◌||◌, length, map, is_some, if◌then◌else◌, IsOk, IsErr, IsSome, IfOk, IfSome, OnOk, OnErr, OnSome, Ok, Err, None, true, false};
+ghost use Rattle.std.specs.Prelude.{◌≡◌, ◌≢◌, ◌<◌, ◌≤◌, ◌+◌, ◌-◌, ◌^◌, ◌↔◌, ◌||◌, length, map, is_some, if◌then◌else◌, IsOk, IsErr, IsTrue, IsSome, IfOk, IfSome, OnOk, OnErr, OnSome, Ok, Err, None, true, false};
 ghost use Rattle.std.specs.List.{All};
 ghost use Rattle.instant_engine.specs.cited.Tables.{IsTaskTable};
 ghost use Rattle.instant_engine.specs.Tenants.{ArePlaced, most_of, released_from, tenant_at};
@@ -19,6 +19,7 @@ ghost use Rattle.tenant_grants.specs.Grants.{bind_at};
 ghost use Rattle.tenant_jobs.specs.Finished.{has_result};
 ghost use Rattle.tenant_jobs.specs.cited.Finished.{is_entered};
 ghost use Rattle.rig_model.specs.declared.jobs.JobId.{JobId};
+ghost use Rattle.host_core.specs.ListReplies.{is_list};
 ghost use Rattle.tenant_lines.specs.declared.replies.Refusal.{Refusal};
 ghost use Rattle.tenant_lines.specs.declared.replies.Reply.{Reply};
 ghost use Rattle.tenant_state.specs.Memory.{takes_memory};
@@ -33,6 +34,7 @@ use std::alloc::{AllocError, Global};
 use std::marker::Model;
 use tenant_lines::commands::Command;
 use tenant_lines::replies::Reply;
+use tenant_programs::prepared::{Prepared, prepare};
 use tenant_state::tenants::Tenant;
 use thiserror::Error;
 
@@ -125,27 +127,59 @@ impl Host {
         })
     }
 
-    /// Carries out a tenant's command. A refusal changes nothing, want of memory included, and no command changes another tenant.
-    /// Only `load`, `replace`, `show all` of a program with a port, `trace` where there is a record, `offer` and `bind` where the row may be
-    /// made, and `rows` where there is one, are ever refused for want of memory.
+    /// Carries out a tenant's command, as `carry_out`. Its text, if it has one, is read first.
     pub fn command(&mut self, tenant: TenantId, command: Command) -> Reply
         requires { tenant < length self.old.config.tenants }
         ensures memory { result ≡ Reply.Refused Refusal.Memory → self.new ≡ self.old }
         ensures room { takes_memory (tenant_at self.old.tenants tenant).tenancy.owner command (tenant_at self.old.tenants tenant).row ≡ false → result ≢ Reply.Refused Refusal.Memory }
         ensures config { self.new.config ≡ self.old.config }
+        ensures listed { IsTrue (is_list result) → self.new ≡ self.old }
+        ensures outstanding { outstanding_count self.new ≤ outstanding_count self.old }
         ensures reply { result ≢ Reply.Refused Refusal.Memory
             → ForEachState self.old (λ setting state. result ≡ (after_command setting tenant command (row_at state tenant)).reply) }
         ensures step { result ≢ Reply.Refused Refusal.Memory → TakesEvent (Event.Own tenant command) self.old self.new }
     {
+        let prepared = prepare(self.alloc, command);
+        self.carry_out(tenant, prepared)
+    }
+
+    /// Carries out a tenant's command that is prepared. A refusal changes nothing, want of memory included, and no command changes another
+    /// tenant, nor makes more jobs outstanding; one that is answered by a list changes nothing. Only `load`, `replace`, `show all` of a program with a port, `trace` where there is a record, `offer` and `bind` where the row may be
+    /// made, and `rows` where there is one, are ever refused for want of memory.
+    pub fn carry_out(&mut self, tenant: TenantId, prepared: Prepared) -> Reply
+        requires { tenant < length self.old.config.tenants }
+        ensures memory { result ≡ Reply.Refused Refusal.Memory → self.new ≡ self.old }
+        ensures room { takes_memory (tenant_at self.old.tenants tenant).tenancy.owner prepared (tenant_at self.old.tenants tenant).row ≡ false → result ≢ Reply.Refused Refusal.Memory }
+        ensures config { self.new.config ≡ self.old.config }
+        ensures listed { IsTrue (is_list result) → self.new ≡ self.old }
+        ensures outstanding { outstanding_count self.new ≤ outstanding_count self.old }
+        ensures reply { result ≢ Reply.Refused Refusal.Memory
+            → ForEachState self.old (λ setting state. result ≡ (after_command setting tenant prepared (row_at state tenant)).reply) }
+        ensures step { result ≢ Reply.Refused Refusal.Memory → TakesEvent (Event.Own tenant prepared) self.old self.new }
+    {
         let tenant = &mut self.tenants[tenant];
-        let reply = tenant.command(command);
+        let reply = tenant.carry_out(prepared);
         tenant.known();
         tenant.leave(&mut self.finished);
         reply
     }
 
+    /// Makes all that the next instant needs, before anything changes: places for the tasks that it can release, shares of their bodies, and
+    /// room for their results. How many jobs it can release at most.
+    ///
+    /// # Errors
+    /// Want of memory, or a share of a task's body is refused, but never where the instant can release no task.
+    pub fn ready(&mut self) -> Result<usize, AllocError>
+        ensures most { IfOk result (λ n. n ≡ most_of self.old.tenants) }
+        ensures same { self.new ≡ self.old }
+        ensures never_refused { most_of self.old.tenants ≡ 0 → IsOk result }
+    {
+        all_ready(self.tenants.as_mut_slice(), &mut self.finished).ok_or(AllocError)
+    }
+
     /// An instant of all tenants: the first half of each, then all granted values at once, then the second half of each. `frame` has the input value of each line.
-    /// The jobs of the tasks that are released, tenant by tenant in the order of the roster.
+    /// The jobs of the tasks that are released, tenant by tenant in the order of the roster. They are no more than `ready` tells, and no
+    /// others become outstanding.
     ///
     /// # Errors
     /// `BadFrame` where the frame has not one value for each line, else `ClockEnded` where the instant's number would be `u64::MAX`, else
@@ -158,6 +192,8 @@ impl Host {
         ensures clock_ended { result ≡ Err TickFault.ClockEnded ↔ ((length frame.now ≡ self.old.config.lines) × (self.old.clock ≡ 2 ^ 64 - 1)) }
         ensures room { most_of self.old.tenants ≡ 0 → result ≢ Err TickFault.Memory }
         ensures known { OnOk result (All (λ (s : Standing). IsKnown s.tenancy s.row) self.new.tenants) }
+        ensures few { IfOk result (λ jobs. length jobs.jobs ≤ most_of self.old.tenants) }
+        ensures outstanding { IfOk result (λ jobs. outstanding_count self.new ≤ outstanding_count self.old + length jobs.jobs) }
     {
         self.next_instant(frame, true)
     }
@@ -187,6 +223,8 @@ impl Host {
         ensures clock_ended { result ≡ Err TickFault.ClockEnded ↔ ((length frame.now ≡ self.old.config.lines) × (self.old.clock ≡ 2 ^ 64 - 1)) }
         ensures room { most_of self.old.tenants ≡ 0 → result ≢ Err TickFault.Memory }
         ensures known { OnOk result (All (λ (s : Standing). IsKnown s.tenancy s.row) self.new.tenants) }
+        ensures few { OnOk result (length (released_from self.old.clock 0 self.new.tenants) ≤ most_of self.old.tenants) }
+        ensures outstanding { OnOk result (outstanding_count self.new ≤ outstanding_count self.old + length (released_from self.old.clock 0 self.new.tenants)) }
     {
         self.check(frame)?;
         let most = all_ready(self.tenants.as_mut_slice(), &mut self.finished).ok_or(AllocError)?;

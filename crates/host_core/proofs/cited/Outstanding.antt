@@ -27,7 +27,7 @@ use Rattle.rig_laws.proofs.cited.Places.{nobody}
 abbrev pub number_outstanding : List TableEntry → Standing → ℕ
 number_outstanding entries s = length (outstanding_tasks s entries)
 
-counted_from : (entries : List TableEntry) (n : ℕ) (xs : List Standing) → sum_by (number_outstanding entries) xs ≡ length (outstanding_from entries n xs)
+pub counted_from : (entries : List TableEntry) (n : ℕ) (xs : List Standing) → sum_by (number_outstanding entries) xs ≡ length (outstanding_from entries n xs)
 counted_from entries n [] = refl
 counted_from entries n (x ∷ xs) =
     sum_by-cons (number_outstanding entries) x xs ∙ ap (λ k. number_outstanding entries x + k) (counted_from entries (n + 1) xs)

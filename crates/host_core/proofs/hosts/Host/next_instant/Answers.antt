@@ -1,19 +1,17 @@
-use Rattle.std.proofs.Common.{◌≡◌, ◌+◌, ◌-◌, ◌<◌, ◌^◌, ◌++◌, List, length, map, take, drop, refl, ap, sym, subst, ◌∙◌, arith}
+use Rattle.std.proofs.Common.{◌≡◌, ◌+◌, ◌-◌, ◌<◌, ◌≤◌, ◌^◌, ◌++◌, List, length, map, take, drop, refl, ap, sym, subst, ◌∙◌, arith}
 use Rattle.std.proofs.lemmas.List.Elements.{All-map}
 use Rattle.std.specs.List.{All}
 use Rattle.std.specs.Prelude.{OnSome}
 use Rattle.std.specs.Vec.{vec_items, with_items}
-use Rattle.instant_engine.specs.Tenants.{released_from}
+use Rattle.instant_engine.specs.Tenants.{most_of, released_from}
 use Rattle.instant_engine.specs.cited.Halves.{IsReady}
-use Rattle.rig_config.specs.Roster.{Rig}
 use Rattle.tenant_state.specs.Standing.{IsKnown, Standing, at_rest}
-use Rattle.rig_model.specs.Host.{after_event}
-use Rattle.host_core.specs.HostStanding.{HostStanding, Stands}
-use Rattle.rig_model.specs.declared.events.Event.TheVariants.{Tick}
+use Rattle.host_core.specs.HostStanding.{HostStanding, Stands, outstanding_count, outstanding_from}
 use Rattle.host_core.specs.declared.hosts.Host.TheInside.{Inside}
 use Rattle.host_core.specs.inner.HostStanding.{IsWhole, most_binds}
 use Rattle.host_core.proofs.AtRest.{gathered_at_rest}
 use Rattle.host_core.proofs.HostInstants.{AreReadied, IsNext, are_readied, counts_again, next_written, places_again, rosters_again, stands_behind, whole_behind, written_behind, written_over}
+use Rattle.host_core.proofs.HostReleases.{few_released, outstanding_grown}
 use Rattle.host_core.proofs.hosts.Host.next_instant.Goals as goal
 use Rattle.host_core.proofs.hosts.Host.next_instant.Goals.{After-all_ready, After-as_mut_slice-granted, then-takes_jobs-2, else-takes_jobs-2}
 
@@ -159,3 +157,18 @@ returns-clause-jobs c = λ takes.
 
 pub returns-clause-known : goal.returns-clause-known
 returns-clause-known c = All-map (λ (s : Standing). IsKnown s.tenancy s.row) at_rest _ (λ k d lt. ((whole c).known k d lt).1.known)
+
+pub returns-clause-few : goal.returns-clause-few
+returns-clause-few c =
+    let now = c.if-takes_jobs-2.self-inside in
+    subst (λ (h : HostStanding). length (released_from h.clock 0 (map at_rest now.tenants.items)) ≤ most_of h.tenants) c.self.view_is
+    (few_released (readied (goal.at.invariant_of-self-2 c).After-as_mut_slice-granted) (next c).0)
+
+pub returns-clause-outstanding : goal.returns-clause-outstanding
+returns-clause-outstanding c =
+    let now = c.if-takes_jobs-2.self-inside in
+    subst
+    (λ (h : HostStanding).
+    length (outstanding_from now.finished.entries 0 (map at_rest now.tenants.items)) ≤ outstanding_count h + length (released_from h.clock 0 (map at_rest now.tenants.items)))
+    c.self.view_is
+    (outstanding_grown (readied (goal.at.invariant_of-self-2 c).After-as_mut_slice-granted) (next c).0)

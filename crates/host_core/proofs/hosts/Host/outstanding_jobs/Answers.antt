@@ -1,6 +1,6 @@
-use Rattle.std.proofs.Common.{◌≡◌, ◌<◌, ◌++◌, List, ℕ, length, map, take, get_or, sym, ap, subst, ◌∙◌}
+use Rattle.std.proofs.Common.{◌≡◌, ◌<◌, ◌++◌, List, length, map, take, get_or, sym, ap, subst, ◌∙◌}
 use Rattle.std.proofs.lemmas.List.{get_or_default, take_all}
-use Rattle.host_core.specs.HostStanding.{HostStanding, outstanding_from, outstanding_jobs, outstanding_count}
+use Rattle.host_core.specs.HostStanding.{HostStanding, outstanding_from, outstanding_jobs}
 use Rattle.instant_engine.specs.Tenants.{ArePlaced, tenant_at}
 use Rattle.rig_model.specs.Jobs.{job_of}
 use Rattle.rig_model.specs.declared.jobs.JobId.{JobId}

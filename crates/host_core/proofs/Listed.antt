@@ -1,0 +1,144 @@
+-- A command that is answered by a list changes nothing.
+use Rattle.std.proofs.Common.{◌≡◌, ◌≢◌, ◌<◌, ℕ, Bool, true, false, not, ◌&&◌, ◌||◌, cond, List, [], ◌∷◌, map, length, set, Option, Some, None, Result, Ok, Err, refl, sym, ap, ◌∙◌, subst, take, arith, zero, suc}
+use Rattle.std.proofs.Math.ListN.{get_or}
+use Rattle.std.proofs.lemmas.List.{map-set}
+use Rattle.std.specs.Option.{option_map}
+use Rattle.giotto_text.specs.Program.{GiottoProgram}
+use Rattle.rig_config.specs.declared.Budgets.{Budgets}
+use Rattle.rig_model.specs.Admission.{broken_budget, program_of}
+use Rattle.rig_model.specs.Commands.{CommandOutcome, commanded, grant_rows, load_read, load_within, refused, replace_read, replace_within, show_all, show_port, show_value, start_program, with_grants}
+use Rattle.rig_model.specs.GrantCommands.{GrantOutcome, grants_commanded, with_binds, with_offers}
+use Rattle.rig_model.specs.Jobs.{has_job, job_of, same_job}
+use Rattle.rig_model.specs.Ports.{value_of_port}
+use Rattle.rig_model.specs.Row.{ActiveTask, Row, is_running}
+use Rattle.rig_model.specs.Tenancies.{Tenancy}
+use Rattle.rig_model.specs.declared.jobs.JobId.{JobId}
+use Rattle.tenant_grants.specs.Grants.{GrantRows, bound, offered, unbound, unoffered}
+use Rattle.tenant_grants.specs.declared.faults.GrantFault.{GrantFault}
+use Rattle.tenant_grants.specs.declared.rows.Bind as binds
+use Rattle.tenant_grants.specs.declared.rows.Offer as offers
+use Rattle.host_core.specs.ListReplies.{is_list}
+use Rattle.tenant_lines.specs.declared.commands.Command.{Command}
+use Rattle.tenant_lines.specs.declared.commands.Command.TheVariants.{Load, Replace, Start, Stop, ShowMode, ShowPort, ShowAll, Grants}
+use Rattle.tenant_lines.specs.declared.commands.Command.TheVariants as command
+use Rattle.tenant_lines.specs.declared.grant_lines.GrantCommand.{GrantCommand}
+use Rattle.tenant_lines.specs.declared.grant_lines.GrantCommand.TheVariants as about
+use Rattle.tenant_lines.specs.declared.ports.PortName.{PortName}
+use Rattle.tenant_lines.specs.declared.replies.Budget.{Budget}
+use Rattle.tenant_lines.specs.declared.replies.Refusal.{Refusal}
+use Rattle.tenant_lines.specs.declared.replies.Refusal.TheVariants.{Memory, NotRunning, Running}
+use Rattle.tenant_lines.specs.declared.replies.Reply.{Reply}
+use Rattle.tenant_lines.specs.declared.replies.Reply.TheVariants.{Bound, Offered, Refused, Stopped, Unbound, Unoffered}
+use Rattle.rig_model.specs.FirstHalf.{stopped_with}
+use Rattle.rig_model.specs.Row.{asked}
+use Rattle.rig_model.proofs.cited.JobNames.{same_job_self}
+use Rattle.instant_engine.specs.cited.Instants.{IsBetween}
+use Rattle.tenant_state.specs.Standing.{Standing, StandsFor, at_rest, with_last}
+use Rattle.tenant_state.specs.cited.Standing.{AreEnded, HoldsOfRow, IsOutcome, has_active, without_ended}
+
+-- the outcome is a list only if it leaves the row
+abbrev LeavesRow : Row → CommandOutcome → Type 0
+LeavesRow row o = is_list o.reply ≡ true → o.row ≡ row
+
+load_by : (row : Row) (running : Bool) (p : GiottoProgram) (over : Option Budget) → LeavesRow row (cond running (refused row Running) (load_within p row over))
+load_by row true p over e = refl
+load_by row false p (Some b) e = refl
+load_by row false p None e = absurd (cc)
+
+load_listed : (budgets : Budgets) (n : ℕ) (row : Row) (r : Result GiottoProgram Refusal) → LeavesRow row (load_read budgets n row r)
+load_listed budgets n row (Err r) e = refl
+load_listed budgets n row (Ok p) e = load_by row (is_running row) p (broken_budget budgets n p) e
+
+replace_by : (row : Row) (running : Bool) (p : GiottoProgram) (over : Option Budget) → LeavesRow row (cond running (replace_within p row over) (refused row NotRunning))
+replace_by row false p over e = refl
+replace_by row true p (Some b) e = refl
+replace_by row true p None e = absurd (cc)
+
+replace_listed : (budgets : Budgets) (n : ℕ) (row : Row) (r : Result GiottoProgram Refusal) → LeavesRow row (replace_read budgets n row r)
+replace_listed budgets n row (Err r) e = refl
+replace_listed budgets n row (Ok p) e = replace_by row (is_running row) p (broken_budget budgets n p) e
+
+start_by : (row : Row) (running : Bool) (p : Option GiottoProgram) → LeavesRow row (cond running (refused row Running) (start_program row p))
+start_by row true p e = refl
+start_by row false None e = refl
+start_by row false (Some p) e = absurd (cc)
+
+stop_by : (row : Row) (running : Bool) → LeavesRow row (cond running (record { row = stopped_with asked row; reply = Stopped }) (refused row NotRunning))
+stop_by row true e = absurd (cc)
+stop_by row false e = refl
+
+port_by : (x : PortName) (row : Row) (p : Option GiottoProgram) → LeavesRow row (show_port x row p)
+port_by x row None e = refl
+port_by x row (Some p) e = by (value_of_port p row.ports x.task x.name)
+  where
+    by : (z : Option _) → (show_value x row z).row ≡ row
+    by None = refl
+    by (Some z) = refl
+
+all_by : (row : Row) (p : Option GiottoProgram) → LeavesRow row (show_all row p)
+all_by row None e = refl
+all_by row (Some p) e = refl
+
+offers_by : (owner : _) (row : Row) (reply : Reply) → is_list reply ≡ false → (r : Result (List offers.Offer) GrantFault) → LeavesRow row (with_grants row (with_offers (grant_rows owner row) reply r))
+offers_by owner row reply none (Ok os) e = absurd (cc)
+offers_by owner row reply none (Err f) e = refl
+
+binds_by : (owner : _) (row : Row) (reply : Reply) → is_list reply ≡ false → (r : Result (List binds.Bind) GrantFault) → LeavesRow row (with_grants row (with_binds (grant_rows owner row) reply r))
+binds_by owner row reply none (Ok bs) e = absurd (cc)
+binds_by owner row reply none (Err f) e = refl
+
+grants_listed : (tenancy : Tenancy) (c : GrantCommand) (row : Row) → LeavesRow row (with_grants row (grants_commanded c (grant_rows tenancy.owner row)))
+grants_listed tenancy (about.Offer a t) row e = offers_by tenancy.owner row Offered refl (offered tenancy.owner row.offers a t) e
+grants_listed tenancy (about.Unoffer a t) row e = offers_by tenancy.owner row Unoffered refl (unoffered tenancy.owner row.offers a t) e
+grants_listed tenancy (about.Bind s t a) row e = binds_by tenancy.owner row Bound refl (bound tenancy.owner row.binds s t a) e
+grants_listed tenancy (about.Unbind s) row e = binds_by tenancy.owner row Unbound refl (unbound row.binds s) e
+grants_listed tenancy about.Rows row e = refl
+
+listed_row : (tenancy : Tenancy) (c : Command) (row : Row) → LeavesRow row (commanded tenancy c row)
+listed_row tenancy (Load text) row e = load_listed tenancy.budgets (length text) row (program_of text) e
+listed_row tenancy (Replace text) row e = replace_listed tenancy.budgets (length text) row (program_of text) e
+listed_row tenancy Start row e = start_by row (is_running row) row.program e
+listed_row tenancy Stop row e = stop_by row (is_running row) e
+listed_row tenancy ShowMode row e = refl
+listed_row tenancy (ShowPort x) row e = port_by x row row.program e
+listed_row tenancy ShowAll row e = all_by row row.program e
+listed_row tenancy command.Trace row e = refl
+listed_row tenancy (Grants c) row e = grants_listed tenancy c row e
+
+-- tasks of which none has a job of any name are none
+none_ended : (place : ℕ) (tasks : List ActiveTask) → ((j : JobId) → has_job place tasks j ≡ false) → tasks ≡ []
+none_ended place [] f = refl
+none_ended place (a ∷ tasks) f =
+    absurd (let here : has_job place (a ∷ tasks) (job_of place a) ≡ true = ap (λ b. b || has_job place tasks (job_of place a)) (same_job_self (job_of place a)) in let not_ = f (job_of place a) in cc)
+
+both_not : (b : Bool) → (b && not b) ≡ false
+both_not true = refl
+both_not false = refl
+
+module _ (old new : Standing) (c : Command) (reply : Reply) (listed : is_list reply ≡ true) (between : IsBetween old) (tenancy : new.tenancy ≡ old.tenancy)
+    (step : HoldsOfRow old (λ row. reply ≢ Refused Memory → IsOutcome (commanded old.tenancy c row) reply new)) (ended : AreEnded old new) where
+  own_row : StandsFor old old.row
+  own_row = ap (λ (rs : List _). record old.row { records = rs }) (sym between.known.few_records)
+
+  outcome : IsOutcome (commanded old.tenancy c old.row) reply new
+  outcome = step old.row own_row (λ e. absurd (let f = ap is_list e in cc))
+
+  same_row : new.row ≡ old.row
+  same_row =
+      outcome.stands
+      ∙ (ap (with_last new.tenancy.budgets.trace) (listed_row old.tenancy c old.row (ap is_list (sym outcome.same_reply) ∙ listed))
+      ∙ (ap (λ (t : Tenancy). with_last t.budgets.trace old.row) tenancy
+      ∙ sym own_row))
+
+  pub nothing_ended : new.ready.ended ≡ []
+  nothing_ended = none_ended new.tenancy.owner.place new.ready.ended
+      (λ j. ended j ∙ (ap (λ b. has_active old j && not b) (ap (λ (t : Tenancy). has_job t.owner.place new.row.active j) tenancy ∙ ap (λ (r : Row). has_job old.tenancy.owner.place r.active j) same_row) ∙ both_not (has_active old j)))
+
+  pub listed_at_rest : at_rest (without_ended new) ≡ at_rest old
+  listed_at_rest = λ k. record { tenancy = tenancy k; row = same_row k; ready = record { ended = sym between.rest k; room = 0; shared = false } }
+
+-- where one tenant is the same at rest, all are
+pub same_set : (xs : List Standing) (i : ℕ) (s d : Standing) → i < length xs → at_rest s ≡ at_rest (get_or xs i d) → map at_rest (set xs i s) ≡ map at_rest xs
+same_set [] i s d lt e = absurd (omega (arith, lt))
+same_set (x ∷ xs) zero s d lt e = ap (λ y. y ∷ map at_rest xs) e
+same_set (x ∷ xs) (suc i) s d lt e = ap (λ ys. at_rest x ∷ ys) (same_set xs i s d (omega (arith, lt)) e)
