@@ -8,7 +8,8 @@ ghost use Rattle.rig_model.specs.Answered.{reply_line, IsText};
 ghost use Rattle.rig_model.specs.TextLines.{cut};
 ghost use Rattle.rig_script.specs.cited.HostAnswers.{CarriesOut, IsHostAfter};
 ghost use Rattle.rig_script.specs.inner.Records.{AreNone};
-ghost use Rattle.rig_model.specs.Script.{line_step, tenant_step, operator_step, text_of_lines, work_step, work_step_of, outstanding_after, script_text_of};
+ghost use Rattle.std.specs.Fmt.{decimal};
+ghost use Rattle.rig_model.specs.Script.{operator, line_step, tenant_step, operator_step, text_of_lines, work_step, work_step_of, outstanding_after, script_text_of};
 ghost use Rattle.rig_script.specs.BrokenOff.{IsScriptBrokenOff, ForNewHostReading, AreFewRead};
 
 use crate::answers::{Answers, answer_lines};
@@ -23,6 +24,7 @@ use std::io::{Read, Write};
 use tenant_lines::command_lines::{LineFault, command_of};
 use tenant_lines::replies::print_reply;
 use tenant_lines::words;
+use tenant_programs::prepared::prepare;
 
 impl Answers for Host {
     ghost stands = { λ host setting past. IsHostAfter setting host past };
@@ -104,8 +106,9 @@ fn tenant_line<R: Record>(
         Err(LineFault::BadCommand) => return reply_line(alloc, name, "err bad-command"),
         Err(LineFault::Memory) => return Err(AllocError),
     };
-    events.command(alloc, tenant, &command)?;
-    let reply = host.command(tenant, command);
+    let prepared = prepare(alloc, command);
+    events.command(alloc, tenant, prepared.command())?;
+    let reply = host.carry_out(tenant, prepared);
     if reply.is_memory() {
         return Err(AllocError);
     }
@@ -147,7 +150,7 @@ fn tick<R: Record>(
     match host.instant(frame.as_slice()) {
         Ok(()) => {
             events.tick(frame)?;
-            format!(in alloc; "op ok tick {number}\n")
+            tick_reply(alloc, number)
         }
         Err(TickFault::BadFrame) => reply_line(alloc, "op", "err bad-frame"),
         Err(TickFault::ClockEnded) => reply_line(alloc, "op", "err clock-ended"),
@@ -184,7 +187,7 @@ fn complete_all<R: Record>(
 {
     events.work(host)?;
     let number = host.complete_all();
-    format!(in alloc; "op ok work {number}\n")
+    work_reply(alloc, number)
 }
 
 // Runs and completes the outstanding jobs of the tenant of this name, and says how many they were.
@@ -201,7 +204,7 @@ fn complete_tenant<R: Record>(
     };
     events.work_of(host, tenant)?;
     let number = host.complete_tenant(tenant);
-    format!(in alloc; "op ok work {number}\n")
+    work_reply(alloc, number as u128)
 }
 
 // The step of `lines` with these words behind it.
@@ -226,6 +229,20 @@ fn text_of_lines(alloc: Global, host: &Host) -> Result<String, AllocError>
         text.push_str(one.as_str())?;
     }
     Ok(text)
+}
+
+// The reply to an instant of this number.
+fn tick_reply(alloc: Global, number: u64) -> Result<String, AllocError>
+    ensures { IfOk result (λ line. string_bytes line ≡ reply_line operator (codes "ok tick " ++ decimal number)) }
+{
+    format!(in alloc; "op ok tick {number}\n")
+}
+
+// The reply to `work` that completed so many jobs.
+fn work_reply(alloc: Global, number: u128) -> Result<String, AllocError>
+    ensures { IfOk result (λ line. string_bytes line ≡ reply_line operator (codes "ok work " ++ decimal number)) }
+{
+    format!(in alloc; "op ok work {number}\n")
 }
 
 // A reply as it is written: who is answered, a space, the reply, and LF.

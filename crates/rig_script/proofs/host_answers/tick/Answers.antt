@@ -11,9 +11,9 @@ returns-in-Ok g c = λ setting past h.
     let values : values_of_words (words_of c.args.line.now) ≡ Some c.in-Some.frame.items = rw c.in-Some.is at (sym c.in_ok-frame.ensures.values) in
     let values : values_of_words (words_of c.args.line.now) ≡ Some c.as_slice.result.now = values ∙ ap (λ l. Some l) (sym c.as_slice.ensures.value) in
     let low : c.clock-number.result < 2 ^ 64 = search rules in
-    tick_done setting past c.args.host.now c.instant.new.self h c.format.result (g.R.Record.tells c.args.events.now) (g.R.Record.tells c.tick.new.self) (words_of c.args.line.now) c.as_slice.result.now values
+    tick_done setting past c.args.host.now c.instant.new.self h c.tick_reply.result (g.R.Record.tells c.args.events.now) (g.R.Record.tells c.tick.new.self) (words_of c.args.line.now) c.as_slice.result.now values
     c.clock-number.result c.clock-number.ensures low (λ other. let e = sym c.in-Ok.is ∙ c.instant.ensures.bad_frame.1 other in cc) (λ ended. let e = sym c.in-Ok.is ∙ c.instant.ensures.clock_ended.1 ended in cc)
-    (c.in-Ok.ensures.step setting (host_after setting past) h.stands) c.format.ensures.ok (subst (λ f. IsTold (g.R.Record.tells c.args.events.now) (g.R.Record.tells c.tick.new.self) (Tick f ∷ [])) (sym c.as_slice.ensures.value) c.in_ok-tick-in-Ok.ensures)
+    (c.in-Ok.ensures.step setting (host_after setting past) h.stands) c.tick_reply.ensures (subst (λ f. IsTold (g.R.Record.tells c.args.events.now) (g.R.Record.tells c.tick.new.self) (Tick f ∷ [])) (sym c.as_slice.ensures.value) c.in_ok-tick-in-Ok.ensures)
 
 pub returns-in-Err-ClockEnded : goal.returns-in-Err-ClockEnded
 returns-in-Err-ClockEnded g c = λ setting past h.
