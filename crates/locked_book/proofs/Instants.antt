@@ -1,0 +1,33 @@
+-- What an instant of a book says where nothing is known of what stood before.
+use Rattle.std.proofs.Common.{◌≡◌, ℕ, ℤ, List, [], ◌∷◌, ◌++◌, length, reverse, ap, ◌∙◌, subst, arith}
+use Rattle.std.proofs.lemmas.List.{length-reverse}
+use Rattle.rig_config.specs.Roster.{Rig}
+use Rattle.rig_model.specs.Host.{host_after}
+use Rattle.tenant_jobs.specs.Jobs.{JobValue}
+use Rattle.instant_engine.specs.Tenants.{released_from}
+use Rattle.host_core.specs.HostStanding.{HostStanding, Stands}
+use Rattle.locked_book.specs.declared.logged.Logged.{Logged}
+use Rattle.locked_book.specs.declared.logged.Logged.TheVariants as logged
+use Rattle.locked_book.specs.Logs.{IsLegalLog, events_of}
+use Rattle.locked_book.specs.Books.{BaseValue, beginning, BookValue, length_of, new_setting}
+use Rattle.locked_book.proofs.Kept.{turned}
+
+pub ticked : (rig : Rig) (first : ℕ) (old new : BookValue) (frame : List ℤ) (place : ℕ) (jobs : List JobValue) → old.base ≡ beginning rig first
+    → Stands (new_setting rig first) old.host (host_after (new_setting rig first) (events_of (reverse old.log)))
+    → IsLegalLog (new_setting rig first) (reverse new.log)
+    → Stands (new_setting rig first) new.host (host_after (new_setting rig first) (events_of (reverse new.log)))
+    → new.log ≡ old.log ++ logged.Tick frame ∷ [] → place ≡ length_of old → jobs ≡ released_from old.host.clock 0 new.host.tenants
+    → (log : List Logged) × (host : HostStanding) × IsLegalLog (new_setting rig first) (logged.Tick frame ∷ log) × (place ≡ length log)
+    × Stands (new_setting rig first) host (host_after (new_setting rig first) (events_of (logged.Tick frame ∷ log)))
+    × (jobs ≡ released_from (host_after (new_setting rig first) (events_of log)).clock 0 host.tenants)
+ticked rig first old new frame place jobs base before legal stands log at released = (
+  reverse old.log,
+  new.host,
+  subst (IsLegalLog (new_setting rig first)) behind legal,
+  (let none = ap (λ (b : BaseValue). b.entries_before) base in let same = length-reverse old.log in omega (arith, none, same, at)),
+  subst (λ l. Stands (new_setting rig first) new.host (host_after (new_setting rig first) (events_of l))) behind stands,
+  released ∙ ap (λ n. released_from n 0 new.host.tenants) before.same_clock,
+)
+  where
+    behind : reverse new.log ≡ logged.Tick frame ∷ reverse old.log
+    behind = ap reverse log ∙ turned old.log (logged.Tick frame)

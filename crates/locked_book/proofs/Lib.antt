@@ -1,0 +1,9 @@
+pub mod Comparisons
+pub mod Copied
+pub mod EntryPlaces
+pub mod Instants
+pub mod Kept
+pub mod LogRows
+pub mod Places
+pub mod Replays
+pub mod Steps

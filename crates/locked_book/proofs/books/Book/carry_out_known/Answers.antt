@@ -1,0 +1,49 @@
+use Rattle.std.proofs.Common.{◌≡◌, ◌<◌, ◌+◌, ◌∷◌, [], ◌++◌, arith, ℕ, List, sym, ap, ◌∙◌, subst, length}
+use Rattle.std.proofs.lemmas.List.{length-set, get_or_default}
+use Rattle.rig_model.specs.declared.events.Event.TheVariants.{Own}
+use Rattle.host_core.specs.HostStanding.{Stands}
+use Rattle.locked_book.specs.declared.logged.Call.{Call}
+use Rattle.locked_book.specs.Books.{BookValue, PassValue, Knows}
+use Rattle.locked_book.specs.Books.{SeatValue}
+use Rattle.locked_book.specs.inner.Books.{seat_at}
+use Rattle.locked_book.proofs.Kept.{takes_as}
+use Rattle.locked_book.proofs.Steps.{no_seat, of_roster, seat_on, call_on, as_many_calls}
+use Rattle.locked_book.proofs.books.Book.carry_out_known.Goals as goal
+
+pub invariant_of-self-2 : goal.invariant_of-self-2
+invariant_of-self-2 g c =
+    let rig = g.N.Naming.config in
+    let first = g.N.Naming.first_tick in
+    let carried = c.in_ok-carried.carried in
+    let call : Call = record { tenant = c.args.tenant; command = c.args.prepared; reply = carried.reply } in
+    let book : BookValue = record { base = c.self.inside.base; host = c.self.inside.host; log = c.self.inside.log.items; seats = length c.self.inside.seats.items } in
+    let pass : PassValue = record { seat = c.pass.inside.seat; calls = c.pass.inside.calls.items; seen = c.pass.inside.seen } in
+    let known : Knows book pass = rw (c.self.view_is, c.pass.view_is) c.requires.known in
+    let many = as_many_calls rig first book c.self.inside.seats.items pass c.self.invariant.2 known in
+    let room : length pass.calls < 4096 = (let r = c.requires.room in let l = ap (λ (p : PassValue). length p.calls) c.pass.view_is in omega (arith, r, l)) in
+    let read : c.index_mut-seat.result.now ≡ seat_at c.self.inside.seats.items c.pass.inside.seat =
+    c.index_mut-seat.ensures.value ∙ get_or_default c.self.inside.seats.items c.pass.inside.seat c.index_mut-seat.result.now no_seat known.given in
+    let place : c.len-place.result ≡ length c.self.inside.log.items = (let l = c.len-place.ensures in let k = c.self.inside.log.ok.0 in omega (arith, l, k)) in
+    let seat = seat_at c.self.inside.seats.items c.pass.inside.seat in
+    let places : c.push_reserved.new.self.items ≡ c.seat.inside.places.items ++ c.len-place.result ∷ [] =
+    c.push_reserved.ensures.items ∙ ap (λ (ps : List ℕ). ps ++ c.len-place.result ∷ []) c.in_ok-make_room.ensures.places in
+    let added : record { places = c.push_reserved.new.self.items; calls = c.seat.inside.calls + 1 } ≡ seat_on seat (length c.self.inside.log.items) =
+    ap (λ (ps : List ℕ). record { places = ps; calls = c.seat.inside.calls + 1 }) places
+    ∙ (ap (λ (s : SeatValue). seat_on s c.len-place.result) (c.seat.view_is ∙ read)
+    ∙ ap (seat_on seat) place) in
+    let fewer = c.in_ok-carried.ensures.outstanding in
+    let tenant : c.args.tenant < length book.host.config.tenants = subst (λ (b : BookValue). c.args.tenant < length b.host.config.tenants) (sym c.self.view_is) c.requires.tenant in (
+      omega (arith, fewer, c.outstanding-outstanding.ensures, c.in_ok-make_room.ensures.log_room, c.push_reserved-2.ensures.len, c.push_reserved-2.ensures.capacity),
+      c.self.invariant.1 ∙ sym (length-set c.self.inside.seats.items c.pass.inside.seat _),
+      rw (length-set c.self.inside.seats.items c.pass.inside.seat _, c.push_reserved-2.ensures.items, c.in_ok-make_room.ensures.log, c.in_ok-carried.ensures.logged, added)
+          (call_on rig first book c.self.inside.seats.items c.carry_out.new.host c.pass.inside.seat call c.self.invariant.2 known.given (omega (arith, many, room))
+          (λ setting state st. (c.in_ok-carried.ensures.step setting state st, (of_roster setting book.host state c.args.tenant st tenant, c.in_ok-carried.ensures.reply setting state st)))
+          fewer),
+    )
+
+pub returns-clause-reply : goal.returns-clause-reply
+returns-clause-reply g c = λ setting state st. c.in_ok-carried.ensures.reply setting state (subst (λ (b : BookValue). Stands setting b.host state) (sym c.self.view_is) st)
+
+pub returns-clause-step : goal.returns-clause-step
+returns-clause-step g c =
+    takes_as (Own c.args.tenant c.args.prepared) c.self.inside.host c.args.self.now.host c.carry_out.new.host (ap (λ (b : BookValue). b.host) c.self.view_is) c.in_ok-carried.ensures.step

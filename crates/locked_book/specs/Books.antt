@@ -1,0 +1,119 @@
+-- Books: a host with its log from a base on, and the passes of those who call it. The logs here have the oldest entry first.
+use Rattle.std.specs.Prelude.{◌≡◌, ◌≢◌, ℕ, ◌+◌, ◌-◌, ◌<◌, ◌≤◌, nat_lt, Bool, true, false, ◌==◌, if◌then◌else◌, List, [], ◌∷◌, ◌++◌, length, map, drop, take, slice_get, slice_index_or, Option, Some, None}
+use Rattle.std.specs.List.{All, list_any}
+use Rattle.rig_config.specs.Roster.{Rig}
+use Rattle.rig_model.specs.Base.{Setting, new_base}
+use Rattle.rig_model.specs.HostState.{row_at}
+use Rattle.rig_model.specs.Views.{after_command}
+use Rattle.rig_model.specs.declared.events.Event.TheVariants.{Own}
+use Rattle.host_core.specs.HostStanding.{ForEachState, HostStanding, TakesEvent, new_host}
+use Rattle.locked_book.specs.Logs.{calls_of_seat}
+use Rattle.locked_book.specs.declared.logged.Call.{Call}
+use Rattle.locked_book.specs.declared.logged.Logged.{Logged}
+use Rattle.locked_book.specs.declared.logged.Logged.TheVariants as logged
+
+-- the setting of a new host of this rig, whose first instant has this number
+abbrev pub new_setting : Rig → ℕ → Setting
+new_setting rig first_tick = record { config = rig; base = new_base rig first_tick }
+
+-- what a log begins with: the host, how many entries there were before, and how many calls each seat had among them
+pub record BaseValue : Type 0 where
+  pub host : HostStanding
+  pub entries_before : ℕ
+  pub calls : List ℕ
+
+-- how many calls a seat had before the log; none if it wasn't given
+abbrev pub calls_before : BaseValue → ℕ → ℕ
+calls_before base seat = slice_index_or base.calls seat 0
+
+-- that of a new host
+abbrev pub beginning : Rig → ℕ → BaseValue
+beginning rig first_tick = record { host = new_host rig first_tick; entries_before = 0; calls = [] }
+
+-- a seat: the places of its calls in the log, and how many calls it has in all
+pub record SeatValue : Type 0 where
+  pub places : List ℕ
+  pub calls : ℕ
+
+-- a book: what its log begins with, the host, the log, and how many seats were given
+pub record BookValue : Type 0 where
+  pub base : BaseValue
+  pub host : HostStanding
+  pub log : List Logged
+  pub seats : ℕ
+
+-- how many entries there are, those before the base too
+abbrev pub length_of : BookValue → ℕ
+length_of book = book.base.entries_before + length book.log
+
+-- the entry of a log at a place, counted from the host's beginning, where there were so many entries before the log
+abbrev pub entry_behind : ℕ → List Logged → ℕ → Option Logged
+entry_behind before log place = if nat_lt place before then None else slice_get log (place - before)
+
+-- the entry of the book's log at a place, counted from the host's beginning, if the log has it
+abbrev pub entry_at : BookValue → ℕ → Option Logged
+entry_at book place = entry_behind book.base.entries_before book.log place
+
+-- no two of these places are one
+abbrev pub AreApart : List ℕ → Type 0
+AreApart places = (i j : ℕ) → i < j → j < length places → slice_index_or places i 0 ≢ slice_index_or places j 0
+
+-- places with their entries: no place is there twice, and the log has each entry at its place
+pub record AllStand (book : BookValue) (entries : List (ℕ × Logged)) : Type 0 where
+  pub each : All (λ (e : ℕ × Logged). entry_at book e.0 ≡ Some e.1) entries
+  pub apart : AreApart (map (λ (e : ℕ × Logged). e.0) entries)
+
+-- a pass: its seat, its calls, and the longest log that it has seen
+pub record PassValue : Type 0 where
+  pub seat : ℕ
+  pub calls : List Call
+  pub seen : ℕ
+
+-- The book knows a pass: its seat was given, its calls behind the base are the log's of this seat, and it has seen no longer log.
+pub record Knows (book : BookValue) (pass : PassValue) : Type 0 where
+  pub given : pass.seat < book.seats
+  pub before : calls_before book.base pass.seat ≤ length pass.calls
+  pub calls : drop (calls_before book.base pass.seat) pass.calls ≡ calls_of_seat pass.seat book.log
+  pub seen : pass.seen ≤ length_of book
+
+-- A call was answered: it is the last entry of the log and the last call of the pass, which has seen the log now; the host has taken its
+-- command, with this reply; and nothing else has changed.
+pub record IsAnswered (old new : BookValue) (before after : PassValue) (call : Call) : Type 0 where
+  pub log : new.log ≡ old.log ++ logged.Call before.seat call ∷ []
+  pub pass : after ≡ record { seat = before.seat; calls = before.calls ++ call ∷ []; seen = length_of new }
+  pub reply : ForEachState old.host (λ setting state. call.reply ≡ (after_command setting call.tenant call.command (row_at state call.tenant)).reply)
+  pub step : TakesEvent (Own call.tenant call.command) old.host new.host
+  pub base : new.base ≡ old.base
+  pub seats : new.seats ≡ old.seats
+
+-- one of these passes has the seat
+abbrev pub has_seat : List PassValue → ℕ → Bool
+has_seat passes seat = list_any (λ (p : PassValue). p.seat == seat) passes
+
+abbrev pub pass_at : List PassValue → ℕ → PassValue
+pass_at passes i = slice_index_or passes i (record { seat = 0; calls = []; seen = 0 })
+
+-- the pass at this place of a list is known, and its seat stands in none before it
+pub record Matches (book : BookValue) (passes : List PassValue) (i : ℕ) : Type 0 where
+  pub known : Knows book (pass_at passes i)
+  pub once : has_seat (take i passes) (pass_at passes i).seat ≡ false
+
+-- the first of these passes that doesn't match has this seat
+pub record IsMismatch (book : BookValue) (passes : List PassValue) (seat : ℕ) : Type 0 where
+  pub place : ℕ
+  pub within : place < length passes
+  pub its_seat : seat ≡ (pass_at passes place).seat
+  pub before : (k : ℕ) → k < place → Matches book passes k
+  pub first : ¬ (Matches book passes place)
+
+-- all these passes match, and this is the least seat that has a call in the log and no pass
+pub record IsMissing (book : BookValue) (passes : List PassValue) (seat : ℕ) : Type 0 where
+  pub all : (k : ℕ) → k < length passes → Matches book passes k
+  pub called : calls_of_seat seat book.log ≢ []
+  pub none : has_seat passes seat ≡ false
+  pub least : (s : ℕ) → s < seat → calls_of_seat s book.log ≢ [] → has_seat passes s ≡ true
+
+-- all these passes match, and each call in the log is of one of their seats
+pub record AreAll (book : BookValue) (passes : List PassValue) : Type 0 where
+  pub all : (k : ℕ) → k < length passes → Matches book passes k
+  pub called : (s : ℕ) → calls_of_seat s book.log ≢ [] → has_seat passes s ≡ true

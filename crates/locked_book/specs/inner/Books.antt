@@ -1,0 +1,54 @@
+-- What a book keeps, and what is known of it at any time. The logs here have the oldest entry first.
+use Rattle.std.specs.Prelude.{◌≡◌, ℕ, ◌+◌, ◌*◌, ◌-◌, ◌<◌, ◌≤◌, ◌^◌, ◌==◌, if◌then◌else◌, List, [], ◌∷◌, length, reverse, slice_index_or, sum_by, Option, Some, None}
+use Rattle.std.specs.List.{All}
+use Rattle.rig_config.specs.Roster.{Rig}
+use Rattle.rig_model.specs.Base.{Setting, new_base}
+use Rattle.rig_model.specs.Host.{host_after}
+use Rattle.host_core.specs.HostStanding.{HostStanding, Stands, outstanding_count}
+use Rattle.locked_book.specs.Logs.{calls_of_seat, events_of, IsReplay}
+use Rattle.locked_book.specs.Books.{calls_before, beginning, BookValue, SeatValue, new_setting}
+use Rattle.locked_book.specs.declared.logged.Call.{Call}
+use Rattle.locked_book.specs.declared.logged.Logged.{Logged}
+use Rattle.locked_book.specs.declared.logged.Logged.TheVariants as logged
+
+-- Whatever a base stands for, the host stands for what the log makes of that, and each entry is what the host gave.
+abbrev pub IsKept : HostStanding → HostStanding → List Logged → Type 0
+IsKept base host log = (setting : Setting) → Stands setting base setting.base
+    → Stands setting host (host_after setting (events_of (reverse log))) × IsReplay setting (reverse log)
+
+abbrev pub seat_at : List SeatValue → ℕ → SeatValue
+seat_at seats seat = slice_index_or seats seat (record { places = []; calls = 0 })
+
+-- the places of a seat's calls, where the first entry has place i
+abbrev pub places_from : ℕ → ℕ → List Logged → List ℕ
+places_from seat i [] = []
+places_from seat i (logged.Call s call ∷ log) = if s == seat then i ∷ places_from seat (i + 1) log else places_from seat (i + 1) log
+places_from seat i (logged.Tick frame ∷ log) = places_from seat (i + 1) log
+places_from seat i (logged.Done j ∷ log) = places_from seat (i + 1) log
+
+-- each seat has the places of its calls
+abbrev pub ArePlaces : List SeatValue → List Logged → Type 0
+ArePlaces seats log = (seat : ℕ) → (seat_at seats seat).places ≡ places_from seat 0 log
+
+-- the call of an entry
+abbrev pub call_of : Logged → Option Call
+call_of (logged.Call s call) = Some call
+call_of (logged.Tick frame) = None
+call_of (logged.Done j) = None
+
+abbrev pub call_at : List Logged → ℕ → Option Call
+call_at log i = call_of (slice_index_or log i (logged.Tick []))
+
+-- What is known of a book of this rig, whose host began with this tick. `bound` says that its lengths fit 128 bits: each entry is a call of
+-- a seat, or belongs to one of the instants, each of which has fewer jobs than 64 bits count.
+pub record IsBook (rig : Rig) (first_tick : ℕ) (book : BookValue) (seats : List SeatValue) : Type 0 where
+  pub base : book.base ≡ beginning rig first_tick
+  pub begins : Stands (new_setting rig first_tick) book.base.host (new_base rig first_tick)
+  pub kept : IsKept book.base.host book.host book.log
+  pub places : ArePlaces seats book.log
+  pub counts : (seat : ℕ) → (seat_at seats seat).calls ≡ calls_before book.base seat + length (calls_of_seat seat book.log)
+  pub small : All (λ (s : SeatValue). s.calls ≤ 4096) seats
+  pub few : length seats ≤ 65536
+  pub begun : first_tick ≤ book.host.clock
+  pub clock : book.host.clock < 2 ^ 64
+  pub bound : book.base.entries_before + length book.log + outstanding_count book.host ≤ sum_by (λ (s : SeatValue). s.calls) seats + 2 ^ 64 * (book.host.clock - first_tick)

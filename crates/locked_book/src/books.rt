@@ -1,0 +1,453 @@
+//! The book: a host with its log.
+
+ghost use Rattle.std.specs.Prelude.{◌≡◌, ◌≢◌, ℕ, ◌+◌, ◌-◌, ◌<◌, ◌≤◌, ◌^◌, ◌↔◌, [], ◌∷◌, ◌++◌, length, map, reverse, IfOk, OnOk, OnErr, Err, IsTrue, None, Some, vec_len, vec_capacity};
+ghost use Rattle.std.specs.List.{range_with_len};
+ghost use Rattle.host_core.specs.HostStanding.{ForEachState, Stands, TakesEvent, awaited_in, new_host, outstanding_count};
+ghost use Rattle.host_core.specs.declared.hosts.Counted.{Counted};
+ghost use Rattle.host_core.specs.declared.hosts.TickFault.{TickFault};
+ghost use Rattle.instant_engine.specs.Tenants.{most_of, released_from};
+ghost use Rattle.rig_model.specs.Host.{host_after};
+ghost use Rattle.rig_model.specs.HostState.{row_at};
+ghost use Rattle.rig_model.specs.LineValues.{value_of_line};
+ghost use Rattle.rig_model.specs.Views.{after_command};
+ghost use Rattle.rig_model.specs.declared.events.Event.{Event};
+ghost use Rattle.tenant_lines.specs.declared.replies.Refusal.{Refusal};
+ghost use Rattle.tenant_lines.specs.declared.replies.Reply.{Reply};
+ghost use Rattle.locked_book.specs.Books.{AllStand, AreAll, IsAnswered, IsMismatch, IsMissing, Knows, beginning, length_of, new_setting};
+ghost use Rattle.locked_book.specs.Logs.{IsLegalLog, events_of};
+ghost use Rattle.locked_book.specs.declared.faults.CloseFault.{CloseFault};
+ghost use Rattle.locked_book.specs.declared.faults.DeskFault.{DeskFault};
+ghost use Rattle.locked_book.specs.declared.faults.PassFault.{PassFault};
+ghost use Rattle.locked_book.specs.declared.logged.Logged.{Logged};
+
+use crate::bases::Base;
+use crate::comparison::compare;
+use crate::faults::{CloseFault, DeskFault, PassFault};
+use crate::known::is_known;
+use crate::logged::{Call, Logged, copy_of_frame};
+use crate::naming::Naming;
+use crate::passes::Pass;
+use crate::seats::Seat;
+use crate::standing::{all_apart, all_there};
+use host_core::hosts::{Counted, Host, TickFault};
+use instant_engine::{Done, Jobs};
+use rig_config::{Config, TenantId};
+use std::alloc::{AllocError, Global};
+use std::marker::{Model, PhantomData};
+use tenant_lines::commands::Command;
+use tenant_lines::replies::Reply;
+use tenant_programs::prepared::{Prepared, prepare};
+
+/// How many seats a book gives at most.
+pub const MOST_SEATS: usize = 65536;
+
+/// A host, and the log of all that was done to it.
+#[derive(Drop)]
+pub struct Book<N: Naming> {
+    alloc: Global,
+    base: Base,
+    host: Host,
+    log: Vec<Logged>,
+    seats: Vec<Seat>,
+    // A mark for each seat, for the comparison with all passes.
+    marks: Vec<bool>,
+    name: PhantomData<N>,
+}
+
+impl<N: Naming> Model for Book<N> {
+    ghost use Rattle.std.specs.Prelude.{◌≡◌, ◌+◌, ◌≤◌, length, vec_len, vec_capacity};
+    ghost use Rattle.std.specs.Coded.{codes};
+    ghost use Rattle.giotto_text.specs.cited.ProgramCodes.{program_code};
+    ghost use Rattle.host_core.specs.HostStanding.{outstanding_count};
+    ghost use Rattle.locked_book.specs.Books.{BookValue};
+    ghost use Rattle.locked_book.specs.inner.Books.{IsBook};
+
+    ghost Value = { BookValue };
+
+    ghost coded = { Prim.hlevel (codes, program_code) };
+
+    ghost view = { λ b. record { base = b.base; host = b.host; log = b.log.items; seats = length b.seats.items } };
+
+    ghost invariant = { λ b. (vec_len b.log + outstanding_count b.host ≤ vec_capacity b.log)
+        × (length b.marks.items ≡ length b.seats.items)
+        × IsBook N.config N.first_tick (record { base = b.base; host = b.host; log = b.log.items; seats = length b.seats.items }) b.seats.items };
+}
+
+impl<N: Naming> Book<N> {
+    /// A new host, and an empty log.
+    ///
+    /// # Errors
+    /// Want of memory.
+    pub fn new(alloc: Global, config: &Config, first_tick: u64) -> Result<Self, AllocError>
+        requires config { config.now ≡ N.config }
+        requires first_tick { first_tick ≡ N.first_tick }
+        ensures { IfOk result (λ b. b ≡ record {
+          base = beginning N.config N.first_tick;
+          host = new_host N.config N.first_tick;
+          log = [];
+          seats = 0;
+        }) }
+    {
+        let base = Base::new(alloc, config, first_tick)?;
+        let host = Host::new(alloc, config, first_tick)?;
+        Ok(Book {
+            alloc,
+            base,
+            host,
+            log: Vec::new(alloc),
+            seats: Vec::new(alloc),
+            marks: Vec::new(alloc),
+            name: PhantomData,
+        })
+    }
+
+    /// All that was done to the host, the oldest first.
+    pub fn log(&self) -> &[Logged]
+        ensures entries { result.now ≡ self.now.log }
+        ensures legal { IsLegalLog (new_setting N.config N.first_tick) (reverse self.now.log) }
+        ensures host { Stands (new_setting N.config N.first_tick) self.now.host (host_after (new_setting N.config N.first_tick) (events_of (reverse self.now.log))) }
+        ensures base { self.now.base ≡ beginning N.config N.first_tick }
+    {
+        self.log.as_slice()
+    }
+
+    /// How many entries there are.
+    pub fn length(&self) -> u128
+        ensures length { result ≡ length_of self.now }
+        ensures bound { length_of self.now + 1 < 2 ^ 128 }
+    {
+        self.base.entries_before() + self.log.len() as u128
+    }
+
+    /// How many jobs are outstanding: their tasks are active, and not completed.
+    pub fn outstanding(&self) -> u128
+        ensures { result ≡ outstanding_count self.now.host }
+    {
+        self.host.outstanding()
+    }
+
+    /// A seat that was not given before: its pass, without calls.
+    ///
+    /// # Errors
+    /// `SeatsEnded` where 65,536 seats were given, else `Memory`. Nothing has changed then.
+    pub fn seat(&mut self) -> Result<Pass, PassFault>
+        ensures ok { IfOk result (λ p. p ≡ record { seat = self.old.seats; calls = []; seen = 0 }) }
+        ensures fits { IfOk result (λ p. p.seat < 65536) }
+        ensures same { (self.new.base ≡ self.old.base) × (self.new.host ≡ self.old.host) × (self.new.log ≡ self.old.log) }
+        ensures seats { OnOk result (self.new.seats ≡ self.old.seats + 1) }
+        ensures refused { OnErr result (self.new ≡ self.old) }
+        ensures ended { result ≡ Err PassFault.SeatsEnded ↔ self.old.seats ≡ 65536 }
+    {
+        let seat = self.seats.len();
+        if seat >= MOST_SEATS {
+            return Err(PassFault::SeatsEnded);
+        }
+        let Ok(()) = self.marks.reserve(1) else {
+            return Err(PassFault::Memory);
+        };
+        let Ok(()) = self.seats.push(Seat::new(self.alloc)) else {
+            return Err(PassFault::Memory);
+        };
+        self.marks.push_reserved(false);
+        Ok(Pass::new(self.alloc, seat))
+    }
+
+    /// An instant of all tenants, with the place of its entry. `frame` has the input value of each line. Makes room for the
+    /// completions of its jobs.
+    ///
+    /// # Errors
+    /// `BadFrame` where the frame has not one value for each line, else `ClockEnded` where the instant's number would be `u64::MAX`,
+    /// else `Memory`. Nothing has changed then.
+    pub fn tick(&mut self, frame: &[i64]) -> Result<(Jobs, u128), TickFault>
+        ensures ok { IfOk result (λ r. (self.new.log ≡ self.old.log ++ Logged.Tick frame.now ∷ []) × (r.1 ≡ length_of self.old)) }
+        ensures step { OnOk result (TakesEvent (Event.Tick frame.now) self.old.host self.new.host) }
+        ensures jobs { IfOk result (λ r. r.0.jobs ≡ released_from self.old.host.clock 0 self.new.host.tenants) }
+        ensures base { OnOk result ((self.new.base ≡ self.old.base) × (self.new.seats ≡ self.old.seats)) }
+        ensures refused { OnErr result (self.new ≡ self.old) }
+        ensures bad_frame { result ≡ Err TickFault.BadFrame ↔ length frame.now ≢ self.old.host.config.lines }
+        ensures clock_ended { result ≡ Err TickFault.ClockEnded ↔ ((length frame.now ≡ self.old.host.config.lines) × (self.old.host.clock ≡ 2 ^ 64 - 1)) }
+    {
+        if frame.len() != self.host.config().lines() {
+            return Err(TickFault::BadFrame);
+        }
+        if self.host.clock() == u64::MAX {
+            return Err(TickFault::ClockEnded);
+        }
+        let place = self.length();
+        let Ok(entry) = room_for_instant(self.alloc, &mut self.host, &mut self.log, frame) else {
+            return Err(TickFault::Memory);
+        };
+        let jobs = self.host.tick(frame)?;
+        self.log.push_reserved(entry);
+        Ok((jobs, place))
+    }
+
+    /// Takes a completion, and says at which place its entry stands: it counts where its job is awaited. One that is late changes
+    /// nothing, is not logged, and gives 0. Takes no memory.
+    pub fn done(&mut self, done: Done) -> (Counted, u128)
+        ensures answer { result.0 ≡ Counted.Counted ↔ awaited_in self.old.host done.id ≡ Some done }
+        ensures counted { result.0 ≡ Counted.Counted → (self.new.log ≡ self.old.log ++ Logged.Done done.id ∷ []) × (result.1 ≡ length_of self.old) }
+        ensures step { result.0 ≡ Counted.Counted → TakesEvent (Event.Done done.id) self.old.host self.new.host }
+        ensures base { (self.new.base ≡ self.old.base) × (self.new.seats ≡ self.old.seats) }
+        ensures late { result.0 ≡ Counted.Late → (self.new ≡ self.old) × (result.1 ≡ 0) }
+    {
+        let place = self.length();
+        let completion = Logged::Done(done.id().copy());
+        match self.host.done(done) {
+            Counted::Late => (Counted::Late, 0),
+            Counted::Counted => {
+                self.log.push_reserved(completion);
+                (Counted::Counted, place)
+            }
+        }
+    }
+
+    /// The value of each line of the rig.
+    ///
+    /// # Errors
+    /// Want of memory.
+    pub fn lines(&self) -> Result<Vec<i64>, AllocError>
+        ensures { ForEachState self.now.host (λ setting state. IfOk result (λ values. values.items ≡ map (value_of_line setting.config (row_at state)) (range_with_len 0 setting.config.lines))) }
+    {
+        let lines = self.host.config().lines();
+        let mut values = Vec::with_capacity(self.alloc, lines)?;
+        for line in 0..lines {
+            values.push(self.host.line_value(line))?;
+        }
+        Ok(values)
+    }
+
+    /// Whether no place is in the list twice, and the log has each entry at its place, counted from the host's beginning. Takes no
+    /// memory.
+    pub fn stands(&self, entries: &[(u128, Logged)]) -> bool
+        ensures { IsTrue result ↔ AllStand self.now entries.now }
+    {
+        let there = all_there(self.base.entries_before(), &self.log, entries);
+        let apart = all_apart(entries);
+        there & apart
+    }
+
+    /// Why the book can't be closed with these passes: `Mismatch` with the seat of the first pass that it doesn't know or whose seat
+    /// stands in one before it, else `Missing` with the least seat that has a call in the log and no pass. None where each call in the
+    /// log stands on its pass. Takes no memory.
+    pub fn compare(&mut self, passes: &[Pass]) -> Option<CloseFault>
+        ensures same { self.new ≡ self.old }
+        ensures mismatch { (seat : ℕ) → result ≡ Some (CloseFault.Mismatch seat) → IsMismatch self.old passes.now seat }
+        ensures missing { (seat : ℕ) → result ≡ Some (CloseFault.Missing seat) → IsMissing self.old passes.now seat }
+        ensures all { result ≡ None → AreAll self.old passes.now }
+    {
+        compare(
+            &self.base,
+            &self.log,
+            &self.seats,
+            self.marks.as_mut_slice(),
+            passes,
+        )
+    }
+
+    // Whether this book knows the pass.
+    fn knows(&self, pass: &Pass) -> bool
+        ensures { IsTrue result ↔ Knows self.now pass.now }
+    {
+        is_known(&self.base, &self.log, &self.seats, pass)
+    }
+
+    /// A call of a pass: a tenant's command, and its reply. Costs as much as the pass has calls.
+    ///
+    /// # Errors
+    /// `PassFull` where the pass has 4,096 calls, else `Strange` with the log's length where the tenant isn't in the roster, the seat
+    /// was not given here, the log's calls of the seat aren't those of the pass, or the pass has seen a longer log, else `Memory`.
+    /// Neither book nor pass has changed then.
+    pub fn call(
+        &mut self,
+        pass: &mut Pass,
+        tenant: TenantId,
+        command: Command,
+    ) -> Result<Reply, DeskFault>
+        ensures answered { IfOk result (λ r. IsAnswered self.old self.new pass.old pass.new (record { tenant = tenant; command = command; reply = r })) }
+        ensures memory { IfOk result (λ r. r ≢ Reply.Refused Refusal.Memory) }
+        ensures known { OnOk result (Knows self.new pass.new) }
+        ensures seen { OnOk result (pass.old.seen < pass.new.seen) }
+        ensures refused { OnErr result ((self.new ≡ self.old) × (pass.new ≡ pass.old)) }
+        ensures full { result ≡ Err DeskFault.PassFull ↔ 4096 ≤ length pass.old.calls }
+        ensures strange { (n : ℕ) → result ≡ Err (DeskFault.Strange n) ↔ ((length pass.old.calls < 4096) × (n ≡ length_of self.old)
+            × (¬ ((tenant < length self.old.host.config.tenants) × Knows self.old pass.old))) }
+    {
+        let prepared = prepare(self.alloc, command);
+        self.carry_out(pass, tenant, prepared)
+    }
+
+    /// As `call`, of a command that was prepared, so that its text needn't be read now.
+    ///
+    /// # Errors
+    /// As `call`.
+    pub fn carry_out(
+        &mut self,
+        pass: &mut Pass,
+        tenant: TenantId,
+        prepared: Prepared,
+    ) -> Result<Reply, DeskFault>
+        ensures answered { IfOk result (λ r. IsAnswered self.old self.new pass.old pass.new (record { tenant = tenant; command = prepared; reply = r })) }
+        ensures memory { IfOk result (λ r. r ≢ Reply.Refused Refusal.Memory) }
+        ensures known { OnOk result (Knows self.new pass.new) }
+        ensures seen { OnOk result (pass.old.seen < pass.new.seen) }
+        ensures refused { OnErr result ((self.new ≡ self.old) × (pass.new ≡ pass.old)) }
+        ensures full { result ≡ Err DeskFault.PassFull ↔ 4096 ≤ length pass.old.calls }
+        ensures strange { (n : ℕ) → result ≡ Err (DeskFault.Strange n) ↔ ((length pass.old.calls < 4096) × (n ≡ length_of self.old)
+            × (¬ ((tenant < length self.old.host.config.tenants) × Knows self.old pass.old))) }
+    {
+        if pass.is_full() {
+            return Err(DeskFault::PassFull);
+        }
+        let length = self.length();
+        if tenant >= self.host.config().tenants().len() {
+            return Err(DeskFault::Strange(length));
+        }
+        if !self.knows(pass) {
+            return Err(DeskFault::Strange(length));
+        }
+        let Ok(reply) = self.carry_out_known(pass, tenant, prepared) else {
+            return Err(DeskFault::Memory);
+        };
+        pass.seen = length + 1;
+        Ok(reply)
+    }
+}
+
+impl<N: Naming> Book<N> {
+    // A call of a pass that the book knows.
+    fn carry_out_known(
+        &mut self,
+        pass: &mut Pass,
+        tenant: TenantId,
+        prepared: Prepared,
+    ) -> Result<Reply, AllocError>
+        requires tenant { tenant < length self.old.host.config.tenants }
+        requires room { length pass.old.calls < 4096 }
+        requires known { Knows self.old pass.old }
+        ensures ok { IfOk result (λ r. self.new.log ≡ self.old.log ++ Logged.Call pass.old.seat (record { tenant = tenant; command = prepared; reply = r }) ∷ []) }
+        ensures pass { IfOk result (λ r. pass.new ≡ record {
+          seat = pass.old.seat;
+          calls = pass.old.calls ++ record { tenant = tenant; command = prepared; reply = r } ∷ [];
+          seen = pass.old.seen;
+        }) }
+        ensures base { OnOk result ((self.new.base ≡ self.old.base) × (self.new.seats ≡ self.old.seats)) }
+        ensures reply { IfOk result (λ r. ForEachState self.old.host (λ setting state. r ≡ (after_command setting tenant prepared (row_at state tenant)).reply)) }
+        ensures memory { IfOk result (λ r. r ≢ Reply.Refused Refusal.Memory) }
+        ensures step { OnOk result (TakesEvent (Event.Own tenant prepared) self.old.host self.new.host) }
+        ensures refused { OnErr result ((self.new ≡ self.old) × (pass.new ≡ pass.old)) }
+    {
+        let outstanding = self.host.outstanding() as usize;
+        let place = self.log.len();
+        let seat = &mut self.seats[pass.seat];
+        make_room(
+            &mut self.log,
+            outstanding,
+            &mut pass.calls,
+            &mut seat.places,
+        )?;
+        let carried = carry_out(self.alloc, &mut self.host, tenant, prepared)?;
+        seat.places.push_reserved(place);
+        seat.calls += 1;
+        self.log
+            .push_reserved(Logged::Call(pass.seat, carried.logged));
+        pass.calls.push_reserved(carried.noted);
+        Ok(carried.reply)
+    }
+}
+
+// The entry of an instant, with room in the log for it and for the completions of all jobs that it can release.
+fn room_for_instant(
+    alloc: Global,
+    host: &mut Host,
+    log: &mut Vec<Logged>,
+    frame: &[i64],
+) -> Result<Logged, AllocError>
+    requires { vec_len log.old + outstanding_count host.old ≤ vec_capacity log.old }
+    ensures entry { IfOk result (λ e. e ≡ Logged.Tick frame.now) }
+    ensures host { host.new ≡ host.old }
+    ensures log { log.new.items ≡ log.old.items }
+    ensures room { OnOk result (vec_len log.new + 1 + outstanding_count host.old + most_of host.old.tenants ≤ vec_capacity log.new) }
+    ensures most { OnOk result (most_of host.old.tenants < 2 ^ 64) }
+    ensures kept { vec_len log.new + outstanding_count host.old ≤ vec_capacity log.new }
+{
+    let entry = Logged::Tick(copy_of_frame(alloc, frame)?);
+    let outstanding = host.outstanding() as usize;
+    let most = host.ready()?;
+    let jobs = most.checked_add(outstanding).ok_or(AllocError)?;
+    let room = jobs.checked_add(1).ok_or(AllocError)?;
+    log.reserve(room)?;
+    Ok(entry)
+}
+
+// Makes room for a call: in the log, where these many completions are to come, in the pass, and among the seat's places.
+fn make_room(
+    log: &mut Vec<Logged>,
+    outstanding: usize,
+    calls: &mut Vec<Call>,
+    places: &mut Vec<usize>,
+) -> Result<(), AllocError>
+    requires { outstanding < 2 ^ 64 - 1 }
+    ensures log { log.new.items ≡ log.old.items }
+    ensures calls { calls.new.items ≡ calls.old.items }
+    ensures places { places.new.items ≡ places.old.items }
+    ensures log_room { OnOk result (vec_len log.new + outstanding + 1 ≤ vec_capacity log.new) }
+    ensures calls_room { OnOk result (vec_len calls.new + 1 ≤ vec_capacity calls.new) }
+    ensures places_room { OnOk result (vec_len places.new + 1 ≤ vec_capacity places.new) }
+    ensures kept { vec_len log.old + outstanding ≤ vec_capacity log.old → vec_len log.new + outstanding ≤ vec_capacity log.new }
+{
+    log.reserve(outstanding + 1)?;
+    calls.reserve(1)?;
+    places.reserve(1)?;
+    Ok(())
+}
+
+// A command that was carried out: its reply, and the call for the log and for the pass.
+#[derive(Drop)]
+struct Carried {
+    reply: Reply,
+    logged: Call,
+    noted: Call,
+}
+
+// Carries out a tenant's command. All that takes memory is made before the host changes; a reply that takes memory is that of a command
+// which changes nothing.
+fn carry_out(
+    alloc: Global,
+    host: &mut Host,
+    tenant: TenantId,
+    prepared: Prepared,
+) -> Result<Carried, AllocError>
+    requires { tenant < length host.old.config.tenants }
+    ensures logged { IfOk result (λ r. r.logged ≡ record { tenant = tenant; command = prepared; reply = r.reply }) }
+    ensures noted { IfOk result (λ r. r.noted ≡ record { tenant = tenant; command = prepared; reply = r.reply }) }
+    ensures memory { IfOk result (λ r. r.reply ≢ Reply.Refused Refusal.Memory) }
+    ensures reply { IfOk result (λ r. ForEachState host.old (λ setting state. r.reply ≡ (after_command setting tenant prepared (row_at state tenant)).reply)) }
+    ensures step { OnOk result (TakesEvent (Event.Own tenant prepared) host.old host.new) }
+    ensures outstanding { outstanding_count host.new ≤ outstanding_count host.old }
+    ensures refused { OnErr result (host.new ≡ host.old) }
+{
+    let for_log = prepared.command().copy(alloc)?;
+    let for_pass = prepared.command().copy(alloc)?;
+    let reply = host.carry_out(tenant, prepared);
+    if reply.is_memory() {
+        return Err(AllocError);
+    }
+    let reply_for_log = reply.copy(alloc)?;
+    let reply_for_pass = reply.copy(alloc)?;
+    let logged = Call {
+        tenant,
+        command: for_log,
+        reply: reply_for_log,
+    };
+    let noted = Call {
+        tenant,
+        command: for_pass,
+        reply: reply_for_pass,
+    };
+    Ok(Carried {
+        reply,
+        logged,
+        noted,
+    })
+}

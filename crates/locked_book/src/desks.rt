@@ -1,0 +1,197 @@
+//! The desk: a book under a lock.
+
+ghost use Rattle.std.specs.Prelude.{◌≡◌, ℕ, ◌+◌, ◌<◌, ◌≤◌, ◌↔◌, List, [], ◌∷◌, ◌++◌, length, map, reverse, true, IfOk, OnOk, OnErr, IfErr, Err, Some};
+ghost use Rattle.std.specs.List.{All, range_with_len};
+ghost use Rattle.instant_engine.specs.Tenants.{released_from};
+ghost use Rattle.host_core.specs.HostStanding.{HostStanding, Stands};
+ghost use Rattle.host_core.specs.declared.hosts.Counted.{Counted};
+ghost use Rattle.rig_model.specs.Answers.{answers_of};
+ghost use Rattle.rig_model.specs.Host.{host_after};
+ghost use Rattle.rig_model.specs.HostState.{row_at};
+ghost use Rattle.rig_model.specs.LineValues.{value_of_line};
+ghost use Rattle.rig_model.specs.Sources.{kept_of};
+ghost use Rattle.locked_book.specs.Books.{AreAll, BookValue, IsMismatch, IsMissing, PassValue, beginning, new_setting};
+ghost use Rattle.locked_book.specs.Logs.{IsLegalLog, answers_in, calls_of_seat, events_of};
+ghost use Rattle.locked_book.specs.declared.faults.CloseFault.{CloseFault};
+ghost use Rattle.locked_book.specs.declared.faults.DeskFault.{DeskFault};
+ghost use Rattle.locked_book.specs.declared.logged.Logged.{Logged};
+
+use crate::books::Book;
+use crate::faults::{CloseFault, DeskFault, PassFault};
+use crate::naming::Naming;
+use crate::passes::Pass;
+use host_core::hosts::{Counted, TickFault};
+use instant_engine::{Done, Jobs};
+use rig_config::{Config, TenantId};
+use std::alloc::{AllocError, Global};
+use std::sync::{Condvar, Mutex, Wait};
+use tenant_lines::commands::Command;
+use tenant_lines::replies::Reply;
+use tenant_programs::prepared::prepare;
+
+/// A book under a lock. What waits takes the runtime; nothing else does.
+#[derive(Drop)]
+pub struct Desk<N: Naming> {
+    alloc: Global,
+    book: Mutex<Book<N>>,
+    settled: Condvar,
+}
+
+impl<N: Naming> Desk<N> {
+    /// A desk over a new host, with an empty log.
+    ///
+    /// # Errors
+    /// Want of memory.
+    pub fn new(alloc: Global, config: &Config, first_tick: u64) -> Result<Self, AllocError>
+        requires config { config.now ≡ N.config }
+        requires first_tick { first_tick ≡ N.first_tick }
+    {
+        Ok(Desk {
+            alloc,
+            book: Mutex::new(Book::new(alloc, config, first_tick)?),
+            settled: Condvar::new(),
+        })
+    }
+
+    /// The pass of a seat that was not given before, without calls.
+    ///
+    /// # Errors
+    /// `SeatsEnded` where 65,536 seats were given, else `Memory`.
+    pub fn pass(&self, rt: &impl Wait) -> Result<Pass, PassFault>
+        ensures { IfOk result (λ p. (p.calls ≡ []) × (p.seen ≡ 0) × (p.seat < 65536)) }
+    {
+        self.book.lock(rt).seat()
+    }
+
+    /// A call of a pass: a tenant's command, and its reply. The text of a `load` or a `replace` is read before the lock is taken. It is the last entry of a legal log, in which the seat's calls are exactly
+    /// those of the pass, and which is longer than any that the pass had seen.
+    ///
+    /// # Errors
+    /// `PassFull` where the pass has 4,096 calls, else `Strange` with the log's length where the tenant isn't in the roster, the seat
+    /// was not given here, the log's calls of the seat aren't those of the pass, or the pass has seen a longer log, else `Memory`.
+    /// The pass is as before then.
+    pub fn call(
+        &self,
+        rt: &impl Wait,
+        pass: &mut Pass,
+        tenant: TenantId,
+        command: Command,
+    ) -> Result<Reply, DeskFault>
+        ensures ok { IfOk result (λ r. (before : List Logged)
+            × IsLegalLog (new_setting N.config N.first_tick) (Logged.Call pass.new.seat (record { tenant = tenant; command = command; reply = r }) ∷ reverse before)
+            × (calls_of_seat pass.new.seat (before ++ Logged.Call pass.new.seat (record { tenant = tenant; command = command; reply = r }) ∷ []) ≡ pass.new.calls)
+            × (pass.new.seen ≡ length before + 1)) }
+        ensures pass { IfOk result (λ r. pass.new.calls ≡ pass.old.calls ++ record { tenant = tenant; command = command; reply = r } ∷ []) }
+        ensures seat { pass.new.seat ≡ pass.old.seat }
+        ensures seen { OnOk result (pass.old.seen < pass.new.seen) }
+        ensures full { result ≡ Err DeskFault.PassFull ↔ 4096 ≤ length pass.old.calls }
+        ensures refused { OnErr result (pass.new ≡ pass.old) }
+    {
+        let prepared = prepare(self.alloc, command);
+        let mut book = self.book.lock(rt);
+        let reply = book.carry_out(pass, tenant, prepared)?;
+        let _ = book.log();
+        if book.outstanding() == 0 {
+            self.settled.notify_all();
+        }
+        Ok(reply)
+    }
+
+    /// An instant of all tenants. It is the last entry of a legal log, at the place that it tells; the jobs are those that it released.
+    ///
+    /// # Errors
+    /// `BadFrame` where the frame has not one value for each line, else `ClockEnded` where the instant's number would be `u64::MAX`,
+    /// else `Memory`.
+    pub fn tick(&self, rt: &impl Wait, frame: &[i64]) -> Result<(Jobs, u128), TickFault>
+        ensures ok { IfOk result (λ r. (log : List Logged) × (host : HostStanding)
+            × IsLegalLog (new_setting N.config N.first_tick) (Logged.Tick frame.now ∷ log)
+            × (r.1 ≡ length log)
+            × Stands (new_setting N.config N.first_tick) host (host_after (new_setting N.config N.first_tick) (events_of (Logged.Tick frame.now ∷ log)))
+            × (r.0.jobs ≡ released_from (host_after (new_setting N.config N.first_tick) (events_of log)).clock 0 host.tenants)) }
+    {
+        let mut book = self.book.lock(rt);
+        let _ = book.log();
+        let answer = book.tick(frame)?;
+        let _ = book.log();
+        if book.outstanding() == 0 {
+            self.settled.notify_all();
+        }
+        Ok(answer)
+    }
+
+    /// Takes a completion. One that counts is the last entry of a legal log, at the place that it tells; one that is late is not
+    /// logged, and gives 0. Takes no memory.
+    pub fn done(&self, rt: &impl Wait, done: Done) -> (Counted, u128)
+        ensures counted { result.0 ≡ Counted.Counted → (log : List Logged)
+            × IsLegalLog (new_setting N.config N.first_tick) (Logged.Done done.id ∷ log) × (result.1 ≡ length log) }
+        ensures late { result.0 ≡ Counted.Late → result.1 ≡ 0 }
+    {
+        let mut book = self.book.lock(rt);
+        let answer = book.done(done);
+        let _ = book.log();
+        if book.outstanding() == 0 {
+            self.settled.notify_all();
+        }
+        answer
+    }
+
+    /// The value of each line of the rig, after a legal log.
+    ///
+    /// # Errors
+    /// Want of memory.
+    pub fn lines(&self, rt: &impl Wait) -> Result<Vec<i64>, AllocError>
+        ensures { (log : List Logged) × IsLegalLog (new_setting N.config N.first_tick) log
+            × IfOk result (λ values. values.items ≡ map (value_of_line N.config (row_at (host_after (new_setting N.config N.first_tick) (events_of log)))) (range_with_len 0 N.config.lines)) }
+    {
+        let book = self.book.lock(rt);
+        let _ = book.log();
+        book.lines()
+    }
+
+    /// Waits until no job is outstanding.
+    pub fn settle(&self, rt: &impl Wait) {
+        let _book = self
+            .settled
+            .wait_while(rt, self.book.lock(rt), |book| book.outstanding() != 0);
+    }
+    /// The book, closed with all passes: each pass is the log's of its seat, no seat is there twice, none has seen a longer log, and
+    /// each call in the log is of one of their seats. So all that was answered stands in this one legal log, in which each tenant was
+    /// answered what it is by the model over what is kept for it. Takes no memory, and doesn't wait.
+    ///
+    /// # Errors
+    /// `Mismatch` with the seat of the first pass whose calls aren't the log's of its seat, whose seat was never given, that has seen a
+    /// longer log, or whose seat stands in one before it; else `Missing` with the least seat that has a call in the log and no pass.
+    /// Desk and passes are handed back.
+    pub fn close(self, passes: Vec<Pass>) -> Result<Book<N>, (CloseFault, Desk<N>, Vec<Pass>)>
+        ensures base { IfOk result (λ book. book.base ≡ beginning N.config N.first_tick) }
+        ensures legal { IfOk result (λ book. IsLegalLog (new_setting N.config N.first_tick) (reverse book.log)) }
+        ensures all { IfOk result (λ book. AreAll book passes.items) }
+        ensures answers { IfOk result (λ book. (t : ℕ) → answers_in (reverse book.log) t
+            ≡ answers_of (new_setting N.config N.first_tick) (kept_of (new_setting N.config N.first_tick) (events_of (reverse book.log)) t) t) }
+        ensures back { IfErr result (λ e. e.2.items ≡ passes.items) }
+        ensures mismatch { (seat : ℕ) → IfErr result (λ e. e.0 ≡ CloseFault.Mismatch seat → (book : BookValue) × (book.base ≡ beginning N.config N.first_tick)
+            × IsLegalLog (new_setting N.config N.first_tick) (reverse book.log) × IsMismatch book passes.items seat) }
+        ensures missing { (seat : ℕ) → IfErr result (λ e. e.0 ≡ CloseFault.Missing seat → (book : BookValue) × (book.base ≡ beginning N.config N.first_tick)
+            × IsLegalLog (new_setting N.config N.first_tick) (reverse book.log) × IsMissing book passes.items seat) }
+    {
+        let Desk {
+            alloc,
+            book,
+            settled,
+        } = self;
+        let mut book = book.into_inner();
+        let fault = book.compare(&passes);
+        let _ = book.log();
+        match fault {
+            None => Ok(book),
+            Some(fault) => {
+                let desk = Desk {
+                    alloc,
+                    book: Mutex::new(book),
+                    settled,
+                };
+                Err((fault, desk, passes))
+            }
+        }
+    }
+}

@@ -1,0 +1,91 @@
+//! Passes: what the holder of a seat has of its calls.
+
+ghost use Rattle.std.specs.Prelude.{◌≡◌, ◌<◌, ◌↔◌, ◌≤◌, [], ◌∷◌, ◌++◌, length, IsTrue, OnOk, OnErr};
+
+use crate::logged::{Call, SeatId};
+use rig_config::TenantId;
+use std::alloc::{AllocError, Global};
+use std::marker::Model;
+use tenant_lines::commands::Command;
+use tenant_lines::replies::Reply;
+
+/// How many calls a pass has at most.
+pub const MOST_CALLS: usize = 4096;
+
+/// A seat's own calls with their replies, in their order, and the longest log that it has seen.
+#[derive(Drop)]
+pub struct Pass {
+    pub(crate) seat: SeatId,
+    pub(crate) calls: Vec<Call>,
+    pub(crate) seen: u128,
+}
+
+impl Model for Pass {
+    ghost use Rattle.locked_book.specs.Books.{PassValue};
+
+    ghost Value = { PassValue };
+
+    ghost view = { λ p. record { seat = p.seat; calls = p.calls.items; seen = p.seen } };
+}
+
+impl Pass {
+    /// The pass of this seat, without calls. Takes no memory.
+    pub(crate) fn new(alloc: Global, seat: SeatId) -> Pass
+        ensures { result ≡ record { seat = seat; calls = []; seen = 0 } }
+    {
+        Pass {
+            seat,
+            calls: Vec::new(alloc),
+            seen: 0,
+        }
+    }
+
+    /// Its seat.
+    pub fn seat(&self) -> SeatId
+        ensures { result ≡ self.now.seat }
+    {
+        self.seat
+    }
+
+    /// Its calls with their replies, in their order. Takes no memory.
+    pub fn calls(&self) -> &[Call]
+        ensures { result.now ≡ self.now.calls }
+    {
+        &self.calls
+    }
+
+    /// Whether it has 4,096 calls.
+    pub fn is_full(&self) -> bool
+        ensures { IsTrue result ↔ 4096 ≤ length self.now.calls }
+    {
+        self.calls.len() >= MOST_CALLS
+    }
+
+    /// Adds a call with its reply to a pass of fewer than 4,096, for those who call something else than a desk.
+    ///
+    /// # Errors
+    /// Want of memory. The pass stays as it was then.
+    pub fn note(
+        &mut self,
+        tenant: TenantId,
+        command: Command,
+        reply: Reply,
+    ) -> Result<(), AllocError>
+        requires { length self.old.calls < 4096 }
+        ensures noted { OnOk result (self.new ≡ record {
+          seat = self.old.seat;
+          calls = self.old.calls ++ record { tenant = tenant; command = command; reply = reply } ∷ [];
+          seen = self.old.seen;
+        }) }
+        ensures refused { OnErr result (self.new ≡ self.old) }
+    {
+        self.calls.reserve(1)?;
+        let call = Call {
+            tenant,
+            command,
+            reply,
+        };
+        self.calls.push_reserved(call);
+        Ok(())
+    }
+}

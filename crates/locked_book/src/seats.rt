@@ -1,0 +1,40 @@
+//! The seats of a book.
+
+ghost use Rattle.std.specs.Prelude.{◌≡◌, []};
+
+use std::alloc::Global;
+use std::marker::Model;
+
+/// Where a seat's calls stand in the log, and how many calls it has in all.
+#[derive(Drop)]
+pub(crate) struct Seat {
+    pub(crate) places: Vec<usize>,
+    pub(crate) calls: u64,
+}
+
+impl Model for Seat {
+    ghost use Rattle.locked_book.specs.Books.{SeatValue};
+
+    ghost Value = { SeatValue };
+
+    ghost view = { λ s. record { places = s.places.items; calls = s.calls } };
+}
+
+impl Seat {
+    /// A seat without calls. Takes no memory.
+    pub(crate) fn new(alloc: Global) -> Seat
+        ensures { result ≡ record { places = []; calls = 0 } }
+    {
+        Seat {
+            places: Vec::new(alloc),
+            calls: 0,
+        }
+    }
+
+    /// The places of its calls.
+    pub(crate) fn places(&self) -> &[usize]
+        ensures { result.now ≡ self.now.places }
+    {
+        &self.places
+    }
+}
