@@ -1,9 +1,10 @@
-//! Work for the stopwatch of `bench/`: a text read many times, a body with many turns, instants of a host, and a plain loop.
+//! Work for the stopwatch of `bench/`: a text read many times, a body with many turns, loads and instants of a host, and a plain loop.
 #![tactic(auto)]
 
 mod completions;
 mod drivers;
 mod instants;
+mod loads;
 mod plays;
 mod turns;
 
@@ -20,7 +21,7 @@ fn main(rt: HostRuntime) -> anyhow::Result<ExitCode> {
     let words: Vec<String> = std::env::args(&rt)?.collect(rt.alloc())?;
     let [_, work, times] = words.as_slice() else {
         eprintln!(rt;
-            "usage: measure tokens|read|check|print|drive|alone|crowded|all|quiet|bound|unbound|done TIMES < TEXT, or measure evaluate|jobs|operate|loop|play TIMES"
+            "usage: measure tokens|read|check|print|drive|alone|crowded|all|quiet|bound|unbound|done|prepare|load TIMES < TEXT, or measure evaluate|jobs|operate|loop|play TIMES"
         )?;
         return Ok(ExitCode::from(2));
     };
@@ -35,6 +36,8 @@ fn main(rt: HostRuntime) -> anyhow::Result<ExitCode> {
             instants::instants(rt.alloc(), rt.reader(), &work_of(work.as_str()), times)?
         }
         "done" => completions::counted(rt.alloc(), rt.reader(), times)?,
+        "prepare" => loads::loads(rt.alloc(), rt.reader(), false, times)?,
+        "load" => loads::loads(rt.alloc(), rt.reader(), true, times)?,
         "play" => plays::played(rt.alloc(), times)?,
         "jobs" => turns::jobs(rt.alloc(), times)?,
         "evaluate" => turns::evaluated(rt.alloc(), times)?,

@@ -12,6 +12,8 @@ mod completions;
 #[cfg(test)]
 mod copies;
 #[cfg(test)]
+mod desks;
+#[cfg(test)]
 mod grants;
 #[cfg(test)]
 mod greetings;

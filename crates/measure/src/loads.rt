@@ -1,0 +1,40 @@
+//! Loads of a text, prepared and carried out.
+
+use crate::instants::roster;
+use host_core::hosts::Host;
+use rig_config::TenantId;
+use std::alloc::Global;
+use std::io::Read;
+use tenant_lines::commands::Command;
+use tenant_lines::replies::Reply;
+use tenant_lines::texts::Text;
+use tenant_programs::prepared::prepare;
+
+const FIRST: TenantId = 0;
+
+/// Prepares a `load` of a reader's text so many times and, where it is `carried_out`, lets a host of one tenant carry it out. How many
+/// were answered `ok load`; -1 where the host has no tenant.
+pub(crate) fn loads<R: Read + Drop>(
+    alloc: Global,
+    mut reader: R,
+    carried_out: bool,
+    times: u64,
+) -> anyhow::Result<i64> {
+    let mut text = String::new(alloc);
+    reader.read_to_string(&mut text)?;
+    let mut host = Host::new(alloc, &roster(alloc, 1)?, 0)?;
+    let mut loaded = 0i64;
+    for _time in 0..times {
+        if FIRST >= host.config().tenants().len() {
+            return Ok(-1);
+        }
+        let command = Command::Load(Text::from_str(alloc, text.as_str())?);
+        let prepared = prepare(alloc, command);
+        if !carried_out {
+            drop(prepared);
+        } else if let Reply::Loaded = host.carry_out(FIRST, prepared) {
+            loaded = loaded.saturating_add(1);
+        }
+    }
+    Ok(loaded)
+}
