@@ -17,7 +17,7 @@ RUST_USE = re.compile(r"^\s*(?:pub )?use ([\w:]+?)(?:::\{([^}]*)\})?;", re.M)
 START = re.compile(r"( *)(?:(?:abbrev|unfoldable) )?(?:pub )?(?:(record|data) )?([^\s:({]+)")
 WORD = r"[^\W\d][\w'-]*"
 BINDERS = [rf"λ ((?:{WORD} ?)+)\.(?=\s)", rf"[({{]((?:{WORD} )+):", rf"\blet ({WORD})"]
-TYPE = re.compile(r"^( *)(?:pub(?:\([a-z]+\))? )?(?:enum|struct|type|const) (\w+)", re.M)
+TYPE = re.compile(r"^( *)(?:pub(?:\([a-z]+\))? )?(?:enum|struct|trait|type|const) (\w+)", re.M)
 CALL = re.compile(r"(\w+)::(?:(\w+)::)?(\w+)")
 
 

@@ -16,7 +16,7 @@ def read(path):
 def crates():
     """The names of the crates, in the order of crates.txt."""
     lines = [line.split("#")[0] for line in read("crates.txt").splitlines()]
-    return [line.split(":")[0].strip() for line in lines if line.strip()]
+    return [line.split(":")[0].split()[0] for line in lines if line.strip()]
 
 
 def files_of(crate, folder, ending):
