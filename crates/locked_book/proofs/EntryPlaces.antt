@@ -4,7 +4,7 @@ use Rattle.std.specs.List.{list_any}
 use Rattle.std.proofs.Math.ListN.{get_or}
 use Rattle.std.proofs.lemmas.Bool.{cases_lt, eqb-true, eq-eqb}
 use Rattle.giotto_tasks.proofs.cited.TestLemmas.{either}
-use Rattle.locked_book.specs.declared.logged.Logged.{Logged}
+use Rattle.rig_model.specs.declared.logged.Logged.{Logged}
 use Rattle.locked_book.specs.inner.Places.{place_in}
 
 -- no two of the entries up to n have one place

@@ -6,9 +6,9 @@ use Rattle.rig_model.specs.Host.{host_after}
 use Rattle.tenant_jobs.specs.Jobs.{JobValue}
 use Rattle.instant_engine.specs.Tenants.{released_from}
 use Rattle.host_core.specs.HostStanding.{HostStanding, Stands}
-use Rattle.locked_book.specs.declared.logged.Logged.{Logged}
-use Rattle.locked_book.specs.declared.logged.Logged.TheVariants as logged
-use Rattle.locked_book.specs.Logs.{IsLegalLog, events_of}
+use Rattle.rig_model.specs.declared.logged.Logged.{Logged}
+use Rattle.rig_model.specs.declared.logged.Logged.TheVariants as logged
+use Rattle.rig_model.specs.Logs.{IsLegalLog, events_of}
 use Rattle.locked_book.specs.Books.{BaseValue, beginning, BookValue, length_of, new_setting}
 use Rattle.locked_book.proofs.Kept.{turned}
 

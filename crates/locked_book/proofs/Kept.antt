@@ -6,8 +6,8 @@ use Rattle.rig_model.specs.Host.{host_after, after_event}
 use Rattle.rig_model.specs.HostState.{HostState}
 use Rattle.rig_model.specs.declared.events.Event.{Event}
 use Rattle.host_core.specs.HostStanding.{HostStanding, Stands, TakesEvent}
-use Rattle.locked_book.specs.declared.logged.Logged.{Logged}
-use Rattle.locked_book.specs.Logs.{event_of, events_of, Gives, IsReplay}
+use Rattle.rig_model.specs.declared.logged.Logged.{Logged}
+use Rattle.rig_model.specs.Logs.{event_of, events_of, Gives, IsReplay}
 use Rattle.locked_book.specs.inner.Books.{IsKept}
 
 pub turned : (log : List Logged) (e : Logged) → reverse (log ++ e ∷ []) ≡ e ∷ reverse log

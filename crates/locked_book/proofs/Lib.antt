@@ -3,7 +3,5 @@ pub mod Copied
 pub mod EntryPlaces
 pub mod Instants
 pub mod Kept
-pub mod LogRows
 pub mod Places
-pub mod Replays
 pub mod Steps

@@ -20,15 +20,15 @@ use Rattle.host_core.specs.declared.hosts.Counted.TheVariants as counted
 use Rattle.tenant_jobs.specs.Finished.{TableEntry}
 use Rattle.tenant_jobs.specs.Jobs.{JobValue}
 use Rattle.tenant_state.specs.Standing.{at_rest}
-use Rattle.locked_book.specs.declared.logged.Call.{Call}
-use Rattle.locked_book.specs.declared.logged.Logged.{Logged}
-use Rattle.locked_book.specs.declared.logged.Logged.TheVariants as logged
-use Rattle.locked_book.specs.Logs.{calls_of_seat, event_of, events_of, Gives, IsLegalLog}
+use Rattle.rig_model.specs.declared.logged.Call.{Call}
+use Rattle.rig_model.specs.declared.logged.Logged.{Logged}
+use Rattle.rig_model.specs.declared.logged.Logged.TheVariants as logged
+use Rattle.rig_model.specs.Logs.{calls_of_seat, event_of, events_of, Gives, IsLegalLog}
 use Rattle.locked_book.specs.Books.{BaseValue, beginning, calls_before, BookValue, PassValue, Knows, length_of, new_setting}
 use Rattle.locked_book.specs.Books.{SeatValue}
 use Rattle.locked_book.specs.inner.Books.{ArePlaces, seat_at, IsBook, call_at, places_from}
 use Rattle.rig_laws.proofs.cited.LaterBase.{new_is_base}
-use Rattle.locked_book.proofs.Replays.{replay_legal}
+use Rattle.rig_laws.proofs.cited.Replays.{replay_legal}
 use Rattle.locked_book.proofs.Kept.{GoesOn, kept_on, kept_none}
 use Rattle.locked_book.proofs.Places.{calls_at_places, within, place_in, call_in, places_on, calls_on}
 

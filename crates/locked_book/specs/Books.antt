@@ -7,10 +7,10 @@ use Rattle.rig_model.specs.HostState.{row_at}
 use Rattle.rig_model.specs.Views.{after_command}
 use Rattle.rig_model.specs.declared.events.Event.TheVariants.{Own}
 use Rattle.host_core.specs.HostStanding.{ForEachState, HostStanding, TakesEvent, new_host}
-use Rattle.locked_book.specs.Logs.{calls_of_seat}
-use Rattle.locked_book.specs.declared.logged.Call.{Call}
-use Rattle.locked_book.specs.declared.logged.Logged.{Logged}
-use Rattle.locked_book.specs.declared.logged.Logged.TheVariants as logged
+use Rattle.rig_model.specs.Logs.{calls_of_seat}
+use Rattle.rig_model.specs.declared.logged.Call.{Call}
+use Rattle.rig_model.specs.declared.logged.Logged.{Logged}
+use Rattle.rig_model.specs.declared.logged.Logged.TheVariants as logged
 
 -- the setting of a new host of this rig, whose first instant has this number
 abbrev pub new_setting : Rig → ℕ → Setting

@@ -1,3 +1,2 @@
 pub mod Books
-pub mod Logs
 pub mod inner

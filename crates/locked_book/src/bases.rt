@@ -5,9 +5,9 @@ ghost use Rattle.locked_book.specs.Books.{beginning, calls_before};
 ghost use Rattle.rig_model.specs.Base.{Setting, new_base};
 ghost use Rattle.host_core.specs.HostStanding.{Stands};
 
-use crate::logged::SeatId;
 use host_core::hosts::Host;
 use rig_config::Config;
+use rig_model::logged::SeatId;
 use std::alloc::{AllocError, Global};
 use std::marker::Model;
 

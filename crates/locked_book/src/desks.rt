@@ -11,10 +11,10 @@ ghost use Rattle.rig_model.specs.HostState.{row_at};
 ghost use Rattle.rig_model.specs.LineValues.{value_of_line};
 ghost use Rattle.rig_model.specs.Sources.{kept_of};
 ghost use Rattle.locked_book.specs.Books.{AreAll, BookValue, IsMismatch, IsMissing, PassValue, beginning, new_setting};
-ghost use Rattle.locked_book.specs.Logs.{IsLegalLog, answers_in, calls_of_seat, events_of};
+ghost use Rattle.rig_model.specs.Logs.{IsLegalLog, answers_in, calls_of_seat, events_of};
 ghost use Rattle.locked_book.specs.declared.faults.CloseFault.{CloseFault};
 ghost use Rattle.locked_book.specs.declared.faults.DeskFault.{DeskFault};
-ghost use Rattle.locked_book.specs.declared.logged.Logged.{Logged};
+ghost use Rattle.rig_model.specs.declared.logged.Logged.{Logged};
 
 use crate::books::Book;
 use crate::faults::{CloseFault, DeskFault, PassFault};

@@ -1,6 +1,6 @@
 //! Why a desk refuses.
 
-use crate::logged::SeatId;
+use rig_model::logged::SeatId;
 use thiserror::Error;
 
 /// Why no pass is given.

@@ -5,7 +5,7 @@
 //! which the lock was taken. A reply that a call answers ends a legal log, in which the seat's calls are those of the pass; and a desk
 //! that closes with all its passes hands out the one log in which all of them stand.
 //!
-//! What a legal log is stands in `specs/Logs.antt`, what a book and a pass are in `specs/Books.antt`.
+//! What a legal log is stands in the model, what a book and a pass are in `specs/Books.antt`.
 #![tactic(auto)]
 
 mod bases;
@@ -14,8 +14,6 @@ mod comparison;
 pub mod desks;
 pub mod faults;
 mod known;
-pub mod laws;
-pub mod logged;
 pub mod naming;
 pub mod passes;
 mod same;

@@ -2,8 +2,8 @@
 
 ghost use Rattle.std.specs.Prelude.{◌≡◌, ◌<◌, ◌↔◌, ◌≤◌, [], ◌∷◌, ◌++◌, length, IsTrue, OnOk, OnErr};
 
-use crate::logged::{Call, SeatId};
 use rig_config::TenantId;
+use rig_model::logged::{Call, SeatId};
 use std::alloc::{AllocError, Global};
 use std::marker::Model;
 use tenant_lines::commands::Command;

@@ -2,9 +2,9 @@
 
 ghost use Rattle.std.specs.Prelude.{◌≡◌, ◌↔◌, IsTrue};
 
-use crate::logged::{Call, Logged};
 use giotto_tasks::names::Name;
 use rig_model::jobs::JobId;
+use rig_model::logged::{Call, Logged};
 use tenant_grants::rows::{Bind, Offer, Row};
 use tenant_lines::commands::Command;
 use tenant_lines::grant_lines::GrantCommand;

@@ -4,10 +4,10 @@ ghost use Rattle.std.specs.Prelude.{◌≡◌, ◌≢◌, ◌↔◌, ◌<◌, �
 ghost use Rattle.std.specs.List.{All, list_any};
 ghost use Rattle.locked_book.specs.Books.{AreApart, entry_behind};
 ghost use Rattle.locked_book.specs.inner.Places.{HighestOf, place_in};
-ghost use Rattle.locked_book.specs.declared.logged.Logged.{Logged};
+ghost use Rattle.rig_model.specs.declared.logged.Logged.{Logged};
 
-use crate::logged::Logged;
 use crate::same::Same;
+use rig_model::logged::Logged;
 
 /// Whether the log, before which there were so many entries, has each of these entries at its place.
 pub(crate) fn all_there(before: u128, log: &[Logged], entries: &[(u128, Logged)]) -> bool

@@ -8,6 +8,7 @@ pub mod GrantedRun
 pub mod GuardedScript
 pub mod KeptRun
 pub mod LineRows
+pub mod LogRows
 pub mod OtherTenants
 pub mod Overrun
 pub mod OwnReplies

@@ -4,5 +4,6 @@ pub mod Histories
 pub mod LaterBase
 pub mod Places
 pub mod Releases
+pub mod Replays
 pub mod SourceSets
 pub mod TwoWorlds

@@ -9,6 +9,8 @@ ghost use Rattle.rig_model.specs.HostState.{row_at, is_awaited};
 ghost use Rattle.rig_model.specs.Legal.{IsHistory, next_tick, counts, is_legal};
 ghost use Rattle.rig_model.specs.Sources.{is_source, without_tenant, sources_of, kept_of};
 ghost use Rattle.rig_model.specs.declared.events.Event.{Event};
+ghost use Rattle.rig_model.specs.declared.logged.Logged.{Logged};
+ghost use Rattle.rig_model.specs.Logs.{IsLegalLog, IsReplay, answers_in, events_of};
 ghost use Rattle.rig_model.specs.Answers.{answers_of};
 ghost use Rattle.rig_model.specs.Views.{row_of, view_of};
 ghost use Rattle.rig_model.specs.DifferingScripts.{DifferInNoSource};
@@ -97,4 +99,20 @@ pub fn no_source_changes_no_reply()
     ensures replies { (setting : Setting) (tenants : ℕ → Bool) (t : ℕ) (past : List Event) (lines others : List (List ℕ)) →
         DifferInNoSource setting tenants t past lines others
         → own_replies setting t past lines ≡ own_replies setting t past others }
+{}
+
+/// A log that the host's steps give, from a base on, is a legal log.
+pub fn replay_is_legal()
+    ensures { (setting : Setting) (log : List Logged) → IsBase setting.config setting.base → IsReplay setting log → IsLegalLog setting log }
+{}
+
+/// What a legal log answers a tenant are its answers by the model, over the events of the log.
+pub fn log_has_answers()
+    ensures { (setting : Setting) (log : List Logged) (t : ℕ) → IsLegalLog setting log → answers_in log t ≡ answers_of setting (events_of log) t }
+{}
+
+/// What a legal log answers a tenant are its answers over what is kept for it of the log's events, and those are legal.
+pub fn log_has_kept_answers()
+    ensures { (setting : Setting) (log : List Logged) (t : ℕ) → IsLegalLog setting log
+        → answers_in log t ≡ answers_of setting (kept_of setting (events_of log) t) t }
 {}

@@ -16,6 +16,7 @@ pub mod Instants
 pub mod Jobs
 pub mod Legal
 pub mod LineValues
+pub mod Logs
 pub mod Plays
 pub mod Ports
 pub mod Readings

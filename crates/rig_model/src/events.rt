@@ -5,6 +5,7 @@ ghost use Rattle.tenant_lines.specs.cited.Copies.{has_text};
 ghost use Rattle.tenant_lines.specs.declared.commands.Command.{Command};
 ghost use Rattle.rig_model.specs.declared.jobs.JobId.{JobId};
 
+use crate::frames::copy_of_frame;
 use crate::jobs::JobId;
 use giotto_tasks::lists::List;
 use rig_config::TenantId;
@@ -36,11 +37,7 @@ impl Event {
     {
         Ok(match self {
             Event::Own(tenant, command) => Event::Own(*tenant, command.copy(alloc)?),
-            Event::Tick(frame) => {
-                let mut values = Vec::new(alloc);
-                values.extend_from_slice(frame.as_slice())?;
-                Event::Tick(List::from_vec(values))
-            }
+            Event::Tick(frame) => Event::Tick(copy_of_frame(alloc, frame.as_slice())?),
             Event::Done(id) => Event::Done(id.copy()),
         })
     }

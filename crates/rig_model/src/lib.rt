@@ -5,12 +5,14 @@
 //! answers and its sources, and the lines of a script spell such a list. All of it stands in `specs/`, one file for each thing that one
 //! would look up, and docs/READING.md has them in the order in which one reads them.
 //!
-//! The crate has no code but the types of which the definitions speak: [`jobs::JobId`], [`events::Event`], [`speakers::Speaker`], and
-//! the [`limits`] of lines.
+//! The crate has no code but the types of which the definitions speak, with their copies: [`jobs::JobId`], [`events::Event`],
+//! [`logged::Logged`], [`speakers::Speaker`], and the [`limits`] of lines.
 //! What follows from the definitions is `rig_laws`; the crates that run tenants keep to them.
 #![tactic(auto)]
 
 pub mod events;
+pub mod frames;
 pub mod jobs;
 pub mod limits;
+pub mod logged;
 pub mod speakers;

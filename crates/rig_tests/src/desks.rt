@@ -8,7 +8,7 @@ use host_core::hosts::Counted;
 use locked_book::books::Book;
 use locked_book::desks::Desk;
 use locked_book::faults::{CloseFault, DeskFault, PassFault};
-use locked_book::logged::{Call, Logged};
+use rig_model::logged::{Call, Logged};
 use locked_book::naming::Naming;
 use locked_book::passes::Pass;
 use rig_config::{Config, TenantId, built_in};

@@ -5,11 +5,11 @@ use Rattle.rig_config.specs.Roster.{Rig}
 use Rattle.rig_model.specs.Base.{Setting, new_base}
 use Rattle.rig_model.specs.Host.{host_after}
 use Rattle.host_core.specs.HostStanding.{HostStanding, Stands, outstanding_count}
-use Rattle.locked_book.specs.Logs.{calls_of_seat, events_of, IsReplay}
+use Rattle.rig_model.specs.Logs.{calls_of_seat, events_of, IsReplay}
 use Rattle.locked_book.specs.Books.{calls_before, beginning, BookValue, SeatValue, new_setting}
-use Rattle.locked_book.specs.declared.logged.Call.{Call}
-use Rattle.locked_book.specs.declared.logged.Logged.{Logged}
-use Rattle.locked_book.specs.declared.logged.Logged.TheVariants as logged
+use Rattle.rig_model.specs.declared.logged.Call.{Call}
+use Rattle.rig_model.specs.declared.logged.Logged.{Logged}
+use Rattle.rig_model.specs.declared.logged.Logged.TheVariants as logged
 
 -- Whatever a base stands for, the host stands for what the log makes of that, and each entry is what the host gave.
 abbrev pub IsKept : HostStanding → HostStanding → List Logged → Type 0

@@ -1,6 +1,6 @@
 -- The places of entries, one by one.
 use Rattle.std.specs.Prelude.{◌<◌, ◌≤◌, ℕ, List, map, slice_index_or}
-use Rattle.locked_book.specs.declared.logged.Logged.{Logged}
+use Rattle.rig_model.specs.declared.logged.Logged.{Logged}
 
 -- the place of an entry of the list
 abbrev pub place_in : List (ℕ × Logged) → ℕ → ℕ

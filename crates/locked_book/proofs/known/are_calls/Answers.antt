@@ -2,9 +2,9 @@ use Rattle.std.proofs.Common.{◌≡◌, ◌<◌, arith, ℕ, ◌+◌, ◌↔◌
 use Rattle.std.proofs.lemmas.Bool.Decides.{nat_tests}
 use Rattle.std.proofs.Math.ListN.{get_or}
 use Rattle.std.proofs.lemmas.List.{get_or-drop, get_or_default, length-drop}
-use Rattle.locked_book.specs.declared.logged.Call.{Call}
-use Rattle.locked_book.specs.declared.logged.Logged.{Logged}
-use Rattle.locked_book.specs.declared.logged.Logged.TheVariants as logged
+use Rattle.rig_model.specs.declared.logged.Call.{Call}
+use Rattle.rig_model.specs.declared.logged.Logged.{Logged}
+use Rattle.rig_model.specs.declared.logged.Logged.TheVariants as logged
 use Rattle.locked_book.specs.inner.Books.{call_at, call_of}
 use Rattle.locked_book.proofs.Steps.{one_call_more, at_one}
 use Rattle.locked_book.proofs.known.are_calls.Goals as goal

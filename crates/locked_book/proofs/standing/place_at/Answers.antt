@@ -1,5 +1,5 @@
 use Rattle.std.proofs.Common.{ℕ, sym, ap, ◌∙◌}
-use Rattle.locked_book.specs.declared.logged.Logged.{Logged}
+use Rattle.rig_model.specs.declared.logged.Logged.{Logged}
 use Rattle.locked_book.proofs.EntryPlaces.{place_read}
 use Rattle.locked_book.proofs.standing.place_at.Goals as goal
 

@@ -1,5 +1,5 @@
 use Rattle.std.proofs.Common.{◌≡◌, ◌+◌, arith, [], ◌∷◌, ◌++◌, length, refl, sym, ap, ◌∙◌}
-use Rattle.locked_book.specs.declared.logged.Call.{Call}
+use Rattle.rig_model.specs.declared.logged.Call.{Call}
 use Rattle.std.proofs.lemmas.List.{length-append}
 use Rattle.locked_book.specs.Books.{BaseValue, PassValue, Knows, length_of}
 use Rattle.locked_book.proofs.Steps.{knows_on}

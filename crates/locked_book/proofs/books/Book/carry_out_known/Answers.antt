@@ -2,7 +2,7 @@ use Rattle.std.proofs.Common.{◌≡◌, ◌<◌, ◌+◌, ◌∷◌, [], ◌++�
 use Rattle.std.proofs.lemmas.List.{length-set, get_or_default}
 use Rattle.rig_model.specs.declared.events.Event.TheVariants.{Own}
 use Rattle.host_core.specs.HostStanding.{Stands}
-use Rattle.locked_book.specs.declared.logged.Call.{Call}
+use Rattle.rig_model.specs.declared.logged.Call.{Call}
 use Rattle.locked_book.specs.Books.{BookValue, PassValue, Knows}
 use Rattle.locked_book.specs.Books.{SeatValue}
 use Rattle.locked_book.specs.inner.Books.{seat_at}

@@ -1,7 +1,7 @@
 use Rattle.std.proofs.Common.{arith, length, refl, ap}
 use Rattle.rig_model.specs.declared.events.Event.TheVariants as event
 use Rattle.host_core.specs.HostStanding.{IsOwn}
-use Rattle.locked_book.specs.declared.logged.Logged.TheVariants as logged
+use Rattle.rig_model.specs.declared.logged.Logged.TheVariants as logged
 use Rattle.locked_book.specs.Books.{BookValue}
 use Rattle.locked_book.proofs.Kept.{takes_as}
 use Rattle.locked_book.proofs.Steps.{plain_on, own_counted, given_counted}

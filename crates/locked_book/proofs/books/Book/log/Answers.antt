@@ -1,6 +1,6 @@
 use Rattle.std.proofs.Common.{reverse, subst}
 use Rattle.locked_book.specs.Books.{BookValue, new_setting}
-use Rattle.locked_book.specs.Logs.{IsLegalLog}
+use Rattle.rig_model.specs.Logs.{IsLegalLog}
 use Rattle.locked_book.proofs.Steps.{legal_now}
 use Rattle.locked_book.proofs.books.Book.log.Goals as goal
 

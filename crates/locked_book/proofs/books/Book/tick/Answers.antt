@@ -4,7 +4,7 @@ use Rattle.rig_config.specs.Roster.{Rig}
 use Rattle.rig_model.specs.declared.events.Event.TheVariants as event
 use Rattle.instant_engine.specs.Tenants.{most_of}
 use Rattle.host_core.specs.HostStanding.{HostStanding, Stands, outstanding_count}
-use Rattle.locked_book.specs.declared.logged.Logged.TheVariants as logged
+use Rattle.rig_model.specs.declared.logged.Logged.TheVariants as logged
 use Rattle.locked_book.specs.Books.{BookValue}
 use Rattle.locked_book.proofs.Kept.{takes_as}
 use Rattle.locked_book.proofs.Steps.{plain_on}

@@ -3,7 +3,7 @@ use Rattle.rig_model.specs.Base.{Setting}
 use Rattle.rig_model.specs.Host.{host_after}
 use Rattle.host_core.specs.HostStanding.{Stands}
 use Rattle.locked_book.specs.Books.{BookValue, beginning, new_setting}
-use Rattle.locked_book.specs.Logs.{IsLegalLog, events_of}
+use Rattle.rig_model.specs.Logs.{IsLegalLog, events_of}
 use Rattle.locked_book.proofs.Instants.{ticked}
 use Rattle.locked_book.proofs.desks.Desk.tick.Goals as goal
 

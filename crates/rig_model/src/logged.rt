@@ -2,9 +2,10 @@
 
 ghost use Rattle.std.specs.Prelude.{◌≡◌, IfOk};
 
+use crate::frames::copy_of_frame;
+use crate::jobs::JobId;
 use giotto_tasks::lists::List;
 use rig_config::TenantId;
-use rig_model::jobs::JobId;
 use std::alloc::{AllocError, Global};
 use tenant_lines::commands::Command;
 use tenant_lines::replies::Reply;
@@ -61,16 +62,4 @@ impl Logged {
             Logged::Done(id) => Logged::Done(id.copy()),
         })
     }
-}
-
-/// A list of these values.
-///
-/// # Errors
-/// Want of memory.
-pub(crate) fn copy_of_frame(alloc: Global, frame: &[i64]) -> Result<List<i64>, AllocError>
-    ensures { IfOk result (λ copy. copy ≡ frame.now) }
-{
-    let mut values = Vec::new(alloc);
-    values.extend_from_slice(frame)?;
-    Ok(List::from_vec(values))
 }

@@ -11,11 +11,11 @@ use Rattle.tenant_lines.specs.declared.ports.PortName.{PortName}
 use Rattle.tenant_lines.specs.declared.replies.Reply.{Reply}
 use Rattle.tenant_lines.specs.declared.replies.Reply.TheVariants.{Loaded, Started, Port}
 use Rattle.rig_laws.proofs.cited.LaterBase.{new_is_base}
-use Rattle.locked_book.specs.declared.logged.Call.{Call}
-use Rattle.locked_book.specs.declared.logged.Logged.{Logged}
-use Rattle.locked_book.specs.declared.logged.Logged.TheVariants as logged
-use Rattle.locked_book.specs.Books.{new_setting}
-use Rattle.locked_book.specs.Logs.{IsLegalLog, calls_of_seat, answers_in}
+use Rattle.rig_model.specs.declared.logged.Call.{Call}
+use Rattle.rig_model.specs.declared.logged.Logged.{Logged}
+use Rattle.rig_model.specs.declared.logged.Logged.TheVariants as logged
+use Rattle.rig_model.specs.Base.{Setting, new_base}
+use Rattle.rig_model.specs.Logs.{IsLegalLog, calls_of_seat, answers_in}
 
 -- lines, each with LF behind it
 abbrev answered : List (List ℕ) → List ℕ
@@ -37,7 +37,10 @@ run =
     ∷ tick 5 ∷ logged.Done (record { tenant = 0; tick = 0; task = codes "T" }) ∷ tick 7 ∷ tick 9
     ∷ logged.Call 0 (call 0 (ShowPort port_a) (Port (record { port = port_a; value = pos 6 }))) ∷ []
 
-pub run_is_legal : IsLegalLog (new_setting built_in_config 0) (reverse run)
+abbrev setting : Setting
+setting = record { config = built_in_config; base = new_base built_in_config 0 }
+
+pub run_is_legal : IsLegalLog setting (reverse run)
 run_is_legal = record {
   history = record { base = new_is_base built_in_config 0; legal = refl };
   holds = (refl, (tt, (tt, (refl, (tt, (refl, (refl, (refl, tt))))))));

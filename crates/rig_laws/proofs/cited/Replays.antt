@@ -21,9 +21,9 @@ use Rattle.rig_model.specs.declared.jobs.JobId.{JobId}
 use Rattle.rig_laws.proofs.cited.AloneAlong.{same_rows, same_awaits, same_clock}
 use Rattle.rig_laws.proofs.cited.LaterBase.{later_is_base}
 use Rattle.rig_laws.proofs.cited.TwoWorlds.{kept_answers}
-use Rattle.locked_book.specs.declared.logged.Logged.{Logged}
-use Rattle.locked_book.specs.declared.logged.Logged.TheVariants as logged
-use Rattle.locked_book.specs.Logs.{event_of, events_of, Holds, AllHold, Gives, IsReplay, IsLegalLog, answers_in}
+use Rattle.rig_model.specs.declared.logged.Logged.{Logged}
+use Rattle.rig_model.specs.declared.logged.Logged.TheVariants as logged
+use Rattle.rig_model.specs.Logs.{event_of, events_of, Holds, AllHold, Gives, IsReplay, IsLegalLog, answers_in}
 
 -- an active job was released
 released : (setting : Setting) (past : List Event) (j : JobId) → is_active (row_of setting past j.tenant) j ≡ true → was_released setting past j ≡ true

@@ -9,9 +9,9 @@ use Rattle.rig_model.specs.Legal.{IsHistory, counts}
 use Rattle.rig_model.specs.Views.{after_command, row_of}
 use Rattle.rig_model.specs.declared.events.Event.{Event}
 use Rattle.rig_model.specs.declared.events.Event.TheVariants as event
-use Rattle.locked_book.specs.declared.logged.Call.{Call}
-use Rattle.locked_book.specs.declared.logged.Logged.{Logged}
-use Rattle.locked_book.specs.declared.logged.Logged.TheVariants as logged
+use Rattle.rig_model.specs.declared.logged.Call.{Call}
+use Rattle.rig_model.specs.declared.logged.Logged.{Logged}
+use Rattle.rig_model.specs.declared.logged.Logged.TheVariants as logged
 
 -- what an entry did to the host
 abbrev pub event_of : Logged → Event

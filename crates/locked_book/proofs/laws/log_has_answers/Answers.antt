@@ -1,5 +1,0 @@
-use Rattle.locked_book.proofs.Replays.{log_answers}
-use Rattle.locked_book.proofs.laws.log_has_answers.Goals as goal
-
-pub returns : goal.returns
-returns c = log_answers
