@@ -5,3 +5,4 @@ pub mod Instants
 pub mod Kept
 pub mod Places
 pub mod Steps
+pub mod cited
