@@ -42,4 +42,4 @@ pub returns-in-Err-Strange-clause-fault : goal.returns-in-Err-Strange-clause-fau
 returns-in-Err-Strange-clause-fault g c = λ s.
     let step : Step = record { act = call c.args.tenant c.args.command; state = s } in
     subst (IsUnanswered step c.args.pass.now c.call.new.pass) (sym c.refuse-in-Err-Strange.ensures)
-    (refused_taken (desk.Strange c.in-Err-Strange.length) (λ is. cc) c.args.tenant c.args.command s c.args.pass.now c.call.new.pass c.in-Err-Strange.ensures.refused)
+    (refused_taken (desk.Strange _) (λ is. cc) c.args.tenant c.args.command s c.args.pass.now c.call.new.pass c.in-Err-Strange.ensures.refused)
