@@ -1,5 +1,5 @@
 -- What a line of a session is, by its first word and what stands behind it.
-use Rattle.std.proofs.Common.{◌≡◌, ◌≢◌, ℕ, zero, suc, ◌<◌, ◌&&◌, ◌==◌, not, Bool, true, false, if◌then◌else◌, is_some, List, [], ◌∷◌, length, Option, Some, None, codes, refl, sym, ap, ◌∙◌, arith}
+use Rattle.std.proofs.Common.{◌≡◌, ℕ, zero, suc, ◌<◌, ◌==◌, Bool, true, false, if◌then◌else◌, is_some, List, [], ◌∷◌, length, Option, Some, None, codes, refl, ap, ◌∙◌, arith}
 use Rattle.std.proofs.lemmas.Bool.Decides.{nat_tests}
 use Rattle.std.specs.Option.{option_map}
 use Rattle.giotto_tasks.specs.Names.{same_name}
@@ -11,7 +11,7 @@ use Rattle.tenant_lines.specs.Words.{words_of, first_word_of, behind_first_word}
 use Rattle.tenant_lines.specs.declared.commands.Command.{Command}
 use Rattle.tenant_lines.specs.cited.Copies.{has_text}
 use Rattle.tenant_lines.proofs.cited.WordLemmas.{words_first, words_none}
-use Rattle.rig_sessions.specs.Sessions.{SessionLine, State, ask, blank, bye, call, ended, err_bad_command, err_not_greeted, form_step, hello, hello_of, line_of_words, quit, quit_of, says, session_line_of, stays_quiet, stranger, tenant}
+use Rattle.rig_sessions.specs.Sessions.{State, ask, blank, bye, ended, err_bad_command, err_not_greeted, form_step, hello, hello_of, line_of_words, quit, quit_of, says, session_line_of, stays_quiet, stranger, tenant}
 use Rattle.rig_sessions.specs.Steps.{IsCallWithText}
 
 differs : (x y : List ℕ) → (x ≡ y → ⊥) → same_name x y ≡ false
@@ -81,8 +81,8 @@ module _ (rest : List ℕ) where
       let key = first_word_of behind in
       ap hello_of (words_first rest (name_has_byte (first_word_of rest) good) ∙ ap (λ ws. first_word_of rest ∷ ws) (words_first behind some))
       ∙ by_word (behind_first_word behind) (λ ws. hello_of (first_word_of rest ∷ key ∷ ws) ≡ (if length (first_word_of (behind_first_word behind)) == 0 then Some (hello (first_word_of rest) key) else None))
-        (λ none. rw (good, none) refl)
-        (λ more. let other : (length (first_word_of (behind_first_word behind)) == 0) ≡ false = grind (arith, nat_tests, more) in rw other refl)
+      (λ none. rw (good, none) refl)
+      (λ more. let other : (length (first_word_of (behind_first_word behind)) == 0) ≡ false = grind (arith, nat_tests, more) in rw other refl)
 
 -- a line of no form
 pub form_refused : (config : Rig) (s : State) → (s ≡ ended → ⊥) → form_step config s None ≡ says err_bad_command s

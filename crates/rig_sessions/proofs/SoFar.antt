@@ -6,11 +6,11 @@ use Rattle.std.specs.List.{AllByRecursion}
 use Rattle.locked_book.specs.Books.{PassValue}
 use Rattle.rig_config.specs.Roster.{Rig}
 use Rattle.rig_model.specs.Answered.{IsText, state_after}
-use Rattle.rig_model.specs.TextLines.{cut, lf_count, text_of_line, whole_lines}
+use Rattle.rig_model.specs.TextLines.{cut, text_of_line, whole_lines}
 use Rattle.rig_model.specs.declared.limits.TheConstants.{MAX_READS}
 use Rattle.rig_model.specs.declared.logged.Call.{Call}
-use Rattle.rig_sessions.specs.Sessions.{Outcome, Session, State, Step, begun, behind_line, behind_lines, behind_step, bye_bad_line, ended, line_step, says, session_of, stranger, tenant, text_step, written}
-use Rattle.rig_sessions.specs.Talks.{AreFewRead, IsCutOff, Talked, TalkedInto, TookLinesBefore, TookWholeLines, fault_of_lines}
+use Rattle.rig_sessions.specs.Sessions.{Outcome, Session, State, Step, begun, behind_line, behind_lines, behind_step, bye_bad_line, ended, line_step, says, stranger, tenant, text_step, written}
+use Rattle.rig_sessions.specs.Talks.{AreFewRead, IsCutOff, Talked, TalkedInto, TookWholeLines, fault_of_lines}
 use Rattle.rig_sessions.specs.declared.faults.TalkFault.{TalkFault}
 use Rattle.rig_sessions.specs.declared.faults.TalkFault.TheVariants.{Read, Write, Turns, Desk}
 use Rattle.rig_sessions.specs.inner.Answered.{IsAnswered, IsTaken, IsUnanswered}
@@ -114,8 +114,8 @@ module _ (config : Rig) where
         let before = (front []).0 in
         let split : cut bytes ≡ before ++ (bad.0 ∷ bad.1) = (front []).1 ∙ ap (λ l. before ++ l) bad.2 in
         let last : behind_line config (record { state = s; outcomes = []; calls = on.1; text = on.2 }) bad.0 ≡ record { state = ended; outcomes = []; calls = on.1; text = on.2 ++ written bye_bad_line } =
-            ap (λ found. behind_step (record { state = s; outcomes = []; calls = on.1; text = on.2 }) (line_step config s found)) bad.3
-            ∙ ap (behind_step (record { state = s; outcomes = []; calls = on.1; text = on.2 })) (bad_step s other) in (
+        ap (λ found. behind_step (record { state = s; outcomes = []; calls = on.1; text = on.2 }) (line_step config s found)) bad.3
+        ∙ ap (behind_step (record { state = s; outcomes = []; calls = on.1; text = on.2 })) (bad_step s other) in (
           record {
             outcomes = on.0 ++ [];
             state = ended;

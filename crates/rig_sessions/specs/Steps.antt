@@ -1,5 +1,5 @@
 -- What the steps and replies of the code are in the definitions.
-use Rattle.std.specs.Prelude.{◌≡◌, ℕ, true, List, ◌∷◌, codes}
+use Rattle.std.specs.Prelude.{◌≡◌, ℕ, true, List}
 use Rattle.rig_config.specs.Roster.{Rig}
 use Rattle.tenant_lines.specs.declared.commands.Command.{Command}
 use Rattle.tenant_lines.specs.cited.Copies.{has_text}

@@ -1,6 +1,5 @@
 -- What a session over a reader and a writer did, and how it was cut off.
 use Rattle.std.specs.Prelude.{◌≡◌, ◌≢◌, ◌≤◌, ◌*◌, ◌⊎◌, ℕ, List, [], ◌∷◌, ◌++◌, length, Option, Some, IfSome, IsSomeAnd, Result, Err}
-use Rattle.std.specs.Io.KnownBytes.{Appends}
 use Rattle.locked_book.specs.Books.{PassValue}
 use Rattle.locked_book.specs.declared.faults.DeskFault.{DeskFault}
 use Rattle.locked_book.specs.declared.faults.DeskFault.TheVariants as desk
@@ -8,7 +7,7 @@ use Rattle.rig_config.specs.Roster.{Rig}
 use Rattle.rig_model.specs.TextLines.{cut, whole_lines}
 use Rattle.rig_model.specs.declared.limits.TheConstants.{MAX_READS}
 use Rattle.rig_model.specs.declared.logged.Call.{Call}
-use Rattle.rig_sessions.specs.Sessions.{Outcome, Session, State, Step, behind_step, ended, no_memory, pass_full, session_of, strange}
+use Rattle.rig_sessions.specs.Sessions.{Outcome, State, ended, no_memory, pass_full, session_of, strange}
 use Rattle.rig_sessions.specs.declared.faults.TalkFault.{TalkFault}
 use Rattle.rig_sessions.specs.declared.faults.TalkFault.TheVariants.{Read, Write, Turns, Desk}
 use Rattle.text_lines.specs.declared.faults.LinesFault.{LinesFault}

@@ -22,7 +22,8 @@ use tenant_lines::commands::Command;
 use tenant_lines::replies::{Reply, Status};
 
 // Alpha's lines: it loads a program that reads a sensor, adds 1 and drives an actuator with the sum, grants the actuator, and starts.
-const ALPHAS: &[u8] = b"hello alpha ka\nload sensor s := 0 line 0; actuator a := 0; output o := 0; task T(i) output o { o := i + 1; } mode m period 2 { actfreq 1 do a := o; taskfreq 1 do T(s); } start m;\noffer a to beta\nstart\n";
+const ALPHAS: &[u8] =
+    b"hello alpha ka\nload sensor s := 0 line 0; actuator a := 0; output o := 0; task T(i) output o { o := i + 1; } mode m period 2 { actfreq 1 do a := o; taskfreq 1 do T(s); } start m;\noffer a to beta\nstart\n";
 
 // Beta's: it loads a program whose sensor takes the granted value, and starts.
 const BETAS: &[u8] =
@@ -95,9 +96,17 @@ fn greets<N: Naming, R: Wait>(
     config: &Config,
     desk: &Desk<N>,
 ) -> Option<bool> {
-    let text = b"show mode\nhello alpha no\nhello nobody ka\nhello alpha ka\nhello alpha ka\n\nshow mode";
+    let text =
+        b"show mode\nhello alpha no\nhello nobody ka\nhello alpha ka\nhello alpha ka\n\nshow mode";
     let expected = b"err not-greeted\nerr who\nerr who\nok hello\nerr greeted\nok mode empty\n";
-    let pass = talked(rt, alloc, config, desk, text.as_slice(), expected.as_slice())?;
+    let pass = talked(
+        rt,
+        alloc,
+        config,
+        desk,
+        text.as_slice(),
+        expected.as_slice(),
+    )?;
     Some(pass.calls().len() == 1)
 }
 
@@ -110,7 +119,14 @@ fn ends_at_bad_line<N: Naming, R: Wait>(
 ) -> Option<bool> {
     let text = b"hello alpha ka\nshow \xff\nshow mode\n";
     let expected = b"ok hello\nbye bad-line\n";
-    let pass = talked(rt, alloc, config, desk, text.as_slice(), expected.as_slice())?;
+    let pass = talked(
+        rt,
+        alloc,
+        config,
+        desk,
+        text.as_slice(),
+        expected.as_slice(),
+    )?;
     Some(pass.calls().is_empty())
 }
 
@@ -125,9 +141,23 @@ fn ends_at_long_line<N: Naming, R: Wait>(
     for _byte in 0..16384u32 {
         text.push(b'x').ok()?;
     }
-    let longest = talked(rt, alloc, config, desk, text.as_slice(), b"err bad-command\n".as_slice())?;
+    let longest = talked(
+        rt,
+        alloc,
+        config,
+        desk,
+        text.as_slice(),
+        b"err bad-command\n".as_slice(),
+    )?;
     text.push(b'x').ok()?;
-    let longer = talked(rt, alloc, config, desk, text.as_slice(), b"bye bad-line\n".as_slice())?;
+    let longer = talked(
+        rt,
+        alloc,
+        config,
+        desk,
+        text.as_slice(),
+        b"bye bad-line\n".as_slice(),
+    )?;
     Some(longest.calls().is_empty() && longer.calls().is_empty())
 }
 
@@ -165,12 +195,24 @@ fn is_refused<N: Naming, R: Wait>(
     let pass = desk.pass(rt).ok()?;
     let mut reader = b"hello alpha ka\nshow mode\nshow mode\nrows\n".as_slice();
     let mut written = Vec::new(alloc);
-    let (pass, ends) = talk(rt, alloc, config, &Once { refusal }, pass, &mut reader, &mut written);
+    let (pass, ends) = talk(
+        rt,
+        alloc,
+        config,
+        &Once { refusal },
+        pass,
+        &mut reader,
+        &mut written,
+    );
     let said = match refusal {
         DeskFault::PassFull => b"ok hello\nok mode empty\nbye pass-full\n".as_slice(),
         _ => b"ok hello\nok mode empty\nbye strange\n".as_slice(),
     };
-    Some(ends == Err(TalkFault::Desk(refusal)) && written.as_slice() == said && pass.calls().len() == 1)
+    Some(
+        ends == Err(TalkFault::Desk(refusal))
+            && written.as_slice() == said
+            && pass.calls().len() == 1,
+    )
 }
 
 // Gives its bytes one by one, and fails behind them.
@@ -207,7 +249,11 @@ fn ends_at_failed_read<N: Naming, R: Wait>(
     let mut written = Vec::new(alloc);
     let (pass, ends) = talk(rt, alloc, config, desk, pass, &mut reader, &mut written);
     let said = b"ok hello\nok mode empty\n";
-    Some(ends == Err(TalkFault::Read) && written.as_slice() == said.as_slice() && pass.calls().len() == 1)
+    Some(
+        ends == Err(TalkFault::Read)
+            && written.as_slice() == said.as_slice()
+            && pass.calls().len() == 1,
+    )
 }
 
 // Two suppliers and three instants, told to a third session: all of it stands in one history.

@@ -1,9 +1,9 @@
-use Rattle.std.proofs.Common.{rules, ◌≡◌, Some, Ok, Err, IfErr, IfSome, Result, refl, sym, ap, subst, inl, inr, ◌∙◌}
+use Rattle.std.proofs.Common.{rules, ◌≡◌, Some, Err, IfErr, IfSome, Result, refl, sym, ap, subst, inl, inr, ◌∙◌}
 use Rattle.std.proofs.lemmas.Result.{err_from_is_err_and}
 use Rattle.std.specs.Io.KnownBytes.{Appends}
 use Rattle.rig_sessions.specs.Sessions.{ended, text_step}
 use Rattle.rig_sessions.specs.Steps.{SessionValue}
-use Rattle.rig_sessions.specs.Talks.{IsCutOff, TalkedToEnd}
+use Rattle.rig_sessions.specs.Talks.{IsCutOff}
 use Rattle.rig_sessions.specs.declared.faults.TalkFault.{TalkFault}
 use Rattle.rig_sessions.specs.declared.faults.TalkFault.TheVariants.{Write}
 use Rattle.rig_sessions.specs.inner.Answered.{IsAnswered, IsUnanswered}
@@ -42,7 +42,7 @@ returns-in-Bad-clause-ok g c =
     if_known (left c.args.reader.now) _ _ l.invariant.on (λ bytes h.
     let next = rw c.in-Bad.is at (given.line h.0 h.1) in
     let t = bad_taken c.args.config.now bytes h.0 (has_ended l.lines) l.session.state c.args.pass.now l.pass (contents c.args.writer.now) (contents l.writer) h.2 (contents c.next_line.new.writer) given.written
-        l.invariant.alive next (contents c.say_bad_line.new.writer) grown in
+    l.invariant.alive next (contents c.say_bad_line.new.writer) grown in
     (t.0, t.1, inr t.2)))
 
 pub returns-in-Bad-clause-fault : goal.returns-in-Bad-clause-fault
@@ -75,7 +75,7 @@ returns-in-End-clause-ok g c =
     if_known (left c.args.reader.now) _ _ l.invariant.on (λ bytes h.
     let next = rw c.in-End.is at (given.line h.0 h.1) in
     let t = all_taken c.args.config.now bytes h.0 (has_ended l.lines) l.session.state c.args.pass.now l.pass (contents c.args.writer.now) (contents l.writer) h.2 (contents c.flush-in-End.new.writer)
-        (kept_on (contents l.writer) (contents c.next_line.new.writer) (contents c.flush-in-End.new.writer) given.written c.flush-in-End.ensures.kept) next.0 in
+    (kept_on (contents l.writer) (contents c.next_line.new.writer) (contents c.flush-in-End.new.writer) given.written c.flush-in-End.ensures.kept) next.0 in
     (t.0, t.1, inl next.1)))
 
 pub returns-in-End-clause-fault : goal.returns-in-End-clause-fault
@@ -167,13 +167,13 @@ returns-then-has_ended-clause-ok g c =
     let text = c.as_str.result.now in
     let is_over : c.answer.new.session.state ≡ ended = c.has_ended.ensures.0 c.if-has_ended.true in
     let answered = subst (λ config. IsAnswered (text_step config l.session.state text) c.answer.new.session.state l.pass c.answer.new.pass (Appends (contents c.next_line.new.writer) (contents c.answer.new.writer))) l.invariant.config
-        c.in_ok-answer-in-Whole.ensures.ok in
+    c.in_ok-answer-in-Whole.ensures.ok in
     on_ok c.flush.result _ (
     if_known (left c.args.reader.now) _ _ l.invariant.on (λ bytes h.
     let next = rw c.in-Whole.is at (given.line h.0 h.1) in
     let t = line_ended c.args.config.now bytes h.0 (has_ended l.lines) l.session.state c.args.pass.now l.pass (contents c.args.writer.now) (contents l.writer) h.2 (contents c.next_line.new.writer) given.written
-        c.answer.new.pass next.0 next.1 text (has_ended c.next_line.new.self) next.2 (next.3 ∙ ap (λ t. Some t) (sym c.as_str.ensures.value)) c.answer.new.session.state (contents c.answer.new.writer) (contents c.flush.new.writer)
-        is_over answered c.flush.ensures.kept in
+    c.answer.new.pass next.0 next.1 text (has_ended c.next_line.new.self) next.2 (next.3 ∙ ap (λ t. Some t) (sym c.as_str.ensures.value)) c.answer.new.session.state (contents c.answer.new.writer) (contents c.flush.new.writer)
+    is_over answered c.flush.ensures.kept in
     (t.0, t.1, inr t.2)))
 
 pub returns-then-has_ended-clause-fault : goal.returns-then-has_ended-clause-fault
@@ -184,7 +184,7 @@ returns-then-has_ended-clause-fault g c =
     let given = c.in_ok-line.ensures in
     let text = c.as_str.result.now in
     let answered = subst (λ config. IsAnswered (text_step config l.session.state text) c.answer.new.session.state l.pass c.answer.new.pass (Appends (contents c.next_line.new.writer) (contents c.answer.new.writer))) l.invariant.config
-        c.in_ok-answer-in-Whole.ensures.ok in
+    c.in_ok-answer-in-Whole.ensures.ok in
     let Written = Appends (contents c.args.writer.now) (contents c.flush.new.writer) in
     unsaid c.flush.result (λ f. IfSome (left c.args.reader.now) (λ bytes. IsCutOff c.args.config.now c.args.pass.now c.answer.new.pass Written (left c.next_line.new.reader) bytes f)) c.flush.ensures.fault
     (if_known (left c.args.reader.now) _ _ l.invariant.on (λ bytes h.
@@ -209,7 +209,7 @@ loop-lines-preserved g c =
     let given = c.in_ok-line.ensures in
     let text = c.as_str.result.now in
     let answered = subst (λ config. IsAnswered (text_step config l.session.state text) c.answer.new.session.state l.pass c.answer.new.pass (Appends (contents c.next_line.new.writer) (contents c.answer.new.writer))) l.invariant.config
-        c.in_ok-answer-in-Whole.ensures.ok in
+    c.in_ok-answer-in-Whole.ensures.ok in
     let on = rw c.in-Whole.is at (given.further l.invariant.begins) in
     record {
       begins = on.0;

@@ -1,4 +1,4 @@
-use Rattle.std.proofs.Common.{◌≡◌, ◌≢◌, ◌∷◌, [], ◌++◌, refl, sym, ap, ◌∙◌, inl, inr, append-nil, subst}
+use Rattle.std.proofs.Common.{sym, ap, ◌∙◌, inl, inr, append-nil, subst}
 use Rattle.locked_book.specs.Books.{PassValue}
 use Rattle.locked_book.specs.declared.faults.DeskFault.TheVariants as desk
 use Rattle.rig_sessions.specs.Sessions.{State, Step, call, no_memory, replied, untold}

@@ -1,5 +1,5 @@
-use Rattle.std.proofs.Common.{◌≡◌, IfOk, IsErr, length, Some, None, refl, sym, ap, ◌∙◌, subst, codes}
-use Rattle.tenant_lines.specs.Words.{first_word_of, behind_first_word, words_of}
+use Rattle.std.proofs.Common.{IfOk, IsErr, refl, sym, ap, ◌∙◌, subst}
+use Rattle.tenant_lines.specs.Words.{words_of}
 use Rattle.rig_sessions.specs.Sessions.{form_step, hello_of, quit_of}
 use Rattle.rig_sessions.specs.Steps.{IsStep, IsCallWithText}
 use Rattle.rig_sessions.proofs.SessionLines.{blank_line, hello_line, quit_line, other_line, form_blank}
