@@ -162,6 +162,7 @@ fn ends_at_long_line<N: Naming, R: Wait>(
 }
 
 // Answers one call of a pass, and then refuses.
+#[derive(Drop)]
 struct Once {
     refusal: DeskFault,
 }
