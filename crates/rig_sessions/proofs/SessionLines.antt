@@ -11,7 +11,7 @@ use Rattle.tenant_lines.specs.Words.{words_of, first_word_of, behind_first_word}
 use Rattle.tenant_lines.specs.declared.commands.Command.{Command}
 use Rattle.tenant_lines.specs.cited.Copies.{has_text}
 use Rattle.tenant_lines.proofs.cited.WordLemmas.{words_first, words_none}
-use Rattle.rig_sessions.specs.Sessions.{State, ask, blank, bye, ended, err_bad_command, err_not_greeted, form_step, hello, hello_of, line_of_words, quit, quit_of, says, session_line_of, stays_quiet, stranger, tenant}
+use Rattle.rig_model.specs.Sessions.{State, ask, blank, bye, ended, err_bad_command, err_not_greeted, form_step, hello, hello_of, line_of_words, quit, quit_of, says, session_line_of, stays_quiet, stranger, tenant}
 use Rattle.rig_sessions.specs.Steps.{IsCallWithText}
 
 differs : (x y : List ℕ) → (x ≡ y → ⊥) → same_name x y ≡ false

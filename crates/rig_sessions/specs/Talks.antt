@@ -7,7 +7,7 @@ use Rattle.rig_config.specs.Roster.{Rig}
 use Rattle.rig_model.specs.TextLines.{cut, whole_lines}
 use Rattle.rig_model.specs.declared.limits.TheConstants.{MAX_READS}
 use Rattle.rig_model.specs.declared.logged.Call.{Call}
-use Rattle.rig_sessions.specs.Sessions.{Outcome, State, ended, no_memory, pass_full, session_of, strange}
+use Rattle.rig_model.specs.Sessions.{Outcome, State, ended, no_memory, pass_full, session_of, strange}
 use Rattle.rig_sessions.specs.declared.faults.TalkFault.{TalkFault}
 use Rattle.rig_sessions.specs.declared.faults.TalkFault.TheVariants.{Read, Write, Turns, Desk}
 use Rattle.text_lines.specs.declared.faults.LinesFault.{LinesFault}

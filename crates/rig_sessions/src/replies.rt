@@ -1,7 +1,7 @@
 //! What a session answers by itself.
 
 ghost use Rattle.std.specs.Prelude.{◌≡◌};
-ghost use Rattle.rig_sessions.specs.Sessions.{written};
+ghost use Rattle.rig_model.specs.Sessions.{written};
 ghost use Rattle.rig_sessions.specs.Steps.{text_of_own};
 
 /// What a session answers by itself, without a call.

@@ -4,7 +4,7 @@ ghost use Rattle.std.specs.Prelude.{◌≡◌, ◌⊎◌, ℕ, List, ◌++◌, s
 ghost use Rattle.std.specs.Io.KnownBytes.{Appends, Keeps};
 ghost use Rattle.rig_model.specs.declared.logged.Call.{Call};
 ghost use Rattle.tenant_lines.specs.Replies.{text_of_reply};
-ghost use Rattle.rig_sessions.specs.Sessions.{State, bye_bad_line, call, text_of_outcome, text_step, untold, written};
+ghost use Rattle.rig_model.specs.Sessions.{State, bye_bad_line, call, text_of_outcome, text_step, untold, written};
 ghost use Rattle.rig_sessions.specs.Talks.{AreFewRead, IsCutOff, TalkedToEnd, outcome_of};
 ghost use Rattle.rig_sessions.specs.inner.Answered.{IsAnswered, IsUnanswered};
 

@@ -3,7 +3,7 @@ use Rattle.std.specs.Prelude.{◌≡◌, ◌≢◌, ℕ, List, [], ◌∷◌, �
 use Rattle.locked_book.specs.Books.{PassValue}
 use Rattle.locked_book.specs.declared.faults.DeskFault.TheVariants as desk
 use Rattle.rig_model.specs.declared.logged.Call.{Call}
-use Rattle.rig_sessions.specs.Sessions.{Outcome, State, Step, behind_step, ended}
+use Rattle.rig_model.specs.Sessions.{Outcome, State, Step, behind_step, ended}
 use Rattle.rig_sessions.specs.Talks.{outcome_of}
 use Rattle.rig_sessions.specs.declared.faults.TalkFault.{TalkFault}
 use Rattle.rig_sessions.specs.declared.faults.TalkFault.TheVariants.{Read, Write, Turns, Desk}

@@ -1,6 +1,6 @@
 use Rattle.std.proofs.Common.{refl, sym, ap, ◌∙◌, subst}
 use Rattle.std.specs.Io.KnownBytes.{Appends}
-use Rattle.rig_sessions.specs.Sessions.{State, Step, bye, text_step}
+use Rattle.rig_model.specs.Sessions.{State, Step, bye, text_step}
 use Rattle.rig_sessions.specs.Steps.{act_of, text_of_own}
 use Rattle.rig_sessions.specs.declared.sessions.Step.{Step as LineStep}
 use Rattle.rig_sessions.specs.inner.Answered.{IsAnswered, IsTaken, IsUnanswered}

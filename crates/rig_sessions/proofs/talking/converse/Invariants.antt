@@ -1,7 +1,7 @@
 use Rattle.std.proofs.Common.{◌≡◌, ◌≢◌, ℕ, List, ◌++◌}
 use Rattle.std.specs.Prelude.{IfSome}
 use Rattle.rig_model.specs.declared.logged.Call.{Call}
-use Rattle.rig_sessions.specs.Sessions.{ended}
+use Rattle.rig_model.specs.Sessions.{ended}
 use Rattle.text_lines.specs.cited.Reading.{AreAtLineStart, AreCounted, IsLeft, has_ended, left_at_most, reads_of}
 use Rattle.rig_sessions.proofs.SoFar.{IsOn}
 use Rattle.rig_sessions.proofs.talking.converse.Given as goal

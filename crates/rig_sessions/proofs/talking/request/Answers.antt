@@ -1,7 +1,7 @@
 use Rattle.std.proofs.Common.{sym, ap, ◌∙◌, inl, inr, append-nil, subst}
 use Rattle.locked_book.specs.Books.{PassValue}
 use Rattle.locked_book.specs.declared.faults.DeskFault.TheVariants as desk
-use Rattle.rig_sessions.specs.Sessions.{State, Step, call, no_memory, replied, untold}
+use Rattle.rig_model.specs.Sessions.{State, Step, call, no_memory, replied, untold}
 use Rattle.rig_sessions.specs.inner.Answered.{IsUnanswered}
 use Rattle.rig_sessions.specs.declared.faults.TalkFault.{TalkFault}
 use Rattle.text_lines.proofs.cited.AnsweredLines.{on_ok_then}

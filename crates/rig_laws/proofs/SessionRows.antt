@@ -6,7 +6,7 @@ use Rattle.std.specs.List.{flat_map}
 use Rattle.std.specs.Str.{chars, is_utf8}
 use Rattle.rig_config.specs.BuiltIn.{built_in_config}
 use Rattle.rig_model.specs.TextLines.{cut}
-use Rattle.rig_sessions.specs.Sessions.{ended, no_memory, pass_full, replied, session_of, strange, tenant, untold}
+use Rattle.rig_model.specs.Sessions.{ended, no_memory, pass_full, replied, session_of, strange, tenant, untold}
 use Rattle.tenant_lines.specs.declared.commands.Command.TheVariants.{ShowMode, Start}
 use Rattle.tenant_lines.specs.declared.replies.Reply.TheVariants.{Mode, Started}
 use Rattle.tenant_lines.specs.declared.replies.Status.TheVariants.{Empty}
