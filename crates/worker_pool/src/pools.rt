@@ -20,9 +20,6 @@ use std::sync::Wait;
 use std::thread::{JoinHandle, Scope, Threads};
 use std::time::Clock;
 
-/// How many workers a pool has at most.
-pub const MOST_WORKERS: usize = 64;
-
 // What a worker is told.
 #[derive(Drop)]
 enum Order {
