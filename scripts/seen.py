@@ -2,8 +2,8 @@
 
 Of src/ stand the types, traits, constants and macros, the headers of implementations with their ghost items, and the
 signatures and clauses of functions. Bodies are left out, functions that are not `pub` and not of a trait, since no other
-crate can name one, attributes that say how a body is proved or built, and imports of names that are only used in what is
-left out. No comment is seen and no layout, but that of definitions, where it tells what belongs to what.
+crate can name one, attributes that say how a body is proved or built, the list of modules, and imports of names that are
+only used in what is left out. No comment is seen and no layout, but that of definitions, where it tells what belongs to what.
 """
 
 import bisect
@@ -14,20 +14,43 @@ import re
 
 from kit import rtlib
 from planting import code_of, functions_in, tokens_of
+from reach import Reach, without_comments
 
 # `tactic` and `cycle` say how a body is proved, the others how it is built
 OF_BODIES = {"tactic", "cycle", "inline", "cold"}
 
 
 @functools.cache
-def seen_of(crate):
-    """One sum of what is seen of a crate, as the library `rtlib` of the kit knows it. It is taken once."""
-    found, part_of = hashlib.sha256(), lambda path: os.path.relpath(path, crate.folder).partition("/")[0]
-    paths = [it for it in rtlib.files_of(crate.folder) if part_of(it) in ("src", "specs")]
-    for path, tokens in tokens_of(*paths).items():
-        seen = seen_of_code(tokens) if part_of(path) == "src" else seen_of_definitions(tokens, rtlib.text_of(path))
-        found.update(repr((os.path.relpath(path, crate.folder), seen)).encode())
-    return found.hexdigest()
+def seen_below(crate):
+    """One sum of what a crate, as the library `rtlib` of the kit knows it, can see of the crates below. It is taken once."""
+    crates = [*crate.below(), crate]
+    reached, top = Reach(crates).of(crate, text_of_seen), os.path.dirname(crate.folder)
+    seen = [(os.path.relpath(path, top), seen_in(os.path.dirname(path))[path]) for path in reached]
+    return hashlib.sha256(repr(seen).encode()).hexdigest()
+
+
+def text_of_seen(path):
+    """What is seen of a file, as a text whose words lead on. A file of proofs is seen as it is."""
+    if "/proofs/" in path:
+        return without_comments(rtlib.text_of(path))
+    seen = seen_in(os.path.dirname(path))[path]
+    if path.endswith(".antt"):
+        return " ".join(it for it in seen if isinstance(it, str))
+    words, imports = seen
+    return "\n".join([" ".join(words), *(f"{head}{name}" for head, name in imports)])
+
+
+def seen_in(folder):
+    """What is seen of each file of code and of definitions that lies in a folder, by its path."""
+    paths = [it.path for it in os.scandir(folder) if it.name.endswith((".rt", ".antt"))]
+    return seen_as_of(*((it, os.stat(it).st_mtime_ns) for it in sorted(paths)))
+
+
+@functools.cache
+def seen_as_of(*dated):
+    """What is seen of files as they stood at these times. It is taken once."""
+    paths = [it for it, _ in dated]
+    return {it: seen_of_code(own) if it.endswith(".rt") else seen_of_definitions(own, rtlib.text_of(it)) for it, own in tokens_of(*paths).items()}
 
 
 def seen_of_definitions(tokens, text):
@@ -43,6 +66,7 @@ def seen_of_definitions(tokens, text):
 def seen_of_code(tokens):
     """The texts of the tokens that are seen, and the imports of the names in them, in an order of their own."""
     kept, _ = parted(without_bodies(without_layout(tokens)), end_of_attribute)
+    kept, _ = parted(kept, end_of_module)
     kept, imports = parted(kept, end_of_import)
     words = {word for it in kept for word in [it.text, *it.text.split(".")]}
     return [it.text for it in kept], sorted({it for item in imports for it in used_of(item, words)})
@@ -86,6 +110,12 @@ def end_of_attribute(tokens, at):
         if tokens[end].text == "]" and not depth:
             return end + 1
     return None
+
+
+def end_of_module(tokens, at):
+    """The place behind a `mod` that names a file, if one begins here."""
+    found = re.match(r"(?:pub (?:\( \w+ \) )?)?mod \w+ ;", " ".join(it.text for it in tokens[at : at + 7]))
+    return at + found[0].count(" ") + 1 if found else None
 
 
 def end_of_import(tokens, at):

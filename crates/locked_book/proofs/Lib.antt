@@ -1,7 +1,10 @@
 pub mod Comparisons
 pub mod Copied
-pub mod EntryPlaces
 pub mod Instants
 pub mod Kept
+pub mod MarkBits
+pub mod NextStarts
 pub mod Places
 pub mod Steps
+pub mod WindowMarks
+pub mod cited

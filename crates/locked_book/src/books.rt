@@ -219,13 +219,16 @@ impl<N: Naming> Book<N> {
     }
 
     /// Whether no place is in the list twice, and the log has each entry at its place, counted from the host's beginning. Takes no
-    /// memory.
+    /// memory, and a turn over the list for each of the two; where the places aren't in order, two more turns for each 524,288
+    /// entries of the log at the most.
     pub fn stands(&self, entries: &[(u128, Logged)]) -> bool
         ensures { IsTrue result ↔ AllStand self.now entries.now }
     {
         let there = all_there(self.base.entries_before(), &self.log, entries);
-        let apart = all_apart(entries);
-        there & apart
+        if !there {
+            return false;
+        }
+        all_apart(entries)
     }
 
     /// Why the book can't be closed with these passes: `Mismatch` with the seat of the first pass that it doesn't know or whose seat

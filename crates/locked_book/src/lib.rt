@@ -19,3 +19,4 @@ pub mod passes;
 mod same;
 mod seats;
 mod standing;
+mod windows;

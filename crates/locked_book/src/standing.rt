@@ -1,12 +1,12 @@
 //! Whether entries stand in a log, at their places.
 
-ghost use Rattle.std.specs.Prelude.{◌≡◌, ◌≢◌, ◌↔◌, ◌<◌, ◌≤◌, ◌==◌, ℕ, IsTrue, Some, length, map, take};
-ghost use Rattle.std.specs.List.{All, list_any};
+ghost use Rattle.std.specs.Prelude.{◌≡◌, ◌↔◌, ℕ, IsTrue, Some, map};
+ghost use Rattle.std.specs.List.{All};
 ghost use Rattle.locked_book.specs.Books.{AreApart, entry_behind};
-ghost use Rattle.locked_book.specs.inner.Places.{HighestOf, place_in};
 ghost use Rattle.rig_model.specs.declared.logged.Logged.{Logged};
 
 use crate::same::Same;
+use crate::windows::{WINDOW, is_apart_within, next_window};
 use rig_model::logged::Logged;
 
 /// Whether the log, before which there were so many entries, has each of these entries at its place.
@@ -34,46 +34,20 @@ fn is_there(before: u128, log: &[Logged], entry: &(u128, Logged)) -> bool
     log[at as usize].is_same(&entry.1)
 }
 
-/// Whether no two of these places are one. A list in order costs one look at each; a place that is lower than one before it is looked
-/// for among all before it.
+/// Whether no two of these places are one. Goes over the list once if each place is higher than all before it. Else it goes over it twice
+/// more for each window of 524,288 places in which one comes behind one as high: at most twice for each 524,288 entries of the log.
 pub(crate) fn all_apart(entries: &[(u128, Logged)]) -> bool
     ensures { IsTrue result ↔ AreApart (map (λ (e : ℕ × Logged). e.0) entries.now) }
 {
-    let mut highest = 0;
-    for i in 0..entries.len() {
-        if !is_apart(entries, i, highest) {
+    let mut from = 0;
+    while let Some(start) = next_window(entries, from) {
+        if !is_apart_within(entries, start) {
             return false;
         }
-        highest = highest.max(place_at(entries, i));
+        let Some(end) = start.checked_add(WINDOW) else {
+            return true;
+        };
+        from = end;
     }
     true
-}
-
-// Whether the place of entry i is none of those before it, of which this is the highest.
-fn is_apart(entries: &[(u128, Logged)], i: usize, highest: u128) -> bool
-    requires within { i < length entries.now }
-    requires highest { HighestOf entries.now i highest }
-    ensures { IsTrue result ↔ ((k : ℕ) → k < i → place_in entries.now k ≢ place_in entries.now i) }
-{
-    let place = place_at(entries, i);
-    if place > highest {
-        return true;
-    }
-    let found = has_place(entries, i, place);
-    !found
-}
-
-fn place_at(entries: &[(u128, Logged)], i: usize) -> u128
-    requires { i < length entries.now }
-    ensures { result ≡ place_in entries.now i }
-{
-    entries[i].0
-}
-
-// Whether an entry before this one has the place.
-fn has_place(entries: &[(u128, Logged)], end: usize, place: u128) -> bool
-    requires { end ≤ length entries.now }
-    ensures { result ≡ list_any (λ (e : ℕ × Logged). e.0 == place) (take end entries.now) }
-{
-    entries[..end].iter().any(|entry| entry.0 == place)
 }
