@@ -27,6 +27,12 @@ enum Order {
     Stop,
 }
 
+// What a worker is told, one order after the other.
+#[derive(Drop)]
+struct Orders {
+    receiver: Receiver<Order>,
+}
+
 /// Workers that run the jobs sent to them, each in a thread of its own. Contracts see it as the number of its workers.
 ///
 /// A pool that is dropped closes its channel: each worker still runs what was sent, and then ends.
@@ -87,7 +93,9 @@ impl Pool {
         ensures { OnOk result (self.new ≡ self.old + 1) }
     {
         self.workers.reserve(1)?;
-        let orders = orders.clone()?;
+        let orders = Orders {
+            receiver: orders.clone()?,
+        };
         match scope.spawn(move || work(rt, orders, desk, gate)) {
             Ok(worker) => {
                 self.workers.push_reserved(worker);
@@ -141,14 +149,9 @@ impl Pool {
 }
 
 // Runs jobs until it is told to stop, or the channel is closed.
-fn work<N: Naming, R: Wait + Clock, G: Gate>(
-    rt: &R,
-    orders: Receiver<Order>,
-    desk: &Desk<N>,
-    gate: &G,
-) {
+fn work<N: Naming, R: Wait + Clock, G: Gate>(rt: &R, orders: Orders, desk: &Desk<N>, gate: &G) {
     for _ in rt.forever() {
-        match orders.recv(rt) {
+        match orders.receiver.recv(rt) {
             Ok(Order::Run(job)) => {
                 let _ = complete(rt, desk, gate, job);
             }
