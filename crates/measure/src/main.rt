@@ -1,4 +1,5 @@
-//! Work for the stopwatch of `bench/`: a text read many times, a body with many turns, loads and instants of a host, and a plain loop.
+//! Work for the stopwatch of `bench/`: a text read many times, a body with many turns, loads and instants of a host, jobs through
+//! workers, and a plain loop.
 #![tactic(auto)]
 
 mod completions;
@@ -6,12 +7,15 @@ mod drivers;
 mod instants;
 mod loads;
 mod plays;
+mod pools;
 mod turns;
 
 use crate::instants::Work;
+use crate::pools::Instants;
 use giotto_check::check;
 use giotto_read::{print, read};
 use giotto_text::lexer::tokens;
+use rig_tests::pools::{Crew, Shown, Worker};
 use std::alloc::Global;
 use std::io;
 use std::io::Read;
@@ -21,7 +25,7 @@ fn main(rt: HostRuntime) -> anyhow::Result<ExitCode> {
     let words: Vec<String> = std::env::args(&rt)?.collect(rt.alloc())?;
     let [_, work, times] = words.as_slice() else {
         eprintln!(rt;
-            "usage: measure tokens|read|check|print|drive|alone|crowded|all|quiet|bound|unbound|done|prepare|load TIMES < TEXT, or measure evaluate|jobs|operate|loop|play TIMES"
+            "usage: measure tokens|read|check|print|drive|alone|crowded|all|quiet|bound|unbound|done|prepare|load|workers-0|workers-1|workers-2|workers-4 TIMES < TEXT, or measure evaluate|jobs|operate|loop|play|gate|drop TIMES"
         )?;
         return Ok(ExitCode::from(2));
     };
@@ -41,6 +45,12 @@ fn main(rt: HostRuntime) -> anyhow::Result<ExitCode> {
         "play" => plays::played(rt.alloc(), times)?,
         "jobs" => turns::jobs(rt.alloc(), times)?,
         "evaluate" => turns::evaluated(rt.alloc(), times)?,
+        "workers-0" | "workers-1" | "workers-2" | "workers-4" => {
+            let workers = workers_of(work.as_str());
+            pools::jobs(&rt, rt.alloc(), rt.reader(), &Instants { workers, times })?
+        }
+        "gate" => pools::shown(&rt, rt.alloc(), Shown::HeldJob(Crew::Two), times),
+        "drop" => pools::shown(&rt, rt.alloc(), Shown::StoppedWorker(Worker::Runs), times),
         "operate" => drivers::plain(times),
         "loop" => turns::plain(times),
         _ => {
@@ -65,6 +75,16 @@ fn work_of(name: &str) -> Work {
         running,
         computes: !matches!(name, "quiet" | "bound" | "unbound"),
         binds: if name == "bound" { 64 } else { 0 },
+    }
+}
+
+// How many workers run the jobs; 0 where there are none.
+fn workers_of(name: &str) -> usize {
+    match name {
+        "workers-1" => 1,
+        "workers-2" => 2,
+        "workers-4" => 4,
+        _ => 0,
     }
 }
 

@@ -21,6 +21,7 @@ mod greetings;
 mod isolation;
 #[cfg(test)]
 mod plays;
+pub mod pools;
 #[cfg(test)]
 mod readers;
 #[cfg(test)]
