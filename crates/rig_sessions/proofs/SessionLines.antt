@@ -12,7 +12,7 @@ use Rattle.tenant_lines.specs.declared.commands.Command.{Command}
 use Rattle.tenant_lines.specs.cited.Copies.{has_text}
 use Rattle.tenant_lines.proofs.cited.WordLemmas.{words_first, words_none}
 use Rattle.rig_model.specs.Sessions.{State, ask, blank, bye, ended, err_bad_command, err_not_greeted, form_step, hello, hello_of, line_of_words, quit, quit_of, says, session_line_of, stays_quiet, stranger, tenant}
-use Rattle.rig_sessions.specs.Steps.{IsCallWithText}
+use Rattle.rig_sessions.specs.inner.Steps.{IsCallWithText}
 
 differs : (x y : List ℕ) → (x ≡ y → ⊥) → same_name x y ≡ false
 differs x y other = by (same_name x y) refl

@@ -10,7 +10,8 @@ use Rattle.rig_model.specs.TextLines.{cut, text_of_line, whole_lines}
 use Rattle.rig_model.specs.declared.limits.TheConstants.{MAX_READS}
 use Rattle.rig_model.specs.declared.logged.Call.{Call}
 use Rattle.rig_model.specs.Sessions.{Outcome, Session, State, Step, begun, behind_line, behind_lines, behind_step, bye_bad_line, ended, line_step, says, stranger, tenant, text_step, written}
-use Rattle.rig_sessions.specs.Talks.{AreFewRead, IsCutOff, Talked, TalkedInto, TookWholeLines, fault_of_lines}
+use Rattle.rig_sessions.specs.inner.Faults.{fault_of_lines}
+use Rattle.rig_sessions.specs.Talks.{AreFewRead, IsCutOff, Talked, TalkedInto, TookWholeLines}
 use Rattle.rig_sessions.specs.declared.faults.TalkFault.{TalkFault}
 use Rattle.rig_sessions.specs.declared.faults.TalkFault.TheVariants.{Read, Write, Turns, Desk}
 use Rattle.rig_sessions.specs.inner.Answered.{IsAnswered, IsTaken, IsUnanswered}

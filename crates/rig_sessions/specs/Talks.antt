@@ -10,16 +10,7 @@ use Rattle.rig_model.specs.declared.logged.Call.{Call}
 use Rattle.rig_model.specs.Sessions.{Outcome, State, ended, no_memory, pass_full, session_of, strange}
 use Rattle.rig_sessions.specs.declared.faults.TalkFault.{TalkFault}
 use Rattle.rig_sessions.specs.declared.faults.TalkFault.TheVariants.{Read, Write, Turns, Desk}
-use Rattle.text_lines.specs.declared.faults.LinesFault.{LinesFault}
-use Rattle.text_lines.specs.declared.faults.LinesFault.TheVariants as lines
 use Rattle.text_lines.specs.declared.lines.TheConstants.{PAGE}
-
--- a line that finds no memory isn't read
-abbrev pub fault_of_lines : LinesFault → TalkFault
-fault_of_lines lines.Read = Read
-fault_of_lines lines.Write = Write
-fault_of_lines lines.Turns = Turns
-fault_of_lines lines.Memory = Read
 
 -- what comes of a call that is refused so
 abbrev pub outcome_of : DeskFault → Outcome

@@ -23,7 +23,7 @@ pub enum TalkFault {
 
 impl From<LinesFault> for TalkFault {
     ghost use Rattle.std.specs.Prelude.{◌≡◌};
-    ghost use Rattle.rig_sessions.specs.Talks.{fault_of_lines};
+    ghost use Rattle.rig_sessions.specs.inner.Faults.{fault_of_lines};
 
     ghost from_gives = { λ lines fault. fault ≡ fault_of_lines lines };
 

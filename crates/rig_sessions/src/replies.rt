@@ -2,7 +2,7 @@
 
 ghost use Rattle.std.specs.Prelude.{◌≡◌};
 ghost use Rattle.rig_model.specs.Sessions.{written};
-ghost use Rattle.rig_sessions.specs.Steps.{text_of_own};
+ghost use Rattle.rig_sessions.specs.inner.Steps.{text_of_own};
 
 /// What a session answers by itself, without a call.
 #[derive(Clone, Copy, Debug, PartialEq, Eq)]

@@ -6,7 +6,7 @@ ghost use Rattle.tenant_lines.specs.CommandLine.{command_of_line};
 ghost use Rattle.tenant_lines.specs.Words.{words_of, first_word_of, behind_first_word};
 ghost use Rattle.rig_config.specs.Roster.{greeted};
 ghost use Rattle.rig_model.specs.Sessions.{ask, ended, err_bad_command, err_not_greeted, form_step, hello, hello_of, hello_step, quit_of, stranger, text_step};
-ghost use Rattle.rig_sessions.specs.Steps.{IsStep, IsCallWithText, text_of_own};
+ghost use Rattle.rig_sessions.specs.inner.Steps.{IsStep, IsCallWithText, text_of_own};
 
 use crate::replies::OwnReply;
 use giotto_text::name_bytes::is_name;
@@ -46,7 +46,7 @@ pub struct Session<'a> {
 }
 
 impl<'a> Model for Session<'a> {
-    ghost use Rattle.rig_sessions.specs.Steps.{SessionValue, state_of};
+    ghost use Rattle.rig_sessions.specs.inner.Steps.{SessionValue, state_of};
 
     ghost Value = { SessionValue };
 

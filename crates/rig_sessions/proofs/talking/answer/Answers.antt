@@ -1,7 +1,7 @@
 use Rattle.std.proofs.Common.{refl, sym, ap, ◌∙◌, subst}
 use Rattle.std.specs.Io.KnownBytes.{Appends}
 use Rattle.rig_model.specs.Sessions.{State, Step, bye, text_step}
-use Rattle.rig_sessions.specs.Steps.{act_of, text_of_own}
+use Rattle.rig_sessions.specs.inner.Steps.{act_of, text_of_own}
 use Rattle.rig_sessions.specs.declared.sessions.Step.{Step as LineStep}
 use Rattle.rig_sessions.specs.inner.Answered.{IsAnswered, IsTaken, IsUnanswered}
 use Rattle.text_lines.proofs.cited.AnsweredLines.{on_ok_then}

@@ -2,7 +2,7 @@ use Rattle.std.proofs.Common.{rules, ◌≡◌, Some, Err, IfErr, IfSome, Result
 use Rattle.std.proofs.lemmas.Result.{err_from_is_err_and}
 use Rattle.std.specs.Io.KnownBytes.{Appends}
 use Rattle.rig_model.specs.Sessions.{ended, text_step}
-use Rattle.rig_sessions.specs.Steps.{SessionValue}
+use Rattle.rig_sessions.specs.inner.Steps.{SessionValue}
 use Rattle.rig_sessions.specs.Talks.{IsCutOff}
 use Rattle.rig_sessions.specs.declared.faults.TalkFault.{TalkFault}
 use Rattle.rig_sessions.specs.declared.faults.TalkFault.TheVariants.{Write}

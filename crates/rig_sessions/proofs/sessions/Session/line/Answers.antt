@@ -1,7 +1,7 @@
 use Rattle.std.proofs.Common.{IfOk, IsErr, refl, sym, ap, ◌∙◌, subst}
 use Rattle.tenant_lines.specs.Words.{words_of}
 use Rattle.rig_model.specs.Sessions.{form_step, hello_of, quit_of}
-use Rattle.rig_sessions.specs.Steps.{IsStep, IsCallWithText}
+use Rattle.rig_sessions.specs.inner.Steps.{IsStep, IsCallWithText}
 use Rattle.rig_sessions.proofs.SessionLines.{blank_line, hello_line, quit_line, other_line, form_blank}
 use Rattle.rig_sessions.proofs.sessions.Session.line.Goals as goal
 
