@@ -24,6 +24,8 @@ mod plays;
 #[cfg(test)]
 mod readers;
 #[cfg(test)]
+mod threads;
+#[cfg(test)]
 mod traces;
 #[cfg(test)]
 mod trials;
