@@ -188,9 +188,9 @@ fn is_told<N: Naming>(
             return false;
         };
         match told(rt, desk, scene, tenant, command) {
-            Told::Printed(text) => return text.as_str() == reply,
-            Told::AsBefore => {}
-            Told::Lost => return false,
+            Outcome::Printed(text) => return text.as_str() == reply,
+            Outcome::AsBefore => {}
+            Outcome::Lost => return false,
         }
     }
     false
@@ -210,7 +210,7 @@ fn command_at_last(alloc: Global, line: &str) -> Option<Command> {
 
 // What came of a call: its printed reply, or a refusal for want of memory that left all as it was, or anything else.
 #[derive(Drop)]
-enum Told {
+enum Outcome {
     Printed(String),
     AsBefore,
     Lost,
@@ -222,9 +222,9 @@ fn told<N: Naming>(
     scene: &mut Scene,
     tenant: TenantId,
     command: Command,
-) -> Told {
+) -> Outcome {
     let Some(pass) = scene.passes.get_mut(tenant) else {
-        return Told::Lost;
+        return Outcome::Lost;
     };
     let calls = pass.calls().len();
     let answer = desk.call(rt, pass, tenant, command);
@@ -233,18 +233,18 @@ fn told<N: Naming>(
         Ok(reply) => {
             scene.entries = scene.entries.wrapping_add(1);
             match printed(scene.alloc, &reply) {
-                Some(text) => Told::Printed(text),
-                None => Told::Lost,
+                Some(text) => Outcome::Printed(text),
+                None => Outcome::Lost,
             }
         }
         Err(DeskFault::Memory) => {
             if kept == calls && is_as_before(rt, desk, scene) {
-                Told::AsBefore
+                Outcome::AsBefore
             } else {
-                Told::Lost
+                Outcome::Lost
             }
         }
-        Err(_) => Told::Lost,
+        Err(_) => Outcome::Lost,
     }
 }
 
