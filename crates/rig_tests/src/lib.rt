@@ -27,6 +27,8 @@ mod readers;
 #[cfg(test)]
 mod sessions;
 #[cfg(test)]
+mod threads;
+#[cfg(test)]
 mod traces;
 #[cfg(test)]
 mod trials;
