@@ -79,4 +79,6 @@ class Server(Lines):
 
     def close(self):
         """Ends the operator's input, which halts the server, and waits for it."""
-        self.closed = self.ran.communicate()[0].rstrip("\n")
+        self.out.close()
+        self.closed = self.into.read().rstrip("\n")
+        self.ran.wait()
