@@ -1,17 +1,29 @@
-//! Work for the stopwatch of `bench/`: a text read many times, a body with many turns, loads and instants of a host, and a plain loop.
+//! Work for the stopwatch of `bench/`: a text read many times, a body with many turns, loads and instants of a host, calls of a desk, jobs
+//! through workers, and a plain loop. And work that `scripts/` look at: random schedules at a desk, steps that are tried again where memory
+//! is refused, and tests of workers many times in a row.
 #![tactic(auto)]
 
+ghost use Rattle.std.specs.Prelude.{◌≡◌};
+
 mod completions;
+mod desks;
 mod drivers;
 mod instants;
 mod loads;
 mod plays;
+mod pools;
+mod requests;
+mod schedules;
 mod turns;
+mod voices;
+mod waits;
 
 use crate::instants::Work;
+use crate::pools::Instants;
 use giotto_check::check;
 use giotto_read::{print, read};
 use giotto_text::lexer::tokens;
+use rig_tests::pools::{Crew, Shown, Worker};
 use std::alloc::Global;
 use std::io;
 use std::io::Read;
@@ -21,7 +33,7 @@ fn main(rt: HostRuntime) -> anyhow::Result<ExitCode> {
     let words: Vec<String> = std::env::args(&rt)?.collect(rt.alloc())?;
     let [_, work, times] = words.as_slice() else {
         eprintln!(rt;
-            "usage: measure tokens|read|check|print|drive|alone|crowded|all|quiet|bound|unbound|done|prepare|load TIMES < TEXT, or measure evaluate|jobs|operate|loop|play TIMES"
+            "usage: measure tokens|read|check|print|drive|alone|crowded|all|quiet|bound|unbound|done|prepare|load|desk-load|desk-wait|desk-wait-inside|workers-0|workers-1|workers-2|workers-4 TIMES < TEXT, or measure evaluate|jobs|operate|loop|play|host-calls|desk-calls|desk-calls-2|desk-calls-4|desk-kept|desk-log|desk-close|desk-pass|desk-schedules|desk-memory|gate|drop TIMES"
         )?;
         return Ok(ExitCode::from(2));
     };
@@ -38,9 +50,28 @@ fn main(rt: HostRuntime) -> anyhow::Result<ExitCode> {
         "done" => completions::counted(rt.alloc(), rt.reader(), times)?,
         "prepare" => loads::loads(rt.alloc(), rt.reader(), false, times)?,
         "load" => loads::loads(rt.alloc(), rt.reader(), true, times)?,
+        "desk-load" | "desk-wait" | "desk-wait-inside" => {
+            waits::worked(&rt, rt.alloc(), rt.reader(), loads_of(work.as_str()), times)?
+        }
         "play" => plays::played(rt.alloc(), times)?,
+        "host-calls" => desks::calls_of_host(rt.alloc(), times)?,
+        "desk-calls"
+        | "desk-calls-2"
+        | "desk-calls-4"
+        | "desk-kept"
+        | "desk-log"
+        | "desk-close"
+        | "desk-pass" => { desks::worked(&rt, rt.alloc(), calls_of(work.as_str()), times)? }
+        "desk-schedules" => schedules::agreeing(&rt, rt.alloc(), times)?,
+        "desk-memory" => requests::taken(&rt, rt.alloc(), times)?,
         "jobs" => turns::jobs(rt.alloc(), times)?,
         "evaluate" => turns::evaluated(rt.alloc(), times)?,
+        "workers-0" | "workers-1" | "workers-2" | "workers-4" => {
+            let workers = workers_of(work.as_str());
+            pools::jobs(&rt, rt.alloc(), rt.reader(), &Instants { workers, times })?
+        }
+        "gate" => pools::shown(&rt, rt.alloc(), Shown::HeldJob(Crew::Two), times),
+        "drop" => pools::shown(&rt, rt.alloc(), Shown::StoppedWorker(Worker::Runs), times),
         "operate" => drivers::plain(times),
         "loop" => turns::plain(times),
         _ => {
@@ -65,6 +96,38 @@ fn work_of(name: &str) -> Work {
         running,
         computes: !matches!(name, "quiet" | "bound" | "unbound"),
         binds: if name == "bound" { 64 } else { 0 },
+    }
+}
+
+// How many workers run the jobs; 0 where there are none.
+fn workers_of(name: &str) -> usize {
+    match name {
+        "workers-1" => 1,
+        "workers-2" => 2,
+        "workers-4" => 4,
+        _ => 0,
+    }
+}
+
+// What is done at a desk.
+fn calls_of(name: &str) -> desks::Work {
+    match name {
+        "desk-calls-2" => desks::Work::Calls(2),
+        "desk-calls-4" => desks::Work::Calls(4),
+        "desk-kept" => desks::Work::Kept,
+        "desk-log" => desks::Work::Behind,
+        "desk-close" => desks::Work::Closed,
+        "desk-pass" => desks::Work::OnePass,
+        _ => desks::Work::Calls(1),
+    }
+}
+
+// Which calls are looked at beside loads.
+fn loads_of(name: &str) -> waits::Work {
+    match name {
+        "desk-wait" => waits::Work::Waits,
+        "desk-wait-inside" => waits::Work::WaitsInside,
+        _ => waits::Work::Loads,
     }
 }
 

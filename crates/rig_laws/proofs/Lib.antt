@@ -17,6 +17,7 @@ pub mod RecordRows
 pub mod ReplacementRows
 pub mod Rig
 pub mod ScriptSources
+pub mod SessionRows
 pub mod Switch
 pub mod SwitchRows
 pub mod WholeHost

@@ -24,6 +24,7 @@ pub mod Replacement
 pub mod Row
 pub mod Script
 pub mod SecondHalf
+pub mod Sessions
 pub mod Sources
 pub mod Switches
 pub mod Tenancies

@@ -1,47 +1,25 @@
-//! Desks: two passes in one history, what a stop leaves behind, and each way in which a call or a pass is refused.
+//! Desks: each way in which a call or a pass is refused.
 
 ghost use Rattle.std.specs.Prelude.{◌≡◌};
 
-use giotto_tasks::lists::List;
-use giotto_tasks::names::Name;
-use host_core::hosts::Counted;
-use locked_book::books::Book;
 use locked_book::desks::Desk;
-use locked_book::faults::{CloseFault, DeskFault, PassFault};
+use locked_book::faults::{DeskFault, PassFault};
 use locked_book::naming::Naming;
 use locked_book::passes::Pass;
 use rig_config::{Config, TenantId, built_in};
-use rig_model::logged::{Call, Logged};
 use std::alloc::Global;
 use std::marker::Brand;
 use std::sync::Wait;
-use tenant_jobs::jobs::{Job, JobId, run_job};
 use tenant_lines::commands::Command;
-use tenant_lines::replies::Reply;
-use tenant_lines::texts::Text;
-
-// Reads a sensor, adds 1, and drives an actuator with the sum, with a period of 2 ticks.
-const ADDER: &str =
-    "sensor s := 0 line 0; actuator a := 0; output o := 0; task T(i) output o { o := i + 1; } mode m period 2 { actfreq 1 do a := o; taskfreq 1 do T(s); } start m;";
-
-// Has a sensor that takes a granted value, and does nothing.
-const LISTENER: &str = "sensor g := -1 grant; mode n period 1 { } start n;";
-
-// Drives line 0 with 4.
-const FOUR: &str = "actuator a := 4 line 0; mode k period 1 { } start k;";
 
 const ALPHA: TenantId = 0;
 
-const BETA: TenantId = 1;
-
 // No tenant of the built-in configuration.
-const NOBODY: TenantId = 2;
+pub(crate) const NOBODY: TenantId = 2;
 
 // What is shown.
 #[derive(Clone, Copy)]
 enum Shown {
-    OneHistory,
-    Late,
     Full,
     StrangePass,
     StrangeTenant,
@@ -68,8 +46,6 @@ fn on_desks<N: Naming, R: Wait>(
     let desk = Desk::<N>::new(alloc, config, first_tick).ok()?;
     let other = Desk::<N>::new(alloc, config, first_tick).ok()?;
     match shown {
-        Shown::OneHistory => stand_in_one_history(rt, alloc, desk, &other),
-        Shown::Late => drops_late_completion(rt, alloc, desk),
         Shown::Full => refuses_full_pass(rt, &desk),
         Shown::StrangePass => refuses_strange_pass(rt, &desk, &other),
         Shown::StrangeTenant => refuses_strange_tenant(rt, &desk),
@@ -77,220 +53,15 @@ fn on_desks<N: Naming, R: Wait>(
     }
 }
 
-// The tenant loads this program and starts it.
-fn load_and_start<N: Naming>(
-    rt: &impl Wait,
-    alloc: Global,
-    desk: &Desk<N>,
-    pass: &mut Pass,
-    tenant: TenantId,
-    program: &str,
-) -> Option<()> {
-    let text = Text::from_str(alloc, program).ok()?;
-    let _ = desk.call(rt, pass, tenant, Command::Load(text)).ok()?;
-    let _ = desk.call(rt, pass, tenant, Command::Start).ok()?;
-    Some(())
-}
-
-// Alpha loads the adder and starts it, and beta the listener, each on its own pass.
-fn both_start<N: Naming>(
-    rt: &impl Wait,
-    alloc: Global,
-    desk: &Desk<N>,
-    alphas: &mut Pass,
-    betas: &mut Pass,
-) {
-    let _ = load_and_start(rt, alloc, desk, alphas, ALPHA, ADDER);
-    let _ = load_and_start(rt, alloc, desk, betas, BETA, LISTENER);
-}
-
-// Whether the calls are a load and a start of this tenant, both carried out.
-fn has_started(pass: &Pass, tenant: TenantId) -> bool {
-    match pass.calls() {
-        [load, start] => is_load(load, tenant) && is_start(start, tenant),
-        _ => false,
-    }
-}
-
-fn is_load(call: &Call, tenant: TenantId) -> bool {
-    call.tenant == tenant
-        && matches!(call.command, Command::Load(_))
-        && matches!(call.reply, Reply::Loaded)
-}
-
-fn is_start(call: &Call, tenant: TenantId) -> bool {
-    call.tenant == tenant
-        && matches!(call.command, Command::Start)
-        && matches!(call.reply, Reply::Started)
-}
-
-// The one job that an instant with the reading 5 releases, and the place of that instant.
-fn one_job<N: Naming>(rt: &impl Wait, desk: &Desk<N>) -> Option<(Job, u128)> {
-    let (mut jobs, place) = desk.tick(rt, &[5]).ok()?;
-    if jobs.len() != 1 {
-        return None;
-    }
-    Some((jobs.take()?, place))
-}
-
-// An instant with the reading 5 and the completion of its one job, which counts; their places. The desk settles behind them, with line
-// 0 at 0.
-fn tick_and_done<N: Naming>(rt: &impl Wait, desk: &Desk<N>) -> Option<(u128, u128)> {
-    let (job, tick) = one_job(rt, desk)?;
-    let (counted, done) = desk.done(rt, run_job(job));
-    desk.settle(rt);
-    if counted == Counted::Counted && has_line(rt, desk, 0) {
-        return Some((tick, done));
-    }
-    None
-}
-
-// Whether the rig's one line has this value.
-fn has_line<N: Naming>(rt: &impl Wait, desk: &Desk<N>, value: i64) -> bool {
-    match desk.lines(rt) {
-        Ok(values) => matches!(values.as_slice(), [line] if *line == value),
-        Err(_) => false,
-    }
-}
-
 // A pass of another desk, with one call.
-fn other_pass<N: Naming>(rt: &impl Wait, other: &Desk<N>) -> Option<Pass> {
+pub(crate) fn other_pass<N: Naming>(rt: &impl Wait, other: &Desk<N>) -> Option<Pass> {
     let mut pass = other.pass(rt).ok()?;
     let _ = other.call(rt, &mut pass, ALPHA, Command::ShowMode).ok()?;
     Some(pass)
 }
 
-// Two suppliers with a pass each, an instant and its completion: all of it stands in one history, and in no other turn.
-fn stand_in_one_history<N: Naming>(
-    rt: &impl Wait,
-    alloc: Global,
-    desk: Desk<N>,
-    other: &Desk<N>,
-) -> Option<bool> {
-    let mut alphas = desk.pass(rt).ok()?;
-    let mut betas = desk.pass(rt).ok()?;
-    both_start(rt, alloc, &desk, &mut alphas, &mut betas);
-    if !has_started(&alphas, ALPHA) || !has_started(&betas, BETA) {
-        return Some(false);
-    }
-    let (tick, done) = tick_and_done(rt, &desk)?;
-    let stranger = other_pass(rt, other)?;
-    let book = closed(alloc, desk, alphas, betas, stranger)?;
-    let stand = stand_at(alloc, &book, tick, done)?;
-    let exchanged = stand_at(alloc, &book, done, tick)?;
-    Some(book.log().len() == 6 && stand && !exchanged)
-}
-
-// The desk's book, closed with both passes. Before that it doesn't close without alpha's, and not with a stranger's.
-fn closed<N: Naming>(
-    alloc: Global,
-    desk: Desk<N>,
-    alphas: Pass,
-    betas: Pass,
-    stranger: Pass,
-) -> Option<Book<N>> {
-    let alphas_seat = alphas.seat();
-    let strangers_seat = stranger.seat();
-    let missing = CloseFault::Missing(alphas_seat);
-    let mismatch = CloseFault::Mismatch(strangers_seat);
-    let (desk, passes) = refused_with(desk, Vec::new(alloc), betas, missing)?;
-    let (desk, passes) = refused_with(desk, passes, stranger, mismatch)?;
-    let (desk, passes) = refused_with(desk, passes, alphas, mismatch)?;
-    closed_without_second(desk, passes)
-}
-
-// Desk and passes, which with this pass added don't close for this fault.
-fn refused_with<N: Naming>(
-    desk: Desk<N>,
-    passes: Vec<Pass>,
-    pass: Pass,
-    why: CloseFault,
-) -> Option<(Desk<N>, Vec<Pass>)> {
-    let mut passes = passes;
-    passes.push(pass).ok()?;
-    match desk.close(passes) {
-        Ok(_book) => None,
-        Err((fault, desk, passes)) => {
-            if fault != why {
-                return None;
-            }
-            Some((desk, passes))
-        }
-    }
-}
-
-// The book closed with these passes but for the second.
-fn closed_without_second<N: Naming>(desk: Desk<N>, passes: Vec<Pass>) -> Option<Book<N>> {
-    let mut passes = passes;
-    if passes.len() < 2 {
-        return None;
-    }
-    let _ = passes.swap_remove(1);
-    desk.close(passes).ok()
-}
-
-// Whether the instant with the reading 5 and the completion of its job stand in the log at these places.
-fn stand_at<N: Naming>(alloc: Global, book: &Book<N>, tick: u128, done: u128) -> Option<bool> {
-    let frame = Vec::from_slice(alloc, &[5]).ok()?;
-    let id = JobId {
-        tenant: ALPHA,
-        tick: 0,
-        task: Name::new("T")?,
-    };
-    let entries = [
-        (tick, Logged::Tick(List::from_vec(frame))),
-        (done, Logged::Done(id)),
-    ];
-    Some(book.stands(&entries))
-}
-
-// A completion behind a stop is late and not logged, and the next program drives its line at once.
-fn drops_late_completion<N: Naming>(rt: &impl Wait, alloc: Global, desk: Desk<N>) -> Option<bool> {
-    let mut pass = desk.pass(rt).ok()?;
-    if !is_late_behind_stop(rt, alloc, &desk, &mut pass)? {
-        return Some(false);
-    }
-    let is_four = is_refused(rt, &desk, &mut pass, NOBODY, DeskFault::Strange(4));
-    let text = Text::from_str(alloc, FOUR).ok()?;
-    let _ = desk.call(rt, &mut pass, ALPHA, Command::Load(text)).ok()?;
-    let drives = has_line(rt, &desk, 4);
-    Some(is_four && drives && is_its_history(alloc, desk, pass)?)
-}
-
-// Whether alpha's job, which it stops before it is done, is late.
-fn is_late_behind_stop<N: Naming>(
-    rt: &impl Wait,
-    alloc: Global,
-    desk: &Desk<N>,
-    pass: &mut Pass,
-) -> Option<bool> {
-    load_and_start(rt, alloc, desk, pass, ALPHA, ADDER)?;
-    let (job, _place) = one_job(rt, desk)?;
-    let _ = desk.call(rt, pass, ALPHA, Command::Stop).ok()?;
-    let (counted, place) = desk.done(rt, run_job(job));
-    desk.settle(rt);
-    Some(counted == Counted::Late && place == 0)
-}
-
-// Whether the log has a load, a start, an instant, a stop and a load.
-fn is_its_history<N: Naming>(alloc: Global, desk: Desk<N>, pass: Pass) -> Option<bool> {
-    let mut passes = Vec::new(alloc);
-    passes.push(pass).ok()?;
-    let book = desk.close(passes).ok()?;
-    Some(matches!(
-        book.log(),
-        [
-            Logged::Call(_, _),
-            Logged::Call(_, _),
-            Logged::Tick(_),
-            Logged::Call(_, _),
-            Logged::Call(_, _),
-        ]
-    ))
-}
-
 // Whether a call of this pass for a tenant is refused for this reason.
-fn is_refused<N: Naming>(
+pub(crate) fn is_refused<N: Naming>(
     rt: &impl Wait,
     desk: &Desk<N>,
     pass: &mut Pass,
@@ -340,16 +111,6 @@ fn ends_its_seats<N: Naming>(rt: &impl Wait, desk: &Desk<N>) -> Option<bool> {
         let _ = desk.pass(rt).ok()?;
     }
     Some(matches!(desk.pass(rt), Err(PassFault::SeatsEnded)))
-}
-
-#[test]
-fn two_passes_stand_in_one_history(rt: HostRuntime) {
-    assert!(rt; is_shown(&rt, rt.alloc(), Shown::OneHistory) == Some(true));
-}
-
-#[test]
-fn late_completion_is_not_logged(rt: HostRuntime) {
-    assert!(rt; is_shown(&rt, rt.alloc(), Shown::Late) == Some(true));
 }
 
 #[test]

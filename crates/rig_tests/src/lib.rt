@@ -21,8 +21,13 @@ mod greetings;
 mod isolation;
 #[cfg(test)]
 mod plays;
+pub mod pools;
 #[cfg(test)]
 mod readers;
+#[cfg(test)]
+mod sessions;
+#[cfg(test)]
+mod threads;
 #[cfg(test)]
 mod traces;
 #[cfg(test)]

@@ -1,0 +1,189 @@
+//! Calls of a desk, from one thread and from several, beside those of a host alone; and what a call and a close take where the log or
+//! the pass is long.
+
+ghost use Rattle.std.specs.Prelude.{◌≡◌};
+
+use crate::instants::roster;
+use host_core::hosts::Host;
+use locked_book::desks::Desk;
+use locked_book::naming::Naming;
+use locked_book::passes::Pass;
+use rig_config::{Config, TenantId};
+use std::alloc::Global;
+use std::marker::Brand;
+use std::sync::Wait;
+use std::sync::atomic::{AtomicU64, Ordering};
+use std::thread;
+use std::thread::Threads;
+use tenant_lines::commands::Command;
+use tenant_lines::replies::Reply;
+
+// How many calls each pass has that isn't one alone.
+const CALLS: u64 = 32;
+
+// How many calls are made behind a long log.
+const CALLS_BEHIND: u64 = 64;
+
+const FIRST: TenantId = 0;
+
+/// What is done at a desk.
+#[derive(Clone, Copy)]
+pub(crate) enum Work {
+    /// So many passes of 32 calls each, by each of these threads.
+    Calls(u64),
+    /// So many passes of 32 calls each, all of which are kept.
+    Kept,
+    /// These, and 64 calls of one pass more.
+    Behind,
+    /// These, and a close with all of them.
+    Closed,
+    /// So many calls of one pass.
+    OnePass,
+}
+
+/// As many times 32 commands of a host without a lock, with four tenants. How many were answered; -1 where the host has no tenant.
+pub(crate) fn calls_of_host(alloc: Global, times: u64) -> anyhow::Result<i64> {
+    let mut host = Host::new(alloc, &roster(alloc, 4)?, 0)?;
+    let mut answered = 0i64;
+    for _pass in 0..times {
+        for _call in 0..CALLS {
+            if FIRST >= host.config().tenants().len() {
+                return Ok(-1);
+            }
+            if let Reply::Mode(_) = host.command(FIRST, Command::ShowMode) {
+                answered = answered.saturating_add(1);
+            }
+        }
+    }
+    Ok(answered)
+}
+
+/// Work at a desk of four tenants. How many calls were answered, or for a close how many entries the log has; -1 where a call or the
+/// close is refused.
+pub(crate) fn worked<R: Threads + Wait + Sync>(
+    rt: &R,
+    alloc: Global,
+    work: Work,
+    times: u64,
+) -> anyhow::Result<i64> {
+    let config = roster(alloc, 4)?;
+    let done = on_desk::<Brand, _>(rt, alloc, &config, 0, work, times);
+    Ok(done.and_then(|done| i64::try_from(done).ok()).unwrap_or(-1))
+}
+
+fn on_desk<N: Naming + Send + Sync, R: Threads + Wait + Sync>(
+    rt: &R,
+    alloc: Global,
+    config: &Config,
+    first_tick: u64,
+    work: Work,
+    times: u64,
+) -> Option<u64>
+    requires config { config.now ≡ N.config }
+    requires first_tick { first_tick ≡ N.first_tick }
+{
+    let desk = Desk::<N>::new(alloc, config, first_tick).ok()?;
+    match work {
+        Work::Calls(threads) => Some(calls_of_threads(rt, &desk, threads, times)),
+        Work::Kept => Some(kept(rt, alloc, &desk, times)?.len() as u64),
+        Work::Behind => calls_behind(rt, alloc, &desk, times),
+        Work::Closed => entries_closed(rt, alloc, desk, times),
+        Work::OnePass => calls_of_new_pass(rt, &desk, times),
+    }
+}
+
+// How many calls these threads were answered together.
+fn calls_of_threads<N: Naming + Send + Sync, R: Threads + Wait + Sync>(
+    rt: &R,
+    desk: &Desk<N>,
+    threads: u64,
+    passes: u64,
+) -> u64 {
+    let answered = AtomicU64::new(0);
+    call_in_threads(rt, desk, &answered, threads, passes);
+    answered.load(Ordering::SeqCst)
+}
+
+fn call_in_threads<N: Naming + Send + Sync, R: Threads + Wait + Sync>(
+    rt: &R,
+    desk: &Desk<N>,
+    answered: &AtomicU64,
+    threads: u64,
+    passes: u64,
+) {
+    thread::scope(thread::scope_env(), rt, |scope| {
+        for _thread in 0..threads {
+            let _ = scope
+                .spawn(move || call_on_passes(rt, desk, answered, passes))
+                .is_ok();
+        }
+    });
+}
+
+// So many passes of 32 calls each. Counts those that are answered.
+fn call_on_passes<N: Naming>(rt: &impl Wait, desk: &Desk<N>, answered: &AtomicU64, passes: u64) {
+    for _pass in 0..passes {
+        let Some(calls) = calls_of_new_pass(rt, desk, CALLS) else {
+            return;
+        };
+        let _ = answered.fetch_add(calls, Ordering::SeqCst);
+    }
+}
+
+// So many calls of one new pass; their number.
+fn calls_of_new_pass<N: Naming>(rt: &impl Wait, desk: &Desk<N>, calls: u64) -> Option<u64> {
+    let mut pass = desk.pass(rt).ok()?;
+    call_often(rt, desk, &mut pass, calls)
+}
+
+// So many calls of this pass; their number.
+fn call_often<N: Naming>(
+    rt: &impl Wait,
+    desk: &Desk<N>,
+    pass: &mut Pass,
+    calls: u64,
+) -> Option<u64> {
+    for _call in 0..calls {
+        let _ = desk.call(rt, pass, FIRST, Command::ShowMode).ok()?;
+    }
+    Some(calls)
+}
+
+// So many passes of 32 calls each.
+fn kept<N: Naming>(
+    rt: &impl Wait,
+    alloc: Global,
+    desk: &Desk<N>,
+    number: u64,
+) -> Option<Vec<Pass>> {
+    let mut passes = Vec::new(alloc);
+    for _pass in 0..number {
+        let mut pass = desk.pass(rt).ok()?;
+        let _ = call_often(rt, desk, &mut pass, CALLS)?;
+        passes.push(pass).ok()?;
+    }
+    Some(passes)
+}
+
+// The calls of one pass more, behind so many passes of others.
+fn calls_behind<N: Naming>(
+    rt: &impl Wait,
+    alloc: Global,
+    desk: &Desk<N>,
+    number: u64,
+) -> Option<u64> {
+    let _passes = kept(rt, alloc, desk, number)?;
+    calls_of_new_pass(rt, desk, CALLS_BEHIND)
+}
+
+// How many entries the log has that is closed with so many passes.
+fn entries_closed<N: Naming>(
+    rt: &impl Wait,
+    alloc: Global,
+    desk: Desk<N>,
+    number: u64,
+) -> Option<u64> {
+    let passes = kept(rt, alloc, &desk, number)?;
+    let book = desk.close(passes).ok()?;
+    Some(book.log().len() as u64)
+}

@@ -1,0 +1,132 @@
+//! Workers: the jobs of a program through a pool, and two tests of workers as often as one is told.
+
+ghost use Rattle.std.specs.Prelude.{◌≡◌, ◌≤◌};
+
+use crate::instants::roster;
+use instant_engine::run_job;
+use locked_book::desks::Desk;
+use locked_book::naming::Naming;
+use rig_config::Config;
+use rig_tests::pools::{Shown, is_shown};
+use std::alloc::Global;
+use std::io::Read;
+use std::marker::Brand;
+use std::sync::Wait;
+use std::thread;
+use std::thread::Threads;
+use std::time::Clock;
+use tenant_lines::commands::Command;
+use tenant_lines::texts::Text;
+use worker_pool::gates::Free;
+use worker_pool::pools::Pool;
+
+/// How many of so many runs of a test show what they are to show.
+pub(crate) fn shown<R: Threads + Wait + Clock + Sync>(
+    rt: &R,
+    alloc: Global,
+    test: Shown,
+    times: u64,
+) -> i64 {
+    let mut passed = 0i64;
+    for _time in 0..times {
+        if is_shown(rt, alloc, test) == Some(true) {
+            passed = passed.saturating_add(1);
+        }
+    }
+    passed
+}
+
+/// Which instants are run.
+#[derive(Drop)]
+pub(crate) struct Instants {
+    /// How many workers run their jobs, at most 4; 0 where the thread that ticks runs them.
+    pub(crate) workers: usize,
+    pub(crate) times: u64,
+}
+
+/// Runs the program of a reader's text on a desk, with all jobs of each instant run before the next. How many jobs there were; -1 where
+/// a call or an instant is refused, or a job can't be sent.
+pub(crate) fn jobs<R: Threads + Wait + Clock + Sync, I: Read + Drop>(
+    rt: &R,
+    alloc: Global,
+    mut reader: I,
+    instants: &Instants,
+) -> anyhow::Result<i64> {
+    let mut text = String::new(alloc);
+    reader.read_to_string(&mut text)?;
+    let program = Text::from_str(alloc, text.as_str())?;
+    let config = roster(alloc, 1)?;
+    Ok(on_desk::<Brand, _>(rt, alloc, &config, 0, program, instants).unwrap_or(-1))
+}
+
+fn on_desk<N: Naming + Send + Sync, R: Threads + Wait + Clock + Sync>(
+    rt: &R,
+    alloc: Global,
+    config: &Config,
+    first_tick: u64,
+    program: Text,
+    instants: &Instants,
+) -> Option<i64>
+    requires config { config.now ≡ N.config }
+    requires first_tick { first_tick ≡ N.first_tick }
+{
+    let desk = Desk::<N>::new(alloc, config, first_tick).ok()?;
+    let mut pass = desk.pass(rt).ok()?;
+    let _ = desk.call(rt, &mut pass, 0, Command::Load(program)).ok()?;
+    let _ = desk.call(rt, &mut pass, 0, Command::Start).ok()?;
+    let gate = Free;
+    match instants.workers {
+        0 => alone(rt, &desk, instants.times),
+        1 | 2 | 4 => by_workers(rt, alloc, &desk, &gate, instants),
+        _ => None,
+    }
+}
+
+// How many jobs there were, each run by this thread.
+fn alone<N: Naming>(rt: &impl Wait, desk: &Desk<N>, times: u64) -> Option<i64> {
+    let mut count = 0i64;
+    for _time in 0..times {
+        let (mut jobs, _place) = desk.tick(rt, &[3]).ok()?;
+        for _job in 0..jobs.len() {
+            if let Some(job) = jobs.take() {
+                let _ = desk.done(rt, run_job(job));
+                count = count.saturating_add(1);
+            }
+        }
+    }
+    Some(count)
+}
+
+// How many jobs there were, each run by one of the workers.
+fn by_workers<N: Naming + Send + Sync, R: Threads + Wait + Clock + Sync>(
+    rt: &R,
+    alloc: Global,
+    desk: &Desk<N>,
+    gate: &Free,
+    instants: &Instants,
+) -> Option<i64>
+    requires some { 1 ≤ instants.now.workers }
+    requires few { instants.now.workers ≤ 64 }
+{
+    let workers = instants.workers;
+    let times = instants.times;
+    thread::scope(thread::scope_env(), rt, |scope| {
+        let pool = Pool::start(rt, alloc, scope, workers, desk, gate).ok()?;
+        let count = sent(rt, desk, &pool, times);
+        pool.stop(rt);
+        count
+    })
+}
+
+fn sent<N: Naming>(rt: &impl Wait, desk: &Desk<N>, pool: &Pool, times: u64) -> Option<i64> {
+    let mut count = 0i64;
+    for _time in 0..times {
+        let (jobs, _place) = desk.tick(rt, &[3]).ok()?;
+        count = count.saturating_add(i64::try_from(jobs.len()).unwrap_or(i64::MAX));
+        if pool.send(rt, jobs).len() != 0 {
+            return None;
+        }
+        desk.settle(rt);
+    }
+    Some(count)
+}

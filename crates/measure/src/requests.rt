@@ -1,0 +1,338 @@
+//! Steps at a desk, each taken once more where it is refused for want of memory: `scripts/check-memory` refuses each request in turn.
+
+ghost use Rattle.std.specs.Prelude.{◌≡◌};
+
+use host_core::hosts::{Counted, TickFault};
+use instant_engine::{Job, Jobs, run_job};
+use locked_book::desks::Desk;
+use locked_book::faults::{CloseFault, DeskFault, PassFault};
+use locked_book::naming::Naming;
+use locked_book::passes::Pass;
+use rig_config::{Config, TenantId, built_in};
+use std::alloc::{AllocError, Global};
+use std::marker::Brand;
+use std::sync::Wait;
+use tenant_lines::command_lines::{LineFault, command_of};
+use tenant_lines::commands::Command;
+use tenant_lines::replies::{Reply, print_reply};
+
+const ALPHA: TenantId = 0;
+
+const BETA: TenantId = 1;
+
+// No tenant of the built-in configuration.
+const NOBODY: TenantId = 2;
+
+// A step, and what has to come of it.
+#[derive(Clone, Copy)]
+enum Step {
+    // A pass more.
+    Pass,
+    // A line of a tenant, on the pass of that place, and its printed reply.
+    Call(TenantId, &'static str, &'static str),
+    // An instant with this reading, and how many jobs it releases.
+    Tick(i64, usize),
+    // The completion of the oldest job.
+    Done,
+    // The value of the one line.
+    Lines(i64),
+}
+
+const STEPS: [Step; 24] = [
+    Step::Pass,
+    Step::Pass,
+    Step::Call(
+        ALPHA,
+        "load sensor s := 0 line 0; actuator a := 0 line 0; output o := 0; task T(i) output o { o := i + 1; } mode m period 2 { actfreq 1 do a := o; taskfreq 1 do T(s); } start m;",
+        "ok load",
+    ),
+    Step::Call(
+        BETA,
+        "load sensor g := -1 grant; mode n period 1 { } start n;",
+        "ok load",
+    ),
+    Step::Call(ALPHA, "load start", "err syntax 5"),
+    Step::Call(ALPHA, "offer a to beta", "ok offer"),
+    Step::Call(BETA, "bind g from alpha.a", "ok bind"),
+    Step::Call(ALPHA, "start", "ok start"),
+    Step::Call(BETA, "start", "ok start"),
+    Step::Tick(5, 1),
+    Step::Lines(0),
+    Step::Done,
+    Step::Tick(6, 0),
+    Step::Tick(7, 1),
+    Step::Lines(6),
+    Step::Call(ALPHA, "show all", "ok all s=7 a=6 o=6 T.i=7"),
+    Step::Call(ALPHA, "show port a", "ok port a 6"),
+    Step::Call(
+        ALPHA,
+        "trace",
+        "ok trace 0:start:m 0:act:a:0 2:out:o:6 2:act:a:6",
+    ),
+    Step::Call(BETA, "rows", "ok rows bind:g:alpha:a"),
+    Step::Call(
+        ALPHA,
+        "replace actuator a := 4 line 0; mode k period 1 { } start k;",
+        "ok replace",
+    ),
+    Step::Call(BETA, "show port g", "ok port g 6"),
+    Step::Done,
+    Step::Call(ALPHA, "stop", "ok stop"),
+    Step::Pass,
+];
+
+/// The first steps, so many, and then the close of the desk with and without their passes, at a desk of the built-in configuration. How
+/// many gave what they have to give, and lost nothing where they were refused. -1 where there is want of memory for the desk.
+pub(crate) fn taken<R: Wait>(rt: &R, alloc: Global, times: u64) -> anyhow::Result<i64> {
+    let config = built_in(alloc)?;
+    let taken = at_desk::<Brand, _>(rt, alloc, &config, 0, times);
+    Ok(
+        taken
+            .and_then(|taken| i64::try_from(taken).ok())
+            .unwrap_or(-1),
+    )
+}
+
+// What the steps are taken with: the passes, the jobs that no step has brought back, and how many entries the log has to have.
+#[derive(Drop)]
+struct Scene {
+    alloc: Global,
+    passes: Vec<Pass>,
+    jobs: Vec<Job>,
+    entries: u128,
+}
+
+fn at_desk<N: Naming, R: Wait>(
+    rt: &R,
+    alloc: Global,
+    config: &Config,
+    first_tick: u64,
+    times: u64,
+) -> Option<u64>
+    requires config { config.now ≡ N.config }
+    requires first_tick { first_tick ≡ N.first_tick }
+{
+    let desk = Desk::<N>::new(alloc, config, first_tick).ok()?;
+    let mut scene = Scene {
+        alloc,
+        passes: Vec::with_capacity(alloc, 4).ok()?,
+        jobs: Vec::with_capacity(alloc, 4).ok()?,
+        entries: 0,
+    };
+    let mut taken = 0u64;
+    for (step, _time) in STEPS.iter().zip(0..times) {
+        if is_taken(rt, &desk, &mut scene, step) {
+            taken = taken.wrapping_add(1);
+        }
+    }
+    if times > STEPS.len() as u64 && is_closed(desk, scene) {
+        taken = taken.wrapping_add(1);
+    }
+    Some(taken)
+}
+
+fn is_taken<N: Naming>(rt: &impl Wait, desk: &Desk<N>, scene: &mut Scene, step: &Step) -> bool {
+    match step {
+        Step::Pass => is_given(rt, desk, scene),
+        Step::Call(tenant, line, reply) => is_told(rt, desk, scene, *tenant, line, reply),
+        Step::Tick(reading, jobs) => is_released(rt, desk, scene, *reading, *jobs),
+        Step::Done => is_counted(rt, desk, scene),
+        Step::Lines(value) => is_driven(rt, desk, scene, *value),
+    }
+}
+
+// How often a step is tried. One request is refused at most, and one that was refused is asked for again.
+const TRIES: u32 = 2;
+
+// Whether a pass more is given, without calls.
+fn is_given<N: Naming>(rt: &impl Wait, desk: &Desk<N>, scene: &mut Scene) -> bool {
+    for _try in 0..TRIES {
+        match desk.pass(rt) {
+            Ok(pass) => {
+                let is_next = pass.seat() == scene.passes.len() && pass.calls().is_empty();
+                return scene.passes.push(pass).is_ok() && is_next;
+            }
+            Err(PassFault::SeatsEnded) => return false,
+            Err(PassFault::Memory) => {
+                if !is_as_before(rt, desk, scene) {
+                    return false;
+                }
+            }
+        }
+    }
+    false
+}
+
+// Whether the desk has as many entries as it has to have.
+fn is_as_before<N: Naming>(rt: &impl Wait, desk: &Desk<N>, scene: &mut Scene) -> bool {
+    let Some(pass) = scene.passes.first_mut() else {
+        return true;
+    };
+    match desk.call(rt, pass, NOBODY, Command::ShowMode) {
+        Err(DeskFault::Strange(length)) => length == scene.entries,
+        _ => false,
+    }
+}
+
+// Whether the line gets this reply.
+fn is_told<N: Naming>(
+    rt: &impl Wait,
+    desk: &Desk<N>,
+    scene: &mut Scene,
+    tenant: TenantId,
+    line: &str,
+    reply: &str,
+) -> bool {
+    for _try in 0..TRIES {
+        let Some(command) = command_at_last(scene.alloc, line) else {
+            return false;
+        };
+        match told(rt, desk, scene, tenant, command) {
+            Outcome::Printed(text) => return text.as_str() == reply,
+            Outcome::AsBefore => {}
+            Outcome::Lost => return false,
+        }
+    }
+    false
+}
+
+// The command of a line.
+fn command_at_last(alloc: Global, line: &str) -> Option<Command> {
+    for _try in 0..TRIES {
+        match command_of(alloc, line) {
+            Ok(command) => return Some(command),
+            Err(LineFault::Memory) => {}
+            Err(LineFault::BadCommand) => return None,
+        }
+    }
+    None
+}
+
+// What came of a call: its printed reply, or a refusal for want of memory that left all as it was, or anything else.
+#[derive(Drop)]
+enum Outcome {
+    Printed(String),
+    AsBefore,
+    Lost,
+}
+
+fn told<N: Naming>(
+    rt: &impl Wait,
+    desk: &Desk<N>,
+    scene: &mut Scene,
+    tenant: TenantId,
+    command: Command,
+) -> Outcome {
+    let Some(pass) = scene.passes.get_mut(tenant) else {
+        return Outcome::Lost;
+    };
+    let calls = pass.calls().len();
+    let answer = desk.call(rt, pass, tenant, command);
+    let kept = pass.calls().len();
+    match answer {
+        Ok(reply) => {
+            scene.entries = scene.entries.wrapping_add(1);
+            match printed(scene.alloc, &reply) {
+                Some(text) => Outcome::Printed(text),
+                None => Outcome::Lost,
+            }
+        }
+        Err(DeskFault::Memory) => {
+            if kept == calls && is_as_before(rt, desk, scene) {
+                Outcome::AsBefore
+            } else {
+                Outcome::Lost
+            }
+        }
+        Err(_) => Outcome::Lost,
+    }
+}
+
+fn printed(alloc: Global, reply: &Reply) -> Option<String> {
+    for _try in 0..TRIES {
+        if let Ok(text) = print_reply(alloc, reply) {
+            return Some(text);
+        }
+    }
+    None
+}
+
+// Whether an instant stands behind all entries, and releases so many jobs.
+fn is_released<N: Naming>(
+    rt: &impl Wait,
+    desk: &Desk<N>,
+    scene: &mut Scene,
+    reading: i64,
+    number: usize,
+) -> bool {
+    for _try in 0..TRIES {
+        match desk.tick(rt, &[reading]) {
+            Ok((jobs, place)) => {
+                let is_right = place == scene.entries && jobs.len() == number;
+                scene.entries = scene.entries.wrapping_add(1);
+                return lay(scene, jobs).is_ok() && is_right;
+            }
+            Err(TickFault::Memory) => {
+                if !is_as_before(rt, desk, scene) {
+                    return false;
+                }
+            }
+            Err(_) => return false,
+        }
+    }
+    false
+}
+
+fn lay(scene: &mut Scene, mut jobs: Jobs) -> Result<(), AllocError> {
+    for _job in 0..jobs.len() {
+        if let Some(job) = jobs.take() {
+            scene.jobs.push(job)?;
+        }
+    }
+    Ok(())
+}
+
+// Whether the completion of the oldest job counts, behind all entries, and nothing is outstanding then.
+fn is_counted<N: Naming>(rt: &impl Wait, desk: &Desk<N>, scene: &mut Scene) -> bool {
+    if scene.jobs.is_empty() {
+        return false;
+    }
+    let job = scene.jobs.swap_remove(0);
+    let (counted, place) = desk.done(rt, run_job(job));
+    desk.settle(rt);
+    let is_right = counted == Counted::Counted && place == scene.entries;
+    scene.entries = scene.entries.wrapping_add(1);
+    is_right
+}
+
+// Whether the one line has this value.
+fn is_driven<N: Naming>(rt: &impl Wait, desk: &Desk<N>, scene: &mut Scene, value: i64) -> bool {
+    for _try in 0..TRIES {
+        match desk.lines(rt) {
+            Ok(values) => return matches!(values.as_slice(), [line] if *line == value),
+            Err(AllocError) => {
+                if !is_as_before(rt, desk, scene) {
+                    return false;
+                }
+            }
+        }
+    }
+    false
+}
+
+// Whether the desk is handed back where it is closed without passes, and closes with all of them and with all entries.
+fn is_closed<N: Naming>(desk: Desk<N>, scene: Scene) -> bool {
+    let Scene {
+        alloc,
+        passes,
+        jobs: _,
+        entries,
+    } = scene;
+    match desk.close(Vec::new(alloc)) {
+        Err((CloseFault::Missing(0), desk, _)) => match desk.close(passes) {
+            Ok(book) => book.length() == entries && book.log().len() as u128 == entries,
+            Err(_) => false,
+        },
+        _ => false,
+    }
+}

@@ -1,0 +1,252 @@
+//! Random schedules of four threads at one desk. The log that is closed is played as a list of events, and what each thread was told is
+//! compared with what `play` answers.
+
+ghost use Rattle.std.specs.Prelude.{◌≡◌};
+
+use crate::voices::{Heard, THREADS, Table, Voice, speak};
+use host_core::events::Event;
+use host_core::plays::play;
+use locked_book::books::Book;
+use locked_book::desks::Desk;
+use locked_book::naming::Naming;
+use locked_book::passes::Pass;
+use rig_config::{Config, read_config};
+use rig_model::frames::copy_of_frame;
+use rig_model::logged::Logged;
+use std::alloc::{AllocError, Global};
+use std::marker::Brand;
+use std::sync::{Barrier, Mutex, Wait};
+use std::thread;
+use std::thread::Threads;
+use tenant_lines::texts::Text;
+
+// Three tenants, of which two drive a line each.
+const CONFIG: &str = "version = 1
+lines = 2
+[[tenant]]
+name = \"alpha\"
+key = \"a\"
+reads = [0, 1]
+writes = [0]
+bytes = 4096
+ports = 64
+tasks = 16
+modes = 16
+steps = 10000
+trace = 8
+offers = 2
+binds = 2
+[[tenant]]
+name = \"beta\"
+key = \"b\"
+reads = [0]
+writes = [1]
+bytes = 4096
+ports = 64
+tasks = 16
+modes = 16
+steps = 10000
+trace = 8
+offers = 2
+binds = 2
+[[tenant]]
+name = \"gamma\"
+key = \"c\"
+reads = [1]
+writes = []
+bytes = 4096
+ports = 64
+tasks = 16
+modes = 16
+steps = 10000
+trace = 8
+offers = 2
+binds = 2
+";
+
+/// So many schedules, each on a desk of its own. In how many of them what each thread was told is what `play` answers to the closed log.
+pub(crate) fn agreeing<R: Threads + Wait + Sync>(
+    rt: &R,
+    alloc: Global,
+    times: u64,
+) -> anyhow::Result<i64> {
+    let config = read_config(alloc, CONFIG)?;
+    let mut agreeing = 0i64;
+    for seed in 0..times {
+        if agrees::<Brand, _>(rt, alloc, &config, 0, seed) == Some(true) {
+            agreeing = agreeing.saturating_add(1);
+        }
+    }
+    Ok(agreeing)
+}
+
+// Whether the schedule of this seed agrees.
+fn agrees<N: Naming + Send + Sync, R: Threads + Wait + Sync>(
+    rt: &R,
+    alloc: Global,
+    config: &Config,
+    first_tick: u64,
+    seed: u64,
+) -> Option<bool>
+    requires config { config.now ≡ N.config }
+    requires first_tick { first_tick ≡ N.first_tick }
+{
+    let desk = Desk::<N>::new(alloc, config, first_tick).ok()?;
+    let mut voices = new_voices(rt, alloc, &desk, seed)?;
+    let table = Table {
+        alloc,
+        desk,
+        jobs: Mutex::new(Vec::new(alloc)),
+        round: Barrier::new(THREADS),
+    };
+    speak_all(rt, &table, &mut voices);
+    let Table {
+        alloc: _,
+        desk,
+        jobs: _,
+        round: _,
+    } = table;
+    is_played(alloc, config, desk, voices)
+}
+
+// A pass for each thread, and where its choices begin.
+fn new_voices<N: Naming>(
+    rt: &impl Wait,
+    alloc: Global,
+    desk: &Desk<N>,
+    seed: u64,
+) -> Option<Vec<Voice>> {
+    let mut voices = Vec::new(alloc);
+    for number in 0..THREADS as u64 {
+        let pass = desk.pass(rt).ok()?;
+        let seed = seed.wrapping_mul(16).wrapping_add(number);
+        voices.push(Voice::new(alloc, seed, pass)).ok()?;
+    }
+    Some(voices)
+}
+
+// Each in a thread of its own.
+fn speak_all<N: Naming + Send + Sync, R: Threads + Wait + Sync>(
+    rt: &R,
+    table: &Table<N>,
+    voices: &mut [Voice],
+) {
+    thread::scope(thread::scope_env(), rt, |scope| {
+        for voice in voices {
+            let _ = scope.spawn(move || speak(rt, table, voice)).is_ok();
+        }
+    });
+}
+
+// Whether the desk closes with all passes, and its log, played, answers what each was told.
+fn is_played<N: Naming>(
+    alloc: Global,
+    config: &Config,
+    desk: Desk<N>,
+    voices: Vec<Voice>,
+) -> Option<bool> {
+    let mut passes = Vec::new(alloc);
+    let mut all = Vec::new(alloc);
+    for voice in voices {
+        let (pass, heard) = voice.into_parts()?;
+        passes.push(pass).ok()?;
+        all.push(heard).ok()?;
+    }
+    let book = closed(desk, passes)?;
+    if !stand(&book, &all) {
+        return Some(false);
+    }
+    let events = events_of(alloc, book.log()).ok()?;
+    let texts = play(alloc, config, &events).ok()?;
+    let told = told_in_order(alloc, book.log(), &all, texts.len())?;
+    Some(same(&texts, &told))
+}
+
+fn closed<N: Naming>(desk: Desk<N>, passes: Vec<Pass>) -> Option<Book<N>> {
+    desk.close(passes).ok()
+}
+
+// Whether each instant and each completion stands at the place that its thread was told.
+fn stand<N: Naming>(book: &Book<N>, all: &[Heard]) -> bool {
+    let mut stand = true;
+    for heard in all {
+        stand &= book.stands(&heard.places);
+    }
+    stand
+}
+
+// The events of a log.
+fn events_of(alloc: Global, log: &[Logged]) -> Result<Vec<Event>, AllocError> {
+    let mut events = Vec::new(alloc);
+    for entry in log {
+        let event = match entry {
+            Logged::Call(_, call) => Event::Own(call.tenant, call.command.copy(alloc)?),
+            Logged::Tick(frame) => Event::Tick(copy_of_frame(alloc, frame.as_slice())?),
+            Logged::Done(id) => Event::Done(id.copy()),
+        };
+        events.push(event)?;
+    }
+    Ok(events)
+}
+
+// What each of so many tenants was told: the replies that the threads heard, in the order of the log. None where a thread heard less or
+// more than the log has of it.
+fn told_in_order(
+    alloc: Global,
+    log: &[Logged],
+    all: &[Heard],
+    tenants: usize,
+) -> Option<Vec<Text>> {
+    let mut texts = blank(alloc, tenants).ok()?;
+    let mut next = zeros(alloc, all.len()).ok()?;
+    for entry in log {
+        if let Logged::Call(seat, call) = entry {
+            let heard = next.get_mut(*seat)?;
+            let reply = all.get(*seat)?.replies.get(*heard)?;
+            *heard = heard.wrapping_add(1);
+            add_line(texts.get_mut(call.tenant)?, reply.as_str()).ok()?;
+        }
+    }
+    if !are_all(all, &next) {
+        return None;
+    }
+    Some(texts)
+}
+
+fn blank(alloc: Global, tenants: usize) -> Result<Vec<Text>, AllocError> {
+    let mut texts = Vec::new(alloc);
+    for _tenant in 0..tenants {
+        texts.push(Text::new(alloc))?;
+    }
+    Ok(texts)
+}
+
+fn zeros(alloc: Global, number: usize) -> Result<Vec<usize>, AllocError> {
+    let mut zeros = Vec::new(alloc);
+    for _seat in 0..number {
+        zeros.push(0usize)?;
+    }
+    Ok(zeros)
+}
+
+fn add_line(text: &mut Text, line: &str) -> Result<(), AllocError> {
+    text.push_str(line)?;
+    text.push_str("\n")
+}
+
+// Whether these are all replies of each.
+fn are_all(all: &[Heard], next: &[usize]) -> bool {
+    let mut are_all = true;
+    for (heard, next) in all.iter().zip(next) {
+        are_all &= heard.replies.len() == *next;
+    }
+    are_all
+}
+
+fn same(texts: &[Text], told: &[Text]) -> bool {
+    let mut same = texts.len() == told.len();
+    for (text, told) in texts.iter().zip(told) {
+        same &= text.as_str() == told.as_str();
+    }
+    same
+}

@@ -1,0 +1,208 @@
+//! Threads at one desk, each with choices of its own: calls, instants and completions.
+
+ghost use Rattle.std.specs.Prelude.{◌≡◌, ◌<◌};
+
+use giotto_tasks::lists::List;
+use host_core::hosts::Counted;
+use instant_engine::{Job, Jobs, run_job};
+use locked_book::desks::Desk;
+use locked_book::naming::Naming;
+use locked_book::passes::Pass;
+use rig_model::logged::Logged;
+use std::alloc::Global;
+use std::sync::{Barrier, Mutex, Wait};
+use tenant_lines::command_lines::command_of;
+use tenant_lines::replies::print_reply;
+
+/// How many threads there are.
+pub(crate) const THREADS: usize = 4;
+
+// How many tenants there are.
+const TENANTS: u64 = 3;
+
+// How many rounds there are. All threads begin each together.
+const ROUNDS: u32 = 6;
+
+// The most that a thread does in a round.
+const MOST: u64 = 4;
+
+// What is called. The first reads a sensor and takes two ticks.
+const LINES: [&str; 24] = [
+    "load sensor s := 0 line 0; actuator a := 0; output o := 0; task T(i) output o { o := i + 1; } mode m period 2 { actfreq 1 do a := o; taskfreq 1 do T(s); } start m;",
+    "load sensor s := 0 line 1; actuator a := 0; output o := 0; task T(i) output o { o := i + 1; } mode m period 1 { actfreq 1 do a := o; taskfreq 1 do T(s); } start m;",
+    "load sensor g := -1 grant; actuator a := 0; mode n period 1 { actfreq 1 do a := g; } start n;",
+    "load actuator a := 4 line 0; mode k period 1 { } start k;",
+    "load actuator a := 5 line 1; mode k period 1 { } start k;",
+    "load start m;",
+    "replace actuator a := 7; mode k period 1 { } start k;",
+    "replace sensor s := 0 line 0; actuator a := 0; output o := 0; task T(i) output o { o := i * 2; } mode m period 2 { actfreq 2 do a := o; taskfreq 1 do T(s); } start m;",
+    "start",
+    "start",
+    "start",
+    "start",
+    "start",
+    "stop",
+    "show mode",
+    "show all",
+    "show port a",
+    "show port o",
+    "trace",
+    "offer a to beta",
+    "offer a to gamma",
+    "bind g from alpha.a",
+    "bind g from beta.a",
+    "rows",
+];
+
+/// What the threads share: the desk, the jobs that none of them has taken, and where they wait for each other.
+#[derive(Drop)]
+pub(crate) struct Table<N: Naming> {
+    pub(crate) alloc: Global,
+    pub(crate) desk: Desk<N>,
+    pub(crate) jobs: Mutex<Vec<Job>>,
+    pub(crate) round: Barrier,
+}
+
+/// What a thread was told: the printed reply to each of its calls, and its instants and completions with their places.
+#[derive(Drop)]
+pub(crate) struct Heard {
+    pub(crate) replies: Vec<String>,
+    pub(crate) places: Vec<(u128, Logged)>,
+}
+
+/// A thread's choices, its pass, and what it was told.
+#[derive(Drop)]
+pub(crate) struct Voice {
+    random: Random,
+    pass: Pass,
+    heard: Heard,
+    is_refused: bool,
+}
+
+impl Voice {
+    /// One that has said nothing, whose choices begin here.
+    pub(crate) fn new(alloc: Global, seed: u64, pass: Pass) -> Voice {
+        Voice {
+            random: Random { state: seed },
+            pass,
+            heard: Heard {
+                replies: Vec::new(alloc),
+                places: Vec::new(alloc),
+            },
+            is_refused: false,
+        }
+    }
+
+    /// Its pass and what it was told; None where it was refused something.
+    pub(crate) fn into_parts(self) -> Option<(Pass, Heard)> {
+        let Voice {
+            random: _,
+            pass,
+            heard,
+            is_refused,
+        } = self;
+        if is_refused {
+            return None;
+        }
+        Some((pass, heard))
+    }
+}
+
+/// All rounds of a thread. It keeps to them where it was refused something, so that the others don't wait for it.
+pub(crate) fn speak<N: Naming>(rt: &impl Wait, table: &Table<N>, voice: &mut Voice) {
+    for _round in 0..ROUNDS {
+        let _ = table.round.wait(rt);
+        for _step in 0..=voice.random.below(MOST) {
+            if step(rt, table, voice).is_none() {
+                voice.is_refused = true;
+            }
+        }
+    }
+}
+
+// A call, an instant or a completion.
+fn step<N: Naming>(rt: &impl Wait, table: &Table<N>, voice: &mut Voice) -> Option<()> {
+    match voice.random.below(10) {
+        0..=5 => call(rt, table, voice),
+        6 | 7 => tick(rt, table, voice),
+        _ => done(rt, table, voice),
+    }
+}
+
+// A line of any tenant.
+fn call<N: Naming>(rt: &impl Wait, table: &Table<N>, voice: &mut Voice) -> Option<()> {
+    let tenant = voice.random.below(TENANTS) as usize;
+    let line = voice.random.below(LINES.len() as u64) as usize;
+    let command = command_of(table.alloc, LINES.get(line)?).ok()?;
+    let reply = table.desk.call(rt, &mut voice.pass, tenant, command).ok()?;
+    let text = print_reply(table.alloc, &reply).ok()?;
+    voice.heard.replies.push(text).ok()
+}
+
+// An instant, whose jobs lie there for all threads.
+fn tick<N: Naming>(rt: &impl Wait, table: &Table<N>, voice: &mut Voice) -> Option<()> {
+    let frame = [voice.random.below(9) as i64, voice.random.below(9) as i64];
+    let (jobs, place) = table.desk.tick(rt, &frame).ok()?;
+    lay(rt, table, jobs)?;
+    let frame = Vec::from_slice(table.alloc, &frame).ok()?;
+    let entry = Logged::Tick(List::from_vec(frame));
+    voice.heard.places.push((place, entry)).ok()
+}
+
+// Lays these jobs to the others.
+fn lay<N: Naming>(rt: &impl Wait, table: &Table<N>, mut jobs: Jobs) -> Option<()> {
+    let mut guard = table.jobs.lock(rt);
+    let all = &mut *guard;
+    for _job in 0..jobs.len() {
+        all.push(jobs.take()?).ok()?;
+    }
+    Some(())
+}
+
+// The completion of any job that lies there.
+fn done<N: Naming>(rt: &impl Wait, table: &Table<N>, voice: &mut Voice) -> Option<()> {
+    let Some(job) = taken(rt, table, &mut voice.random) else {
+        return Some(());
+    };
+    let id = job.id().copy();
+    let (counted, place) = table.desk.done(rt, run_job(job));
+    if counted == Counted::Late {
+        return Some(());
+    }
+    voice.heard.places.push((place, Logged::Done(id))).ok()
+}
+
+// Any of the jobs that lie there.
+fn taken<N: Naming>(rt: &impl Wait, table: &Table<N>, random: &mut Random) -> Option<Job> {
+    let mut guard = table.jobs.lock(rt);
+    let all = &mut *guard;
+    if all.is_empty() {
+        return None;
+    }
+    let place = random.below(all.len() as u64) as usize;
+    Some(all.swap_remove(place))
+}
+
+// Numbers that look like chance, the same for the same seed: those of SplitMix64.
+#[derive(Drop)]
+struct Random {
+    state: u64,
+}
+
+impl Random {
+    fn next(&mut self) -> u64 {
+        self.state = self.state.wrapping_add(0x9e37_79b9_7f4a_7c15);
+        let mut mixed = self.state;
+        mixed = (mixed ^ (mixed >> 30)).wrapping_mul(0xbf58_476d_1ce4_e5b9);
+        mixed = (mixed ^ (mixed >> 27)).wrapping_mul(0x94d0_49bb_1331_11eb);
+        mixed ^ (mixed >> 31)
+    }
+
+    // One below this.
+    fn below(&mut self, bound: u64) -> u64
+        requires { 0 < bound }
+        ensures { result < bound }
+    {
+        self.next() % bound
+    }
+}

@@ -1,0 +1,417 @@
+//! Threads at one desk: two suppliers whose calls stand in one history, a completion behind a stop, and many calls at once.
+
+ghost use Rattle.std.specs.Prelude.{◌≡◌};
+
+use crate::desks::{NOBODY, is_refused, other_pass};
+use giotto_tasks::lists::List;
+use giotto_tasks::names::Name;
+use host_core::hosts::Counted;
+use locked_book::books::Book;
+use locked_book::desks::Desk;
+use locked_book::faults::{CloseFault, DeskFault};
+use locked_book::naming::Naming;
+use locked_book::passes::Pass;
+use rig_config::{Config, TenantId, built_in};
+use rig_model::logged::{Call, Logged};
+use std::alloc::Global;
+use std::marker::Brand;
+use std::sync::{Condvar, Mutex, Wait};
+use std::thread;
+use std::thread::Threads;
+use tenant_jobs::jobs::{Job, JobId, run_job};
+use tenant_lines::commands::Command;
+use tenant_lines::replies::Reply;
+use tenant_lines::texts::Text;
+
+// Reads a sensor, adds 1, and drives an actuator with the sum, with a period of 2 ticks.
+const ADDER: &str =
+    "sensor s := 0 line 0; actuator a := 0; output o := 0; task T(i) output o { o := i + 1; } mode m period 2 { actfreq 1 do a := o; taskfreq 1 do T(s); } start m;";
+
+// Has a sensor that takes a granted value, and does nothing.
+const LISTENER: &str = "sensor g := -1 grant; mode n period 1 { } start n;";
+
+// Drives line 0 with 4.
+const FOUR: &str = "actuator a := 4 line 0; mode k period 1 { } start k;";
+
+const ALPHA: TenantId = 0;
+
+const BETA: TenantId = 1;
+
+// How many calls each of two threads makes.
+const MANY: usize = 200;
+
+// What is shown.
+#[derive(Clone, Copy)]
+enum Shown {
+    OneHistory,
+    Late,
+    OneBook,
+}
+
+// Shows it on desks of the built-in configuration.
+fn is_shown<R: Threads + Wait + Sync>(rt: &R, alloc: Global, shown: Shown) -> Option<bool> {
+    let config = built_in(alloc).ok()?;
+    on_desks::<Brand, _>(rt, alloc, &config, 0, shown)
+}
+
+// Shows it on a desk, beside another of the same configuration.
+fn on_desks<N: Naming + Send + Sync, R: Threads + Wait + Sync>(
+    rt: &R,
+    alloc: Global,
+    config: &Config,
+    first_tick: u64,
+    shown: Shown,
+) -> Option<bool>
+    requires config { config.now ≡ N.config }
+    requires first_tick { first_tick ≡ N.first_tick }
+{
+    let desk = Desk::<N>::new(alloc, config, first_tick).ok()?;
+    let other = Desk::<N>::new(alloc, config, first_tick).ok()?;
+    match shown {
+        Shown::OneHistory => stand_in_one_history(rt, alloc, desk, &other),
+        Shown::Late => drops_late_completion(rt, alloc, desk),
+        Shown::OneBook => stand_in_one_book(rt, alloc, desk),
+    }
+}
+
+// The tenant loads this program and starts it.
+fn load_and_start<N: Naming>(
+    rt: &impl Wait,
+    alloc: Global,
+    desk: &Desk<N>,
+    pass: &mut Pass,
+    tenant: TenantId,
+    program: &str,
+) -> Option<()> {
+    let text = Text::from_str(alloc, program).ok()?;
+    let _ = desk.call(rt, pass, tenant, Command::Load(text)).ok()?;
+    let _ = desk.call(rt, pass, tenant, Command::Start).ok()?;
+    Some(())
+}
+
+// Alpha loads the adder and starts it, and beta the listener, each in a thread of its own and on its own pass.
+fn both_start<N: Naming + Send + Sync, R: Threads + Wait + Sync>(
+    rt: &R,
+    alloc: Global,
+    desk: &Desk<N>,
+    alphas: &mut Pass,
+    betas: &mut Pass,
+) {
+    thread::scope(thread::scope_env(), rt, |scope| {
+        let _ = scope
+            .spawn(move || {
+                let _ = load_and_start(rt, alloc, desk, alphas, ALPHA, ADDER);
+            })
+            .is_ok();
+        let _ = scope
+            .spawn(move || {
+                let _ = load_and_start(rt, alloc, desk, betas, BETA, LISTENER);
+            })
+            .is_ok();
+    });
+}
+
+// Whether the calls are a load and a start of this tenant, both carried out.
+fn has_started(pass: &Pass, tenant: TenantId) -> bool {
+    match pass.calls() {
+        [load, start] => is_load(load, tenant) && is_start(start, tenant),
+        _ => false,
+    }
+}
+
+fn is_load(call: &Call, tenant: TenantId) -> bool {
+    call.tenant == tenant
+        && matches!(call.command, Command::Load(_))
+        && matches!(call.reply, Reply::Loaded)
+}
+
+fn is_start(call: &Call, tenant: TenantId) -> bool {
+    call.tenant == tenant
+        && matches!(call.command, Command::Start)
+        && matches!(call.reply, Reply::Started)
+}
+
+// The one job that an instant with the reading 5 releases, and the place of that instant.
+fn one_job<N: Naming>(rt: &impl Wait, desk: &Desk<N>) -> Option<(Job, u128)> {
+    let (mut jobs, place) = desk.tick(rt, &[5]).ok()?;
+    if jobs.len() != 1 {
+        return None;
+    }
+    Some((jobs.take()?, place))
+}
+
+// An instant with the reading 5 and the completion of its one job, which counts; their places. The desk settles behind them, with line
+// 0 at 0.
+fn tick_and_done<N: Naming>(rt: &impl Wait, desk: &Desk<N>) -> Option<(u128, u128)> {
+    let (job, tick) = one_job(rt, desk)?;
+    let (counted, done) = desk.done(rt, run_job(job));
+    desk.settle(rt);
+    if counted == Counted::Counted && has_line(rt, desk, 0) {
+        return Some((tick, done));
+    }
+    None
+}
+
+// Whether the rig's one line has this value.
+fn has_line<N: Naming>(rt: &impl Wait, desk: &Desk<N>, value: i64) -> bool {
+    match desk.lines(rt) {
+        Ok(values) => matches!(values.as_slice(), [line] if *line == value),
+        Err(_) => false,
+    }
+}
+
+// Two suppliers with a pass and a thread each, an instant and its completion: all of it stands in one history, and in no other turn.
+fn stand_in_one_history<N: Naming + Send + Sync, R: Threads + Wait + Sync>(
+    rt: &R,
+    alloc: Global,
+    desk: Desk<N>,
+    other: &Desk<N>,
+) -> Option<bool> {
+    let mut alphas = desk.pass(rt).ok()?;
+    let mut betas = desk.pass(rt).ok()?;
+    both_start(rt, alloc, &desk, &mut alphas, &mut betas);
+    if !has_started(&alphas, ALPHA) || !has_started(&betas, BETA) {
+        return Some(false);
+    }
+    let (tick, done) = tick_and_done(rt, &desk)?;
+    let stranger = other_pass(rt, other)?;
+    let book = closed(alloc, desk, alphas, betas, stranger)?;
+    let stand = stand_at(alloc, &book, tick, done)?;
+    let exchanged = stand_at(alloc, &book, done, tick)?;
+    Some(book.log().len() == 6 && stand && !exchanged)
+}
+
+// The desk's book, closed with both passes. Before that it doesn't close without alpha's, and not with a stranger's.
+fn closed<N: Naming>(
+    alloc: Global,
+    desk: Desk<N>,
+    alphas: Pass,
+    betas: Pass,
+    stranger: Pass,
+) -> Option<Book<N>> {
+    let alphas_seat = alphas.seat();
+    let strangers_seat = stranger.seat();
+    let missing = CloseFault::Missing(alphas_seat);
+    let mismatch = CloseFault::Mismatch(strangers_seat);
+    let (desk, passes) = refused_with(desk, Vec::new(alloc), betas, missing)?;
+    let (desk, passes) = refused_with(desk, passes, stranger, mismatch)?;
+    let (desk, passes) = refused_with(desk, passes, alphas, mismatch)?;
+    closed_without_second(desk, passes)
+}
+
+// Desk and passes, which with this pass added don't close for this fault.
+fn refused_with<N: Naming>(
+    desk: Desk<N>,
+    passes: Vec<Pass>,
+    pass: Pass,
+    why: CloseFault,
+) -> Option<(Desk<N>, Vec<Pass>)> {
+    let mut passes = passes;
+    passes.push(pass).ok()?;
+    match desk.close(passes) {
+        Ok(_book) => None,
+        Err((fault, desk, passes)) => {
+            if fault != why {
+                return None;
+            }
+            Some((desk, passes))
+        }
+    }
+}
+
+// The book closed with these passes but for the second.
+fn closed_without_second<N: Naming>(desk: Desk<N>, passes: Vec<Pass>) -> Option<Book<N>> {
+    let mut passes = passes;
+    if passes.len() < 2 {
+        return None;
+    }
+    let _ = passes.swap_remove(1);
+    desk.close(passes).ok()
+}
+
+// Whether the instant with the reading 5 and the completion of its job stand in the log at these places.
+fn stand_at<N: Naming>(alloc: Global, book: &Book<N>, tick: u128, done: u128) -> Option<bool> {
+    let frame = Vec::from_slice(alloc, &[5]).ok()?;
+    let id = JobId {
+        tenant: ALPHA,
+        tick: 0,
+        task: Name::new("T")?,
+    };
+    let entries = [
+        (tick, Logged::Tick(List::from_vec(frame))),
+        (done, Logged::Done(id)),
+    ];
+    Some(book.stands(&entries))
+}
+
+// A completion behind a stop is late and not logged, and the next program drives its line at once.
+fn drops_late_completion<N: Naming + Send + Sync, R: Threads + Wait + Sync>(
+    rt: &R,
+    alloc: Global,
+    desk: Desk<N>,
+) -> Option<bool> {
+    let mut pass = desk.pass(rt).ok()?;
+    let mut is_late = false;
+    let turns = Turns::new();
+    take_turns(rt, alloc, &desk, &turns, &mut pass, &mut is_late);
+    let has_four = is_refused(rt, &desk, &mut pass, NOBODY, DeskFault::Strange(4));
+    let text = Text::from_str(alloc, FOUR).ok()?;
+    let _ = desk.call(rt, &mut pass, ALPHA, Command::Load(text)).ok()?;
+    let drives = has_line(rt, &desk, 4);
+    Some(is_late && has_four && drives && is_its_history(alloc, desk, pass)?)
+}
+
+// How many turns two threads have taken.
+#[derive(Drop)]
+struct Turns {
+    taken: Mutex<u32>,
+    changed: Condvar,
+}
+
+impl Turns {
+    fn new() -> Turns {
+        Turns {
+            taken: Mutex::new(0),
+            changed: Condvar::new(),
+        }
+    }
+
+    // Ends a turn.
+    fn end(&self, rt: &impl Wait) {
+        let mut taken = self.taken.lock(rt);
+        *taken = taken.wrapping_add(1);
+        self.changed.notify_all();
+    }
+
+    // Waits until so many have ended.
+    fn wait_for(&self, rt: &impl Wait, number: u32) {
+        let _taken = self
+            .changed
+            .wait_while(rt, self.taken.lock(rt), |taken| *taken < number);
+    }
+}
+
+// Alpha in one thread and the rig in another, in turn: alpha starts, an instant releases its job, alpha stops, and the job is done. Tells
+// whether it is late then.
+fn take_turns<N: Naming + Send + Sync, R: Threads + Wait + Sync>(
+    rt: &R,
+    alloc: Global,
+    desk: &Desk<N>,
+    turns: &Turns,
+    pass: &mut Pass,
+    is_late: &mut bool,
+) {
+    thread::scope(thread::scope_env(), rt, |scope| {
+        let _ = scope
+            .spawn(move || start_and_stop(rt, alloc, desk, turns, pass))
+            .is_ok();
+        let _ = scope
+            .spawn(move || {
+                *is_late = is_late_behind_stop(rt, desk, turns);
+            })
+            .is_ok();
+    });
+}
+
+// Alpha's turns.
+fn start_and_stop<N: Naming>(
+    rt: &impl Wait,
+    alloc: Global,
+    desk: &Desk<N>,
+    turns: &Turns,
+    pass: &mut Pass,
+) {
+    let _ = load_and_start(rt, alloc, desk, pass, ALPHA, ADDER);
+    turns.end(rt);
+    turns.wait_for(rt, 2);
+    let _ = desk.call(rt, pass, ALPHA, Command::Stop).is_ok();
+    turns.end(rt);
+}
+
+// The rig's turns: whether alpha's one job, which it stops before it is done, is late.
+fn is_late_behind_stop<N: Naming>(rt: &impl Wait, desk: &Desk<N>, turns: &Turns) -> bool {
+    turns.wait_for(rt, 1);
+    let released = one_job(rt, desk);
+    turns.end(rt);
+    turns.wait_for(rt, 3);
+    match released {
+        None => false,
+        Some((job, _place)) => {
+            let (counted, place) = desk.done(rt, run_job(job));
+            desk.settle(rt);
+            counted == Counted::Late && place == 0
+        }
+    }
+}
+
+// Whether the log has a load, a start, an instant, a stop and a load.
+fn is_its_history<N: Naming>(alloc: Global, desk: Desk<N>, pass: Pass) -> Option<bool> {
+    let mut passes = Vec::new(alloc);
+    passes.push(pass).ok()?;
+    let book = desk.close(passes).ok()?;
+    Some(matches!(
+        book.log(),
+        [
+            Logged::Call(_, _),
+            Logged::Call(_, _),
+            Logged::Tick(_),
+            Logged::Call(_, _),
+            Logged::Call(_, _),
+        ]
+    ))
+}
+
+// Two passes on which two threads make many calls at once close in one log, in which each of their calls stands.
+fn stand_in_one_book<N: Naming + Send + Sync, R: Threads + Wait + Sync>(
+    rt: &R,
+    alloc: Global,
+    desk: Desk<N>,
+) -> Option<bool> {
+    let mut alphas = desk.pass(rt).ok()?;
+    let mut betas = desk.pass(rt).ok()?;
+    both_call(rt, &desk, &mut alphas, &mut betas);
+    let are_many = alphas.calls().len() == MANY && betas.calls().len() == MANY;
+    let mut passes = Vec::new(alloc);
+    passes.push(alphas).ok()?;
+    passes.push(betas).ok()?;
+    let book = desk.close(passes).ok()?;
+    Some(are_many && book.log().len() == 2 * MANY)
+}
+
+// Both tenants ask for their modes many times, each in a thread of its own.
+fn both_call<N: Naming + Send + Sync, R: Threads + Wait + Sync>(
+    rt: &R,
+    desk: &Desk<N>,
+    alphas: &mut Pass,
+    betas: &mut Pass,
+) {
+    thread::scope(thread::scope_env(), rt, |scope| {
+        let _ = scope
+            .spawn(move || call_often(rt, desk, alphas, ALPHA))
+            .is_ok();
+        let _ = scope
+            .spawn(move || call_often(rt, desk, betas, BETA))
+            .is_ok();
+    });
+}
+
+fn call_often<N: Naming>(rt: &impl Wait, desk: &Desk<N>, pass: &mut Pass, tenant: TenantId) {
+    for _call in 0..MANY {
+        let _ = desk.call(rt, pass, tenant, Command::ShowMode).is_ok();
+    }
+}
+
+#[test]
+fn two_threads_stand_in_one_history(rt: HostRuntime) {
+    assert!(rt; is_shown(&rt, rt.alloc(), Shown::OneHistory) == Some(true));
+}
+
+#[test]
+fn late_completion_is_not_logged(rt: HostRuntime) {
+    assert!(rt; is_shown(&rt, rt.alloc(), Shown::Late) == Some(true));
+}
+
+#[test]
+fn passes_of_two_threads_close_in_one_book(rt: HostRuntime) {
+    assert!(rt; is_shown(&rt, rt.alloc(), Shown::OneBook) == Some(true));
+}
