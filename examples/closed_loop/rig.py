@@ -1,0 +1,84 @@
+"""A client of `rig_host serve`: a session of one tenant, and the operator. It needs Python's own library alone.
+
+    with Server("rig_host") as rig, Session(rig.port, "alpha", "ka") as alpha:
+        alpha.load("heater.giotto")
+        rig.tick(150)
+        print(alpha.ask("show mode"))
+"""
+
+import socket
+import subprocess
+
+
+class Refused(Exception):
+    """A line that had to be accepted, and its answer."""
+
+
+class Lines:
+    """Lines that are sent by `out`, each answered by a line that comes in by `into`."""
+
+    def ask(self, line):
+        """The answer to a line. A blank one has none, so it isn't taken."""
+        if not line.strip() or "\n" in line:
+            raise ValueError("no line, or a blank one: %r" % line)
+        self.out.write(line + "\n")
+        self.out.flush()
+        answer = self.into.readline()
+        if not answer:
+            raise ConnectionError("ended without an answer to " + line)
+        return answer.rstrip("\n")
+
+    def must(self, line):
+        """The answer to a line that has to be accepted."""
+        answer = self.ask(line)
+        if not answer.startswith("ok "):
+            raise Refused(line, answer)
+        return answer
+
+    def __enter__(self):
+        return self
+
+    def __exit__(self, *_):
+        self.close()
+
+
+class Session(Lines):
+    """A session of a tenant, on a port of this machine."""
+
+    def __init__(self, port, name, key):
+        self.stream = socket.create_connection(("127.0.0.1", port))
+        self.out = self.into = self.stream.makefile("rw", encoding="utf-8", newline="\n")
+        try:
+            self.must("hello %s %s" % (name, key))
+        except Exception:
+            self.close()
+            raise
+
+    def load(self, path, command="load"):
+        """Loads the program of a file, or has it `replace` the one that runs. It goes out on one line, blanks for line ends."""
+        with open(path, encoding="utf-8") as file:
+            return self.must(command + " " + file.read().replace("\n", " "))
+
+    def close(self):
+        self.out.close()
+        self.stream.close()
+
+
+class Server(Lines):
+    """A server with these arguments, whose operator we are. Its last line is in `closed` behind `close`."""
+
+    def __init__(self, program, *words):
+        self.ran = subprocess.Popen(
+            [program, "serve", *words], stdin=subprocess.PIPE, stdout=subprocess.PIPE, encoding="utf-8"
+        )
+        self.out, self.into = self.ran.stdin, self.ran.stdout
+        ready = self.into.readline().split()
+        if ready[:1] != ["ready"]:
+            raise ConnectionError("no server: status %d" % self.ran.wait())
+        self.port = int(ready[1])
+
+    def close(self):
+        """Ends the operator's input, which halts the server, and waits for it."""
+        self.out.close()
+        self.closed = self.into.read().rstrip("\n")
+        self.ran.wait()
