@@ -6,6 +6,7 @@
 ghost use Rattle.std.specs.Prelude.{◌≡◌};
 
 mod completions;
+mod desk_loads;
 mod desks;
 mod drivers;
 mod instants;
@@ -16,7 +17,6 @@ mod requests;
 mod schedules;
 mod turns;
 mod voices;
-mod waits;
 
 use crate::instants::Work;
 use crate::pools::Instants;
@@ -33,7 +33,7 @@ fn main(rt: HostRuntime) -> anyhow::Result<ExitCode> {
     let words: Vec<String> = std::env::args(&rt)?.collect(rt.alloc())?;
     let [_, work, times] = words.as_slice() else {
         eprintln!(rt;
-            "usage: measure tokens|read|check|print|drive|alone|crowded|all|quiet|bound|unbound|done|prepare|load|desk-load|desk-wait|desk-wait-inside|workers-0|workers-1|workers-2|workers-4 TIMES < TEXT, or measure evaluate|jobs|operate|loop|play|host-calls|desk-calls|desk-calls-2|desk-calls-4|desk-kept|desk-log|desk-close|desk-pass|desk-schedules|desk-memory|gate|drop TIMES"
+            "usage: measure tokens|read|check|print|drive|alone|crowded|all|quiet|bound|unbound|done|prepare|load|desk-load|workers-0|workers-1|workers-2|workers-4 TIMES < TEXT, or measure evaluate|jobs|operate|loop|play|host-calls|desk-calls|desk-calls-2|desk-calls-4|desk-kept|desk-log|desk-close|desk-pass|desk-schedules|desk-memory|gate|drop TIMES"
         )?;
         return Ok(ExitCode::from(2));
     };
@@ -50,9 +50,7 @@ fn main(rt: HostRuntime) -> anyhow::Result<ExitCode> {
         "done" => completions::counted(rt.alloc(), rt.reader(), times)?,
         "prepare" => loads::loads(rt.alloc(), rt.reader(), false, times)?,
         "load" => loads::loads(rt.alloc(), rt.reader(), true, times)?,
-        "desk-load" | "desk-wait" | "desk-wait-inside" => {
-            waits::worked(&rt, rt.alloc(), rt.reader(), loads_of(work.as_str()), times)?
-        }
+        "desk-load" => desk_loads::loaded(&rt, rt.alloc(), rt.reader(), times)?,
         "play" => plays::played(rt.alloc(), times)?,
         "host-calls" => desks::calls_of_host(rt.alloc(), times)?,
         "desk-calls"
@@ -119,15 +117,6 @@ fn calls_of(name: &str) -> desks::Work {
         "desk-close" => desks::Work::Closed,
         "desk-pass" => desks::Work::OnePass,
         _ => desks::Work::Calls(1),
-    }
-}
-
-// Which calls are looked at beside loads.
-fn loads_of(name: &str) -> waits::Work {
-    match name {
-        "desk-wait" => waits::Work::Waits,
-        "desk-wait-inside" => waits::Work::WaitsInside,
-        _ => waits::Work::Loads,
     }
 }
 

@@ -93,20 +93,24 @@ fn agrees<N: Naming + Send + Sync, R: Threads + Wait + Sync>(
 {
     let desk = Desk::<N>::new(alloc, config, first_tick).ok()?;
     let mut voices = new_voices(rt, alloc, &desk, seed)?;
+    speak_at(rt, alloc, &desk, &mut voices);
+    is_played(alloc, config, desk, voices)
+}
+
+// All rounds, at one table.
+fn speak_at<N: Naming + Send + Sync, R: Threads + Wait + Sync>(
+    rt: &R,
+    alloc: Global,
+    desk: &Desk<N>,
+    voices: &mut [Voice],
+) {
     let table = Table {
         alloc,
         desk,
         jobs: Mutex::new(Vec::new(alloc)),
         round: Barrier::new(THREADS),
     };
-    speak_all(rt, &table, &mut voices);
-    let Table {
-        alloc: _,
-        desk,
-        jobs: _,
-        round: _,
-    } = table;
-    is_played(alloc, config, desk, voices)
+    speak_all(rt, &table, voices);
 }
 
 // A pass for each thread, and where its choices begin.
@@ -128,7 +132,7 @@ fn new_voices<N: Naming>(
 // Each in a thread of its own.
 fn speak_all<N: Naming + Send + Sync, R: Threads + Wait + Sync>(
     rt: &R,
-    table: &Table<N>,
+    table: &Table<'_, N>,
     voices: &mut [Voice],
 ) {
     thread::scope(thread::scope_env(), rt, |scope| {

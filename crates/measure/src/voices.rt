@@ -56,9 +56,9 @@ const LINES: [&str; 24] = [
 
 /// What the threads share: the desk, the jobs that none of them has taken, and where they wait for each other.
 #[derive(Drop)]
-pub(crate) struct Table<N: Naming> {
+pub(crate) struct Table<'a, N: Naming> {
     pub(crate) alloc: Global,
-    pub(crate) desk: Desk<N>,
+    pub(crate) desk: &'a Desk<N>,
     pub(crate) jobs: Mutex<Vec<Job>>,
     pub(crate) round: Barrier,
 }
@@ -109,7 +109,7 @@ impl Voice {
 }
 
 /// All rounds of a thread. It keeps to them where it was refused something, so that the others don't wait for it.
-pub(crate) fn speak<N: Naming>(rt: &impl Wait, table: &Table<N>, voice: &mut Voice) {
+pub(crate) fn speak<N: Naming>(rt: &impl Wait, table: &Table<'_, N>, voice: &mut Voice) {
     for _round in 0..ROUNDS {
         let _ = table.round.wait(rt);
         for _step in 0..=voice.random.below(MOST) {
@@ -121,7 +121,7 @@ pub(crate) fn speak<N: Naming>(rt: &impl Wait, table: &Table<N>, voice: &mut Voi
 }
 
 // A call, an instant or a completion.
-fn step<N: Naming>(rt: &impl Wait, table: &Table<N>, voice: &mut Voice) -> Option<()> {
+fn step<N: Naming>(rt: &impl Wait, table: &Table<'_, N>, voice: &mut Voice) -> Option<()> {
     match voice.random.below(10) {
         0..=5 => call(rt, table, voice),
         6 | 7 => tick(rt, table, voice),
@@ -130,7 +130,7 @@ fn step<N: Naming>(rt: &impl Wait, table: &Table<N>, voice: &mut Voice) -> Optio
 }
 
 // A line of any tenant.
-fn call<N: Naming>(rt: &impl Wait, table: &Table<N>, voice: &mut Voice) -> Option<()> {
+fn call<N: Naming>(rt: &impl Wait, table: &Table<'_, N>, voice: &mut Voice) -> Option<()> {
     let tenant = voice.random.below(TENANTS) as usize;
     let line = voice.random.below(LINES.len() as u64) as usize;
     let command = command_of(table.alloc, LINES.get(line)?).ok()?;
@@ -140,7 +140,7 @@ fn call<N: Naming>(rt: &impl Wait, table: &Table<N>, voice: &mut Voice) -> Optio
 }
 
 // An instant, whose jobs lie there for all threads.
-fn tick<N: Naming>(rt: &impl Wait, table: &Table<N>, voice: &mut Voice) -> Option<()> {
+fn tick<N: Naming>(rt: &impl Wait, table: &Table<'_, N>, voice: &mut Voice) -> Option<()> {
     let frame = [voice.random.below(9) as i64, voice.random.below(9) as i64];
     let (jobs, place) = table.desk.tick(rt, &frame).ok()?;
     lay(rt, table, jobs)?;
@@ -150,7 +150,7 @@ fn tick<N: Naming>(rt: &impl Wait, table: &Table<N>, voice: &mut Voice) -> Optio
 }
 
 // Lays these jobs to the others.
-fn lay<N: Naming>(rt: &impl Wait, table: &Table<N>, mut jobs: Jobs) -> Option<()> {
+fn lay<N: Naming>(rt: &impl Wait, table: &Table<'_, N>, mut jobs: Jobs) -> Option<()> {
     let mut guard = table.jobs.lock(rt);
     let all = &mut *guard;
     for _job in 0..jobs.len() {
@@ -160,7 +160,7 @@ fn lay<N: Naming>(rt: &impl Wait, table: &Table<N>, mut jobs: Jobs) -> Option<()
 }
 
 // The completion of any job that lies there.
-fn done<N: Naming>(rt: &impl Wait, table: &Table<N>, voice: &mut Voice) -> Option<()> {
+fn done<N: Naming>(rt: &impl Wait, table: &Table<'_, N>, voice: &mut Voice) -> Option<()> {
     let Some(job) = taken(rt, table, &mut voice.random) else {
         return Some(());
     };
@@ -173,7 +173,7 @@ fn done<N: Naming>(rt: &impl Wait, table: &Table<N>, voice: &mut Voice) -> Optio
 }
 
 // Any of the jobs that lie there.
-fn taken<N: Naming>(rt: &impl Wait, table: &Table<N>, random: &mut Random) -> Option<Job> {
+fn taken<N: Naming>(rt: &impl Wait, table: &Table<'_, N>, random: &mut Random) -> Option<Job> {
     let mut guard = table.jobs.lock(rt);
     let all = &mut *guard;
     if all.is_empty() {
