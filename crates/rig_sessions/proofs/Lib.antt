@@ -1,0 +1,4 @@
+pub mod Answering
+pub mod SessionLines
+pub mod SessionRows
+pub mod SoFar

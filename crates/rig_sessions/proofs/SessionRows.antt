@@ -1,0 +1,79 @@
+-- Sessions, from their bytes to the calls that they make and the bytes that are answered, computed from the definitions.
+use Rattle.std.proofs.Common.{◌≡◌, ℕ, List, [], ◌∷◌, ◌++◌, refl}
+use Rattle.std.specs.Prelude.{codes}
+use Rattle.std.specs.Char.{encode_utf8}
+use Rattle.std.specs.List.{flat_map}
+use Rattle.std.specs.Str.{chars, is_utf8}
+use Rattle.rig_config.specs.BuiltIn.{built_in_config}
+use Rattle.rig_model.specs.TextLines.{cut}
+use Rattle.rig_sessions.specs.Sessions.{Session, ended, no_memory, pass_full, replied, session_of, strange, stranger, tenant, untold}
+use Rattle.tenant_lines.specs.declared.commands.Command.TheVariants.{ShowMode, Start}
+use Rattle.tenant_lines.specs.declared.replies.Reply.TheVariants.{Mode, Started}
+use Rattle.tenant_lines.specs.declared.replies.Status.TheVariants.{Empty}
+
+-- lines, each with LF behind it
+abbrev lines : List (List ℕ) → List ℕ
+lines ls = flat_map (λ l. l ++ 10 ∷ []) ls
+
+-- Who isn't greeted makes no call; an unknown tenant and a wrong key are answered alike; a blank line has no reply, and the last line
+-- needs no LF.
+greetings : session_of built_in_config (replied (Mode Empty) ∷ [])
+    (cut (lines (codes "show mode" ∷ codes "hello alpha no" ∷ codes "hello nobody ka" ∷ codes "hello alpha ka" ∷ codes "hello alpha ka" ∷ [] ∷ []) ++ codes "show mode"))
+    ≡ record {
+      state = tenant 0;
+      outcomes = [];
+      calls = record { tenant = 0; command = ShowMode; reply = Mode Empty } ∷ [];
+      text = lines (codes "err not-greeted" ∷ codes "err who" ∷ codes "err who" ∷ codes "ok hello" ∷ codes "err greeted" ∷ codes "ok mode empty" ∷ []);
+    }
+unfolding is_utf8 chars encode_utf8
+greetings = refl
+
+-- Nothing is answered behind a call that is refused.
+full_pass : session_of built_in_config (replied (Mode Empty) ∷ pass_full ∷ []) (cut (lines (codes "hello alpha ka" ∷ codes "show mode" ∷ codes "show mode" ∷ codes "rows" ∷ [])))
+    ≡ record {
+      state = ended;
+      outcomes = [];
+      calls = record { tenant = 0; command = ShowMode; reply = Mode Empty } ∷ [];
+      text = lines (codes "ok hello" ∷ codes "ok mode empty" ∷ codes "bye pass-full" ∷ []);
+    }
+unfolding is_utf8 chars encode_utf8
+full_pass = refl
+
+strange_pass : session_of built_in_config (replied (Mode Empty) ∷ strange ∷ []) (cut (lines (codes "hello alpha ka" ∷ codes "show mode" ∷ codes "show mode" ∷ codes "rows" ∷ [])))
+    ≡ record {
+      state = ended;
+      outcomes = [];
+      calls = record { tenant = 0; command = ShowMode; reply = Mode Empty } ∷ [];
+      text = lines (codes "ok hello" ∷ codes "ok mode empty" ∷ codes "bye strange" ∷ []);
+    }
+unfolding is_utf8 chars encode_utf8
+strange_pass = refl
+
+-- Want of memory ends nothing: a call that found none isn't made, and one whose reply couldn't be told is.
+memory : session_of built_in_config (no_memory ∷ untold Started ∷ []) (cut (lines (codes "hello beta kb" ∷ codes "start" ∷ codes "start" ∷ codes "quit" ∷ codes "start" ∷ [])))
+    ≡ record {
+      state = ended;
+      outcomes = [];
+      calls = record { tenant = 1; command = Start; reply = Started } ∷ [];
+      text = lines (codes "ok hello" ∷ codes "err memory" ∷ codes "err memory" ∷ codes "bye" ∷ []);
+    }
+unfolding is_utf8 chars encode_utf8
+memory = refl
+
+-- A name has the shape of one, a key is any word, and nothing stands behind either or behind "quit"; a byte that is no text ends it.
+forms : session_of built_in_config []
+    (cut (lines (codes "hello" ∷ codes "hello alpha" ∷ codes "hello 9x ka" ∷ codes "hello alpha ka now" ∷ codes "quit now" ∷ codes "fly" ∷ codes "\thello  alpha\tka\r" ∷ (0xff ∷ []) ∷ codes "quit" ∷ [])))
+    ≡ record {
+      state = ended;
+      outcomes = [];
+      calls = [];
+      text = lines (
+          codes "err bad-command" ∷ codes "err bad-command" ∷ codes "err bad-command" ∷ codes "err bad-command" ∷ codes "err bad-command" ∷ codes "err bad-command" ∷ codes "ok hello" ∷ codes "bye bad-line" ∷ []);
+    }
+unfolding is_utf8 chars encode_utf8
+forms = refl
+
+-- Who isn't greeted may leave.
+early_quit : (session_of built_in_config [] (cut (lines (codes "quit" ∷ codes "hello alpha ka" ∷ [])))).text ≡ lines (codes "bye" ∷ [])
+unfolding is_utf8 chars encode_utf8
+early_quit = refl

@@ -1,0 +1,4 @@
+pub mod Sessions
+pub mod Steps
+pub mod Talks
+pub mod inner

@@ -1,0 +1,42 @@
+//! Who takes the calls of a session.
+
+ghost use Rattle.std.specs.Prelude.{◌≡◌, [], ◌∷◌, ◌++◌, IfOk, OnErr};
+
+use locked_book::desks::Desk;
+use locked_book::faults::DeskFault;
+use locked_book::naming::Naming;
+use locked_book::passes::Pass;
+use rig_config::TenantId;
+use std::sync::Wait;
+use tenant_lines::commands::Command;
+use tenant_lines::replies::Reply;
+
+/// Who takes the calls of a session.
+pub trait Calls {
+    /// A call of a pass: a tenant's command, and its reply, with which it stands on the pass then.
+    ///
+    /// # Errors
+    /// As those of a desk. The pass stays as it was then.
+    fn call<R: Wait>(
+        &self,
+        rt: &R,
+        pass: &mut Pass,
+        tenant: TenantId,
+        command: Command,
+    ) -> Result<Reply, DeskFault>
+        ensures added { IfOk result (λ r. pass.new.calls ≡ pass.old.calls ++ record { tenant = tenant; command = command; reply = r } ∷ []) }
+        ensures seat { pass.new.seat ≡ pass.old.seat }
+        ensures refused { OnErr result (pass.new ≡ pass.old) };
+}
+
+impl<N: Naming> Calls for Desk<N> {
+    fn call<R: Wait>(
+        &self,
+        rt: &R,
+        pass: &mut Pass,
+        tenant: TenantId,
+        command: Command,
+    ) -> Result<Reply, DeskFault> {
+        Desk::call(self, rt, pass, tenant, command)
+    }
+}

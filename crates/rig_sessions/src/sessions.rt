@@ -1,0 +1,181 @@
+//! A session, line by line: who was greeted, and what a line is.
+
+ghost use Rattle.std.specs.Prelude.{◌≡◌, ◌↔◌, Some, None, if◌then◌else◌, IsTrue, IfOk, OnErr, IsErr, is_some};
+ghost use Rattle.std.specs.Option.{option_map};
+ghost use Rattle.tenant_lines.specs.CommandLine.{command_of_line};
+ghost use Rattle.tenant_lines.specs.Words.{words_of, first_word_of, behind_first_word};
+ghost use Rattle.rig_config.specs.Roster.{greeted};
+ghost use Rattle.rig_sessions.specs.Sessions.{ask, ended, err_bad_command, err_not_greeted, form_step, hello, hello_of, hello_step, quit_of, stranger, text_step};
+ghost use Rattle.rig_sessions.specs.Steps.{IsStep, IsCallWithText, text_of_own};
+
+use crate::replies::OwnReply;
+use giotto_text::name_bytes::is_name;
+use rig_config::{Config, TenantId};
+use std::alloc::{AllocError, Global};
+use std::marker::Model;
+use tenant_lines::command_lines::{LineFault, command_of};
+use tenant_lines::commands::Command;
+use tenant_lines::words;
+
+/// What a line is.
+#[derive(Drop)]
+pub enum Step {
+    /// A blank line, which has no reply, or a line behind the end.
+    Quiet,
+    /// The session answers by itself.
+    Say(OwnReply),
+    /// A command of the tenant that was greeted.
+    Call(TenantId, Command),
+    /// The session ends: `bye`.
+    End,
+}
+
+// Who speaks in a session.
+#[derive(Clone, Copy, Debug)]
+enum Party {
+    Stranger,
+    Tenant(TenantId),
+    Ended,
+}
+
+/// A session with one client: the configuration, and who was greeted.
+#[derive(Drop)]
+pub struct Session<'a> {
+    config: &'a Config,
+    party: Party,
+}
+
+impl<'a> Model for Session<'a> {
+    ghost use Rattle.rig_sessions.specs.Steps.{SessionValue, state_of};
+
+    ghost Value = { SessionValue };
+
+    ghost view = { λ s. record { config = s.config.now; state = state_of s.party } };
+}
+
+impl<'a> Session<'a> {
+    /// A session in which no tenant was greeted yet. Takes no memory.
+    pub fn new(config: &'a Config) -> Session<'a>
+        ensures { result ≡ record { config = config.entry.now; state = stranger } }
+    {
+        Session {
+            config,
+            party: Party::Stranger,
+        }
+    }
+
+    /// What a line is: blank, `hello NAME KEY`, `quit`, or a command. Behind the end every line is quiet.
+    ///
+    /// # Errors
+    /// Want of memory for the text of a `load` or a `replace` of the tenant that was greeted. The session stays as it was then.
+    pub fn line(&mut self, alloc: Global, line: &str) -> Result<Step, AllocError>
+        ensures step { IfOk result (λ step. IsStep step self.old self.new (text_step self.old.config self.old.state line.now)) }
+        ensures refused { OnErr result (self.new ≡ self.old) }
+        ensures memory { IsErr result → IsCallWithText (text_step self.old.config self.old.state line.now) self.old.state }
+    {
+        let rest = words::behind_first_word(line);
+        match words::first_word(line) {
+            "" => Ok(Step::Quiet),
+            "hello" => Ok(self.hello(rest)),
+            "quit" => Ok(self.quit(rest)),
+            _ => self.command(alloc, line),
+        }
+    }
+
+    /// Whether it has ended.
+    pub fn has_ended(&self) -> bool
+        ensures { IsTrue result ↔ (self.now.state ≡ ended) }
+    {
+        matches!(self.party, Party::Ended)
+    }
+
+    // The step of `hello` with these words behind it.
+    fn hello(&mut self, rest: &str) -> Step
+        ensures { IsStep result self.old self.new (form_step self.old.config self.old.state (hello_of (words_of rest.now))) }
+    {
+        if self.has_ended() {
+            return Step::Quiet;
+        }
+        if !is_hello(rest) {
+            return Step::Say(OwnReply::BadCommand);
+        }
+        if let Party::Tenant(_) = self.party {
+            return Step::Say(OwnReply::Greeted);
+        }
+        let behind = words::behind_first_word(rest);
+        self.greet(words::first_word(rest), words::first_word(behind))
+    }
+
+    // The step of a `hello` with this name and this key, where no tenant was greeted.
+    fn greet(&mut self, name: &str, key: &str) -> Step
+        requires { self.old.state ≡ stranger }
+        ensures { IsStep result self.old self.new (hello_step self.old.config (greeted self.old.config name.now key.now)) }
+    {
+        match self.config.greet(name, key) {
+            Some(tenant) => {
+                self.party = Party::Tenant(tenant);
+                Step::Say(OwnReply::Hello)
+            }
+            None => Step::Say(OwnReply::Who),
+        }
+    }
+
+    // The step of `quit` with these words behind it.
+    fn quit(&mut self, rest: &str) -> Step
+        ensures { IsStep result self.old self.new (form_step self.old.config self.old.state (quit_of (words_of rest.now))) }
+    {
+        if self.has_ended() {
+            return Step::Quiet;
+        }
+        if !words::first_word(rest).is_empty() {
+            return Step::Say(OwnReply::BadCommand);
+        }
+        self.party = Party::Ended;
+        Step::End
+    }
+
+    // The step of a line that begins with another word.
+    fn command(&mut self, alloc: Global, line: &str) -> Result<Step, AllocError>
+        ensures step { IfOk result (λ step. IsStep step self.old self.new (form_step self.old.config self.old.state (option_map ask (command_of_line line.now)))) }
+        ensures refused { OnErr result (self.new ≡ self.old) }
+        ensures memory { IsErr result → IsCallWithText (form_step self.old.config self.old.state (option_map ask (command_of_line line.now))) self.old.state }
+    {
+        let tenant = match self.party {
+            Party::Ended => return Ok(Step::Quiet),
+            Party::Stranger => return Ok(Step::Say(unasked(alloc, line))),
+            Party::Tenant(tenant) => tenant,
+        };
+        match command_of(alloc, line) {
+            Ok(command) => return Ok(Step::Call(tenant, command)),
+            Err(LineFault::BadCommand) => return Ok(Step::Say(OwnReply::BadCommand)),
+            Err(LineFault::Memory) => return Err(AllocError),
+        }
+    }
+}
+
+// What is answered to a line that begins with neither `hello` nor `quit`, where no tenant was greeted.
+fn unasked(alloc: Global, line: &str) -> OwnReply
+    ensures { text_of_own result ≡ (if is_some (command_of_line line.now) then err_not_greeted else err_bad_command) }
+{
+    let Err(fault) = command_of(alloc, line) else {
+        return OwnReply::NotGreeted;
+    };
+    match fault {
+        LineFault::BadCommand => OwnReply::BadCommand,
+        LineFault::Memory => OwnReply::NotGreeted,
+    }
+}
+
+// Whether these words behind `hello` are the name of a tenant and a key.
+fn is_hello(rest: &str) -> bool
+    ensures { hello_of (words_of rest.now) ≡ (if result then Some (hello (first_word_of rest.now) (first_word_of (behind_first_word rest.now))) else None) }
+{
+    let behind = words::behind_first_word(rest);
+    if !is_name(words::first_word(rest).as_bytes()) {
+        return false;
+    }
+    if words::first_word(behind).is_empty() {
+        return false;
+    }
+    words::first_word(words::behind_first_word(behind)).is_empty()
+}

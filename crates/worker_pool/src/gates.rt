@@ -1,0 +1,19 @@
+//! Gates: what a worker asks before it computes a job.
+
+use instant_engine::JobId;
+use std::sync::Wait;
+use std::time::Clock;
+
+/// Asked by a worker before it computes a job, outside the desk's lock. While it waits, that worker waits, and nobody else.
+pub trait Gate {
+    /// Comes back when the job of this name may be computed.
+    fn enter<R: Wait + Clock>(&self, rt: &R, id: &JobId);
+}
+
+/// Lets each job through at once.
+#[derive(Drop)]
+pub struct Free;
+
+impl Gate for Free {
+    fn enter<R: Wait + Clock>(&self, _rt: &R, _id: &JobId) {}
+}
