@@ -7,6 +7,7 @@ use std::time::Duration;
 
 // How many milliseconds a read takes at most behind the end of a session, and how many there are.
 const LAST_READ: u64 = 100;
+
 const LAST_READS: u32 = 256;
 
 /// A client's bytes. Where nothing came for the time that the stream waits, they have ended.

@@ -127,12 +127,7 @@ fn converse<R: Wait, D: Seats>(
 }
 
 // Answers the lines of a connection. A fault of its stream ends it as its end does.
-fn answer<R: Wait, D: Seats>(
-    rt: &R,
-    hall: &Hall<'_, D>,
-    stream: &TcpStream,
-    pass: Pass,
-) -> Pass {
+fn answer<R: Wait, D: Seats>(rt: &R, hall: &Hall<'_, D>, stream: &TcpStream, pass: Pass) -> Pass {
     let Ok(mut writer) = BufWriter::new(hall.alloc, stream) else {
         refuse(stream, b"bye memory\n");
         return pass;

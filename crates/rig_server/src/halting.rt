@@ -3,14 +3,13 @@
 use crate::connections::Hall;
 use crate::operator_lines::{OperatorLine, operator_line};
 use std::alloc::Global;
-use std::io;
 use std::io::Read;
 use std::net::{Shutdown, TcpStream};
 use std::sync::atomic::{AtomicU64, Ordering};
 use std::sync::{Arc, CondvarTimeouts, Wait};
-use std::thread;
 use std::thread::Threads;
 use std::time::{Clock, Duration};
+use std::{io, thread};
 use text_lines::lines::{Line, Lines};
 
 // After how many milliseconds a second halt is looked for again.
@@ -85,6 +84,9 @@ pub(crate) fn wait_for_all<R: Wait + Clock, D>(
                 register.end_all();
             }
         }
-        register = hall.left.wait_timeout(rt, register, Duration::from_millis(PAUSE)).0;
+        register = hall
+            .left
+            .wait_timeout(rt, register, Duration::from_millis(PAUSE))
+            .0;
     }
 }

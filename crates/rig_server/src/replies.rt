@@ -30,8 +30,7 @@ pub(crate) fn tick_reply(alloc: Global, number: u64) -> Result<String, AllocErro
 ///
 /// # Errors
 /// Want of memory.
-pub(crate) fn lines_reply(alloc: Global, values: &[i64]) -> Result<String, AllocError>
-{
+pub(crate) fn lines_reply(alloc: Global, values: &[i64]) -> Result<String, AllocError> {
     let mut text = String::from_str(alloc, "ok lines")?;
     for value in values {
         let one = format!(in alloc; " {value}")?;

@@ -171,7 +171,14 @@ fn run<
     requires few { service.now.workers ≤ 64 }
 {
     thread::scope(thread::scope_env(), rt, |scope| {
-        let pool = Pool::start(rt, hall.alloc, scope, service.workers, hall.desk, service.gate)?;
+        let pool = Pool::start(
+            rt,
+            hall.alloc,
+            scope,
+            service.workers,
+            hall.desk,
+            service.gate,
+        )?;
         let listener = doors.listener;
         if scope
             .spawn(move || accept_all(rt, scope, listener, hall))
