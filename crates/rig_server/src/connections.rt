@@ -1,6 +1,7 @@
 //! Connections: each gets a seat and a thread, in which its session is answered.
 
 use crate::clients::{Client, dismiss, prepare, refuse};
+use crate::faults::ServeFault;
 use crate::register::{NotTaken, Register};
 use crate::seats::Seats;
 use locked_book::faults::PassFault;
@@ -35,8 +36,24 @@ pub(crate) struct Hall<'a, D> {
     pub(crate) left: Condvar,
 }
 
-/// Takes connections until the register is closed. One that can't be taken is passed over.
-pub(crate) fn accept_all<'s, E, D: Seats + Sync, R: Threads + Wait + Clock + Sync>(
+/// Starts the thread that takes connections.
+///
+/// # Errors
+/// `Memory` where no thread can be had.
+pub(crate) fn start<'s, E, D: Seats + Sync, R: Threads + Wait + Clock + Sync>(
+    rt: &'s R,
+    scope: &'s Scope<'s, E>,
+    listener: &'s TcpListener,
+    hall: &'s Hall<'s, D>,
+) -> Result<(), ServeFault> {
+    match scope.spawn(move || accept_all(rt, scope, listener, hall)) {
+        Ok(_thread) => Ok(()),
+        Err(_) => Err(ServeFault::Memory),
+    }
+}
+
+// Takes connections until the register is closed. One that can't be taken is passed over.
+fn accept_all<'s, E, D: Seats + Sync, R: Threads + Wait + Clock + Sync>(
     rt: &'s R,
     scope: &'s Scope<'s, E>,
     listener: &'s TcpListener,

@@ -2,7 +2,7 @@
 
 ghost use Rattle.std.specs.Prelude.{◌≡◌, ◌≤◌};
 
-use crate::connections::{Hall, accept_all};
+use crate::connections::{Hall, start};
 use crate::faults::ServeFault;
 use crate::halting::{close_doors, look_for_halt, wait_for_all};
 use crate::operators::{Ending, Operator, say};
@@ -179,17 +179,13 @@ fn run<
             hall.desk,
             service.gate,
         )?;
-        let listener = doors.listener;
-        if scope
-            .spawn(move || accept_all(rt, scope, listener, hall))
-            .is_err()
-        {
-            pool.stop(rt);
-            return Err(ServeFault::Memory);
-        }
-        let ended = preside(rt, doors, hall, &pool, reader, writer);
+        let started = start(rt, scope, doors.listener, hall);
+        let ended = match started {
+            Ok(()) => Ok(preside(rt, doors, hall, &pool, reader, writer)),
+            Err(fault) => Err(fault),
+        };
         pool.stop(rt);
-        Ok(ended)
+        ended
     })
 }
 
