@@ -7,10 +7,11 @@ use crate::seats::Seats;
 use locked_book::faults::PassFault;
 use locked_book::passes::Pass;
 use rig_config::Config;
+use rig_sessions::faults::TalkFault;
 use rig_sessions::talking::talk;
 use std::alloc::Global;
 use std::io::{BufWriter, Write};
-use std::net::{TcpListener, TcpStream};
+use std::net::{Shutdown, TcpListener, TcpStream};
 use std::sync::{Condvar, Mutex, Wait};
 use std::thread;
 use std::thread::{Scope, Threads};
@@ -150,7 +151,7 @@ fn answer<R: Wait, D: Seats>(rt: &R, hall: &Hall<'_, D>, stream: &TcpStream, pas
         return pass;
     };
     let mut reader = Client::new(stream);
-    let (pass, _end) = talk(
+    let (pass, end) = talk(
         rt,
         hall.alloc,
         hall.config,
@@ -159,6 +160,10 @@ fn answer<R: Wait, D: Seats>(rt: &R, hall: &Hall<'_, D>, stream: &TcpStream, pas
         &mut reader,
         &mut writer,
     );
+    if let Err(TalkFault::Write) = end {
+        // what is left can't be written, and isn't waited for a second time
+        let _ = stream.shutdown(Shutdown::Both);
+    }
     let _ = writer.flush();
     pass
 }
