@@ -115,7 +115,7 @@ fn serve_desk<
     requires few { service.now.workers ≤ 64 }
 {
     let desk = Desk::<N>::new(service.alloc, config, first_tick)?;
-    let (passes, ended) = hold(rt, doors, &desk, reader, writer, service)?;
+    let (passes, ended) = hold(rt, doors, &desk, &*config, reader, writer, service)?;
     let closed = close(service.alloc, desk, passes, writer);
     ended?;
     closed
@@ -133,16 +133,17 @@ fn hold<
     rt: &R,
     doors: &Doors<'_>,
     desk: &'a Desk<N>,
+    config: &'a Config,
     reader: I,
     writer: &mut W,
-    service: &'a Service<'a, G>,
+    service: &Service<'_, G>,
 ) -> Result<(Vec<Pass>, Result<(), ServeFault>), ServeFault>
     requires some { 1 ≤ service.now.workers }
     requires few { service.now.workers ≤ 64 }
 {
     let hall = Hall {
         alloc: service.alloc,
-        config: service.config,
+        config,
         desk,
         idle: service.idle,
         register: Mutex::new(Register::new(service.alloc)),
