@@ -1,4 +1,0 @@
-pub mod Answering
-pub mod SessionLines
-pub mod SessionRows
-pub mod SoFar

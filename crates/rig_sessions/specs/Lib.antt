@@ -1,4 +1,0 @@
-pub mod Sessions
-pub mod Steps
-pub mod Talks
-pub mod inner
