@@ -1,6 +1,6 @@
 //! The words that the program takes, and their help.
 
-use clap::{Arg, ArgAction, Command};
+use clap::{Arg, ArgAction, Command, value_parser};
 use std::alloc::{AllocError, Global};
 
 // What stands below the help of `script`.
@@ -24,6 +24,11 @@ A configuration, one [[tenant]] for each tenant (docs/HOST.md tells the fields):
   offers = 4
   binds = 4";
 
+// What stands below the help of `serve`.
+const SERVE_EXAMPLE: &str = "\
+Example: rig_host serve --port 4000
+The operator's lines come from standard input: `tick V ..`, `lines`, `wait` and `halt`.";
+
 // What stands below the help of `retest`.
 const RETEST_EXAMPLE: &str = "\
 Example: rig_host retest --config examples/whose_retest/rig.toml --dot retests.dot < examples/whose_retest/rig.script
@@ -45,6 +50,7 @@ pub fn arguments<'a>(alloc: Global) -> Result<Command<'a>, AllocError> {
         .after_help("Example: rig_host script < examples/first/first.script")
         .subcommand_required(true)
         .subcommand(script_arguments(alloc)?)?
+        .subcommand(serve_arguments(alloc)?)?
         .subcommand(timeline_arguments(alloc)?)?
         .subcommand(retest_arguments(alloc)?)?
         .subcommand(trial_arguments(alloc)?)
@@ -64,6 +70,40 @@ fn script_arguments<'a>(alloc: Global) -> Result<Command<'a>, AllocError> {
         .after_help(SCRIPT_EXAMPLES)
         .arg(config_argument(alloc))?
         .arg(dump)
+}
+
+/// The words of `serve`.
+///
+/// # Errors
+/// Want of memory.
+pub fn serve_arguments<'a>(alloc: Global) -> Result<Command<'a>, AllocError> {
+    let port = Arg::new(alloc, "port")
+        .long("port")
+        .value_name("N")
+        .action(ArgAction::Set)
+        .value_parser(value_parser!(u16))
+        .help("The port, 0 to 65535; without it, or where it is 0, the system chooses one");
+    let workers = Arg::new(alloc, "workers")
+        .long("workers")
+        .value_name("N")
+        .action(ArgAction::Set)
+        .value_parser(value_parser!(u8).range(1..65))
+        .help("How many threads run jobs, 1 to 64; without it 2");
+    let idle = Arg::new(alloc, "idle")
+        .long("idle")
+        .value_name("SECONDS")
+        .action(ArgAction::Set)
+        .value_parser(value_parser!(u32).range(1..86401))
+        .help("Ends a session from which nothing came for so long, 1 to 86400; without it none");
+    Command::new(alloc, "serve")
+        .about(
+            "Listens on 127.0.0.1, answers a session for each connection, and takes the operator's lines from standard input",
+        )
+        .after_help(SERVE_EXAMPLE)
+        .arg(config_argument(alloc))?
+        .arg(port)?
+        .arg(workers)?
+        .arg(idle)
 }
 
 /// The words of `timeline`.

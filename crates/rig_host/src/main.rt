@@ -4,16 +4,18 @@
 ghost use Rattle.std.specs.Prelude.{◌≡◌};
 ghost use Rattle.std.specs.Process.{exit_status};
 ghost use Rattle.clap.specs.declared.error.Error.{Error as ArgumentError};
-ghost use Rattle.rig_host.specs.declared.Failure.TheVariants.{Configuration, Fault, Picture};
+ghost use Rattle.rig_host.specs.declared.Failure.TheVariants.{Configuration, Fault, Picture, Server};
 ghost use Rattle.rig_host.specs.declared.configuration.ConfigurationFault.{ConfigurationFault as AnyConfigurationFault};
 ghost use Rattle.rig_host.specs.declared.pictures.PictureFault.{PictureFault as AnyPictureFault};
 ghost use Rattle.rig_script.specs.declared.faults.ScriptFault.{ScriptFault as AnyFault};
+ghost use Rattle.rig_server.specs.declared.faults.ServeFault.{ServeFault as AnyServeFault};
 ghost use Rattle.rig_script.specs.declared.faults.ScriptFault.TheVariants.{Memory};
 
 mod command_line;
 mod configuration;
 mod pictures;
 mod retests;
+mod server;
 
 use clap::ArgMatches;
 use clap::error::ErrorKind;
@@ -24,13 +26,18 @@ use retests::{print_retests, print_trial};
 use rig_config::{Config, TenantId};
 use rig_script::faults::ScriptFault;
 use rig_script::script;
+use rig_server::faults::ServeFault;
+use server::{ServeRequest, run_server};
 use std::alloc::{AllocError, Global};
 use std::io::BufWriter;
 use std::process::ExitCode;
+use std::sync::Wait;
+use std::thread::Threads;
+use std::time::Clock;
 use std::{env, fmt, io};
 
 fn main(rt: HostRuntime) -> ExitCode {
-    match run(&rt) {
+    match run(&rt, &rt) {
         Ok(()) => ExitCode::SUCCESS,
         Err(failure) => {
             // where standard error is closed, the status alone tells
@@ -52,6 +59,8 @@ enum Request<'a> {
         /// The path of the value change dump, where one is wanted.
         dump: Option<&'a str>,
     },
+    /// The server of a rig.
+    Serve(ServeRequest<'a>),
     /// The timeline of one tenant in a script of a file.
     Timeline(TimelineRequest<'a>),
     /// Whose change calls for whose retest in the script on standard input.
@@ -92,6 +101,8 @@ enum Failure {
     Configuration(ConfigurationFault),
     /// Reading, writing or want of memory, of the script or before it.
     Fault(ScriptFault),
+    /// What ended the server otherwise than by a halt.
+    Server(ServeFault),
     /// A file of a picture.
     Picture(PictureFault),
 }
@@ -102,12 +113,13 @@ impl Failure {
         ensures arguments { (error : ArgumentError) → self.now ≡ Failure.Arguments error → exit_status result ≡ 2 }
         ensures configuration { (fault : AnyConfigurationFault) → self.now ≡ Failure.Configuration fault → exit_status result ≡ 1 }
         ensures fault { (fault : AnyFault) → self.now ≡ Failure.Fault fault → exit_status result ≡ 3 }
+        ensures server { (fault : AnyServeFault) → self.now ≡ Failure.Server fault → exit_status result ≡ 3 }
         ensures picture { (fault : AnyPictureFault) → self.now ≡ Failure.Picture fault → exit_status result ≡ 3 }
     {
         match self {
             Failure::Arguments(_) => ExitCode::from(2),
             Failure::Configuration(_) => ExitCode::from(1),
-            Failure::Fault(_) | Failure::Picture(_) => ExitCode::from(3),
+            Failure::Fault(_) | Failure::Server(_) | Failure::Picture(_) => ExitCode::from(3),
         }
     }
 }
@@ -118,6 +130,7 @@ impl fmt::Display for Failure {
             Failure::Arguments(error) => write!(f, "{error}"),
             Failure::Configuration(fault) => writeln!(f, "{fault}"),
             Failure::Fault(fault) => writeln!(f, "{}", fault.as_str()),
+            Failure::Server(fault) => writeln!(f, "{}", fault.as_str()),
             Failure::Picture(fault) => writeln!(f, "{}", fault.as_str()),
         }
     }
@@ -139,6 +152,14 @@ impl From<ScriptFault> for Failure {
     }
 }
 
+impl From<ServeFault> for Failure {
+    ghost from_gives = { λ fault failure. failure ≡ Server fault };
+
+    fn from(fault: ServeFault) -> Failure {
+        Failure::Server(fault)
+    }
+}
+
 impl From<PictureFault> for Failure {
     ghost from_gives = { λ fault failure. failure ≡ Picture fault };
 
@@ -155,8 +176,8 @@ impl From<AllocError> for Failure {
     }
 }
 
-// Does what the arguments ask for: they are looked at first, then the configuration.
-fn run(rt: &HostRuntime) -> Result<(), Failure> {
+// Does what the arguments ask for: they are looked at first, then the configuration. A server starts its threads by the second handle.
+fn run<T: Threads + Wait + Clock + Sync>(rt: &HostRuntime, threads: &T) -> Result<(), Failure> {
     let words = read_words(rt)?;
     match read_arguments(rt.alloc(), words.as_slice())? {
         Request::Text(text) => match rt.print(&text) {
@@ -169,6 +190,10 @@ fn run(rt: &HostRuntime) -> Result<(), Failure> {
                 Some(path) => write_dump(rt, &config, path),
                 None => Ok(run_script(rt, &config)?),
             }
+        }
+        Request::Serve(request) => {
+            let config = read_configuration(rt, request.config)?;
+            run_server(rt, threads, &config, &request)
         }
         Request::Timeline(request) => {
             let config = read_configuration(rt, request.config)?;
@@ -237,6 +262,9 @@ fn request_of<'a>(matches: &ArgMatches<'a>) -> Request<'a> {
     if let Some(request) = timeline_of(matches) {
         return Request::Timeline(request);
     }
+    if let Some(request) = server_of(matches) {
+        return Request::Serve(request);
+    }
     if let Some(words) = matches.subcommand_matches("retest") {
         return Request::Retest {
             config: words.get_str("config"),
@@ -255,6 +283,17 @@ fn request_of<'a>(matches: &ArgMatches<'a>) -> Request<'a> {
 // The word behind this argument of `script`, where it is given.
 fn word_of_script<'a>(matches: &ArgMatches<'a>, argument: &str) -> Option<&'a str> {
     matches.subcommand_matches("script")?.get_str(argument)
+}
+
+// Which server is asked for, if one is.
+fn server_of<'a>(matches: &ArgMatches<'a>) -> Option<ServeRequest<'a>> {
+    let words = matches.subcommand_matches("serve")?;
+    Some(ServeRequest {
+        config: words.get_str("config"),
+        port: words.get_one::<u16>("port").unwrap_or(0),
+        workers: words.get_one::<u8>("workers").unwrap_or(2),
+        idle: words.get_one::<u32>("idle"),
+    })
 }
 
 // Which trial is asked for, if one is.

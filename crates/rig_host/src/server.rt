@@ -1,0 +1,59 @@
+//! The server on a port of this machine.
+
+use crate::Failure;
+use rig_config::Config;
+use rig_server::faults::ServeFault;
+use rig_server::serving::{Service, serve};
+use std::io;
+use std::io::BufWriter;
+use std::net::TcpListener;
+use std::sync::Wait;
+use std::thread::Threads;
+use std::time::{Clock, Duration};
+use worker_pool::gates::Free;
+
+/// What `serve` is started with.
+#[derive(Clone, Copy)]
+pub struct ServeRequest<'a> {
+    /// The path of the configuration; `None` for the built-in one.
+    pub config: Option<&'a str>,
+    /// The port; 0 for one that the system chooses.
+    pub port: u16,
+    /// How many workers run jobs. Fewer than 1 are 1, more than 64 are 64.
+    pub workers: u8,
+    /// How many seconds a session may be silent, if there is a bound.
+    pub idle: Option<u32>,
+}
+
+/// Serves the rig on a port of 127.0.0.1, with the operator's lines on standard input.
+///
+/// # Errors
+/// `Listen` where the port can't be had, and the faults of the server.
+pub fn run_server<T: Threads + Wait + Clock + Sync>(
+    rt: &HostRuntime,
+    threads: &T,
+    config: &Config,
+    request: &ServeRequest<'_>,
+) -> Result<(), Failure> {
+    let Ok(listener) = TcpListener::bind(rt, ("127.0.0.1", request.port)) else {
+        return Err(Failure::Server(ServeFault::Listen));
+    };
+    let Ok(mut writer) = BufWriter::new(rt.alloc(), io::writer(rt)) else {
+        return Err(Failure::Server(ServeFault::Memory));
+    };
+    let service = Service {
+        alloc: rt.alloc(),
+        config,
+        workers: usize::from(request.workers).clamp(1, 64),
+        idle: seconds(request.idle),
+        gate: &Free,
+    };
+    Ok(serve(threads, &listener, rt.reader(), &mut writer, &service)?)
+}
+
+fn seconds(idle: Option<u32>) -> Option<Duration> {
+    match idle {
+        Some(seconds) => Some(Duration::from_secs(u64::from(seconds))),
+        None => None,
+    }
+}

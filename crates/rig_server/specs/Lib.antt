@@ -1,0 +1,2 @@
+pub mod OperatorLines
+pub mod inner

@@ -1,0 +1,169 @@
+//! Connections: each gets a seat and a thread, in which its session is answered.
+
+use crate::clients::{Client, dismiss, prepare, refuse};
+use crate::faults::ServeFault;
+use crate::register::{NotTaken, Register};
+use crate::seats::Seats;
+use locked_book::faults::PassFault;
+use locked_book::passes::Pass;
+use rig_config::Config;
+use rig_sessions::faults::TalkFault;
+use rig_sessions::talking::talk;
+use std::alloc::Global;
+use std::io::{BufWriter, Write};
+use std::net::{Shutdown, TcpListener, TcpStream};
+use std::sync::{Condvar, Mutex, Wait};
+use std::thread;
+use std::thread::{Scope, Threads};
+use std::time::{Clock, Duration};
+
+// How many milliseconds are waited behind an accept that failed, as where no descriptor is free.
+const PAUSE: u64 = 10;
+
+/// What the threads of a server share.
+#[derive(Drop)]
+pub(crate) struct Hall<'a, D> {
+    /// What a session takes its memory from.
+    pub(crate) alloc: Global,
+    /// The tenants and their keys.
+    pub(crate) config: &'a Config,
+    /// Who takes the calls.
+    pub(crate) desk: &'a D,
+    /// How long a session may be silent, if there is a bound.
+    pub(crate) idle: Option<Duration>,
+    /// The open connections.
+    pub(crate) register: Mutex<Register>,
+    /// Told of each connection that has ended.
+    pub(crate) left: Condvar,
+}
+
+/// Starts the thread that takes connections.
+///
+/// # Errors
+/// `Memory` where no thread can be had.
+pub(crate) fn start<'s, E, D: Seats + Sync, R: Threads + Wait + Clock + Sync>(
+    rt: &'s R,
+    scope: &'s Scope<'s, E>,
+    listener: &'s TcpListener,
+    hall: &'s Hall<'s, D>,
+) -> Result<(), ServeFault> {
+    match scope.spawn(move || accept_all(rt, scope, listener, hall)) {
+        Ok(_thread) => Ok(()),
+        Err(_) => Err(ServeFault::Memory),
+    }
+}
+
+// Takes connections until the register is closed. One that can't be taken is passed over.
+fn accept_all<'s, E, D: Seats + Sync, R: Threads + Wait + Clock + Sync>(
+    rt: &'s R,
+    scope: &'s Scope<'s, E>,
+    listener: &'s TcpListener,
+    hall: &'s Hall<'s, D>,
+) {
+    for stream in listener.incoming() {
+        match stream {
+            Ok(stream) => take(rt, scope, hall, stream),
+            Err(_) => thread::sleep(rt, Duration::from_millis(PAUSE)),
+        }
+        if hall.register.lock(rt).is_closed() {
+            return;
+        }
+    }
+}
+
+// Gives a connection its place, its seat and its thread.
+fn take<'s, E, D: Seats + Sync, R: Threads + Wait + Clock + Sync>(
+    rt: &'s R,
+    scope: &'s Scope<'s, E>,
+    hall: &'s Hall<'s, D>,
+    stream: TcpStream,
+) {
+    let Ok(()) = prepare(&stream, hall.idle) else {
+        return;
+    };
+    let Ok(handle) = stream.try_clone() else {
+        refuse(&stream, b"bye memory\n");
+        return;
+    };
+    match enter(rt, hall, handle) {
+        Ok((place, pass)) => {
+            if scope
+                .spawn(move || converse(rt, hall, stream, place, pass))
+                .is_err()
+            {
+                give_up(rt, hall, place);
+            }
+        }
+        Err(bye) => refuse(&stream, bye),
+    }
+}
+
+// A place and a seat, or what a connection is told that gets none.
+fn enter<R: Wait, D: Seats>(
+    rt: &R,
+    hall: &Hall<'_, D>,
+    handle: TcpStream,
+) -> Result<(usize, Pass), &'static [u8]> {
+    let place = match hall.register.lock(rt).enter(handle) {
+        Ok(place) => place,
+        Err(NotTaken::Closed) => return Err(b""),
+        Err(NotTaken::Memory) => return Err(b"bye memory\n"),
+    };
+    match hall.desk.seat(rt) {
+        Ok(pass) => Ok((place, pass)),
+        Err(fault) => {
+            let _ = hall.register.lock(rt).give_up(place);
+            match fault {
+                PassFault::SeatsEnded => Err(b"bye seats\n"),
+                PassFault::Memory => Err(b"bye memory\n"),
+            }
+        }
+    }
+}
+
+// Tells a connection that it has no thread.
+fn give_up<R: Wait, D>(rt: &R, hall: &Hall<'_, D>, place: usize) {
+    let handle = hall.register.lock(rt).give_up(place);
+    if let Some(handle) = handle {
+        refuse(&handle, b"bye memory\n");
+    }
+}
+
+// Answers a connection until it ends, and leaves its pass.
+fn converse<R: Wait, D: Seats>(
+    rt: &R,
+    hall: &Hall<'_, D>,
+    stream: TcpStream,
+    place: usize,
+    pass: Pass,
+) {
+    let pass = answer(rt, hall, &stream, pass);
+    dismiss(&stream);
+    drop(stream);
+    hall.register.lock(rt).leave(place, pass);
+    hall.left.notify_all();
+}
+
+// Answers the lines of a connection. A fault of its stream ends it as its end does.
+fn answer<R: Wait, D: Seats>(rt: &R, hall: &Hall<'_, D>, stream: &TcpStream, pass: Pass) -> Pass {
+    let Ok(mut writer) = BufWriter::new(hall.alloc, stream) else {
+        refuse(stream, b"bye memory\n");
+        return pass;
+    };
+    let mut reader = Client::new(stream);
+    let (pass, end) = talk(
+        rt,
+        hall.alloc,
+        hall.config,
+        hall.desk,
+        pass,
+        &mut reader,
+        &mut writer,
+    );
+    if let Err(TalkFault::Write) = end {
+        // what is left can't be written, and isn't waited for a second time
+        let _ = stream.shutdown(Shutdown::Both);
+    }
+    let _ = writer.flush();
+    pass
+}

@@ -1,0 +1,69 @@
+//! Why a server ends otherwise than by a halt.
+
+ghost use Rattle.std.specs.Prelude.{◌≡◌};
+ghost use Rattle.rig_server.specs.inner.Faults.{text_of_fault};
+
+use std::alloc::AllocError;
+use text_lines::faults::LinesFault;
+use thiserror::Error;
+
+/// Why a server ended otherwise than by a halt.
+#[derive(Clone, Copy, Debug, PartialEq, Eq, Error)]
+pub enum ServeFault {
+    /// The listener has no address, or can't be held a second time.
+    #[error("listening failed")]
+    Listen,
+    /// A read of the operator's lines failed, or there was want of memory for one.
+    #[error("reading the operator's lines failed")]
+    Read,
+    /// A write to the operator failed.
+    #[error("writing to the operator failed")]
+    Write,
+    /// The operator's input had not ended after 1,048,576 reads.
+    #[error("the operator's input had not ended after 1048576 reads")]
+    Turns,
+    /// Want of memory or of a thread before the first line, or of memory for the last.
+    #[error("no memory for the server")]
+    Memory,
+}
+
+impl From<AllocError> for ServeFault {
+    ghost use Rattle.std.specs.Prelude.{◌≡◌};
+    ghost use Rattle.rig_server.specs.declared.faults.ServeFault.TheVariants.{Memory};
+
+    ghost from_gives = { λ _ fault. fault ≡ Memory };
+
+    fn from(_error: AllocError) -> ServeFault {
+        ServeFault::Memory
+    }
+}
+
+impl From<LinesFault> for ServeFault {
+    ghost use Rattle.std.specs.Prelude.{◌≡◌};
+    ghost use Rattle.rig_server.specs.inner.Faults.{fault_of_lines};
+
+    ghost from_gives = { λ lines fault. fault ≡ fault_of_lines lines };
+
+    fn from(fault: LinesFault) -> ServeFault {
+        match fault {
+            LinesFault::Read | LinesFault::Memory => ServeFault::Read,
+            LinesFault::Write => ServeFault::Write,
+            LinesFault::Turns => ServeFault::Turns,
+        }
+    }
+}
+
+impl ServeFault {
+    /// The line that the program writes to standard error.
+    pub fn as_str(self) -> &'static str
+        ensures { result.now ≡ text_of_fault self }
+    {
+        match self {
+            ServeFault::Listen => "io: listen",
+            ServeFault::Read => "io: read",
+            ServeFault::Write => "io: write",
+            ServeFault::Turns => "io: turns",
+            ServeFault::Memory => "io: memory",
+        }
+    }
+}

@@ -1,0 +1,92 @@
+//! Halting: no further connection is taken, and the open ones are waited for, or ended at a second halt.
+
+use crate::connections::Hall;
+use crate::operator_lines::{OperatorLine, operator_line};
+use std::alloc::Global;
+use std::io::Read;
+use std::net::{Shutdown, TcpStream};
+use std::sync::atomic::{AtomicU64, Ordering};
+use std::sync::{Arc, CondvarTimeouts, Wait};
+use std::thread::Threads;
+use std::time::{Clock, Duration};
+use std::{io, thread};
+use text_lines::lines::{Line, Lines};
+
+// After how many milliseconds a second halt is looked for again.
+const PAUSE: u64 = 20;
+
+/// Whether a second halt was said.
+#[derive(Drop)]
+pub(crate) struct SecondHalt {
+    said: Arc<AtomicU64, Global>,
+}
+
+impl SecondHalt {
+    fn is_said(&self) -> bool {
+        self.said.load(Ordering::SeqCst) == 1
+    }
+}
+
+/// Looks for a second halt in what is left of the operator's lines, in a thread that nobody waits for: what the operator still says may
+/// never come. `None` where no thread can be had.
+pub(crate) fn look_for_halt<R: Threads, I: Read + Drop + Send + 'static>(
+    rt: &R,
+    alloc: Global,
+    lines: Lines,
+    reader: I,
+) -> Option<SecondHalt> {
+    let said = Arc::new(alloc, AtomicU64::new(0)).ok()?;
+    let theirs = Arc::try_clone(&said).ok()?;
+    let looker = thread::spawn(rt, move || read_to_halt(alloc, lines, reader, &theirs));
+    match looker {
+        Ok(_thread) => Some(SecondHalt { said }),
+        Err(_) => None,
+    }
+}
+
+// Reads until a line is `halt`, and tells it.
+fn read_to_halt<I: Read + Drop>(alloc: Global, lines: Lines, reader: I, said: &AtomicU64) {
+    let mut lines = lines;
+    let mut reader = reader;
+    let mut nowhere = io::sink();
+    for _line in 0..u64::MAX {
+        match lines.next_line(&mut reader, &mut nowhere) {
+            Ok(Line::Whole(line)) => {
+                if let Ok(OperatorLine::Halt) = operator_line(alloc, line.as_str()) {
+                    said.store(1, Ordering::SeqCst);
+                    return;
+                }
+            }
+            Ok(Line::Bad) | Ok(Line::End) | Err(_) => return,
+        }
+    }
+}
+
+/// Takes no further connection: wakes who accepts, by ending the listener that this is a handle of.
+pub(crate) fn close_doors<R: Wait, D>(rt: &R, hall: &Hall<'_, D>, listener: &TcpStream) {
+    hall.register.lock(rt).close();
+    let _ = listener.shutdown(Shutdown::Both);
+}
+
+/// Waits until no connection is open. A second halt ends all that are.
+pub(crate) fn wait_for_all<R: Wait + Clock, D>(
+    rt: &R,
+    hall: &Hall<'_, D>,
+    second: Option<&SecondHalt>,
+) {
+    let mut register = hall.register.lock(rt);
+    for _ in rt.forever() {
+        if register.is_empty() {
+            return;
+        }
+        if let Some(second) = second {
+            if second.is_said() {
+                register.end_all();
+            }
+        }
+        register = hall
+            .left
+            .wait_timeout(rt, register, Duration::from_millis(PAUSE))
+            .0;
+    }
+}

@@ -1,0 +1,66 @@
+//! The operator's lines, as they stand in a server: without `op` before them.
+
+ghost use Rattle.std.specs.Prelude.{◌≡◌, ◌==◌, ◌∷◌, IfOk, IsErr, if◌then◌else◌, codes, length};
+ghost use Rattle.tenant_lines.specs.Words.{first_word_of, words_of};
+ghost use Rattle.rig_server.specs.OperatorLines.{bad_command, served_line_of};
+ghost use Rattle.rig_server.specs.inner.Lines.{line_of};
+
+use std::alloc::{AllocError, Global};
+use tenant_lines::words;
+
+/// What a line of the operator is.
+#[derive(Drop)]
+pub enum OperatorLine {
+    /// A blank line, which has no reply.
+    Blank,
+    /// An instant, with the value of each line of the rig.
+    Tick(Vec<i64>),
+    /// The value with which each line is driven.
+    Lines,
+    /// Waits until no job is outstanding.
+    Wait,
+    /// Takes no further connection, and ends once the open ones have ended.
+    Halt,
+    /// None of these.
+    BadCommand,
+}
+
+/// What a line of the operator is: blank, `tick V ..`, `lines`, `wait` or `halt`.
+///
+/// # Errors
+/// Want of memory for the values of a `tick`.
+pub fn operator_line(alloc: Global, line: &str) -> Result<OperatorLine, AllocError>
+    ensures line { IfOk result (λ told. line_of told ≡ served_line_of (words_of line.now)) }
+    ensures memory { IsErr result → first_word_of line.now ≡ codes "tick" }
+{
+    let rest = words::behind_first_word(line);
+    match words::first_word(line) {
+        "" => Ok(OperatorLine::Blank),
+        "tick" => tick(alloc, rest),
+        "lines" => Ok(alone(rest, OperatorLine::Lines)),
+        "wait" => Ok(alone(rest, OperatorLine::Wait)),
+        "halt" => Ok(alone(rest, OperatorLine::Halt)),
+        _ => Ok(OperatorLine::BadCommand),
+    }
+}
+
+// A `tick` with these words behind it.
+fn tick(alloc: Global, rest: &str) -> Result<OperatorLine, AllocError>
+    ensures { IfOk result (λ told. line_of told ≡ served_line_of (codes "tick" ∷ words_of rest.now)) }
+{
+    match words::values_of_words(alloc, rest)? {
+        Some(values) => Ok(OperatorLine::Tick(values)),
+        None => Ok(OperatorLine::BadCommand),
+    }
+}
+
+// A line of one word, with this behind it.
+fn alone(rest: &str, line: OperatorLine) -> OperatorLine
+    ensures { line_of result ≡ (if (length (first_word_of rest.now) == 0) then line_of line else bad_command) }
+{
+    if words::first_word(rest).is_empty() {
+        line
+    } else {
+        OperatorLine::BadCommand
+    }
+}
