@@ -2,6 +2,8 @@
 use Rattle.std.specs.Prelude.{ℕ, ℤ, if◌then◌else◌, List, [], ◌∷◌, Option, Some, None, codes}
 use Rattle.giotto_tasks.specs.Names.{same_name}
 use Rattle.tenant_lines.specs.Words.{values_of_words}
+use Rattle.rig_server.specs.declared.operator_lines.OperatorLine.{OperatorLine}
+use Rattle.rig_server.specs.declared.operator_lines.OperatorLine.TheVariants.{Blank, Tick, Lines, Wait, Halt, BadCommand}
 
 pub data ServedLine : Type 0 where
   -- has no reply
@@ -29,3 +31,12 @@ served_line_of (w ∷ ws) =
     alone : ServedLine → List (List ℕ) → ServedLine
     alone line [] = line
     alone line (x ∷ xs) = bad_command
+
+-- what the code tells of a line
+abbrev pub line_of : OperatorLine → ServedLine
+line_of Blank = blank
+line_of (Tick values) = tick values.items
+line_of Lines = line_values
+line_of Wait = settle
+line_of Halt = halt
+line_of BadCommand = bad_command

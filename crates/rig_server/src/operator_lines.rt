@@ -2,8 +2,7 @@
 
 ghost use Rattle.std.specs.Prelude.{◌≡◌, ◌==◌, ◌∷◌, IfOk, IsErr, if◌then◌else◌, codes, length};
 ghost use Rattle.tenant_lines.specs.Words.{first_word_of, words_of};
-ghost use Rattle.rig_server.specs.OperatorLines.{bad_command, served_line_of};
-ghost use Rattle.rig_server.specs.inner.Lines.{line_of};
+ghost use Rattle.rig_server.specs.OperatorLines.{bad_command, line_of, served_line_of};
 
 use std::alloc::{AllocError, Global};
 use tenant_lines::words;

@@ -1,6 +1,7 @@
 //! The server, from its first connection to the close of its desk.
 
 ghost use Rattle.std.specs.Prelude.{◌≡◌, ◌≤◌};
+ghost use Rattle.std.specs.Thread.{IsSend};
 
 use crate::connections::{Hall, start};
 use crate::faults::ServeFault;
@@ -171,23 +172,31 @@ fn run<
     requires some { 1 ≤ service.now.workers }
     requires few { service.now.workers ≤ 64 }
 {
-    thread::scope(thread::scope_env(), rt, |scope| {
-        let pool = Pool::start(
-            rt,
-            hall.alloc,
-            scope,
-            service.workers,
-            hall.desk,
-            service.gate,
-        )?;
-        let started = start(rt, scope, doors.listener, hall);
-        let ended = match started {
-            Ok(()) => Ok(preside(rt, doors, hall, &pool, reader, writer)),
-            Err(fault) => Err(fault),
-        };
-        pool.stop(rt);
-        ended
-    })
+    thread::scope(
+        thread::scope_env(),
+        rt,
+        |scope|
+            requires some { 1 ≤ service.now.workers }
+            requires few { service.now.workers ≤ 64 }
+            requires moves { IsSend I.row }
+        {
+            let pool = Pool::start(
+                rt,
+                hall.alloc,
+                scope,
+                service.workers,
+                hall.desk,
+                service.gate,
+            )?;
+            let started = start(rt, scope, doors.listener, hall);
+            let ended = match started {
+                Ok(()) => Ok(preside(rt, doors, hall, &pool, reader, writer)),
+                Err(fault) => Err(fault),
+            };
+            pool.stop(rt);
+            ended
+        },
+    )
 }
 
 // Answers the operator, and waits for the connections.
