@@ -239,15 +239,22 @@ fn run_three<N: Naming + Send + Sync, R: Threads + Wait + Clock + Sync, G: Gate 
     if jobs.len() != 3 {
         return None;
     }
-    thread::scope(thread::scope_env(), rt, |scope| {
-        let pool = Pool::start(rt, alloc, scope, workers, desk, gate).ok()?;
-        let unsent = pool.send(rt, jobs);
-        if unsent.len() == 0 {
-            desk.settle(rt);
-        }
-        pool.stop(rt);
-        Some(())
-    })
+    thread::scope(
+        thread::scope_env(),
+        rt,
+        |scope|
+            requires some { 1 ≤ workers }
+            requires few { workers ≤ 64 }
+        {
+            let pool = Pool::start(rt, alloc, scope, workers, desk, gate).ok()?;
+            let unsent = pool.send(rt, jobs);
+            if unsent.len() == 0 {
+                desk.settle(rt);
+            }
+            pool.stop(rt);
+            Some(())
+        },
+    )
 }
 
 // The jobs of an instant with this reading.
