@@ -46,8 +46,6 @@ pub enum Shown {
     StoppedWorker(Worker),
     /// A pool that is dropped runs what was sent, and its threads end.
     DroppedPool,
-    /// A thread that waits until no job is outstanding comes back when another one does this, and not before.
-    Settled(Waker),
 }
 
 /// Who computes three jobs.
@@ -68,15 +66,6 @@ pub enum Worker {
     Runs,
     /// It drops the job.
     Drops,
-}
-
-/// What another thread does when no job is to be outstanding any longer.
-#[derive(Clone, Copy)]
-pub enum Waker {
-    /// It stops the tenant.
-    Stop,
-    /// It lets the job's deadline come.
-    Deadline,
 }
 
 /// Whether it is so, on a desk of the built-in configuration. `None` where there is want of memory, or of a thread.
@@ -104,7 +93,6 @@ fn on_desk<N: Naming + Send + Sync, R: Threads + Wait + Clock + Sync>(
         Shown::HeldJob(crew) => held_job_lets_others_pass(rt, alloc, desk, crew),
         Shown::StoppedWorker(worker) => stopped_worker_has_run_its_job(rt, alloc, &desk, worker),
         Shown::DroppedPool => dropped_pool_runs_its_jobs(rt, alloc, desk),
-        Shown::Settled(waker) => settles_behind(rt, alloc, &desk, waker),
     }
 }
 
@@ -359,58 +347,6 @@ fn run_and_drop<N: Naming + Send + Sync, R: Threads + Wait + Clock + Sync>(
     })
 }
 
-// Whether the desk settles once another thread has ended alpha's job, which nobody runs, and not before.
-fn settles_behind<N: Naming + Send + Sync, R: Threads + Wait + Clock + Sync>(
-    rt: &R,
-    alloc: Global,
-    desk: &Desk<N>,
-    waker: Waker,
-) -> Option<bool> {
-    let mut pass = desk.pass(rt).ok()?;
-    load_and_start(rt, alloc, desk, &mut pass, ALPHA, ADDER)?;
-    let jobs = jobs_of(rt, desk, 5)?;
-    if jobs.len() != 1 {
-        return None;
-    }
-    let begun = AtomicUsize::new(0);
-    settle_beside(rt, desk, pass, &begun, waker)
-}
-
-fn settle_beside<N: Naming + Send + Sync, R: Threads + Wait + Clock + Sync>(
-    rt: &R,
-    desk: &Desk<N>,
-    pass: Pass,
-    begun: &AtomicUsize,
-    waker: Waker,
-) -> Option<bool> {
-    thread::scope(thread::scope_env(), rt, |scope| {
-        let _waker = scope
-            .spawn(move || end_job(rt, desk, pass, begun, waker))
-            .ok()?;
-        desk.settle(rt);
-        Some(begun.load(Ordering::SeqCst) == 1)
-    })
-}
-
-// Ends alpha's job, a little later.
-fn end_job<N: Naming, R: Wait + Clock>(
-    rt: &R,
-    desk: &Desk<N>,
-    mut pass: Pass,
-    begun: &AtomicUsize,
-    waker: Waker,
-) {
-    thread::sleep(rt, Duration::from_millis(20));
-    begun.store(1, Ordering::SeqCst);
-    match waker {
-        Waker::Stop => drop(desk.call(rt, &mut pass, ALPHA, Command::Stop)),
-        Waker::Deadline => {
-            drop(desk.tick(rt, &[7]));
-            drop(desk.tick(rt, &[9]));
-        }
-    }
-}
-
 #[test]
 fn held_job_lets_two_others_pass(rt: HostRuntime) {
     assert!(rt; is_shown(&rt, rt.alloc(), Shown::HeldJob(Crew::Two)) == Some(true));
@@ -439,14 +375,4 @@ fn dropped_job_is_told(rt: HostRuntime) {
 #[test]
 fn dropped_pool_leaves_no_thread_behind(rt: HostRuntime) {
     assert!(rt; is_shown(&rt, rt.alloc(), Shown::DroppedPool) == Some(true));
-}
-
-#[test]
-fn desk_settles_behind_a_stop(rt: HostRuntime) {
-    assert!(rt; is_shown(&rt, rt.alloc(), Shown::Settled(Waker::Stop)) == Some(true));
-}
-
-#[test]
-fn desk_settles_behind_an_overrun(rt: HostRuntime) {
-    assert!(rt; is_shown(&rt, rt.alloc(), Shown::Settled(Waker::Deadline)) == Some(true));
 }
