@@ -5,6 +5,7 @@ use denote.Param.Send.{IsSend, IsSync, sendable}
 use Rattle.std.proofs.Crossing.{crosses}
 use Rattle.locked_book.specs.declared.naming.Naming.{Ghosts}
 use Rattle.locked_book.proofs.cited.Crossing.{desk_sync, pass_send, job_send, logged_send}
+use Rattle.measure.proofs.voices.Heard.TheSendSync as heard
 use Rattle.measure.specs.contracts.voices.Table as Table
 use Rattle.measure.specs.contracts.voices.Heard as Heard
 use Rattle.measure.specs.contracts.voices.Voice as Voice
@@ -16,4 +17,4 @@ heard_send : IsSend Heard.the_row
 heard_send = search (crosses, logged_send, sendable) depth 60 fits 20000
 
 pub voice_send : IsSend Voice.the_row
-voice_send = search (crosses, heard_send, pass_send, sendable) depth 60 fits 20000
+voice_send = search (crosses, heard.the_field_send, heard_send, pass_send, sendable) depth 60 fits 20000

@@ -77,7 +77,7 @@ fn on_desk<N: Naming + Send + Sync, R: Threads + Wait + Clock + Sync>(
     let gate = Free;
     match instants.workers {
         0 => alone(rt, &desk, instants.times),
-        1 | 2 | 4 => by_workers(rt, alloc, &desk, &gate, instants),
+        1 | 2 | 4 => by_workers(rt, alloc, &desk, &gate, instants.workers, instants.times),
         _ => None,
     }
 }
@@ -103,19 +103,25 @@ fn by_workers<N: Naming + Send + Sync, R: Threads + Wait + Clock + Sync>(
     alloc: Global,
     desk: &Desk<N>,
     gate: &Free,
-    instants: &Instants,
+    workers: usize,
+    times: u64,
 ) -> Option<i64>
-    requires some { 1 ≤ instants.now.workers }
-    requires few { instants.now.workers ≤ 64 }
+    requires some { 1 ≤ workers }
+    requires few { workers ≤ 64 }
 {
-    let workers = instants.workers;
-    let times = instants.times;
-    thread::scope(thread::scope_env(), rt, |scope| {
-        let pool = Pool::start(rt, alloc, scope, workers, desk, gate).ok()?;
-        let count = sent(rt, desk, &pool, times);
-        pool.stop(rt);
-        count
-    })
+    thread::scope(
+        thread::scope_env(),
+        rt,
+        |scope|
+            requires some { 1 ≤ workers }
+            requires few { workers ≤ 64 }
+        {
+            let pool = Pool::start(rt, alloc, scope, workers, desk, gate).ok()?;
+            let count = sent(rt, desk, &pool, times);
+            pool.stop(rt);
+            count
+        },
+    )
 }
 
 fn sent<N: Naming>(rt: &impl Wait, desk: &Desk<N>, pool: &Pool, times: u64) -> Option<i64> {

@@ -1,4 +1,4 @@
-//! Threads at one desk: two suppliers whose calls stand in one history, a completion behind a stop, and many calls at once.
+//! Desks that threads share: two suppliers whose calls stand in one history, and many calls at once. And a completion behind a stop.
 
 ghost use Rattle.std.specs.Prelude.{◌≡◌};
 
@@ -15,7 +15,7 @@ use rig_config::{Config, TenantId, built_in};
 use rig_model::logged::{Call, Logged};
 use std::alloc::Global;
 use std::marker::Brand;
-use std::sync::{Condvar, Mutex, Wait};
+use std::sync::Wait;
 use std::thread;
 use std::thread::Threads;
 use tenant_jobs::jobs::{Job, JobId, run_job};
@@ -245,103 +245,31 @@ fn stand_at<N: Naming>(alloc: Global, book: &Book<N>, tick: u128, done: u128) ->
 }
 
 // A completion behind a stop is late and not logged, and the next program drives its line at once.
-fn drops_late_completion<N: Naming + Send + Sync, R: Threads + Wait + Sync>(
-    rt: &R,
-    alloc: Global,
-    desk: Desk<N>,
-) -> Option<bool> {
+fn drops_late_completion<N: Naming>(rt: &impl Wait, alloc: Global, desk: Desk<N>) -> Option<bool> {
     let mut pass = desk.pass(rt).ok()?;
-    let mut is_late = false;
-    let turns = Turns::new();
-    take_turns(rt, alloc, &desk, &turns, &mut pass, &mut is_late);
-    let has_four = is_refused(rt, &desk, &mut pass, NOBODY, DeskFault::Strange(4));
+    if !is_late_behind_stop(rt, alloc, &desk, &mut pass)? {
+        return Some(false);
+    }
+    let is_four = is_refused(rt, &desk, &mut pass, NOBODY, DeskFault::Strange(4));
     let text = Text::from_str(alloc, FOUR).ok()?;
     let _ = desk.call(rt, &mut pass, ALPHA, Command::Load(text)).ok()?;
     let drives = has_line(rt, &desk, 4);
-    Some(is_late && has_four && drives && is_its_history(alloc, desk, pass)?)
+    Some(is_four && drives && is_its_history(alloc, desk, pass)?)
 }
 
-// How many turns two threads have taken.
-#[derive(Drop)]
-struct Turns {
-    taken: Mutex<u32>,
-    changed: Condvar,
-}
-
-impl Turns {
-    fn new() -> Turns {
-        Turns {
-            taken: Mutex::new(0),
-            changed: Condvar::new(),
-        }
-    }
-
-    // Ends a turn.
-    fn end(&self, rt: &impl Wait) {
-        let mut taken = self.taken.lock(rt);
-        *taken = taken.wrapping_add(1);
-        self.changed.notify_all();
-    }
-
-    // Waits until so many have ended.
-    fn wait_for(&self, rt: &impl Wait, number: u32) {
-        let _taken = self
-            .changed
-            .wait_while(rt, self.taken.lock(rt), |taken| *taken < number);
-    }
-}
-
-// Alpha in one thread and the rig in another, in turn: alpha starts, an instant releases its job, alpha stops, and the job is done. Tells
-// whether it is late then.
-fn take_turns<N: Naming + Send + Sync, R: Threads + Wait + Sync>(
-    rt: &R,
-    alloc: Global,
-    desk: &Desk<N>,
-    turns: &Turns,
-    pass: &mut Pass,
-    is_late: &mut bool,
-) {
-    thread::scope(thread::scope_env(), rt, |scope| {
-        let _ = scope
-            .spawn(move || start_and_stop(rt, alloc, desk, turns, pass))
-            .is_ok();
-        let _ = scope
-            .spawn(move || {
-                *is_late = is_late_behind_stop(rt, desk, turns);
-            })
-            .is_ok();
-    });
-}
-
-// Alpha's turns.
-fn start_and_stop<N: Naming>(
+// Whether alpha's job, which it stops before it is done, is late.
+fn is_late_behind_stop<N: Naming>(
     rt: &impl Wait,
     alloc: Global,
     desk: &Desk<N>,
-    turns: &Turns,
     pass: &mut Pass,
-) {
-    let _ = load_and_start(rt, alloc, desk, pass, ALPHA, ADDER);
-    turns.end(rt);
-    turns.wait_for(rt, 2);
-    let _ = desk.call(rt, pass, ALPHA, Command::Stop).is_ok();
-    turns.end(rt);
-}
-
-// The rig's turns: whether alpha's one job, which it stops before it is done, is late.
-fn is_late_behind_stop<N: Naming>(rt: &impl Wait, desk: &Desk<N>, turns: &Turns) -> bool {
-    turns.wait_for(rt, 1);
-    let released = one_job(rt, desk);
-    turns.end(rt);
-    turns.wait_for(rt, 3);
-    match released {
-        None => false,
-        Some((job, _place)) => {
-            let (counted, place) = desk.done(rt, run_job(job));
-            desk.settle(rt);
-            counted == Counted::Late && place == 0
-        }
-    }
+) -> Option<bool> {
+    load_and_start(rt, alloc, desk, pass, ALPHA, ADDER)?;
+    let (job, _place) = one_job(rt, desk)?;
+    let _ = desk.call(rt, pass, ALPHA, Command::Stop).ok()?;
+    let (counted, place) = desk.done(rt, run_job(job));
+    desk.settle(rt);
+    Some(counted == Counted::Late && place == 0)
 }
 
 // Whether the log has a load, a start, an instant, a stop and a load.
