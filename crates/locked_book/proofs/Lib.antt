@@ -4,6 +4,7 @@ pub mod Instants
 pub mod Kept
 pub mod MarkBits
 pub mod NextStarts
+pub mod Numbers
 pub mod Places
 pub mod Steps
 pub mod WindowMarks

@@ -210,7 +210,7 @@ no_seats : (seat : ℕ) → seat_at [] seat ≡ no_seat
 no_seats zero = refl
 no_seats (suc seat) = refl
 
-none_before : (base : BaseValue) (seat : ℕ) → base.calls ≡ [] → calls_before base seat ≡ 0
+pub none_before : (base : BaseValue) (seat : ℕ) → base.calls ≡ [] → calls_before base seat ≡ 0
 none_before base seat e = ap (λ (cs : List ℕ). slice_index_or cs seat 0) e ∙ by seat
   where
     by : (n : ℕ) → calls_before (record { host = base.host; entries_before = 0; calls = [] }) n ≡ 0

@@ -1,6 +1,6 @@
 //! The book: a host with its log.
 
-ghost use Rattle.std.specs.Prelude.{◌≡◌, ◌≢◌, ℕ, ◌+◌, ◌-◌, ◌<◌, ◌≤◌, ◌^◌, ◌↔◌, [], ◌∷◌, ◌++◌, length, map, reverse, IfOk, OnOk, OnErr, Err, IsTrue, None, Some, vec_len, vec_capacity};
+ghost use Rattle.std.specs.Prelude.{◌≡◌, ◌≢◌, ℕ, ◌+◌, ◌-◌, ◌<◌, ◌≤◌, ◌^◌, ◌↔◌, [], ◌∷◌, ◌++◌, length, map, reverse, IfOk, OnOk, OnErr, Err, IfSome, IsTrue, None, Some, vec_len, vec_capacity};
 ghost use Rattle.std.specs.List.{range_with_len};
 ghost use Rattle.host_core.specs.HostStanding.{ForEachState, Stands, TakesEvent, awaited_in, new_host, outstanding_count};
 ghost use Rattle.host_core.specs.declared.hosts.Counted.{Counted};
@@ -15,6 +15,7 @@ ghost use Rattle.tenant_lines.specs.declared.replies.Refusal.{Refusal};
 ghost use Rattle.tenant_lines.specs.declared.replies.Reply.{Reply};
 ghost use Rattle.locked_book.specs.Books.{AllStand, AreAll, IsAnswered, IsMismatch, IsMissing, Knows, beginning, length_of, new_setting};
 ghost use Rattle.rig_model.specs.Logs.{IsLegalLog, events_of};
+ghost use Rattle.locked_book.specs.inner.Books.{HasFirstCalls};
 ghost use Rattle.locked_book.specs.declared.faults.CloseFault.{CloseFault};
 ghost use Rattle.locked_book.specs.declared.faults.DeskFault.{DeskFault};
 ghost use Rattle.locked_book.specs.declared.faults.PassFault.{PassFault};
@@ -24,10 +25,12 @@ use crate::bases::Base;
 use crate::comparison::compare;
 use crate::faults::{CloseFault, DeskFault, PassFault};
 use crate::known::is_known;
-use crate::naming::Naming;
+use crate::logs::Log;
 use crate::passes::Pass;
 use crate::seats::Seat;
 use crate::standing::{all_apart, all_there};
+use call_history::histories::NewHistory;
+use call_history::naming::Naming;
 use host_core::hosts::{Counted, Host, TickFault};
 use instant_engine::{Done, Jobs};
 use rig_config::{Config, TenantId};
@@ -35,6 +38,7 @@ use rig_model::frames::copy_of_frame;
 use rig_model::logged::{Call, Logged};
 use std::alloc::{AllocError, Global};
 use std::marker::{Model, PhantomData};
+use std::mem;
 use tenant_lines::commands::Command;
 use tenant_lines::replies::Reply;
 use tenant_programs::prepared::{Prepared, prepare};
@@ -48,7 +52,7 @@ pub struct Book<N: Naming> {
     alloc: Global,
     base: Base,
     host: Host,
-    log: Vec<Logged>,
+    log: Log<N>,
     seats: Vec<Seat>,
     // A mark for each seat, for the comparison with all passes.
     marks: Vec<bool>,
@@ -56,7 +60,7 @@ pub struct Book<N: Naming> {
 }
 
 impl<N: Naming> Model for Book<N> {
-    ghost use Rattle.std.specs.Prelude.{◌≡◌, ◌+◌, ◌≤◌, length, vec_len, vec_capacity};
+    ghost use Rattle.std.specs.Prelude.{◌≡◌, ◌+◌, ◌≤◌, length};
     ghost use Rattle.std.specs.Coded.{codes};
     ghost use Rattle.giotto_text.specs.cited.ProgramCodes.{program_code};
     ghost use Rattle.host_core.specs.HostStanding.{outstanding_count};
@@ -69,19 +73,25 @@ impl<N: Naming> Model for Book<N> {
 
     ghost view = { λ b. record { base = b.base; host = b.host; log = b.log.items; seats = length b.seats.items } };
 
-    ghost invariant = { λ b. (vec_len b.log + outstanding_count b.host ≤ vec_capacity b.log)
+    ghost invariant = { λ b. (length b.log.items + outstanding_count b.host ≤ b.log.capacity)
         × (length b.marks.items ≡ length b.seats.items)
         × IsBook N.config N.first_tick (record { base = b.base; host = b.host; log = b.log.items; seats = length b.seats.items }) b.seats.items };
 }
 
 impl<N: Naming> Book<N> {
-    /// A new host, and an empty log.
+    /// A new host, and an empty log. With a history, the book knows the passes that it gave their calls without comparing these.
     ///
     /// # Errors
     /// Want of memory.
-    pub fn new(alloc: Global, config: &Config, first_tick: u64) -> Result<Self, AllocError>
+    pub fn new(
+        alloc: Global,
+        config: &Config,
+        first_tick: u64,
+        history: Option<NewHistory>,
+    ) -> Result<Self, AllocError>
         requires config { config.now ≡ N.config }
         requires first_tick { first_tick ≡ N.first_tick }
+        requires history { IfSome history (λ h. h ≡ N.history) }
         ensures { IfOk result (λ b. b ≡ record {
           base = beginning N.config N.first_tick;
           host = new_host N.config N.first_tick;
@@ -95,7 +105,7 @@ impl<N: Naming> Book<N> {
             alloc,
             base,
             host,
-            log: Vec::new(alloc),
+            log: Log::new(alloc, history),
             seats: Vec::new(alloc),
             marks: Vec::new(alloc),
             name: PhantomData,
@@ -131,7 +141,7 @@ impl<N: Naming> Book<N> {
     ///
     /// # Errors
     /// `SeatsEnded` where 65,536 seats were given, else `Memory`. Nothing has changed then.
-    pub fn seat(&mut self) -> Result<Pass, PassFault>
+    pub fn seat(&mut self) -> Result<Pass<N>, PassFault>
         ensures ok { IfOk result (λ p. p ≡ record { seat = self.old.seats; calls = []; seen = 0 }) }
         ensures fits { IfOk result (λ p. p.seat < 65536) }
         ensures same { (self.new.base ≡ self.old.base) × (self.new.host ≡ self.old.host) × (self.new.log ≡ self.old.log) }
@@ -224,7 +234,7 @@ impl<N: Naming> Book<N> {
     pub fn stands(&self, entries: &[(u128, Logged)]) -> bool
         ensures { IsTrue result ↔ AllStand self.now entries.now }
     {
-        let there = all_there(self.base.entries_before(), &self.log, entries);
+        let there = all_there(self.base.entries_before(), self.log.as_slice(), entries);
         if !there {
             return false;
         }
@@ -234,7 +244,7 @@ impl<N: Naming> Book<N> {
     /// Why the book can't be closed with these passes: `Mismatch` with the seat of the first pass that it doesn't know or whose seat
     /// stands in one before it, else `Missing` with the least seat that has a call in the log and no pass. None where each call in the
     /// log stands on its pass. Takes no memory.
-    pub fn compare(&mut self, passes: &[Pass]) -> Option<CloseFault>
+    pub fn compare(&mut self, passes: &[Pass<N>]) -> Option<CloseFault>
         ensures same { self.new ≡ self.old }
         ensures mismatch { (seat : ℕ) → result ≡ Some (CloseFault.Mismatch seat) → IsMismatch self.old passes.now seat }
         ensures missing { (seat : ℕ) → result ≡ Some (CloseFault.Missing seat) → IsMissing self.old passes.now seat }
@@ -242,21 +252,46 @@ impl<N: Naming> Book<N> {
     {
         compare(
             &self.base,
-            &self.log,
+            self.log.as_slice(),
             &self.seats,
             self.marks.as_mut_slice(),
             passes,
         )
     }
 
-    // Whether this book knows the pass.
-    fn knows(&self, pass: &Pass) -> bool
+    // Whether this book knows the pass: by the number of its calls, where it gave them, else call by call.
+    fn knows(&self, pass: &Pass<N>) -> bool
         ensures { IsTrue result ↔ Knows self.now pass.now }
     {
-        is_known(&self.base, &self.log, &self.seats, pass)
+        if self.gave_calls(pass) {
+            return self.knows_by_number(pass);
+        }
+        is_known(&self.base, self.log.as_slice(), &self.seats, pass)
     }
 
-    /// A call of a pass: a tenant's command, and its reply. Costs as much as the pass has calls.
+    // Whether it is known that the pass has its calls from this book: they are the first of its seat in the log.
+    fn gave_calls(&self, pass: &Pass<N>) -> bool
+        ensures { IsTrue result → HasFirstCalls self.now pass.now }
+    {
+        match &pass.front {
+            None => false,
+            Some(front) => self.log.begins_with(front),
+        }
+    }
+
+    // Whether this book knows a pass that has the first calls of its seat.
+    fn knows_by_number(&self, pass: &Pass<N>) -> bool
+        requires { HasFirstCalls self.now pass.now }
+        ensures { IsTrue result ↔ Knows self.now pass.now }
+    {
+        match self.seats.get(pass.seat) {
+            None => false,
+            Some(seat) => { seat.calls == pass.calls.len() as u64 && pass.seen <= self.length() }
+        }
+    }
+
+    /// A call of a pass: a tenant's command, and its reply. Costs as much as the pass has calls, and nothing for these where the book has
+    /// a history and gave them.
     ///
     /// # Errors
     /// `PassFull` where the pass has 4,096 calls, else `Strange` with the log's length where the tenant isn't in the roster, the seat
@@ -264,7 +299,7 @@ impl<N: Naming> Book<N> {
     /// Neither book nor pass has changed then.
     pub fn call(
         &mut self,
-        pass: &mut Pass,
+        pass: &mut Pass<N>,
         tenant: TenantId,
         command: Command,
     ) -> Result<Reply, DeskFault>
@@ -287,7 +322,7 @@ impl<N: Naming> Book<N> {
     /// As `call`.
     pub fn carry_out(
         &mut self,
-        pass: &mut Pass,
+        pass: &mut Pass<N>,
         tenant: TenantId,
         prepared: Prepared,
     ) -> Result<Reply, DeskFault>
@@ -322,7 +357,7 @@ impl<N: Naming> Book<N> {
     // A call of a pass that the book knows.
     fn carry_out_known(
         &mut self,
-        pass: &mut Pass,
+        pass: &mut Pass<N>,
         tenant: TenantId,
         prepared: Prepared,
     ) -> Result<Reply, AllocError>
@@ -341,6 +376,7 @@ impl<N: Naming> Book<N> {
         ensures step { OnOk result (TakesEvent (Event.Own tenant prepared) self.old.host self.new.host) }
         ensures refused { OnErr result ((self.new ≡ self.old) × (pass.new ≡ pass.old)) }
     {
+        self.log.known();
         let outstanding = self.host.outstanding() as usize;
         let place = self.log.len();
         let seat = &mut self.seats[pass.seat];
@@ -356,26 +392,28 @@ impl<N: Naming> Book<N> {
         self.log
             .push_reserved(Logged::Call(pass.seat, carried.logged));
         pass.calls.push_reserved(carried.noted);
+        let _ = mem::replace(&mut pass.front, self.log.front());
         Ok(carried.reply)
     }
 }
 
 // The entry of an instant, with room in the log for it and for the completions of all jobs that it can release.
-fn room_for_instant(
+fn room_for_instant<N: Naming>(
     alloc: Global,
     host: &mut Host,
-    log: &mut Vec<Logged>,
+    log: &mut Log<N>,
     frame: &[i64],
 ) -> Result<Logged, AllocError>
-    requires { vec_len log.old + outstanding_count host.old ≤ vec_capacity log.old }
+    requires { length log.old.items + outstanding_count host.old ≤ log.old.capacity }
     ensures entry { IfOk result (λ e. e ≡ Logged.Tick frame.now) }
     ensures host { host.new ≡ host.old }
     ensures log { log.new.items ≡ log.old.items }
-    ensures room { OnOk result (vec_len log.new + 1 + outstanding_count host.old + most_of host.old.tenants ≤ vec_capacity log.new) }
+    ensures room { OnOk result (length log.new.items + 1 + outstanding_count host.old + most_of host.old.tenants ≤ log.new.capacity) }
     ensures most { OnOk result (most_of host.old.tenants < 2 ^ 64) }
-    ensures kept { vec_len log.new + outstanding_count host.old ≤ vec_capacity log.new }
+    ensures kept { length log.new.items + outstanding_count host.old ≤ log.new.capacity }
 {
     let entry = Logged::Tick(copy_of_frame(alloc, frame)?);
+    log.known();
     let outstanding = host.outstanding() as usize;
     let most = host.ready()?;
     let jobs = most.checked_add(outstanding).ok_or(AllocError)?;
@@ -385,8 +423,8 @@ fn room_for_instant(
 }
 
 // Makes room for a call: in the log, where these many completions are to come, in the pass, and among the seat's places.
-fn make_room(
-    log: &mut Vec<Logged>,
+fn make_room<N: Naming>(
+    log: &mut Log<N>,
     outstanding: usize,
     calls: &mut Vec<Call>,
     places: &mut Vec<usize>,
@@ -395,10 +433,10 @@ fn make_room(
     ensures log { log.new.items ≡ log.old.items }
     ensures calls { calls.new.items ≡ calls.old.items }
     ensures places { places.new.items ≡ places.old.items }
-    ensures log_room { OnOk result (vec_len log.new + outstanding + 1 ≤ vec_capacity log.new) }
+    ensures log_room { OnOk result (length log.new.items + outstanding + 1 ≤ log.new.capacity) }
     ensures calls_room { OnOk result (vec_len calls.new + 1 ≤ vec_capacity calls.new) }
     ensures places_room { OnOk result (vec_len places.new + 1 ≤ vec_capacity places.new) }
-    ensures kept { vec_len log.old + outstanding ≤ vec_capacity log.old → vec_len log.new + outstanding ≤ vec_capacity log.new }
+    ensures kept { length log.old.items + outstanding ≤ log.old.capacity → length log.new.items + outstanding ≤ log.new.capacity }
 {
     log.reserve(outstanding + 1)?;
     calls.reserve(1)?;

@@ -11,16 +11,17 @@ use crate::faults::CloseFault;
 use crate::known::is_known;
 use crate::passes::Pass;
 use crate::seats::Seat;
+use call_history::naming::Naming;
 use rig_model::logged::{Logged, SeatId};
 
 /// Why a book of these can't be closed with these passes. There is a mark for each seat. Takes no memory. Costs as much as the log,
 /// the passes and the seats are long.
-pub(crate) fn compare(
+pub(crate) fn compare<N: Naming>(
     base: &Base,
     log: &[Logged],
     seats: &[Seat],
     marks: &mut [bool],
-    passes: &[Pass],
+    passes: &[Pass<N>],
 ) -> Option<CloseFault>
     requires places { ArePlaces seats.now log.now }
     requires bound { base.now.entries_before + length log.now < 2 ^ 128 }
@@ -53,12 +54,12 @@ fn clear(marks: &mut [bool])
 
 // The place of the first pass that the book doesn't know or whose seat stands in one before it, if there is one. There is a mark for
 // each seat, none of which is set; where all match, those of their seats are set. Takes no memory.
-fn first_mismatch(
+fn first_mismatch<N: Naming>(
     base: &Base,
     log: &[Logged],
     seats: &[Seat],
     marks: &mut [bool],
-    passes: &[Pass],
+    passes: &[Pass<N>],
 ) -> Option<usize>
     requires places { ArePlaces seats.now log.now }
     requires bound { base.now.entries_before + length log.now < 2 ^ 128 }

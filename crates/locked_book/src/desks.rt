@@ -1,6 +1,6 @@
 //! The desk: a book under a lock.
 
-ghost use Rattle.std.specs.Prelude.{◌≡◌, ℕ, ◌+◌, ◌<◌, ◌≤◌, ◌↔◌, List, [], ◌∷◌, ◌++◌, length, map, reverse, true, IfOk, OnOk, OnErr, IfErr, Err, Some};
+ghost use Rattle.std.specs.Prelude.{◌≡◌, ℕ, ◌+◌, ◌<◌, ◌≤◌, ◌↔◌, List, [], ◌∷◌, ◌++◌, length, map, reverse, true, IfOk, OnOk, OnErr, IfErr, IfSome, Err, Some};
 ghost use Rattle.std.specs.List.{All, range_with_len};
 ghost use Rattle.instant_engine.specs.Tenants.{released_from};
 ghost use Rattle.host_core.specs.HostStanding.{HostStanding, Stands};
@@ -18,8 +18,9 @@ ghost use Rattle.rig_model.specs.declared.logged.Logged.{Logged};
 
 use crate::books::Book;
 use crate::faults::{CloseFault, DeskFault, PassFault};
-use crate::naming::Naming;
 use crate::passes::Pass;
+use call_history::histories::NewHistory;
+use call_history::naming::Naming;
 use host_core::hosts::{Counted, TickFault};
 use instant_engine::{Done, Jobs};
 use rig_config::{Config, TenantId};
@@ -38,17 +39,23 @@ pub struct Desk<N: Naming> {
 }
 
 impl<N: Naming> Desk<N> {
-    /// A desk over a new host, with an empty log.
+    /// A desk over a new host, with an empty log. With a history, it knows the passes that it gave their calls without comparing these.
     ///
     /// # Errors
     /// Want of memory.
-    pub fn new(alloc: Global, config: &Config, first_tick: u64) -> Result<Self, AllocError>
+    pub fn new(
+        alloc: Global,
+        config: &Config,
+        first_tick: u64,
+        history: Option<NewHistory>,
+    ) -> Result<Self, AllocError>
         requires config { config.now ≡ N.config }
         requires first_tick { first_tick ≡ N.first_tick }
+        requires history { IfSome history (λ h. h ≡ N.history) }
     {
         Ok(Desk {
             alloc,
-            book: Mutex::new(Book::new(alloc, config, first_tick)?),
+            book: Mutex::new(Book::new(alloc, config, first_tick, history)?),
             settled: Condvar::new(),
         })
     }
@@ -57,7 +64,7 @@ impl<N: Naming> Desk<N> {
     ///
     /// # Errors
     /// `SeatsEnded` where 65,536 seats were given, else `Memory`.
-    pub fn pass(&self, rt: &impl Wait) -> Result<Pass, PassFault>
+    pub fn pass(&self, rt: &impl Wait) -> Result<Pass<N>, PassFault>
         ensures { IfOk result (λ p. (p.calls ≡ []) × (p.seen ≡ 0) × (p.seat < 65536)) }
     {
         self.book.lock(rt).seat()
@@ -73,7 +80,7 @@ impl<N: Naming> Desk<N> {
     pub fn call(
         &self,
         rt: &impl Wait,
-        pass: &mut Pass,
+        pass: &mut Pass<N>,
         tenant: TenantId,
         command: Command,
     ) -> Result<Reply, DeskFault>
@@ -162,7 +169,7 @@ impl<N: Naming> Desk<N> {
     /// `Mismatch` with the seat of the first pass whose calls aren't the log's of its seat, whose seat was never given, that has seen a
     /// longer log, or whose seat stands in one before it; else `Missing` with the least seat that has a call in the log and no pass.
     /// Desk and passes are handed back.
-    pub fn close(self, passes: Vec<Pass>) -> Result<Book<N>, (CloseFault, Desk<N>, Vec<Pass>)>
+    pub fn close(self, passes: Vec<Pass<N>>) -> Result<Book<N>, (CloseFault, Desk<N>, Vec<Pass<N>>)>
         ensures base { IfOk result (λ book. book.base ≡ beginning N.config N.first_tick) }
         ensures legal { IfOk result (λ book. IsLegalLog (new_setting N.config N.first_tick) (reverse book.log)) }
         ensures all { IfOk result (λ book. AreAll book passes.items) }

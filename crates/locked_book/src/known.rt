@@ -9,11 +9,17 @@ use crate::bases::Base;
 use crate::passes::Pass;
 use crate::same::Same;
 use crate::seats::Seat;
+use call_history::naming::Naming;
 use rig_model::logged::{Call, Logged};
 
 /// Whether the pass is known to the book of these: its seat was given, its calls behind the base are the log's of this seat, and it
 /// has seen no longer log. Costs as much as the pass has calls behind the base.
-pub(crate) fn is_known(base: &Base, log: &[Logged], seats: &[Seat], pass: &Pass) -> bool
+pub(crate) fn is_known<N: Naming>(
+    base: &Base,
+    log: &[Logged],
+    seats: &[Seat],
+    pass: &Pass<N>,
+) -> bool
     requires places { ArePlaces seats.now log.now }
     requires bound { base.now.entries_before + length log.now < 2 ^ 128 }
     ensures { (host : HostStanding) → IsTrue result ↔ Knows (record { base = base.now; host = host; log = log.now; seats = length seats.now }) pass.now }

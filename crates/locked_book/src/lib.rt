@@ -14,7 +14,7 @@ mod comparison;
 pub mod desks;
 pub mod faults;
 mod known;
-pub mod naming;
+mod logs;
 pub mod passes;
 mod same;
 mod seats;

@@ -2,6 +2,8 @@
 
 ghost use Rattle.std.specs.Prelude.{◌≡◌, ◌<◌, ◌↔◌, ◌≤◌, [], ◌∷◌, ◌++◌, length, IsTrue, OnOk, OnErr};
 
+use call_history::histories::Front;
+use call_history::naming::Naming;
 use rig_config::TenantId;
 use rig_model::logged::{Call, SeatId};
 use std::alloc::{AllocError, Global};
@@ -14,29 +16,36 @@ pub const MOST_CALLS: usize = 4096;
 
 /// A seat's own calls with their replies, in their order, and the longest log that it has seen.
 #[derive(Drop)]
-pub struct Pass {
+pub struct Pass<N: Naming> {
     pub(crate) seat: SeatId,
     pub(crate) calls: Vec<Call>,
     pub(crate) seen: u128,
+    // What the desk's history was behind its last call, where all its calls stand there.
+    pub(crate) front: Option<Front<N>>,
 }
 
-impl Model for Pass {
+impl<N: Naming> Model for Pass<N> {
+    ghost use Rattle.std.specs.Prelude.{◌≡◌, IfSome};
+    ghost use Rattle.rig_model.specs.Logs.{calls_of_seat};
     ghost use Rattle.locked_book.specs.Books.{PassValue};
 
     ghost Value = { PassValue };
 
     ghost view = { λ p. record { seat = p.seat; calls = p.calls.items; seen = p.seen } };
+
+    ghost invariant = { λ p. IfSome p.front (λ front. p.calls.items ≡ calls_of_seat p.seat front) };
 }
 
-impl Pass {
+impl<N: Naming> Pass<N> {
     /// The pass of this seat, without calls. Takes no memory.
-    pub(crate) fn new(alloc: Global, seat: SeatId) -> Pass
+    pub(crate) fn new(alloc: Global, seat: SeatId) -> Pass<N>
         ensures { result ≡ record { seat = seat; calls = []; seen = 0 } }
     {
         Pass {
             seat,
             calls: Vec::new(alloc),
             seen: 0,
+            front: None,
         }
     }
 
@@ -80,6 +89,7 @@ impl Pass {
         ensures refused { OnErr result (self.new ≡ self.old) }
     {
         self.calls.reserve(1)?;
+        self.front = None;
         let call = Call {
             tenant,
             command,

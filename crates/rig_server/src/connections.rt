@@ -4,6 +4,7 @@ use crate::clients::{Client, dismiss, prepare, refuse};
 use crate::faults::ServeFault;
 use crate::register::{NotTaken, Register};
 use crate::seats::Seats;
+use call_history::naming::Naming;
 use locked_book::faults::PassFault;
 use locked_book::passes::Pass;
 use rig_config::Config;
@@ -22,7 +23,7 @@ const PAUSE: u64 = 10;
 
 /// What the threads of a server share.
 #[derive(Drop)]
-pub(crate) struct Hall<'a, D> {
+pub(crate) struct Hall<'a, N: Naming, D> {
     /// What a session takes its memory from.
     pub(crate) alloc: Global,
     /// The tenants and their keys.
@@ -32,7 +33,7 @@ pub(crate) struct Hall<'a, D> {
     /// How long a session may be silent, if there is a bound.
     pub(crate) idle: Option<Duration>,
     /// The open connections.
-    pub(crate) register: Mutex<Register>,
+    pub(crate) register: Mutex<Register<N>>,
     /// Told of each connection that has ended.
     pub(crate) left: Condvar,
 }
@@ -41,11 +42,17 @@ pub(crate) struct Hall<'a, D> {
 ///
 /// # Errors
 /// `Memory` where no thread can be had.
-pub(crate) fn start<'s, E, D: Seats + Sync, R: Threads + Wait + Clock + Sync>(
+pub(crate) fn start<
+    's,
+    E,
+    N: Naming + Send + Sync,
+    D: Seats<N> + Sync,
+    R: Threads + Wait + Clock + Sync,
+>(
     rt: &'s R,
     scope: &'s Scope<'s, E>,
     listener: &'s TcpListener,
-    hall: &'s Hall<'s, D>,
+    hall: &'s Hall<'s, N, D>,
 ) -> Result<(), ServeFault> {
     match scope.spawn(move || accept_all(rt, scope, listener, hall)) {
         Ok(_thread) => Ok(()),
@@ -54,11 +61,11 @@ pub(crate) fn start<'s, E, D: Seats + Sync, R: Threads + Wait + Clock + Sync>(
 }
 
 // Takes connections until the register is closed. One that can't be taken is passed over.
-fn accept_all<'s, E, D: Seats + Sync, R: Threads + Wait + Clock + Sync>(
+fn accept_all<'s, E, N: Naming + Send + Sync, D: Seats<N> + Sync, R: Threads + Wait + Clock + Sync>(
     rt: &'s R,
     scope: &'s Scope<'s, E>,
     listener: &'s TcpListener,
-    hall: &'s Hall<'s, D>,
+    hall: &'s Hall<'s, N, D>,
 ) {
     for stream in listener.incoming() {
         match stream {
@@ -72,10 +79,10 @@ fn accept_all<'s, E, D: Seats + Sync, R: Threads + Wait + Clock + Sync>(
 }
 
 // Gives a connection its place, its seat and its thread.
-fn take<'s, E, D: Seats + Sync, R: Threads + Wait + Clock + Sync>(
+fn take<'s, E, N: Naming + Send + Sync, D: Seats<N> + Sync, R: Threads + Wait + Clock + Sync>(
     rt: &'s R,
     scope: &'s Scope<'s, E>,
-    hall: &'s Hall<'s, D>,
+    hall: &'s Hall<'s, N, D>,
     stream: TcpStream,
 ) {
     let Ok(()) = prepare(&stream, hall.idle) else {
@@ -99,11 +106,11 @@ fn take<'s, E, D: Seats + Sync, R: Threads + Wait + Clock + Sync>(
 }
 
 // A place and a seat, or what a connection is told that gets none.
-fn enter<R: Wait, D: Seats>(
+fn enter<N: Naming, R: Wait, D: Seats<N>>(
     rt: &R,
-    hall: &Hall<'_, D>,
+    hall: &Hall<'_, N, D>,
     handle: TcpStream,
-) -> Result<(usize, Pass), &'static [u8]> {
+) -> Result<(usize, Pass<N>), &'static [u8]> {
     let place = match hall.register.lock(rt).enter(handle) {
         Ok(place) => place,
         Err(NotTaken::Closed) => return Err(b""),
@@ -122,7 +129,7 @@ fn enter<R: Wait, D: Seats>(
 }
 
 // Tells a connection that it has no thread.
-fn give_up<R: Wait, D>(rt: &R, hall: &Hall<'_, D>, place: usize) {
+fn give_up<N: Naming, R: Wait, D>(rt: &R, hall: &Hall<'_, N, D>, place: usize) {
     let handle = hall.register.lock(rt).give_up(place);
     if let Some(handle) = handle {
         refuse(&handle, b"bye memory\n");
@@ -130,12 +137,12 @@ fn give_up<R: Wait, D>(rt: &R, hall: &Hall<'_, D>, place: usize) {
 }
 
 // Answers a connection until it ends, and leaves its pass.
-fn converse<R: Wait, D: Seats>(
+fn converse<N: Naming, R: Wait, D: Seats<N>>(
     rt: &R,
-    hall: &Hall<'_, D>,
+    hall: &Hall<'_, N, D>,
     stream: TcpStream,
     place: usize,
-    pass: Pass,
+    pass: Pass<N>,
 ) {
     let pass = answer(rt, hall, &stream, pass);
     dismiss(&stream);
@@ -145,7 +152,12 @@ fn converse<R: Wait, D: Seats>(
 }
 
 // Answers the lines of a connection. A fault of its stream ends it as its end does.
-fn answer<R: Wait, D: Seats>(rt: &R, hall: &Hall<'_, D>, stream: &TcpStream, pass: Pass) -> Pass {
+fn answer<N: Naming, R: Wait, D: Seats<N>>(
+    rt: &R,
+    hall: &Hall<'_, N, D>,
+    stream: &TcpStream,
+    pass: Pass<N>,
+) -> Pass<N> {
     let Ok(mut writer) = BufWriter::new(hall.alloc, stream) else {
         refuse(stream, b"bye memory\n");
         return pass;

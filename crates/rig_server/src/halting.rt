@@ -2,6 +2,7 @@
 
 use crate::connections::Hall;
 use crate::operator_lines::{OperatorLine, operator_line};
+use call_history::naming::Naming;
 use std::alloc::Global;
 use std::io::Read;
 use std::net::{Shutdown, TcpStream};
@@ -63,15 +64,19 @@ fn read_to_halt<I: Read + Drop>(alloc: Global, lines: Lines, reader: I, said: &A
 }
 
 /// Takes no further connection: wakes who accepts, by ending the listener that this is a handle of.
-pub(crate) fn close_doors<R: Wait, D>(rt: &R, hall: &Hall<'_, D>, listener: &TcpStream) {
+pub(crate) fn close_doors<N: Naming, R: Wait, D>(
+    rt: &R,
+    hall: &Hall<'_, N, D>,
+    listener: &TcpStream,
+) {
     hall.register.lock(rt).close();
     let _ = listener.shutdown(Shutdown::Both);
 }
 
 /// Waits until no connection is open. A second halt ends all that are.
-pub(crate) fn wait_for_all<R: Wait + Clock, D>(
+pub(crate) fn wait_for_all<N: Naming, R: Wait + Clock, D>(
     rt: &R,
-    hall: &Hall<'_, D>,
+    hall: &Hall<'_, N, D>,
     second: Option<&SecondHalt>,
 ) {
     let mut register = hall.register.lock(rt);

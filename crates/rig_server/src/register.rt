@@ -3,6 +3,7 @@
 ghost use Rattle.std.specs.Prelude.{◌+◌, ◌≤◌, ◌<◌, OnOk, vec_len, vec_capacity};
 ghost use Rattle.slab.specs.Slab.{HasRoomFor, slab_len};
 
+use call_history::naming::Naming;
 use locked_book::passes::Pass;
 use slab::Slab;
 use std::alloc::{AllocError, Global};
@@ -11,9 +12,9 @@ use std::net::{Shutdown, TcpStream};
 /// The open connections, each by a second handle of its stream, and the passes that came back. There is room for the pass of each that is
 /// open, so that none is lost for want of memory.
 #[derive(Drop)]
-pub(crate) struct Register {
+pub(crate) struct Register<N: Naming> {
     streams: Slab<TcpStream>,
-    passes: Vec<Pass>,
+    passes: Vec<Pass<N>>,
     is_closed: bool,
     ghost room: { slab_len streams + vec_len passes ≤ vec_capacity passes },
 }
@@ -27,9 +28,9 @@ pub(crate) enum NotTaken {
     Memory,
 }
 
-impl Register {
+impl<N: Naming> Register<N> {
     /// A register without connections. Takes no memory.
-    pub(crate) fn new(alloc: Global) -> Register {
+    pub(crate) fn new(alloc: Global) -> Register<N> {
         Register {
             streams: Slab::new(alloc),
             passes: Vec::new(alloc),
@@ -64,7 +65,7 @@ impl Register {
     }
 
     /// Takes a connection out that has ended, and keeps its pass.
-    pub(crate) fn leave(&mut self, place: usize, pass: Pass) {
+    pub(crate) fn leave(&mut self, place: usize, pass: Pass<N>) {
         if self.streams.try_remove(place).is_some() {
             self.passes.push_reserved(pass);
         }
@@ -98,7 +99,7 @@ impl Register {
     }
 
     /// The passes that came back.
-    pub(crate) fn into_passes(self) -> Vec<Pass> {
+    pub(crate) fn into_passes(self) -> Vec<Pass<N>> {
         self.passes
     }
 }

@@ -9,8 +9,9 @@ use crate::halting::{close_doors, look_for_halt, wait_for_all};
 use crate::operators::{Ending, Operator, say};
 use crate::register::Register;
 use crate::replies::{close_reply, ready_line};
+use call_history::histories::NewHistory;
+use call_history::naming::Naming;
 use locked_book::desks::Desk;
-use locked_book::naming::Naming;
 use locked_book::passes::Pass;
 use rig_config::Config;
 use std::alloc::Global;
@@ -25,6 +26,9 @@ use std::time::{Clock, Duration};
 use text_lines::lines::Lines;
 use worker_pool::gates::Gate;
 use worker_pool::pools::Pool;
+
+// The number of the first instant.
+const FIRST_TICK: u64 = 0;
 
 /// What a server is started with.
 #[derive(Drop)]
@@ -68,7 +72,8 @@ pub fn serve<
     requires few { service.now.workers ≤ 64 }
 {
     let doors = open_doors(service.alloc, listener)?;
-    serve_desk::<Brand, _, _, _, _>(rt, &doors, reader, writer, service, service.config, 0)
+    let history = NewHistory::new();
+    serve_desk::<Brand, _, _, _, _>(rt, &doors, reader, writer, service, service.config, history)
 }
 
 // A listener, the line that tells its port, and a handle by which it is ended. Who waits in an accept is woken so, and it takes no
@@ -108,14 +113,15 @@ fn serve_desk<
     writer: &mut W,
     service: &Service<'_, G>,
     config: &Config,
-    first_tick: u64,
+    history: NewHistory,
 ) -> Result<(), ServeFault>
     requires config { config.now ≡ N.config }
-    requires first_tick { first_tick ≡ N.first_tick }
+    requires first_tick { 0 ≡ N.first_tick }
+    requires history { history ≡ N.history }
     requires some { 1 ≤ service.now.workers }
     requires few { service.now.workers ≤ 64 }
 {
-    let desk = Desk::<N>::new(service.alloc, config, first_tick)?;
+    let desk = Desk::<N>::new(service.alloc, config, FIRST_TICK, Some(history))?;
     let (passes, ended) = hold(rt, doors, &desk, &*config, reader, writer, service)?;
     let closed = close(service.alloc, desk, passes, writer);
     ended?;
@@ -138,7 +144,7 @@ fn hold<
     reader: I,
     writer: &mut W,
     service: &Service<'_, G>,
-) -> Result<(Vec<Pass>, Result<(), ServeFault>), ServeFault>
+) -> Result<(Vec<Pass<N>>, Result<(), ServeFault>), ServeFault>
     requires some { 1 ≤ service.now.workers }
     requires few { service.now.workers ≤ 64 }
 {
@@ -164,7 +170,7 @@ fn run<
 >(
     rt: &R,
     doors: &Doors<'_>,
-    hall: &Hall<'_, Desk<N>>,
+    hall: &Hall<'_, N, Desk<N>>,
     reader: I,
     writer: &mut W,
     service: &Service<'_, G>,
@@ -203,7 +209,7 @@ fn run<
 fn preside<N: Naming, R: Threads + Wait + Clock, I: Read + Drop + Send + 'static, W: Write>(
     rt: &R,
     doors: &Doors<'_>,
-    hall: &Hall<'_, Desk<N>>,
+    hall: &Hall<'_, N, Desk<N>>,
     pool: &Pool,
     reader: I,
     writer: &mut W,
@@ -231,7 +237,7 @@ fn preside<N: Naming, R: Threads + Wait + Clock, I: Read + Drop + Send + 'static
 fn close<N: Naming, W: Write>(
     alloc: Global,
     desk: Desk<N>,
-    passes: Vec<Pass>,
+    passes: Vec<Pass<N>>,
     writer: &mut W,
 ) -> Result<(), ServeFault> {
     let fault = match desk.close(passes) {

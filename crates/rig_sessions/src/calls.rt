@@ -2,9 +2,9 @@
 
 ghost use Rattle.std.specs.Prelude.{◌≡◌, [], ◌∷◌, ◌++◌, IfOk, OnErr};
 
+use call_history::naming::Naming;
 use locked_book::desks::Desk;
 use locked_book::faults::DeskFault;
-use locked_book::naming::Naming;
 use locked_book::passes::Pass;
 use rig_config::TenantId;
 use std::sync::Wait;
@@ -12,7 +12,7 @@ use tenant_lines::commands::Command;
 use tenant_lines::replies::Reply;
 
 /// Who takes the calls of a session.
-pub trait Calls {
+pub trait Calls<N: Naming> {
     /// A call of a pass: a tenant's command, and its reply, with which it stands on the pass then.
     ///
     /// # Errors
@@ -20,7 +20,7 @@ pub trait Calls {
     fn call<R: Wait>(
         &self,
         rt: &R,
-        pass: &mut Pass,
+        pass: &mut Pass<N>,
         tenant: TenantId,
         command: Command,
     ) -> Result<Reply, DeskFault>
@@ -29,11 +29,11 @@ pub trait Calls {
         ensures refused { OnErr result (pass.new ≡ pass.old) };
 }
 
-impl<N: Naming> Calls for Desk<N> {
+impl<N: Naming> Calls<N> for Desk<N> {
     fn call<R: Wait>(
         &self,
         rt: &R,
-        pass: &mut Pass,
+        pass: &mut Pass<N>,
         tenant: TenantId,
         command: Command,
     ) -> Result<Reply, DeskFault> {

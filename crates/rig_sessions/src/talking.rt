@@ -11,6 +11,7 @@ ghost use Rattle.rig_sessions.specs.inner.Answered.{IsAnswered, IsUnanswered};
 use crate::calls::Calls;
 use crate::faults::TalkFault;
 use crate::sessions::{Session, Step};
+use call_history::naming::Naming;
 use locked_book::faults::DeskFault;
 use locked_book::passes::Pass;
 use rig_config::{Config, TenantId};
@@ -31,15 +32,15 @@ use text_lines::lines::{Line, Lines};
 /// `Read`, `Write` and `Turns` as `Lines::next_line`, and `Read` also where a line found no memory: just the lines before were answered.
 /// `Desk` where a call is refused since the pass is full or isn't known: `bye pass-full` or `bye strange` is the last that is written,
 /// and the fault is the same where that write fails.
-pub fn talk<R: Wait, D: Calls, I: Read, W: Write>(
+pub fn talk<N: Naming, R: Wait, D: Calls<N>, I: Read, W: Write>(
     rt: &R,
     alloc: Global,
     config: &Config,
     desk: &D,
-    pass: Pass,
+    pass: Pass<N>,
     reader: &mut I,
     writer: &mut W,
-) -> (Pass, Result<(), TalkFault>)
+) -> (Pass<N>, Result<(), TalkFault>)
     ensures calls { (made : List Call) × (result.0.calls ≡ pass.calls ++ made) }
     ensures seat { result.0.seat ≡ pass.seat }
     ensures ok { OnOk result.1 (IfSome (I.remaining reader.old) (TalkedToEnd config.now pass result.0 (Appends (W.contents writer.old) (W.contents writer.new)) (I.remaining reader.new))) }
@@ -53,12 +54,12 @@ pub fn talk<R: Wait, D: Calls, I: Read, W: Write>(
 }
 
 // The same with a pass that is lent.
-fn converse<R: Wait, D: Calls, I: Read, W: Write>(
+fn converse<N: Naming, R: Wait, D: Calls<N>, I: Read, W: Write>(
     rt: &R,
     alloc: Global,
     config: &Config,
     desk: &D,
-    pass: &mut Pass,
+    pass: &mut Pass<N>,
     reader: &mut I,
     writer: &mut W,
 ) -> Result<(), TalkFault>
@@ -86,12 +87,12 @@ fn converse<R: Wait, D: Calls, I: Read, W: Write>(
 }
 
 // Answers one line.
-fn answer<R: Wait, D: Calls, W: Write>(
+fn answer<N: Naming, R: Wait, D: Calls<N>, W: Write>(
     rt: &R,
     alloc: Global,
     desk: &D,
     session: &mut Session<'_>,
-    pass: &mut Pass,
+    pass: &mut Pass<N>,
     writer: &mut W,
     line: &str,
 ) -> Result<(), TalkFault>
@@ -112,11 +113,11 @@ fn answer<R: Wait, D: Calls, W: Write>(
 }
 
 // Makes a call and writes what comes of it.
-fn request<R: Wait, D: Calls, W: Write>(
+fn request<N: Naming, R: Wait, D: Calls<N>, W: Write>(
     rt: &R,
     alloc: Global,
     desk: &D,
-    pass: &mut Pass,
+    pass: &mut Pass<N>,
     writer: &mut W,
     tenant: TenantId,
     command: Command,

@@ -3,6 +3,8 @@
 use denote.RattleType.{RattleType}
 use denote.Param.Send.{IsSend, IsSync, sendable}
 use Rattle.std.proofs.Crossing.{crosses}
+use Rattle.call_history.proofs.histories.Front.TheSendSync as fronts
+use Rattle.call_history.proofs.histories.History.TheSendSync as histories
 use Rattle.circular_buffer.proofs.cells.Cells.TheSendSync as cells
 use Rattle.circular_buffer.proofs.cells.Deed.TheSendSync as deed
 use Rattle.giotto_tasks.proofs.bodies.Expr.TheLaws.TheKnot as expr_knot
@@ -51,8 +53,9 @@ use Rattle.tenant_jobs.specs.contracts.jobs.Done as Done
 use Rattle.tenant_jobs.specs.contracts.jobs.Jobs as Jobs
 use Rattle.tenant_state.specs.contracts.tenants.Tenant as Tenant
 use Rattle.host_core.specs.contracts.hosts.Host as Host
-use Rattle.locked_book.specs.declared.naming.Naming.{Ghosts}
+use Rattle.call_history.specs.declared.naming.Naming.{Ghosts}
 use Rattle.locked_book.specs.contracts.books.Book as Book
+use Rattle.locked_book.specs.contracts.logs.Log as Log
 use Rattle.locked_book.specs.contracts.desks.Desk as Desk
 use Rattle.locked_book.specs.contracts.passes.Pass as Pass
 
@@ -242,12 +245,15 @@ call_send = search (crosses, commands.the_field_send, replies.the_field_send, co
 pub logged_send : IsSend Logged.the_row
 logged_send = search (crosses, calls.the_field_send, call_send, id_send, sendable) depth 60 fits 20000
 
-pub pass_send : IsSend Pass.the_row
-pass_send = search (crosses, call_send, sendable) depth 60 fits 20000
-
 module _ (N : RattleType) (g : Ghosts N.Denot) (s : IsSend N) where
+  pub pass_send : IsSend (Pass.the_row N g)
+  pass_send = search (crosses, call_send, fronts.the_send, sendable) depth 60 fits 20000
+
+  pub log_send : IsSend (Log.the_row N g)
+  log_send = search (crosses, logged_send, histories.the_send, sendable) depth 60 fits 20000
+
   pub book_send : IsSend (Book.the_row N g)
-  book_send = search (crosses, host_send, logged_send, sendable) depth 60 fits 20000
+  book_send = search (crosses, host_send, log_send, sendable) depth 60 fits 20000
 
   pub desk_sync : IsSync (Desk.the_row N g)
   desk_sync = search (crosses, book_send, sendable) depth 60 fits 20000

@@ -1,12 +1,12 @@
 -- What a book keeps, and what is known of it at any time. The logs here have the oldest entry first.
-use Rattle.std.specs.Prelude.{◌≡◌, ℕ, ◌+◌, ◌*◌, ◌-◌, ◌<◌, ◌≤◌, ◌^◌, ◌==◌, if◌then◌else◌, List, [], ◌∷◌, length, reverse, slice_index_or, sum_by, Option, Some, None}
+use Rattle.std.specs.Prelude.{◌≡◌, ℕ, ◌+◌, ◌*◌, ◌-◌, ◌<◌, ◌≤◌, ◌^◌, ◌==◌, if◌then◌else◌, List, [], ◌∷◌, ◌++◌, length, reverse, slice_index_or, sum_by, Option, Some, None}
 use Rattle.std.specs.List.{All}
 use Rattle.rig_config.specs.Roster.{Rig}
 use Rattle.rig_model.specs.Base.{Setting, new_base}
 use Rattle.rig_model.specs.Host.{host_after}
 use Rattle.host_core.specs.HostStanding.{HostStanding, Stands, outstanding_count}
 use Rattle.rig_model.specs.Logs.{calls_of_seat, events_of, IsReplay}
-use Rattle.locked_book.specs.Books.{calls_before, beginning, BookValue, SeatValue, new_setting}
+use Rattle.locked_book.specs.Books.{calls_before, beginning, BookValue, PassValue, SeatValue, new_setting}
 use Rattle.rig_model.specs.declared.logged.Call.{Call}
 use Rattle.rig_model.specs.declared.logged.Logged.{Logged}
 use Rattle.rig_model.specs.declared.logged.Logged.TheVariants as logged
@@ -38,6 +38,10 @@ call_of (logged.Done j) = None
 
 abbrev pub call_at : List Logged → ℕ → Option Call
 call_at log i = call_of (slice_index_or log i (logged.Tick []))
+
+-- the calls of a pass are the first of its seat in the log
+abbrev pub HasFirstCalls : BookValue → PassValue → Type 0
+HasFirstCalls book pass = (others : List Call) × (calls_of_seat pass.seat book.log ≡ pass.calls ++ others)
 
 -- What is known of a book of this rig, whose host began with this tick. `bound` says that its lengths fit 128 bits: each entry is a call of
 -- a seat, or belongs to one of the instants, each of which has fewer jobs than 64 bits count.

@@ -10,7 +10,7 @@ true_from true f = refl
 true_from false f = absurd (f refl)
 
 pub returns-in-Some-clause-mismatch : goal.returns-in-Some-clause-mismatch
-returns-in-Some-clause-mismatch c = λ host seat e.
+returns-in-Some-clause-mismatch g c = λ host seat e.
     let i = c.in-Some.i in
     let passes = c.args.passes.now in
     let found = c.in-Some.ensures in
@@ -25,7 +25,7 @@ returns-in-Some-clause-mismatch c = λ host seat e.
     }
 
 pub returns-in-None-clause-all : goal.returns-in-None-clause-all
-returns-in-None-clause-all c = λ e host.
+returns-in-None-clause-all g c = λ e host.
     let all = c.in_default.ensures in
     record {
       all = λ k lt. all.all refl host k lt;
@@ -34,7 +34,7 @@ returns-in-None-clause-all c = λ e host.
     }
 
 pub returns-in-Some-first_missing-clause-missing : goal.returns-in-Some-first_missing-clause-missing
-returns-in-Some-first_missing-clause-missing c = λ host seat e.
+returns-in-Some-first_missing-clause-missing g c = λ host seat e.
     let all = c.in_default.ensures in
     let found = c.in-Some-first_missing.ensures in
     let s = c.in-Some-first_missing.seat in

@@ -6,25 +6,25 @@ use Rattle.locked_book.proofs.Comparisons.{no_pass, marked_on}
 use Rattle.locked_book.proofs.comparison.first_mismatch.Goals as goal
 
 pub returns-then-not-is_known-clause-first : goal.returns-then-not-is_known-clause-first
-returns-then-not-is_known-clause-first c = λ host m.
+returns-then-not-is_known-clause-first g c = λ host m.
     let book : BookValue = record { base = c.args.base.now; host = host; log = c.args.log.now; seats = length c.args.seats.now } in
     let read : c.index-passes-i.result ≡ pass_at c.args.passes.now c.loop-i.i = c.index-passes-i.is ∙ get_or_default c.args.passes.now c.loop-i.i c.index-passes-i.result no_pass c.loop-i-test.true in
     absurd (let e = (c.if-not-is_known.ensures host).1 (subst (Knows book) (sym read) m.known) in cc)
 
 pub bounds-marks-seat : goal.bounds-marks-seat
-bounds-marks-seat c =
+bounds-marks-seat g c =
     let given = ((c.if-not-is_known.ensures c.args.base.now.host).0 refl).given in
     let as_many = c.loop-i.invariant.0 in
     omega (arith, given, c.seat-seat.ensures, as_many)
 
 pub bounds-marks-seat-in-loop-i : goal.bounds-marks-seat-in-loop-i
-bounds-marks-seat-in-loop-i c =
+bounds-marks-seat-in-loop-i g c =
     let given = ((c.if-not-is_known.ensures c.args.base.now.host).0 refl).given in
     let as_many = c.loop-i.invariant.0 in
     omega (arith, given, c.seat-seat.ensures, as_many)
 
 pub loop-i-preserved : goal.loop-i-preserved
-loop-i-preserved c =
+loop-i-preserved g c =
     let i = c.loop-i.i in
     let marks = c.loop-i.marks in
     let passes = c.args.passes.now in

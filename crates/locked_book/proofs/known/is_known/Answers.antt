@@ -5,12 +5,12 @@ use Rattle.locked_book.proofs.Steps.{no_seat, places_within, knows_iff}
 use Rattle.locked_book.proofs.known.is_known.Goals as goal
 
 pub are_calls-requires-clause-within : goal.are_calls-requires-clause-within
-are_calls-requires-clause-within c =
+are_calls-requires-clause-within g c =
     let read : c.in-Some.seat.now ≡ seat_at c.args.seats.now c.pass.inside.seat = c.in-Some.ensures.lookup.3.1 no_seat in
     rw (c.places.ensures, read) (places_within c.args.log.now c.args.seats.now c.pass.inside.seat c.requires.places)
 
 pub returns : goal.returns
-returns c = λ host.
+returns g c = λ host.
     let read : c.in-Some.seat.now ≡ seat_at c.args.seats.now c.pass.inside.seat = c.in-Some.ensures.lookup.3.1 no_seat in
     let book : BookValue = record { base = c.args.base.now; host = host; log = c.args.log.now; seats = length c.args.seats.now } in
     let pass : PassValue = record { seat = c.pass.inside.seat; calls = c.pass.inside.calls.items; seen = c.pass.inside.seen } in

@@ -3,11 +3,13 @@ use Rattle.std.proofs.lemmas.List.{length-set, get_or_default}
 use Rattle.rig_model.specs.declared.events.Event.TheVariants.{Own}
 use Rattle.host_core.specs.HostStanding.{Stands}
 use Rattle.rig_model.specs.declared.logged.Call.{Call}
+use Rattle.rig_model.specs.Logs.{calls_of_seat}
 use Rattle.locked_book.specs.Books.{BookValue, PassValue, Knows}
 use Rattle.locked_book.specs.Books.{SeatValue}
 use Rattle.locked_book.specs.inner.Books.{seat_at}
 use Rattle.locked_book.proofs.Kept.{takes_as}
 use Rattle.locked_book.proofs.Steps.{no_seat, of_roster, seat_on, call_on, as_many_calls}
+use Rattle.locked_book.proofs.Numbers.{calls_with, front_of_log}
 use Rattle.locked_book.proofs.books.Book.carry_out_known.Goals as goal
 
 pub invariant_of-self-2 : goal.invariant_of-self-2
@@ -23,7 +25,7 @@ invariant_of-self-2 g c =
     let room : length pass.calls < 4096 = (let r = c.requires.room in let l = ap (λ (p : PassValue). length p.calls) c.pass.view_is in omega (arith, r, l)) in
     let read : c.index_mut-seat.result.now ≡ seat_at c.self.inside.seats.items c.pass.inside.seat =
     c.index_mut-seat.ensures.value ∙ get_or_default c.self.inside.seats.items c.pass.inside.seat c.index_mut-seat.result.now no_seat known.given in
-    let place : c.len-place.result ≡ length c.self.inside.log.items = (let l = c.len-place.ensures in let k = c.self.inside.log.ok.0 in omega (arith, l, k)) in
+    let place : c.len-place.result ≡ length c.self.inside.log.items = c.len-place.ensures in
     let seat = seat_at c.self.inside.seats.items c.pass.inside.seat in
     let places : c.push_reserved.new.self.items ≡ c.seat.inside.places.items ++ c.len-place.result ∷ [] =
     c.push_reserved.ensures.items ∙ ap (λ (ps : List ℕ). ps ++ c.len-place.result ∷ []) c.in_ok-make_room.ensures.places in
@@ -47,3 +49,16 @@ returns-clause-reply g c = λ setting state st. c.in_ok-carried.ensures.reply se
 pub returns-clause-step : goal.returns-clause-step
 returns-clause-step g c =
     takes_as (Own c.args.tenant c.args.prepared) c.self.inside.host c.args.self.now.host c.carry_out.new.host (ap (λ (b : BookValue). b.host) c.self.view_is) c.in_ok-carried.ensures.step
+
+pub invariant_of-pass-2 : goal.invariant_of-pass-2
+invariant_of-pass-2 g c =
+    let rig = g.N.Naming.config in
+    let first = g.N.Naming.first_tick in
+    let call : Call = record { tenant = c.args.tenant; command = c.args.prepared; reply = c.in_ok-carried.carried.reply } in
+    let book : BookValue = record { base = c.self.inside.base; host = c.self.inside.host; log = c.self.inside.log.items; seats = length c.self.inside.seats.items } in
+    let pass : PassValue = record { seat = c.pass.inside.seat; calls = c.pass.inside.calls.items; seen = c.pass.inside.seen } in
+    let known : Knows book pass = rw (c.self.view_is, c.pass.view_is) c.requires.known in
+    let all : c.push_reserved-3.new.self.items ≡ calls_of_seat pass.seat c.push_reserved-2.new.self.items =
+    rw (c.push_reserved-3.ensures.items, c.in_ok-make_room.ensures.calls, c.in_ok-carried.ensures.noted, c.push_reserved-2.ensures.items, c.in_ok-make_room.ensures.log, c.in_ok-carried.ensures.logged)
+    (calls_with rig first book c.self.inside.seats.items pass c.self.invariant.2 call known) in
+    front_of_log _ _ c.push_reserved-2.new.self.items c.push_reserved-3.new.self.items pass.seat c.replace.ensures.after c.front.ensures all

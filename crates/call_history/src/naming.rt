@@ -1,10 +1,11 @@
-//! Which book it is.
+//! Which desk it is.
 
 use std::marker::Brand;
 
-/// What a book was made from, as one name: contracts alone see its members.
+/// What a desk was made from, as one name: contracts alone see its members.
 pub trait Naming {
     ghost use Rattle.std.specs.Prelude.{ℕ};
+    ghost use Rattle.logbook.specs.Pages.{Book};
     ghost use Rattle.rig_config.specs.Roster.{Rig};
 
     // The rig.
@@ -12,13 +13,18 @@ pub trait Naming {
 
     // The number of the host's first instant.
     ghost first_tick: { ℕ };
+
+    // The history of the desk that has one.
+    ghost history: { Book };
 }
 
-// The name that a caller picks where it makes a book.
+// The name that a caller picks where it makes a desk.
 impl Naming for Brand {
     ghost use Rattle.std.specs.Prelude.{[]};
 
     ghost config = { record { lines = 0; tenants = [] } };
 
     ghost first_tick = { 0 };
+
+    ghost history = { record { number = 0; log_name = 0; cells_name = 0 } };
 }

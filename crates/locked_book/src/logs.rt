@@ -1,0 +1,116 @@
+//! A log, with its history.
+
+ghost use Rattle.std.specs.Prelude.{◌≡◌, ◌+◌, ◌<◌, ◌≤◌, ◌^◌, ◌++◌, ◌∷◌, [], length, IfOk, OnOk, IfSome, IsTrue};
+ghost use mathlib.Core.List.{IsPrefix};
+ghost use Rattle.locked_book.specs.Logs.{LogValue};
+
+use call_history::histories::{Front, History, NewHistory};
+use call_history::naming::Naming;
+use rig_model::logged::Logged;
+use std::alloc::{AllocError, Global};
+use std::marker::Model;
+
+/// The entries of a log, the oldest first, and the history in which they stand for good, where one is kept.
+#[derive(Drop)]
+pub(crate) struct Log<N: Naming> {
+    entries: Vec<Logged>,
+    history: Option<History<N>>,
+}
+
+impl<N: Naming> Model for Log<N> {
+    ghost use Rattle.std.specs.Prelude.{◌≡◌, IfSome, vec_capacity};
+    ghost use Rattle.locked_book.specs.Logs.{LogValue};
+
+    ghost Value = { LogValue };
+
+    ghost view = { λ l. record { items = l.entries.items; capacity = vec_capacity l.entries } };
+
+    ghost invariant = { λ l. IfSome l.history (λ history. history ≡ l.entries.items) };
+}
+
+impl<N: Naming> Log<N> {
+    /// An empty log, with this history. Takes no memory.
+    pub(crate) fn new(alloc: Global, history: Option<NewHistory>) -> Log<N>
+        requires { IfSome history (λ h. h ≡ N.history) }
+        ensures { result.items ≡ [] }
+    {
+        let history = match history {
+            None => None,
+            Some(history) => Some(history.named()),
+        };
+        Log {
+            entries: Vec::new(alloc),
+            history,
+        }
+    }
+
+    /// The entries.
+    pub(crate) fn as_slice(&self) -> &[Logged]
+        ensures { result.now ≡ self.now.items }
+    {
+        self.entries.as_slice()
+    }
+
+    /// How many there are.
+    pub(crate) fn len(&self) -> usize
+        ensures { result ≡ length self.now.items }
+    {
+        self.entries.len()
+    }
+
+    /// Opens what its type knows: its room fits 64 bits.
+    pub(crate) fn known(&self)
+        ensures { self.now.capacity < 2 ^ 63 }
+    {
+        let _ = self.entries.capacity();
+    }
+
+    /// Makes room for so many more.
+    ///
+    /// # Errors
+    /// Want of memory. The log stays as it was then.
+    pub(crate) fn reserve(&mut self, more: usize) -> Result<(), AllocError>
+        ensures items { self.new.items ≡ self.old.items }
+        ensures room { OnOk result (length self.old.items + more ≤ self.new.capacity) }
+        ensures kept { self.old.capacity ≤ self.new.capacity }
+    {
+        self.entries.reserve(more)
+    }
+
+    /// Puts an entry at the end. Takes no memory.
+    pub(crate) fn push_reserved(&mut self, entry: Logged)
+        requires { length self.old.items < self.old.capacity }
+        ensures items { self.new.items ≡ self.old.items ++ entry ∷ [] }
+        ensures len { length self.new.items ≡ length self.old.items + 1 }
+        ensures capacity { self.new.capacity ≡ self.old.capacity }
+    {
+        let is_kept = match &mut self.history {
+            None => true,
+            Some(history) => history.add(&entry),
+        };
+        if !is_kept {
+            self.history = None;
+        }
+        self.entries.push_reserved(entry);
+    }
+
+    /// What stands in it now, as seen, where a history is kept. Takes no memory.
+    pub(crate) fn front(&self) -> Option<Front<N>>
+        ensures { IfSome result (λ front. front ≡ self.now.items) }
+    {
+        match &self.history {
+            None => None,
+            Some(history) => Some(history.front()),
+        }
+    }
+
+    /// Whether it is known to begin with what was seen. Takes no memory, and costs the same whatever was seen.
+    pub(crate) fn begins_with(&self, front: &Front<N>) -> bool
+        ensures { IsTrue result → IsPrefix front.now self.now.items }
+    {
+        match &self.history {
+            None => false,
+            Some(history) => history.begins_with(front),
+        }
+    }
+}
