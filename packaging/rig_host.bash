@@ -7,10 +7,10 @@ _rig_host() {
     [ "$word" = = ] && word=
     COMPREPLY=()
     if [ "$COMP_CWORD" = 1 ]; then
-        words=$("$1" --help 2>/dev/null | sed -n '/^Commands:/,/^$/s/^  \([a-z]*\) .*/\1/p; s/.* \(--[a-z]*\) .*/\1/p')
+        words=$("$1" --help 2>/dev/null | sed -n '/^Commands:/,/^$/s/^  \([a-z]*\) .*/\1/p; s/.* \(--[a-z-]*\) .*/\1/p')
     else
         told=$("$1" "${COMP_WORDS[1]}" --help 2>/dev/null | sed -n '/^Usage:/,/^Example/p')
-        words=$(sed -n 's/^ .* \(--[a-z]*\) .*/\1/p' <<<"$told")
+        words=$(sed -n 's/^ .* \(--[a-z-]*\) .*/\1/p' <<<"$told")
         case $before,$told in
             --*,*" $before <FILE>"*) words=FILES ;;
             --*,*" $before <"*) words= ;;

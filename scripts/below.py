@@ -98,7 +98,12 @@ class Source:
         """A type's declaration and its model."""
         line_end = self.text.index("\n", match.start())
         first = self.text[match.start() : line_end]
-        end = line_end if first.rstrip().endswith(";") else self.text.index(f"\n{match[1]}}}", match.start()) + 2
+        if first.rstrip().endswith(";"):
+            end = line_end
+        elif "const" in first.split()[:2]:
+            end = self.text.index(";\n", match.start()) + 1
+        else:
+            end = self.text.index(f"\n{match[1]}}}", match.start()) + 2
         declared = without_comments(self.text[match.start() : end])
         model = re.search(rf"^impl(?:<[^{{]*>)? Model for {match[2]}\b.*?^}}", self.text, re.M | re.S)
         ghosts = re.findall(r"^ +ghost (?:Value|view) = .*?};$", model[0], re.M | re.S) if model else []

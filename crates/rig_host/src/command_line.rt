@@ -3,6 +3,9 @@
 use clap::{Arg, ArgAction, Command, value_parser};
 use std::alloc::{AllocError, Global};
 
+// The version of the program, and the toolchain with which it is proved, as `rt version` prints it.
+const VERSION: &str = "0.1.0 (rattle-kit-13f)";
+
 // What stands below the help of `script`.
 const SCRIPT_EXAMPLES: &str = "\
 Example: echo 'op tick 5' | rig_host script
@@ -38,6 +41,14 @@ Example: rig_host retest --config examples/whose_retest/rig.toml --dot retests.d
 const TRIAL_EXAMPLE: &str = "\
 Example: rig_host trial --config examples/whose_retest/rig.toml lamp < examples/whose_retest/rig.script";
 
+// What stands below the help of `connect`.
+const CONNECT_EXAMPLES: &str = "\
+Example: rig_host connect 4000 pump --key-file pump.key
+         rlwrap rig_host connect 4000 pump --key-file pump.key
+At a terminal each line has a prompt; `rlwrap` adds a history and editing. `help` lists the commands; `load < FILE` and
+`replace < FILE` send the text of a file, which may have lines and // comments.
+Without --key-file the key is that of the environment variable RIG_HOST_KEY, or else asked for at the terminal, where it can be seen.";
+
 /// The words that the program takes, with their help.
 ///
 /// # Errors
@@ -48,9 +59,11 @@ pub fn arguments<'a>(alloc: Global) -> Result<Command<'a>, AllocError> {
             "A host for shared test rigs: tenants load, run and inspect Giotto programs, and an operator gives the instants",
         )
         .after_help("Example: rig_host script < examples/first/first.script")
+        .version(VERSION)
         .subcommand_required(true)
         .subcommand(script_arguments(alloc)?)?
         .subcommand(serve_arguments(alloc)?)?
+        .subcommand(connect_arguments(alloc)?)?
         .subcommand(timeline_arguments(alloc)?)?
         .subcommand(retest_arguments(alloc)?)?
         .subcommand(trial_arguments(alloc)?)
@@ -104,6 +117,37 @@ pub fn serve_arguments<'a>(alloc: Global) -> Result<Command<'a>, AllocError> {
         .arg(port)?
         .arg(workers)?
         .arg(idle)
+}
+
+/// The words of `connect`.
+///
+/// # Errors
+/// Want of memory.
+pub fn connect_arguments<'a>(alloc: Global) -> Result<Command<'a>, AllocError> {
+    let port = Arg::new(alloc, "port")
+        .value_name("PORT")
+        .required(true)
+        .action(ArgAction::Set)
+        .value_parser(value_parser!(u16).range(1..65536))
+        .help("The port of the server, 1 to 65535");
+    let name = Arg::new(alloc, "name")
+        .value_name("NAME")
+        .required(true)
+        .action(ArgAction::Set)
+        .help("The name of the tenant");
+    let key = Arg::new(alloc, "key-file")
+        .long("key-file")
+        .value_name("FILE")
+        .action(ArgAction::Set)
+        .help("The file whose first line is the tenant's key");
+    Command::new(alloc, "connect")
+        .about(
+            "Greets a server on 127.0.0.1 as a tenant, sends the lines of standard input, each behind the answer to the one before, and prints the answers",
+        )
+        .after_help(CONNECT_EXAMPLES)
+        .arg(port)?
+        .arg(name)?
+        .arg(key)
 }
 
 /// The words of `timeline`.

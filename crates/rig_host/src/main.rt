@@ -4,13 +4,15 @@
 ghost use Rattle.std.specs.Prelude.{◌≡◌};
 ghost use Rattle.std.specs.Process.{exit_status};
 ghost use Rattle.clap.specs.declared.error.Error.{Error as ArgumentError};
-ghost use Rattle.rig_host.specs.declared.Failure.TheVariants.{Configuration, Fault, Picture, Server};
+ghost use Rattle.rig_host.specs.declared.Failure.TheVariants.{Client, Configuration, Fault, Picture, Server};
 ghost use Rattle.rig_host.specs.declared.configuration.ConfigurationFault.{ConfigurationFault as AnyConfigurationFault};
 ghost use Rattle.rig_host.specs.declared.pictures.PictureFault.{PictureFault as AnyPictureFault};
+ghost use Rattle.rig_client.specs.declared.faults.ClientFault.{ClientFault as AnyClientFault};
 ghost use Rattle.rig_script.specs.declared.faults.ScriptFault.{ScriptFault as AnyFault};
 ghost use Rattle.rig_server.specs.declared.faults.ServeFault.{ServeFault as AnyServeFault};
 ghost use Rattle.rig_script.specs.declared.faults.ScriptFault.TheVariants.{Memory};
 
+mod client;
 mod command_line;
 mod configuration;
 mod pictures;
@@ -19,10 +21,12 @@ mod server;
 
 use clap::ArgMatches;
 use clap::error::ErrorKind;
+use client::{ConnectRequest, run_client};
 use command_line::{arguments, timeline_arguments, trial_arguments};
 use configuration::{ConfigurationFault, read_configuration};
 use pictures::{PictureFault, write_dump, write_timeline};
 use retests::{print_retests, print_trial};
+use rig_client::faults::ClientFault;
 use rig_config::{Config, TenantId};
 use rig_script::faults::ScriptFault;
 use rig_script::script;
@@ -61,6 +65,8 @@ enum Request<'a> {
     },
     /// The server of a rig.
     Serve(ServeRequest<'a>),
+    /// A session of a server.
+    Connect(ConnectRequest<'a>),
     /// The timeline of one tenant in a script of a file.
     Timeline(TimelineRequest<'a>),
     /// Whose change calls for whose retest in the script on standard input.
@@ -103,6 +109,8 @@ enum Failure {
     Fault(ScriptFault),
     /// What ended the server otherwise than by a halt.
     Server(ServeFault),
+    /// What ended a session otherwise than by `bye`.
+    Client(ClientFault),
     /// A file of a picture.
     Picture(PictureFault),
 }
@@ -114,12 +122,14 @@ impl Failure {
         ensures configuration { (fault : AnyConfigurationFault) → self.now ≡ Failure.Configuration fault → exit_status result ≡ 1 }
         ensures fault { (fault : AnyFault) → self.now ≡ Failure.Fault fault → exit_status result ≡ 3 }
         ensures server { (fault : AnyServeFault) → self.now ≡ Failure.Server fault → exit_status result ≡ 3 }
+        ensures client { (fault : AnyClientFault) → self.now ≡ Failure.Client fault → exit_status result ≡ 3 }
         ensures picture { (fault : AnyPictureFault) → self.now ≡ Failure.Picture fault → exit_status result ≡ 3 }
     {
         match self {
             Failure::Arguments(_) => ExitCode::from(2),
             Failure::Configuration(_) => ExitCode::from(1),
-            Failure::Fault(_) | Failure::Server(_) | Failure::Picture(_) => ExitCode::from(3),
+            Failure::Fault(_) | Failure::Server(_) | Failure::Client(_) | Failure::Picture(_) =>
+                ExitCode::from(3),
         }
     }
 }
@@ -131,6 +141,7 @@ impl fmt::Display for Failure {
             Failure::Configuration(fault) => writeln!(f, "{fault}"),
             Failure::Fault(fault) => writeln!(f, "{}", fault.as_str()),
             Failure::Server(fault) => writeln!(f, "{}", fault.as_str()),
+            Failure::Client(fault) => writeln!(f, "{}", fault.as_str()),
             Failure::Picture(fault) => writeln!(f, "{}", fault.as_str()),
         }
     }
@@ -157,6 +168,14 @@ impl From<ServeFault> for Failure {
 
     fn from(fault: ServeFault) -> Failure {
         Failure::Server(fault)
+    }
+}
+
+impl From<ClientFault> for Failure {
+    ghost from_gives = { λ fault failure. failure ≡ Client fault };
+
+    fn from(fault: ClientFault) -> Failure {
+        Failure::Client(fault)
     }
 }
 
@@ -195,6 +214,7 @@ fn run<T: Threads + Wait + Clock + Sync>(rt: &HostRuntime, threads: &T) -> Resul
             let config = read_configuration(rt, request.config)?;
             run_server(rt, threads, &config, &request)
         }
+        Request::Connect(request) => run_client(rt, &request),
         Request::Timeline(request) => {
             let config = read_configuration(rt, request.config)?;
             let tenant = tenant_of(rt.alloc(), &config, request.tenant)?;
@@ -265,6 +285,9 @@ fn request_of<'a>(matches: &ArgMatches<'a>) -> Request<'a> {
     if let Some(request) = server_of(matches) {
         return Request::Serve(request);
     }
+    if let Some(request) = client_of(matches) {
+        return Request::Connect(request);
+    }
     if let Some(words) = matches.subcommand_matches("retest") {
         return Request::Retest {
             config: words.get_str("config"),
@@ -293,6 +316,16 @@ fn server_of<'a>(matches: &ArgMatches<'a>) -> Option<ServeRequest<'a>> {
         port: words.get_one::<u16>("port").unwrap_or(0),
         workers: words.get_one::<u8>("workers").unwrap_or(2),
         idle: words.get_one::<u32>("idle"),
+    })
+}
+
+// Which session is asked for, if one is.
+fn client_of<'a>(matches: &ArgMatches<'a>) -> Option<ConnectRequest<'a>> {
+    let words = matches.subcommand_matches("connect")?;
+    Some(ConnectRequest {
+        port: words.get_one::<u16>("port")?,
+        name: words.get_str("name")?,
+        key_file: words.get_str("key-file"),
     })
 }
 

@@ -1,0 +1,3 @@
+pub mod CommentRows
+pub mod Commented
+pub mod LinesOfText

@@ -1,0 +1,106 @@
+//! One request, and its answer.
+
+ghost use Rattle.std.specs.Prelude.{◌≡◌, ◌++◌, ◌⊎◌, IfOk, IfErr, IfSome, OnOk, codes};
+ghost use Rattle.std.specs.Io.KnownBytes.{Appends};
+ghost use Rattle.std.specs.Io.BufRead.{take_through};
+ghost use Rattle.rig_client.specs.Answers.{kind_of_answer};
+
+use crate::faults::ClientFault;
+use std::alloc::Global;
+use std::io::{BufRead, ErrorKind, Write};
+
+/// What an answer is, besides text for the user.
+#[derive(Clone, Copy, Debug, PartialEq, Eq)]
+pub enum AnswerKind {
+    /// The session goes on.
+    GoesOn,
+    /// `bye`, to a `quit`: it has ended.
+    Bye,
+    /// Another last line, as `bye pass-full`.
+    Ended,
+}
+
+/// A session of a server.
+#[derive(Drop)]
+pub struct Server<R, W> {
+    reader: R,
+    writer: W,
+}
+
+impl<R: BufRead, W: Write> Server<R, W> {
+    /// The session whose answers come from this reader, and whose lines go to this writer.
+    pub fn new(reader: R, writer: W) -> Server<R, W> {
+        Server { reader, writer }
+    }
+
+    /// Sends a line, and gives its answer, with its LF.
+    ///
+    /// # Errors
+    /// As [`send`] and [`receive`].
+    pub fn ask(&mut self, alloc: Global, line: &str) -> Result<Vec<u8>, ClientFault> {
+        send(&mut self.writer, line)?;
+        receive(alloc, &mut self.reader)
+    }
+}
+
+/// Writes a line and its LF.
+///
+/// # Errors
+/// `Lost` where a write fails.
+pub fn send<W: Write>(writer: &mut W, line: &str) -> Result<(), ClientFault>
+    ensures sent { OnOk result (Appends (W.contents writer.old) (W.contents writer.new) (line.now ++ codes "\n")) }
+    ensures fault { IfErr result (λ fault. fault ≡ ClientFault.Lost) }
+{
+    let Ok(()) = writer.write_all(line.as_bytes()) else {
+        return Err(ClientFault::Lost);
+    };
+    let Ok(()) = writer.write_all(b"\n") else {
+        return Err(ClientFault::Lost);
+    };
+    match writer.flush() {
+        Ok(()) => Ok(()),
+        Err(_) => Err(ClientFault::Lost),
+    }
+}
+
+/// Reads up to the next LF and with it.
+///
+/// # Errors
+/// `Lost` where the bytes end before, or a read fails, and `Memory`.
+pub fn receive<R: BufRead>(alloc: Global, reader: &mut R) -> Result<Vec<u8>, ClientFault>
+    ensures answer { IfOk result (λ answer. IfSome (R.remaining reader.old) (λ bytes. answer.items ≡ take_through 10 bytes)) }
+    ensures fault { IfErr result (λ fault. (fault ≡ ClientFault.Lost) ⊎ (fault ≡ ClientFault.Memory)) }
+{
+    let mut answer = Vec::new(alloc);
+    match reader.read_until(b'\n', &mut answer) {
+        Ok(_) => {}
+        Err(error) => return Err(unread(error.kind())),
+    }
+    match answer.last() {
+        Some(b'\n') => Ok(answer),
+        _ => Err(ClientFault::Lost),
+    }
+}
+
+// Why nothing was read.
+fn unread(kind: ErrorKind) -> ClientFault
+    ensures { (result ≡ ClientFault.Lost) ⊎ (result ≡ ClientFault.Memory) }
+{
+    match kind {
+        ErrorKind::OutOfMemory => ClientFault::Memory,
+        _ => ClientFault::Lost,
+    }
+}
+
+/// What an answer is, by its text with its LF.
+pub fn kind_of_answer(answer: &[u8]) -> AnswerKind
+    ensures { result ≡ kind_of_answer answer.now }
+{
+    if answer == b"bye\n".as_slice() {
+        AnswerKind::Bye
+    } else if answer.starts_with(b"bye ") {
+        AnswerKind::Ended
+    } else {
+        AnswerKind::GoesOn
+    }
+}

@@ -1,0 +1,139 @@
+//! A session, from its greeting to its end.
+
+ghost use Rattle.std.specs.Prelude.{◌≡◌, IfOk, string_bytes};
+ghost use Rattle.rig_client.specs.Requests.{greeting};
+
+use crate::answers::{AnswerKind, Server, kind_of_answer};
+use crate::faults::ClientFault;
+use crate::help::HELP;
+use crate::programs::{FileFault, ProgramFiles, line_of_file};
+use crate::user_lines::{FileCommand, UserLine, user_line};
+use crate::users::User;
+use rig_model::limits::MAX_LINE;
+use std::alloc::{AllocError, Global};
+use std::io::{BufRead, Read, Write};
+use text_lines::lines::Line;
+
+/// Greets as the tenant of this name.
+///
+/// # Errors
+/// `Greeting` where another answer than `ok hello` came, which the user is then told; as `Server::ask`, and `Write`.
+pub fn greet<I: Read, O: Write, E: Write, R: BufRead, W: Write>(
+    alloc: Global,
+    user: &mut User<I, O, E>,
+    server: &mut Server<R, W>,
+    name: &str,
+    key: &str,
+) -> Result<(), ClientFault> {
+    let hello = greeting(alloc, name, key)?;
+    let answer = server.ask(alloc, hello.as_str())?;
+    if answer.as_slice() == b"ok hello\n".as_slice() {
+        return Ok(());
+    }
+    user.say(answer.as_slice())?;
+    user.flush()?;
+    Err(ClientFault::Greeting)
+}
+
+/// The line that greets.
+///
+/// # Errors
+/// Want of memory.
+pub fn greeting(alloc: Global, name: &str, key: &str) -> Result<String, AllocError>
+    ensures { IfOk result (λ line. string_bytes line ≡ greeting name.now key.now) }
+{
+    format!(in alloc; "hello {name} {key}")
+}
+
+/// Sends the lines of a user, each behind the answer to the one before, and says the answers, up to the one with which the server ends
+/// the session. Blank lines aren't sent, `help` is answered here, and `load < FILE` and `replace < FILE` are sent with the text of the
+/// file. A line that is too long or no text, and a file that can't be sent, is told, and the next line is read. Behind the last line
+/// `quit` is sent.
+///
+/// # Errors
+/// `Ended` where the server's last line isn't `bye`, and all others but `Connect`, `KeyFile`, `KeyRange` and `Greeting`.
+pub fn converse<I: Read, O: Write, E: Write, R: BufRead, W: Write, F: ProgramFiles>(
+    alloc: Global,
+    user: &mut User<I, O, E>,
+    server: &mut Server<R, W>,
+    files: &F,
+) -> Result<(), ClientFault> {
+    for _line in 0..u64::MAX {
+        let kind = match user.next_line()? {
+            Line::Whole(line) => answer(alloc, user, server, files, line.as_str())?,
+            Line::Bad => {
+                user.tell("the line", "is longer than 16384 bytes or isn't UTF-8")?;
+                AnswerKind::GoesOn
+            }
+            Line::End => leave(alloc, user, server)?,
+        };
+        match kind {
+            AnswerKind::GoesOn => {}
+            AnswerKind::Bye => return user.flush(),
+            AnswerKind::Ended => {
+                user.flush()?;
+                return Err(ClientFault::Ended);
+            }
+        }
+    }
+    Err(ClientFault::Turns)
+}
+
+// Behind the last line.
+fn leave<I: Read, O: Write, E: Write, R: BufRead, W: Write>(
+    alloc: Global,
+    user: &mut User<I, O, E>,
+    server: &mut Server<R, W>,
+) -> Result<AnswerKind, ClientFault> {
+    if user.is_prompted() {
+        user.say(b"\n")?;
+    }
+    request(alloc, user, server, "quit")
+}
+
+// Does what a line asks for.
+fn answer<I: Read, O: Write, E: Write, R: BufRead, W: Write, F: ProgramFiles>(
+    alloc: Global,
+    user: &mut User<I, O, E>,
+    server: &mut Server<R, W>,
+    files: &F,
+    line: &str,
+) -> Result<AnswerKind, ClientFault> {
+    match user_line(line) {
+        UserLine::Blank => {}
+        UserLine::Help => user.say(HELP.as_bytes())?,
+        UserLine::OfFile(command, None) => user.tell(
+            command.as_str(),
+            "< wants one FILE, without blanks",
+        )?,
+        UserLine::OfFile(command, Some(path)) => match text_of_file(alloc, files, command, path) {
+            Ok(line) => return request(alloc, user, server, line.as_str()),
+            Err(fault) => user.tell(path, fault.as_str())?,
+        },
+        UserLine::Request => return request(alloc, user, server, line),
+    }
+    Ok(AnswerKind::GoesOn)
+}
+
+// The line that sends the file of this path.
+fn text_of_file<F: ProgramFiles>(
+    alloc: Global,
+    files: &F,
+    command: FileCommand,
+    path: &str,
+) -> Result<String, FileFault> {
+    let bytes = files.bytes(path, MAX_LINE)?;
+    line_of_file(alloc, command, bytes)
+}
+
+// Sends a line, and says its answer.
+fn request<I: Read, O: Write, E: Write, R: BufRead, W: Write>(
+    alloc: Global,
+    user: &mut User<I, O, E>,
+    server: &mut Server<R, W>,
+    line: &str,
+) -> Result<AnswerKind, ClientFault> {
+    let answer = server.ask(alloc, line)?;
+    user.say(answer.as_slice())?;
+    Ok(kind_of_answer(answer.as_slice()))
+}

@@ -1,0 +1,89 @@
+//! Why a client ends otherwise than by `bye`.
+
+ghost use Rattle.std.specs.Prelude.{◌≡◌};
+ghost use Rattle.rig_client.specs.inner.Faults.{text_of_fault};
+
+use std::alloc::AllocError;
+use text_lines::faults::LinesFault;
+use thiserror::Error;
+
+/// Why a client ended otherwise than by `bye`.
+#[derive(Clone, Copy, Debug, PartialEq, Eq, Error)]
+pub enum ClientFault {
+    /// There is no connection to the port.
+    #[error("no server answers on the port")]
+    Connect,
+    /// The file of the key can't be read.
+    #[error("the file of the key can't be read")]
+    KeyFile,
+    /// The key isn't 1 to 64 bytes from 0x21 to 0x7E.
+    #[error("the key isn't 1 to 64 bytes from 0x21 to 0x7E")]
+    KeyRange,
+    /// The server answered the greeting with something else than `ok hello`.
+    #[error("the server refused the greeting")]
+    Greeting,
+    /// The server ended the session, with another line than `bye`.
+    #[error("the server ended the session")]
+    Ended,
+    /// The connection ended, or broke, without a last line.
+    #[error("the connection was lost")]
+    Lost,
+    /// A read of the user's lines failed, or there was want of memory for one.
+    #[error("reading the lines failed")]
+    Read,
+    /// A write to the user failed.
+    #[error("writing an answer failed")]
+    Write,
+    /// The user's input had not ended after 1,048,576 reads.
+    #[error("the input had not ended after 1048576 reads")]
+    Turns,
+    /// Want of memory.
+    #[error("no memory for the session")]
+    Memory,
+}
+
+impl From<AllocError> for ClientFault {
+    ghost use Rattle.std.specs.Prelude.{◌≡◌};
+    ghost use Rattle.rig_client.specs.declared.faults.ClientFault.TheVariants.{Memory};
+
+    ghost from_gives = { λ _ fault. fault ≡ Memory };
+
+    fn from(_error: AllocError) -> ClientFault {
+        ClientFault::Memory
+    }
+}
+
+impl From<LinesFault> for ClientFault {
+    ghost use Rattle.std.specs.Prelude.{◌≡◌};
+    ghost use Rattle.rig_client.specs.inner.Faults.{fault_of_lines};
+
+    ghost from_gives = { λ lines fault. fault ≡ fault_of_lines lines };
+
+    fn from(fault: LinesFault) -> ClientFault {
+        match fault {
+            LinesFault::Read | LinesFault::Memory => ClientFault::Read,
+            LinesFault::Write => ClientFault::Write,
+            LinesFault::Turns => ClientFault::Turns,
+        }
+    }
+}
+
+impl ClientFault {
+    /// The line that the program writes to standard error.
+    pub fn as_str(self) -> &'static str
+        ensures { result.now ≡ text_of_fault self }
+    {
+        match self {
+            ClientFault::Connect => "io: connect",
+            ClientFault::KeyFile => "key: unreadable",
+            ClientFault::KeyRange => "key: range",
+            ClientFault::Greeting => "hello: refused",
+            ClientFault::Ended => "session: ended",
+            ClientFault::Lost => "io: lost",
+            ClientFault::Read => "io: read",
+            ClientFault::Write => "io: write",
+            ClientFault::Turns => "io: turns",
+            ClientFault::Memory => "io: memory",
+        }
+    }
+}

@@ -1,0 +1,86 @@
+//! The program of a file, as the line by which it is sent.
+
+ghost use Rattle.std.specs.Prelude.{◌≡◌, ◌≢◌, ◌↔◌, ◌+◌, ◌<◌, IfOk, IfErr, Err, length, string_bytes};
+ghost use Rattle.std.specs.Str.{IsUtf8};
+ghost use Rattle.rig_model.specs.declared.limits.TheConstants.{MAX_LINE};
+ghost use Rattle.rig_client.specs.Requests.{line_of_file, word_of_command};
+
+use crate::user_lines::FileCommand;
+use giotto_files::one_line;
+use rig_model::limits::MAX_LINE;
+use std::alloc::{AllocError, Global};
+use thiserror::Error;
+
+/// Why the text of a file isn't sent. Its text stands behind the path.
+#[derive(Clone, Copy, Debug, PartialEq, Eq, Error)]
+pub enum FileFault {
+    /// The file isn't there, can't be read or is a folder.
+    #[error("can't be read")]
+    Unreadable,
+    /// With the command the text is longer than a line, which has at most 16,384 bytes.
+    #[error("is too long: with its command a text has at most 16384 bytes")]
+    TooLong,
+    /// The file's bytes aren't UTF-8.
+    #[error("isn't UTF-8")]
+    NotText,
+    /// Want of memory.
+    #[error("finds no memory")]
+    Memory,
+}
+
+impl FileFault {
+    /// What stands behind the path where it is told.
+    pub fn as_str(self) -> &'static str {
+        match self {
+            FileFault::Unreadable => "can't be read",
+            FileFault::TooLong => "is too long: with its command a text has at most 16384 bytes",
+            FileFault::NotText => "isn't UTF-8",
+            FileFault::Memory => "finds no memory",
+        }
+    }
+}
+
+impl From<AllocError> for FileFault {
+    ghost use Rattle.std.specs.Prelude.{◌≡◌};
+    ghost use Rattle.rig_client.specs.declared.programs.FileFault.TheVariants.{Memory};
+
+    ghost from_gives = { λ _ fault. fault ≡ Memory };
+
+    fn from(_error: AllocError) -> FileFault {
+        FileFault::Memory
+    }
+}
+
+/// Where the files of programs are.
+pub trait ProgramFiles {
+    /// The bytes of the file of this path, or, where it has more than `most`, some of them, more than `most`.
+    ///
+    /// # Errors
+    /// `Unreadable` and `Memory`.
+    fn bytes(&self, path: &str, most: usize) -> Result<Vec<u8>, FileFault>;
+}
+
+/// The line that sends the text of a file with this command: in one line, without comments, each byte of the program in its place.
+///
+/// # Errors
+/// `TooLong` where the line had more than 16,384 bytes, else `NotText` where the bytes aren't UTF-8, and `Memory`.
+pub fn line_of_file(
+    alloc: Global,
+    command: FileCommand,
+    bytes: Vec<u8>,
+) -> Result<String, FileFault>
+    ensures line { IfOk result (λ line. string_bytes line ≡ line_of_file command bytes.items) }
+    ensures too_long { (result ≡ Err FileFault.TooLong) ↔ (MAX_LINE < length (word_of_command command) + 1 + length bytes.items) }
+    ensures no_text { result ≡ Err FileFault.NotText → ¬ IsUtf8 bytes.items }
+    ensures fault { IfErr result (λ fault. fault ≢ FileFault.Unreadable) }
+{
+    let word = command.as_str();
+    if bytes.len() > MAX_LINE - 1 - word.len() {
+        return Err(FileFault::TooLong);
+    }
+    let Ok(text) = String::from_utf8(bytes) else {
+        return Err(FileFault::NotText);
+    };
+    let line = one_line(alloc, text.as_str())?;
+    Ok(format!(in alloc; "{word} {line}")?)
+}

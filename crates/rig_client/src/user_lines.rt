@@ -1,0 +1,108 @@
+//! The lines of a user: what the client answers by itself, what it makes of a file, and what it sends.
+
+ghost use Rattle.std.specs.Prelude.{◌≡◌, ◌==◌, if◌then◌else◌, codes, length, nat_eq, true};
+ghost use Rattle.std.specs.List.{starts_with};
+ghost use Rattle.std.specs.Option.{option_map};
+ghost use Rattle.tenant_lines.specs.Words.{first_word_of};
+ghost use Rattle.rig_client.specs.UserLines.{command_line_of, kind_of, help as help_line, path_of, request, sole_word_of, user_line_of};
+ghost use Rattle.rig_client.specs.Requests.{word_of_command};
+
+use tenant_lines::words;
+
+/// A command whose text can be that of a file.
+#[derive(Clone, Copy, Debug, PartialEq, Eq)]
+pub enum FileCommand {
+    /// `load`.
+    Load,
+    /// `replace`.
+    Replace,
+}
+
+impl FileCommand {
+    /// The word of the command.
+    pub fn as_str(self) -> &'static str
+        ensures { result.now ≡ word_of_command self }
+    {
+        match self {
+            FileCommand::Load => "load",
+            FileCommand::Replace => "replace",
+        }
+    }
+}
+
+/// What a line of a user is.
+#[derive(Clone, Copy, Debug)]
+pub enum UserLine<'a> {
+    /// Blanks alone: it has no answer.
+    Blank,
+    /// `help`, which the client answers.
+    Help,
+    /// `load < FILE` or `replace < FILE`, and the path, where just one stands there.
+    OfFile(FileCommand, Option<&'a str>),
+    /// Everything else, which the server answers.
+    Request,
+}
+
+/// What a line of a user is.
+pub fn user_line(line: &str) -> UserLine<'_>
+    ensures { kind_of result ≡ user_line_of line.now }
+{
+    let rest = words::behind_first_word(line);
+    match words::first_word(line) {
+        "" => UserLine::Blank,
+        "help" => help(rest),
+        "load" => command_line(FileCommand::Load, rest),
+        "replace" => command_line(FileCommand::Replace, rest),
+        _ => UserLine::Request,
+    }
+}
+
+// `help`, with this behind it.
+fn help(rest: &str) -> UserLine<'_>
+    ensures { kind_of result ≡ (if (length (first_word_of rest.now) == 0) then help_line else request) }
+{
+    if words::first_word(rest).is_empty() {
+        UserLine::Help
+    } else {
+        UserLine::Request
+    }
+}
+
+// `load` or `replace`, with this behind it.
+fn command_line(command: FileCommand, rest: &str) -> UserLine<'_>
+    ensures { kind_of result ≡ command_line_of command rest.now }
+{
+    if words::first_word(rest).starts_with('<') {
+        UserLine::OfFile(command, path(rest))
+    } else {
+        UserLine::Request
+    }
+}
+
+// The path in `< PATH` or `<PATH`, where there is just one.
+fn path(rest: &str) -> Option<&str>
+    requires { starts_with nat_eq (first_word_of rest.now) (codes "<") ≡ true }
+    ensures { option_map (λ p. p.now) result ≡ path_of rest.now }
+{
+    let word = words::first_word(rest);
+    let behind = words::behind_first_word(rest);
+    if word.len() == 1 {
+        return sole_word(behind);
+    }
+    if words::first_word(behind).is_empty() {
+        Some(&word[1..])
+    } else {
+        None
+    }
+}
+
+// The word of a text that has no other.
+fn sole_word(text: &str) -> Option<&str>
+    ensures { option_map (λ p. p.now) result ≡ sole_word_of text.now }
+{
+    let word = words::first_word(text);
+    if word.is_empty() || !words::first_word(words::behind_first_word(text)).is_empty() {
+        return None;
+    }
+    Some(word)
+}

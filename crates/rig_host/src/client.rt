@@ -1,0 +1,149 @@
+//! A client of the server on a port of this machine.
+
+use crate::Failure;
+use crate::command_line::connect_arguments;
+use clap::error::ErrorKind;
+use giotto_text::name_bytes::is_name;
+use rig_client::answers::Server;
+use rig_client::conversing::{converse, greet};
+use rig_client::faults::ClientFault;
+use rig_client::keys::{first_line, is_key};
+use rig_client::programs::{FileFault, ProgramFiles};
+use rig_client::users::User;
+use std::alloc::Global;
+use std::env::VarError;
+use std::io::{BufReader, BufWriter, IsTerminal, Read, Write};
+use std::net::TcpStream;
+use std::{env, fs, io};
+
+// The environment variable of the key.
+const KEY: &str = "RIG_HOST_KEY";
+
+/// What `connect` is started with.
+#[derive(Clone, Copy)]
+pub struct ConnectRequest<'a> {
+    /// The port of the server on this machine.
+    pub port: u16,
+    /// The name of the tenant.
+    pub name: &'a str,
+    /// The path of the file with the key; `None` for that of the environment, or of the question.
+    pub key_file: Option<&'a str>,
+}
+
+// The files of this machine.
+#[derive(Drop)]
+struct Disk<'a> {
+    rt: &'a HostRuntime,
+}
+
+impl<'a> ProgramFiles for Disk<'a> {
+    fn bytes(&self, path: &str, most: usize) -> Result<Vec<u8>, FileFault> {
+        let Ok(file) = fs::open(self.rt, path) else {
+            return Err(FileFault::Unreadable);
+        };
+        let mut bytes = Vec::new(self.rt.alloc());
+        let limit = u64::try_from(most).unwrap_or(u64::MAX).saturating_add(1);
+        match file.take(limit).read_to_end(&mut bytes) {
+            Ok(_) => Ok(bytes),
+            Err(error) => match error.kind() {
+                io::ErrorKind::OutOfMemory => Err(FileFault::Memory),
+                _ => Err(FileFault::Unreadable),
+            },
+        }
+    }
+}
+
+/// Greets the server as a tenant, and sends the lines of standard input, each behind the answer to the one before.
+///
+/// # Errors
+/// The arguments, where the name isn't one or there is no key, and the faults of the session.
+pub fn run_client(rt: &HostRuntime, request: &ConnectRequest<'_>) -> Result<(), Failure> {
+    let alloc = rt.alloc();
+    if !is_name(request.name.as_bytes()) {
+        return Err(wrong(alloc, "NAME isn't the name of a tenant")?);
+    }
+    let Ok(output) = BufWriter::new(alloc, io::writer(rt)) else {
+        return Err(Failure::Client(ClientFault::Memory));
+    };
+    let prompt = prompt_of(rt, request.name)?;
+    let mut user = User::new(alloc, rt.reader(), output, rt.stderr(), prompt);
+    let key = key_of(rt, request, &mut user)?;
+    if !is_key(key.as_str()) {
+        return Err(Failure::Client(ClientFault::KeyRange));
+    }
+    Ok(hold_session(rt, request, key.as_str(), &mut user)?)
+}
+
+// Greets, and has the user's lines answered.
+fn hold_session<I: Read, O: Write, E: Write>(
+    rt: &HostRuntime,
+    request: &ConnectRequest<'_>,
+    key: &str,
+    user: &mut User<I, O, E>,
+) -> Result<(), ClientFault> {
+    let alloc = rt.alloc();
+    let Ok(stream) = TcpStream::connect(rt, ("127.0.0.1", request.port)) else {
+        return Err(ClientFault::Connect);
+    };
+    let Ok(()) = stream.set_nodelay(true) else {
+        return Err(ClientFault::Connect);
+    };
+    let Ok(reader) = BufReader::new(alloc, &stream) else {
+        return Err(ClientFault::Memory);
+    };
+    let Ok(writer) = BufWriter::new(alloc, &stream) else {
+        return Err(ClientFault::Memory);
+    };
+    let mut server = Server::new(reader, writer);
+    greet(alloc, user, &mut server, request.name, key)?;
+    converse(alloc, user, &mut server, &Disk { rt })
+}
+
+// What stands before each line: nothing, where standard input or output is no terminal.
+fn prompt_of(rt: &HostRuntime, name: &str) -> Result<Option<String>, Failure> {
+    if rt.stdin().is_terminal() && rt.stdout().is_terminal() {
+        Ok(Some(format!(in rt.alloc(); "{name}> ")?))
+    } else {
+        Ok(None)
+    }
+}
+
+// The key: of the file, of the environment, or what is answered at the terminal.
+fn key_of<I: Read, O: Write, E: Write>(
+    rt: &HostRuntime,
+    request: &ConnectRequest<'_>,
+    user: &mut User<I, O, E>,
+) -> Result<String, Failure> {
+    if let Some(path) = request.key_file {
+        return Ok(key_of_file(rt, path)?);
+    }
+    match env::var(rt, KEY) {
+        Ok(key) => return Ok(key),
+        Err(VarError::NotPresent) => {}
+        Err(VarError::NotUnicode) => return Err(Failure::Client(ClientFault::KeyRange)),
+        Err(VarError::OutOfMemory) => return Err(Failure::Client(ClientFault::Memory)),
+    }
+    if user.is_prompted() {
+        let question = format!(in rt.alloc(); "key of {}: ", request.name)?;
+        if let Some(key) = user.answer_to(question.as_str())? {
+            return Ok(key);
+        }
+    }
+    Err(wrong(
+        rt.alloc(),
+        "there is no key: name its file by '--key-file', set RIG_HOST_KEY, or connect at a terminal",
+    )?)
+}
+
+// The first line of the file of this path.
+fn key_of_file(rt: &HostRuntime, path: &str) -> Result<String, ClientFault> {
+    let Ok(text) = fs::read_to_string(rt, path) else {
+        return Err(ClientFault::KeyFile);
+    };
+    Ok(String::from_str(rt.alloc(), first_line(text.as_str()))?)
+}
+
+// Arguments that are wrong in this way.
+fn wrong(alloc: Global, text: &str) -> Result<Failure, Failure> {
+    Ok(Failure::Arguments(connect_arguments(alloc)?.error(ErrorKind::ValueValidation, text)?))
+}
