@@ -3,7 +3,7 @@ use denote.RattleType.{RattleType}
 use denote.Ref.{NamedLft}
 use denote.Param.Send.{IsSend, IsSync, sendable}
 use Rattle.std.proofs.Crossing.{crosses}
-use Rattle.locked_book.specs.declared.naming.Naming.{Ghosts}
+use Rattle.call_history.specs.declared.naming.Naming.{Ghosts}
 use Rattle.locked_book.proofs.cited.Crossing.{desk_sync, pass_send, job_send, logged_send}
 use Rattle.measure.proofs.voices.Heard.TheSendSync as heard
 use Rattle.measure.specs.contracts.voices.Table as Table
@@ -16,5 +16,5 @@ table_sync κ N g s = search (crosses, desk_sync, job_send, sendable) depth 60 f
 heard_send : IsSend Heard.the_row
 heard_send = search (crosses, logged_send, sendable) depth 60 fits 20000
 
-pub voice_send : IsSend Voice.the_row
-voice_send = search (crosses, heard.the_field_send, heard_send, pass_send, sendable) depth 60 fits 20000
+pub voice_send : (N : RattleType) (g : Ghosts N.Denot) → IsSend N → IsSend (Voice.the_row N g)
+voice_send N g s = search (crosses, heard.the_field_send, heard_send, pass_send, sendable) depth 60 fits 20000

@@ -1,7 +1,8 @@
 //! Jobs that are taken, run, and brought back to their host as completions.
 
-use crate::instants::roster;
+use crate::instants::host_of;
 use crate::plays::ONE_TASK;
+use crate::texts::text_of;
 use host_core::hosts::{Counted, Host};
 use std::alloc::Global;
 use std::io::Read;
@@ -12,30 +13,38 @@ use tenant_lines::texts::Text;
 /// Runs a program with one task that is released and ends at every instant, beside 15 tenants that run the program of a reader's text,
 /// for so many instants. Each job is run, and its result brought to the host. How many counted; -1 where the host has fewer tenants, or an
 /// instant is refused.
-pub(crate) fn counted<R: Read + Drop>(
-    alloc: Global,
-    mut reader: R,
-    times: u64,
-) -> anyhow::Result<i64> {
-    let mut text = String::new(alloc);
-    reader.read_to_string(&mut text)?;
-    let mut host = Host::new(alloc, &roster(alloc, 16)?, 0)?;
+pub(crate) fn counted<R: Read + Drop>(alloc: Global, reader: R, times: u64) -> anyhow::Result<i64> {
+    let text = text_of(alloc, reader)?;
+    let mut host = host_of(alloc, 16)?;
+    if !all_run(alloc, &mut host, text.as_str())? {
+        return Ok(-1);
+    }
+    Ok(counted_in(&mut host, times))
+}
+
+// Lets the first of 16 tenants run the program with one task, and the others this one. Whether the host has as many.
+fn all_run(alloc: Global, host: &mut Host, text: &str) -> anyhow::Result<bool> {
     for tenant in 0..16 {
         if tenant >= host.config().tenants().len() {
-            return Ok(-1);
+            return Ok(false);
         }
-        let program = if tenant == 0 { ONE_TASK } else { text.as_str() };
+        let program = if tenant == 0 { ONE_TASK } else { text };
         let _ = host.command(tenant, Command::Load(Text::from_str(alloc, program)?));
         let _ = host.command(tenant, Command::Start);
     }
+    Ok(true)
+}
+
+// How many results counted in so many instants; -1 where one is refused.
+fn counted_in(host: &mut Host, times: u64) -> i64 {
     let mut counted = 0i64;
     for _time in 0..times {
         let Ok(mut jobs) = host.tick(&[3]) else {
-            return Ok(-1);
+            return -1;
         };
-        counted = counted.saturating_add(brought(&mut host, &mut jobs));
+        counted = counted.saturating_add(brought(host, &mut jobs));
     }
-    Ok(counted)
+    counted
 }
 
 // Runs these jobs and brings their results to the host. How many counted.

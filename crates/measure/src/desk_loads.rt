@@ -3,8 +3,11 @@
 ghost use Rattle.std.specs.Prelude.{◌≡◌};
 
 use crate::instants::roster;
+use crate::texts::program_of;
+use call_history::histories::NewHistory;
+use call_history::naming::Naming;
 use locked_book::desks::Desk;
-use locked_book::naming::Naming;
+use locked_book::passes::Pass;
 use rig_config::{Config, TenantId};
 use std::alloc::Global;
 use std::io::Read;
@@ -23,15 +26,13 @@ const CALLS: usize = 32;
 pub(crate) fn loaded<I: Read + Drop>(
     rt: &impl Wait,
     alloc: Global,
-    mut reader: I,
+    reader: I,
     times: u64,
 ) -> anyhow::Result<i64> {
-    let mut read = String::new(alloc);
-    reader.read_to_string(&mut read)?;
-    let text = Text::from_str(alloc, read.as_str())?;
+    let text = program_of(alloc, reader)?;
     let config = roster(alloc, 4)?;
     let load = Load { alloc, text, times };
-    let loaded = on_desk::<Brand, _>(rt, &config, 0, &load);
+    let loaded = on_desk::<Brand, _>(rt, &config, NewHistory::new(), &load);
     Ok(
         loaded
             .and_then(|loaded| i64::try_from(loaded).ok())
@@ -47,11 +48,17 @@ struct Load {
     times: u64,
 }
 
-fn on_desk<N: Naming, R: Wait>(rt: &R, config: &Config, first_tick: u64, load: &Load) -> Option<u64>
+fn on_desk<N: Naming, R: Wait>(
+    rt: &R,
+    config: &Config,
+    history: NewHistory,
+    load: &Load,
+) -> Option<u64>
     requires config { config.now ≡ N.config }
-    requires first_tick { first_tick ≡ N.first_tick }
+    requires first_tick { 0 ≡ N.first_tick }
+    requires history { history ≡ N.history }
 {
-    let desk = Desk::<N>::new(load.alloc, config, first_tick).ok()?;
+    let desk = Desk::<N>::new(load.alloc, config, 0, Some(history)).ok()?;
     loads(rt, &desk, load)
 }
 
@@ -60,13 +67,24 @@ fn loads<N: Naming>(rt: &impl Wait, desk: &Desk<N>, load: &Load) -> Option<u64> 
     let mut pass = desk.pass(rt).ok()?;
     let mut loaded = 0u64;
     for _time in 0..load.times {
-        if pass.calls().len() >= CALLS {
-            pass = desk.pass(rt).ok()?;
-        }
-        let command = Command::Load(load.text.copy(load.alloc).ok()?);
-        if let Reply::Loaded = desk.call(rt, &mut pass, LOADER, command).ok()? {
+        if is_loaded(rt, desk, load, &mut pass)? {
             loaded = loaded.wrapping_add(1);
         }
     }
     Some(loaded)
+}
+
+// Whether a load is answered `ok load`, by a new pass where this one has 32 calls.
+fn is_loaded<N: Naming>(
+    rt: &impl Wait,
+    desk: &Desk<N>,
+    load: &Load,
+    pass: &mut Pass<N>,
+) -> Option<bool> {
+    if pass.calls().len() >= CALLS {
+        *pass = desk.pass(rt).ok()?;
+    }
+    let text = load.text.copy(load.alloc).ok()?;
+    let reply = desk.call(rt, pass, LOADER, Command::Load(text)).ok()?;
+    Some(matches!(reply, Reply::Loaded))
 }

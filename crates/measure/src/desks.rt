@@ -3,10 +3,11 @@
 
 ghost use Rattle.std.specs.Prelude.{◌≡◌};
 
-use crate::instants::roster;
+use crate::instants::{host_of, roster};
+use call_history::histories::NewHistory;
+use call_history::naming::Naming;
 use host_core::hosts::Host;
 use locked_book::desks::Desk;
-use locked_book::naming::Naming;
 use locked_book::passes::Pass;
 use rig_config::{Config, TenantId};
 use std::alloc::Global;
@@ -43,19 +44,23 @@ pub(crate) enum Work {
 
 /// As many times 32 commands of a host without a lock, with four tenants. How many were answered; -1 where the host has no tenant.
 pub(crate) fn calls_of_host(alloc: Global, times: u64) -> anyhow::Result<i64> {
-    let mut host = Host::new(alloc, &roster(alloc, 4)?, 0)?;
+    let mut host = host_of(alloc, 4)?;
+    Ok(answered_by(&mut host, times))
+}
+
+fn answered_by(host: &mut Host, times: u64) -> i64 {
     let mut answered = 0i64;
     for _pass in 0..times {
         for _call in 0..CALLS {
             if FIRST >= host.config().tenants().len() {
-                return Ok(-1);
+                return -1;
             }
             if let Reply::Mode(_) = host.command(FIRST, Command::ShowMode) {
                 answered = answered.saturating_add(1);
             }
         }
     }
-    Ok(answered)
+    answered
 }
 
 /// Work at a desk of four tenants. How many calls were answered, or for a close how many entries the log has; -1 where a call or the
@@ -67,7 +72,7 @@ pub(crate) fn worked<R: Threads + Wait + Sync>(
     times: u64,
 ) -> anyhow::Result<i64> {
     let config = roster(alloc, 4)?;
-    let done = on_desk::<Brand, _>(rt, alloc, &config, 0, work, times);
+    let done = on_desk::<Brand, _>(rt, alloc, &config, NewHistory::new(), work, times);
     Ok(done.and_then(|done| i64::try_from(done).ok()).unwrap_or(-1))
 }
 
@@ -75,14 +80,15 @@ fn on_desk<N: Naming + Send + Sync, R: Threads + Wait + Sync>(
     rt: &R,
     alloc: Global,
     config: &Config,
-    first_tick: u64,
+    history: NewHistory,
     work: Work,
     times: u64,
 ) -> Option<u64>
     requires config { config.now ≡ N.config }
-    requires first_tick { first_tick ≡ N.first_tick }
+    requires first_tick { 0 ≡ N.first_tick }
+    requires history { history ≡ N.history }
 {
-    let desk = Desk::<N>::new(alloc, config, first_tick).ok()?;
+    let desk = Desk::<N>::new(alloc, config, 0, Some(history)).ok()?;
     match work {
         Work::Calls(threads) => Some(calls_of_threads(rt, &desk, threads, times)),
         Work::Kept => Some(kept(rt, alloc, &desk, times)?.len() as u64),
@@ -140,7 +146,7 @@ fn calls_of_new_pass<N: Naming>(rt: &impl Wait, desk: &Desk<N>, calls: u64) -> O
 fn call_often<N: Naming>(
     rt: &impl Wait,
     desk: &Desk<N>,
-    pass: &mut Pass,
+    pass: &mut Pass<N>,
     calls: u64,
 ) -> Option<u64> {
     for _call in 0..calls {
@@ -155,7 +161,7 @@ fn kept<N: Naming>(
     alloc: Global,
     desk: &Desk<N>,
     number: u64,
-) -> Option<Vec<Pass>> {
+) -> Option<Vec<Pass<N>>> {
     let mut passes = Vec::new(alloc);
     for _pass in 0..number {
         let mut pass = desk.pass(rt).ok()?;

@@ -1,5 +1,6 @@
 //! Instants of a host of which some tenants run a program.
 
+use crate::texts::text_of;
 use giotto_tasks::names::Name;
 use host_core::hosts::Host;
 use rig_config::{Config, read_config};
@@ -10,7 +11,7 @@ use tenant_lines::grant_lines::GrantCommand;
 use tenant_lines::texts::Text;
 
 /// Which instants are run.
-#[derive(Drop)]
+#[derive(Clone, Copy)]
 pub(crate) struct Work {
     /// How many tenants the host has, and how many of them run the program, from the first on.
     pub(crate) tenants: usize,
@@ -25,25 +26,43 @@ pub(crate) struct Work {
 /// are to run, or an instant is refused.
 pub(crate) fn instants<R: Read + Drop>(
     alloc: Global,
-    mut reader: R,
+    reader: R,
     work: &Work,
     times: u64,
 ) -> anyhow::Result<i64> {
-    let mut text = String::new(alloc);
-    reader.read_to_string(&mut text)?;
-    let mut host = Host::new(alloc, &roster(alloc, work.tenants)?, 0)?;
+    let text = text_of(alloc, reader)?;
+    let mut host = host_of(alloc, work.tenants)?;
+    if !all_run(alloc, &mut host, text.as_str(), work)? {
+        return Ok(-1);
+    }
+    Ok(computed(&mut host, work, times))
+}
+
+/// A host of so many tenants, each with all that a budget can be.
+pub(crate) fn host_of(alloc: Global, tenants: usize) -> anyhow::Result<Host> {
+    let config = roster(alloc, tenants)?;
+    Ok(Host::new(alloc, &config, 0)?)
+}
+
+// Lets the tenants run this program. Whether the host has as many as are to run.
+fn all_run(alloc: Global, host: &mut Host, text: &str, work: &Work) -> anyhow::Result<bool> {
     for tenant in 0..work.running {
         if tenant >= host.config().tenants().len() {
-            return Ok(-1);
+            return Ok(false);
         }
-        let _ = host.command(tenant, Command::Load(Text::from_str(alloc, text.as_str())?));
+        let _ = host.command(tenant, Command::Load(Text::from_str(alloc, text)?));
         let _ = host.command(tenant, Command::Start);
-        bind_all(alloc, &mut host, tenant, work)?;
+        bind_all(alloc, host, tenant, work)?;
     }
+    Ok(true)
+}
+
+// How many jobs are computed in so many instants; -1 where one is refused.
+fn computed(host: &mut Host, work: &Work, times: u64) -> i64 {
     let mut computed = 0i64;
     for _time in 0..times {
         if host.instant(&[3]).is_err() {
-            return Ok(-1);
+            return -1;
         }
         if !work.computes {
             continue;
@@ -51,7 +70,7 @@ pub(crate) fn instants<R: Read + Drop>(
         let count = i64::try_from(host.complete_all()).unwrap_or(i64::MAX);
         computed = computed.saturating_add(count);
     }
-    Ok(computed)
+    computed
 }
 
 // Binds the sensors g0, g1, .. of a tenant to the actuators a0, a1, .. of the one before, and lets that one offer these.

@@ -1,6 +1,7 @@
 //! Loads of a text, prepared and carried out.
 
-use crate::instants::roster;
+use crate::instants::host_of;
+use crate::texts::text_of;
 use host_core::hosts::Host;
 use rig_config::TenantId;
 use std::alloc::Global;
@@ -16,19 +17,28 @@ const FIRST: TenantId = 0;
 /// were answered `ok load`; -1 where the host has no tenant.
 pub(crate) fn loads<R: Read + Drop>(
     alloc: Global,
-    mut reader: R,
+    reader: R,
     carried_out: bool,
     times: u64,
 ) -> anyhow::Result<i64> {
-    let mut text = String::new(alloc);
-    reader.read_to_string(&mut text)?;
-    let mut host = Host::new(alloc, &roster(alloc, 1)?, 0)?;
+    let text = text_of(alloc, reader)?;
+    let mut host = host_of(alloc, 1)?;
+    loaded(alloc, &mut host, text.as_str(), carried_out, times)
+}
+
+fn loaded(
+    alloc: Global,
+    host: &mut Host,
+    text: &str,
+    carried_out: bool,
+    times: u64,
+) -> anyhow::Result<i64> {
     let mut loaded = 0i64;
     for _time in 0..times {
         if FIRST >= host.config().tenants().len() {
             return Ok(-1);
         }
-        let command = Command::Load(Text::from_str(alloc, text.as_str())?);
+        let command = Command::Load(Text::from_str(alloc, text)?);
         let prepared = prepare(alloc, command);
         if !carried_out {
             drop(prepared);

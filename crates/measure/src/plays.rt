@@ -5,6 +5,7 @@ use giotto_tasks::lists::List;
 use giotto_tasks::names::Name;
 use host_core::events::Event;
 use host_core::plays::play;
+use rig_config::Config;
 use std::alloc::{AllocError, Global};
 use tenant_jobs::jobs::JobId;
 use tenant_lines::commands::Command;
@@ -21,14 +22,27 @@ pub(crate) const ONE_TASK: &str =
 /// Want of memory.
 pub(crate) fn played(alloc: Global, times: u64) -> anyhow::Result<i64> {
     let mut events = Vec::new(alloc);
-    events.push(Event::Own(0, Command::Load(Text::from_str(alloc, ONE_TASK)?)))?;
+    add_events(alloc, times, &mut events)?;
+    let config = roster(alloc, 1)?;
+    Ok(answered_to(alloc, &config, events.as_slice()))
+}
+
+// Adds a load, a start, and so many instants with their completions.
+fn add_events(alloc: Global, times: u64, events: &mut Vec<Event>) -> Result<(), AllocError> {
+    let text = Text::from_str(alloc, ONE_TASK)?;
+    events.push(Event::Own(0, Command::Load(text)))?;
     events.push(Event::Own(0, Command::Start))?;
     for tick in 0..times {
-        add_instant(alloc, tick, &mut events)?;
+        add_instant(alloc, tick, events)?;
     }
-    match play(alloc, &roster(alloc, 1)?, events.as_slice()) {
-        Ok(texts) => Ok(answered(&texts)),
-        Err(_) => Ok(-1),
+    Ok(())
+}
+
+// How many bytes the first tenant is answered; -1 where the events are refused.
+fn answered_to(alloc: Global, config: &Config, events: &[Event]) -> i64 {
+    match play(alloc, config, events) {
+        Ok(texts) => answered(&texts),
+        Err(_) => -1,
     }
 }
 

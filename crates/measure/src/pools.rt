@@ -1,13 +1,14 @@
-//! Workers: the jobs of a program through a pool, and two tests of workers as often as one is told.
+//! Workers: the jobs of a program through a pool.
 
 ghost use Rattle.std.specs.Prelude.{◌≡◌, ◌≤◌};
 
 use crate::instants::roster;
+use crate::texts::program_of;
+use call_history::histories::NewHistory;
+use call_history::naming::Naming;
 use instant_engine::run_job;
 use locked_book::desks::Desk;
-use locked_book::naming::Naming;
 use rig_config::Config;
-use rig_tests::pools::{Shown, is_shown};
 use std::alloc::Global;
 use std::io::Read;
 use std::marker::Brand;
@@ -19,22 +20,6 @@ use tenant_lines::commands::Command;
 use tenant_lines::texts::Text;
 use worker_pool::gates::Free;
 use worker_pool::pools::Pool;
-
-/// How many of so many runs of a test show what they are to show.
-pub(crate) fn shown<R: Threads + Wait + Clock + Sync>(
-    rt: &R,
-    alloc: Global,
-    test: Shown,
-    times: u64,
-) -> i64 {
-    let mut passed = 0i64;
-    for _time in 0..times {
-        if is_shown(rt, alloc, test) == Some(true) {
-            passed = passed.saturating_add(1);
-        }
-    }
-    passed
-}
 
 /// Which instants are run.
 #[derive(Drop)]
@@ -49,28 +34,27 @@ pub(crate) struct Instants {
 pub(crate) fn jobs<R: Threads + Wait + Clock + Sync, I: Read + Drop>(
     rt: &R,
     alloc: Global,
-    mut reader: I,
+    reader: I,
     instants: &Instants,
 ) -> anyhow::Result<i64> {
-    let mut text = String::new(alloc);
-    reader.read_to_string(&mut text)?;
-    let program = Text::from_str(alloc, text.as_str())?;
+    let program = program_of(alloc, reader)?;
     let config = roster(alloc, 1)?;
-    Ok(on_desk::<Brand, _>(rt, alloc, &config, 0, program, instants).unwrap_or(-1))
+    Ok(on_desk::<Brand, _>(rt, alloc, &config, NewHistory::new(), program, instants).unwrap_or(-1))
 }
 
 fn on_desk<N: Naming + Send + Sync, R: Threads + Wait + Clock + Sync>(
     rt: &R,
     alloc: Global,
     config: &Config,
-    first_tick: u64,
+    history: NewHistory,
     program: Text,
     instants: &Instants,
 ) -> Option<i64>
     requires config { config.now ≡ N.config }
-    requires first_tick { first_tick ≡ N.first_tick }
+    requires first_tick { 0 ≡ N.first_tick }
+    requires history { history ≡ N.history }
 {
-    let desk = Desk::<N>::new(alloc, config, first_tick).ok()?;
+    let desk = Desk::<N>::new(alloc, config, 0, Some(history)).ok()?;
     let mut pass = desk.pass(rt).ok()?;
     let _ = desk.call(rt, &mut pass, 0, Command::Load(program)).ok()?;
     let _ = desk.call(rt, &mut pass, 0, Command::Start).ok()?;

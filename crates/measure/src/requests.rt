@@ -2,11 +2,12 @@
 
 ghost use Rattle.std.specs.Prelude.{◌≡◌};
 
+use call_history::histories::NewHistory;
+use call_history::naming::Naming;
 use host_core::hosts::{Counted, TickFault};
 use instant_engine::{Job, Jobs, run_job};
 use locked_book::desks::Desk;
 use locked_book::faults::{CloseFault, DeskFault, PassFault};
-use locked_book::naming::Naming;
 use locked_book::passes::Pass;
 use rig_config::{Config, TenantId, built_in};
 use std::alloc::{AllocError, Global};
@@ -85,7 +86,7 @@ const STEPS: [Step; 24] = [
 /// many gave what they have to give, and lost nothing where they were refused. -1 where there is want of memory for the desk.
 pub(crate) fn taken<R: Wait>(rt: &R, alloc: Global, times: u64) -> anyhow::Result<i64> {
     let config = built_in(alloc)?;
-    let taken = at_desk::<Brand, _>(rt, alloc, &config, 0, times);
+    let taken = at_desk::<Brand, _>(rt, alloc, &config, NewHistory::new(), times);
     Ok(
         taken
             .and_then(|taken| i64::try_from(taken).ok())
@@ -95,9 +96,9 @@ pub(crate) fn taken<R: Wait>(rt: &R, alloc: Global, times: u64) -> anyhow::Resul
 
 // What the steps are taken with: the passes, the jobs that no step has brought back, and how many entries the log has to have.
 #[derive(Drop)]
-struct Scene {
+struct Scene<N: Naming> {
     alloc: Global,
-    passes: Vec<Pass>,
+    passes: Vec<Pass<N>>,
     jobs: Vec<Job>,
     entries: u128,
 }
@@ -106,13 +107,14 @@ fn at_desk<N: Naming, R: Wait>(
     rt: &R,
     alloc: Global,
     config: &Config,
-    first_tick: u64,
+    history: NewHistory,
     times: u64,
 ) -> Option<u64>
     requires config { config.now ≡ N.config }
-    requires first_tick { first_tick ≡ N.first_tick }
+    requires first_tick { 0 ≡ N.first_tick }
+    requires history { history ≡ N.history }
 {
-    let desk = Desk::<N>::new(alloc, config, first_tick).ok()?;
+    let desk = Desk::<N>::new(alloc, config, 0, Some(history)).ok()?;
     let mut scene = Scene {
         alloc,
         passes: Vec::with_capacity(alloc, 4).ok()?,
@@ -131,7 +133,7 @@ fn at_desk<N: Naming, R: Wait>(
     Some(taken)
 }
 
-fn is_taken<N: Naming>(rt: &impl Wait, desk: &Desk<N>, scene: &mut Scene, step: &Step) -> bool {
+fn is_taken<N: Naming>(rt: &impl Wait, desk: &Desk<N>, scene: &mut Scene<N>, step: &Step) -> bool {
     match step {
         Step::Pass => is_given(rt, desk, scene),
         Step::Call(tenant, line, reply) => is_told(rt, desk, scene, *tenant, line, reply),
@@ -145,7 +147,7 @@ fn is_taken<N: Naming>(rt: &impl Wait, desk: &Desk<N>, scene: &mut Scene, step: 
 const TRIES: u32 = 2;
 
 // Whether a pass more is given, without calls.
-fn is_given<N: Naming>(rt: &impl Wait, desk: &Desk<N>, scene: &mut Scene) -> bool {
+fn is_given<N: Naming>(rt: &impl Wait, desk: &Desk<N>, scene: &mut Scene<N>) -> bool {
     for _try in 0..TRIES {
         match desk.pass(rt) {
             Ok(pass) => {
@@ -164,7 +166,7 @@ fn is_given<N: Naming>(rt: &impl Wait, desk: &Desk<N>, scene: &mut Scene) -> boo
 }
 
 // Whether the desk has as many entries as it has to have.
-fn is_as_before<N: Naming>(rt: &impl Wait, desk: &Desk<N>, scene: &mut Scene) -> bool {
+fn is_as_before<N: Naming>(rt: &impl Wait, desk: &Desk<N>, scene: &mut Scene<N>) -> bool {
     let Some(pass) = scene.passes.first_mut() else {
         return true;
     };
@@ -178,7 +180,7 @@ fn is_as_before<N: Naming>(rt: &impl Wait, desk: &Desk<N>, scene: &mut Scene) ->
 fn is_told<N: Naming>(
     rt: &impl Wait,
     desk: &Desk<N>,
-    scene: &mut Scene,
+    scene: &mut Scene<N>,
     tenant: TenantId,
     line: &str,
     reply: &str,
@@ -219,7 +221,7 @@ enum Outcome {
 fn told<N: Naming>(
     rt: &impl Wait,
     desk: &Desk<N>,
-    scene: &mut Scene,
+    scene: &mut Scene<N>,
     tenant: TenantId,
     command: Command,
 ) -> Outcome {
@@ -261,7 +263,7 @@ fn printed(alloc: Global, reply: &Reply) -> Option<String> {
 fn is_released<N: Naming>(
     rt: &impl Wait,
     desk: &Desk<N>,
-    scene: &mut Scene,
+    scene: &mut Scene<N>,
     reading: i64,
     number: usize,
 ) -> bool {
@@ -283,7 +285,7 @@ fn is_released<N: Naming>(
     false
 }
 
-fn lay(scene: &mut Scene, mut jobs: Jobs) -> Result<(), AllocError> {
+fn lay<N: Naming>(scene: &mut Scene<N>, mut jobs: Jobs) -> Result<(), AllocError> {
     for _job in 0..jobs.len() {
         if let Some(job) = jobs.take() {
             scene.jobs.push(job)?;
@@ -293,7 +295,7 @@ fn lay(scene: &mut Scene, mut jobs: Jobs) -> Result<(), AllocError> {
 }
 
 // Whether the completion of the oldest job counts, behind all entries, and nothing is outstanding then.
-fn is_counted<N: Naming>(rt: &impl Wait, desk: &Desk<N>, scene: &mut Scene) -> bool {
+fn is_counted<N: Naming>(rt: &impl Wait, desk: &Desk<N>, scene: &mut Scene<N>) -> bool {
     if scene.jobs.is_empty() {
         return false;
     }
@@ -306,7 +308,7 @@ fn is_counted<N: Naming>(rt: &impl Wait, desk: &Desk<N>, scene: &mut Scene) -> b
 }
 
 // Whether the one line has this value.
-fn is_driven<N: Naming>(rt: &impl Wait, desk: &Desk<N>, scene: &mut Scene, value: i64) -> bool {
+fn is_driven<N: Naming>(rt: &impl Wait, desk: &Desk<N>, scene: &mut Scene<N>, value: i64) -> bool {
     for _try in 0..TRIES {
         match desk.lines(rt) {
             Ok(values) => return matches!(values.as_slice(), [line] if *line == value),
@@ -321,7 +323,7 @@ fn is_driven<N: Naming>(rt: &impl Wait, desk: &Desk<N>, scene: &mut Scene, value
 }
 
 // Whether the desk is handed back where it is closed without passes, and closes with all of them and with all entries.
-fn is_closed<N: Naming>(desk: Desk<N>, scene: Scene) -> bool {
+fn is_closed<N: Naming>(desk: Desk<N>, scene: Scene<N>) -> bool {
     let Scene {
         alloc,
         passes,

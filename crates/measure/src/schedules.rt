@@ -4,11 +4,12 @@
 ghost use Rattle.std.specs.Prelude.{◌≡◌};
 
 use crate::voices::{Heard, THREADS, Table, Voice, speak};
+use call_history::histories::NewHistory;
+use call_history::naming::Naming;
 use host_core::events::Event;
 use host_core::plays::play;
 use locked_book::books::Book;
 use locked_book::desks::Desk;
-use locked_book::naming::Naming;
 use locked_book::passes::Pass;
 use rig_config::{Config, read_config};
 use rig_model::frames::copy_of_frame;
@@ -73,7 +74,7 @@ pub(crate) fn agreeing<R: Threads + Wait + Sync>(
     let config = read_config(alloc, CONFIG)?;
     let mut agreeing = 0i64;
     for seed in 0..times {
-        if agrees::<Brand, _>(rt, alloc, &config, 0, seed) == Some(true) {
+        if agrees::<Brand, _>(rt, alloc, &config, NewHistory::new(), seed) == Some(true) {
             agreeing = agreeing.saturating_add(1);
         }
     }
@@ -85,13 +86,14 @@ fn agrees<N: Naming + Send + Sync, R: Threads + Wait + Sync>(
     rt: &R,
     alloc: Global,
     config: &Config,
-    first_tick: u64,
+    history: NewHistory,
     seed: u64,
 ) -> Option<bool>
     requires config { config.now ≡ N.config }
-    requires first_tick { first_tick ≡ N.first_tick }
+    requires first_tick { 0 ≡ N.first_tick }
+    requires history { history ≡ N.history }
 {
-    let desk = Desk::<N>::new(alloc, config, first_tick).ok()?;
+    let desk = Desk::<N>::new(alloc, config, 0, Some(history)).ok()?;
     let mut voices = new_voices(rt, alloc, &desk, seed)?;
     speak_at(rt, alloc, &desk, &mut voices);
     is_played(alloc, config, desk, voices)
@@ -102,7 +104,7 @@ fn speak_at<N: Naming + Send + Sync, R: Threads + Wait + Sync>(
     rt: &R,
     alloc: Global,
     desk: &Desk<N>,
-    voices: &mut [Voice],
+    voices: &mut [Voice<N>],
 ) {
     let table = Table {
         alloc,
@@ -119,7 +121,7 @@ fn new_voices<N: Naming>(
     alloc: Global,
     desk: &Desk<N>,
     seed: u64,
-) -> Option<Vec<Voice>> {
+) -> Option<Vec<Voice<N>>> {
     let mut voices = Vec::new(alloc);
     for number in 0..THREADS as u64 {
         let pass = desk.pass(rt).ok()?;
@@ -133,7 +135,7 @@ fn new_voices<N: Naming>(
 fn speak_all<N: Naming + Send + Sync, R: Threads + Wait + Sync>(
     rt: &R,
     table: &Table<'_, N>,
-    voices: &mut [Voice],
+    voices: &mut [Voice<N>],
 ) {
     thread::scope(thread::scope_env(), rt, |scope| {
         for voice in voices {
@@ -147,7 +149,7 @@ fn is_played<N: Naming>(
     alloc: Global,
     config: &Config,
     desk: Desk<N>,
-    voices: Vec<Voice>,
+    voices: Vec<Voice<N>>,
 ) -> Option<bool> {
     let mut passes = Vec::new(alloc);
     let mut all = Vec::new(alloc);
@@ -166,7 +168,7 @@ fn is_played<N: Naming>(
     Some(same(&texts, &told))
 }
 
-fn closed<N: Naming>(desk: Desk<N>, passes: Vec<Pass>) -> Option<Book<N>> {
+fn closed<N: Naming>(desk: Desk<N>, passes: Vec<Pass<N>>) -> Option<Book<N>> {
     desk.close(passes).ok()
 }
 
@@ -203,18 +205,36 @@ fn told_in_order(
 ) -> Option<Vec<Text>> {
     let mut texts = blank(alloc, tenants).ok()?;
     let mut next = zeros(alloc, all.len()).ok()?;
-    for entry in log {
-        if let Logged::Call(seat, call) = entry {
-            let heard = next.get_mut(*seat)?;
-            let reply = all.get(*seat)?.replies.get(*heard)?;
-            *heard = heard.wrapping_add(1);
-            add_line(texts.get_mut(call.tenant)?, reply.as_str()).ok()?;
-        }
-    }
-    if !are_all(all, &next) {
+    if !add_all(&mut texts, &mut next, log, all) {
         return None;
     }
     Some(texts)
+}
+
+// Adds all replies of a log to the texts of their tenants. Whether the threads heard these alone.
+fn add_all(texts: &mut [Text], next: &mut [usize], log: &[Logged], all: &[Heard]) -> bool {
+    for entry in log {
+        if add(texts, next, entry, all).is_none() {
+            return false;
+        }
+    }
+    are_all(all, next)
+}
+
+// Adds the reply to this call, if it is one.
+fn add(texts: &mut [Text], next: &mut [usize], entry: &Logged, all: &[Heard]) -> Option<()> {
+    let Logged::Call(seat, call) = entry else {
+        return Some(());
+    };
+    let reply = next_reply(next.get_mut(*seat)?, all.get(*seat)?)?;
+    add_line(texts.get_mut(call.tenant)?, reply).ok()
+}
+
+// The next reply that a thread heard.
+fn next_reply<'a>(next: &mut usize, heard: &'a Heard) -> Option<&'a str> {
+    let reply = heard.replies.get(*next)?;
+    *next = next.wrapping_add(1);
+    Some(reply.as_str())
 }
 
 fn blank(alloc: Global, tenants: usize) -> Result<Vec<Text>, AllocError> {

@@ -2,11 +2,11 @@
 
 ghost use Rattle.std.specs.Prelude.{◌≡◌, ◌<◌};
 
+use call_history::naming::Naming;
 use giotto_tasks::lists::List;
 use host_core::hosts::Counted;
 use instant_engine::{Job, Jobs, run_job};
 use locked_book::desks::Desk;
-use locked_book::naming::Naming;
 use locked_book::passes::Pass;
 use rig_model::logged::Logged;
 use std::alloc::Global;
@@ -72,16 +72,16 @@ pub(crate) struct Heard {
 
 /// A thread's choices, its pass, and what it was told.
 #[derive(Drop)]
-pub(crate) struct Voice {
+pub(crate) struct Voice<N: Naming> {
     random: Random,
-    pass: Pass,
+    pass: Pass<N>,
     heard: Heard,
     is_refused: bool,
 }
 
-impl Voice {
+impl<N: Naming> Voice<N> {
     /// One that has said nothing, whose choices begin here.
-    pub(crate) fn new(alloc: Global, seed: u64, pass: Pass) -> Voice {
+    pub(crate) fn new(alloc: Global, seed: u64, pass: Pass<N>) -> Voice<N> {
         Voice {
             random: Random { state: seed },
             pass,
@@ -94,7 +94,7 @@ impl Voice {
     }
 
     /// Its pass and what it was told; None where it was refused something.
-    pub(crate) fn into_parts(self) -> Option<(Pass, Heard)> {
+    pub(crate) fn into_parts(self) -> Option<(Pass<N>, Heard)> {
         let Voice {
             random: _,
             pass,
@@ -109,7 +109,7 @@ impl Voice {
 }
 
 /// All rounds of a thread. It keeps to them where it was refused something, so that the others don't wait for it.
-pub(crate) fn speak<N: Naming>(rt: &impl Wait, table: &Table<'_, N>, voice: &mut Voice) {
+pub(crate) fn speak<N: Naming>(rt: &impl Wait, table: &Table<'_, N>, voice: &mut Voice<N>) {
     for _round in 0..ROUNDS {
         let _ = table.round.wait(rt);
         for _step in 0..=voice.random.below(MOST) {
@@ -121,7 +121,7 @@ pub(crate) fn speak<N: Naming>(rt: &impl Wait, table: &Table<'_, N>, voice: &mut
 }
 
 // A call, an instant or a completion.
-fn step<N: Naming>(rt: &impl Wait, table: &Table<'_, N>, voice: &mut Voice) -> Option<()> {
+fn step<N: Naming>(rt: &impl Wait, table: &Table<'_, N>, voice: &mut Voice<N>) -> Option<()> {
     match voice.random.below(10) {
         0..=5 => call(rt, table, voice),
         6 | 7 => tick(rt, table, voice),
@@ -130,7 +130,7 @@ fn step<N: Naming>(rt: &impl Wait, table: &Table<'_, N>, voice: &mut Voice) -> O
 }
 
 // A line of any tenant.
-fn call<N: Naming>(rt: &impl Wait, table: &Table<'_, N>, voice: &mut Voice) -> Option<()> {
+fn call<N: Naming>(rt: &impl Wait, table: &Table<'_, N>, voice: &mut Voice<N>) -> Option<()> {
     let tenant = voice.random.below(TENANTS) as usize;
     let line = voice.random.below(LINES.len() as u64) as usize;
     let command = command_of(table.alloc, LINES.get(line)?).ok()?;
@@ -140,7 +140,7 @@ fn call<N: Naming>(rt: &impl Wait, table: &Table<'_, N>, voice: &mut Voice) -> O
 }
 
 // An instant, whose jobs lie there for all threads.
-fn tick<N: Naming>(rt: &impl Wait, table: &Table<'_, N>, voice: &mut Voice) -> Option<()> {
+fn tick<N: Naming>(rt: &impl Wait, table: &Table<'_, N>, voice: &mut Voice<N>) -> Option<()> {
     let frame = [voice.random.below(9) as i64, voice.random.below(9) as i64];
     let (jobs, place) = table.desk.tick(rt, &frame).ok()?;
     lay(rt, table, jobs)?;
@@ -160,7 +160,7 @@ fn lay<N: Naming>(rt: &impl Wait, table: &Table<'_, N>, mut jobs: Jobs) -> Optio
 }
 
 // The completion of any job that lies there.
-fn done<N: Naming>(rt: &impl Wait, table: &Table<'_, N>, voice: &mut Voice) -> Option<()> {
+fn done<N: Naming>(rt: &impl Wait, table: &Table<'_, N>, voice: &mut Voice<N>) -> Option<()> {
     let Some(job) = taken(rt, table, &mut voice.random) else {
         return Some(());
     };

@@ -34,17 +34,29 @@ fn branching(alloc: Global, operators: u64) -> Result<Vec<Stmt>, CodeFault> {
 
 // Whether there is a body with such a block.
 fn body(alloc: Global, operators: u64) -> Result<(), CodeFault> {
-    let block = branching(alloc, operators)?;
+    body_of(alloc, branching(alloc, operators)?)
+}
+
+fn body_of(alloc: Global, block: Vec<Stmt>) -> Result<(), CodeFault> {
     let none = no_names(alloc);
-    let _body = Body::new(alloc, none, no_names(alloc), no_names(alloc), block)?;
-    Ok(())
+    match Body::new(alloc, none, no_names(alloc), no_names(alloc), block) {
+        Ok(_body) => Ok(()),
+        Err(fault) => Err(fault),
+    }
 }
 
 // Whether there is code for a driver with so many operators inside one another.
 fn driver(alloc: Global, operators: u64) -> Result<(), CodeFault> {
+    let e = ones(alloc, operators)?;
     let names = Index::new(alloc, Vec::new(alloc))?;
-    let _code = DriverCode::new(alloc, &ones(alloc, operators)?, &names)?;
-    Ok(())
+    driver_of(alloc, &e, &names)
+}
+
+fn driver_of(alloc: Global, e: &Expr, names: &Index) -> Result<(), CodeFault> {
+    match DriverCode::new(alloc, e, names) {
+        Ok(_code) => Ok(()),
+        Err(fault) => Err(fault),
+    }
 }
 
 #[test]

@@ -19,10 +19,14 @@ fn told(host: &mut Host, frame: &[i64]) -> Result<(), TickFault> {
 // Whether the last instant is taken, the next one refused for the clock, and one without a value for its frame.
 fn ends_its_clock(alloc: Global) -> Option<bool> {
     let mut host = at_its_last_instant(alloc)?;
-    let is_taken = told(&mut host, &[5]) == Ok(());
-    let has_ended = told(&mut host, &[5]) == Err(TickFault::ClockEnded);
-    let is_bad_frame = told(&mut host, &[]) == Err(TickFault::BadFrame);
-    Some(is_taken && has_ended && is_bad_frame)
+    Some(ends_behind_an_instant(&mut host))
+}
+
+fn ends_behind_an_instant(host: &mut Host) -> bool {
+    let is_taken = told(host, &[5]) == Ok(());
+    let has_ended = told(host, &[5]) == Err(TickFault::ClockEnded);
+    let is_bad_frame = told(host, &[]) == Err(TickFault::BadFrame);
+    is_taken && has_ended && is_bad_frame
 }
 
 #[test]

@@ -25,16 +25,17 @@ fn take(host: &mut Host, tenant: TenantId, command: Command) {
     let _ = host.command(tenant, command);
 }
 
-// A host in which these tenants run the adder.
-fn running(alloc: Global, tenants: &[TenantId]) -> Option<Host> {
+// The tenant runs the adder.
+fn run(alloc: Global, host: &mut Host, tenant: TenantId) -> Option<()> {
+    let text = Text::from_str(alloc, ADDER).ok()?;
+    take(host, tenant, Command::Load(text));
+    take(host, tenant, Command::Start);
+    Some(())
+}
+
+fn new_host(alloc: Global) -> Option<Host> {
     let config = built_in(alloc).ok()?;
-    let mut host = Host::new(alloc, &config, 0).ok()?;
-    for tenant in tenants {
-        let text = Text::from_str(alloc, ADDER).ok()?;
-        take(&mut host, *tenant, Command::Load(text));
-        take(&mut host, *tenant, Command::Start);
-    }
-    Some(host)
+    Host::new(alloc, &config, 0).ok()
 }
 
 // The first job that an instant with this reading releases.
@@ -62,28 +63,49 @@ fn becomes(host: &mut Host, job: Job, counted: Counted, outstanding: u128) -> bo
 
 // Whether of two releases, the second behind a stop and a new start, the first's completion is late, and the second's counts.
 fn counts_the_second_release(alloc: Global) -> Option<bool> {
-    let mut host = running(alloc, &[ALPHA])?;
-    let first = released(&mut host, ALPHA, 0, 5)?;
-    take(&mut host, ALPHA, Command::Stop);
-    take(&mut host, ALPHA, Command::Start);
-    let second = released(&mut host, ALPHA, 1, 5)?;
-    let is_late = becomes(&mut host, first, Counted::Late, 1);
-    let is_counted = becomes(&mut host, second, Counted::Counted, 0);
+    let mut host = new_host(alloc)?;
+    counts_the_second(alloc, &mut host)
+}
+
+fn counts_the_second(alloc: Global, host: &mut Host) -> Option<bool> {
+    run(alloc, host, ALPHA)?;
+    let first = released(host, ALPHA, 0, 5)?;
+    take(host, ALPHA, Command::Stop);
+    take(host, ALPHA, Command::Start);
+    counts_behind(host, first)
+}
+
+// Whether a second release counts behind this first one, which is late.
+fn counts_behind(host: &mut Host, first: Job) -> Option<bool> {
+    let second = released(host, ALPHA, 1, 5)?;
+    let is_late = becomes(host, first, Counted::Late, 1);
+    let is_counted = becomes(host, second, Counted::Counted, 0);
     Some(is_late && is_counted)
 }
 
 // A tenant's job of a host where it runs alone, released with this reading.
 fn job_of(alloc: Global, tenant: TenantId, reading: i64) -> Option<Job> {
-    let mut host = running(alloc, &[tenant])?;
-    released(&mut host, tenant, 0, reading)
+    let mut host = new_host(alloc)?;
+    first_release(alloc, &mut host, tenant, reading)
+}
+
+fn first_release(alloc: Global, host: &mut Host, tenant: TenantId, reading: i64) -> Option<Job> {
+    run(alloc, host, tenant)?;
+    released(host, tenant, 0, reading)
 }
 
 // Whether beta's job of such a host counts where alpha runs too, whose own job stays outstanding.
 fn counts_the_other_hosts_job(alloc: Global) -> Option<bool> {
+    let mut host = new_host(alloc)?;
+    counts_beside_its_own(alloc, &mut host)
+}
+
+fn counts_beside_its_own(alloc: Global, host: &mut Host) -> Option<bool> {
+    run(alloc, host, ALPHA)?;
+    run(alloc, host, BETA)?;
+    let _ = released(host, ALPHA, 0, 5)?;
     let job = job_of(alloc, BETA, 5)?;
-    let mut host = running(alloc, &[ALPHA, BETA])?;
-    let _alphas = released(&mut host, ALPHA, 0, 5)?;
-    Some(becomes(&mut host, job, Counted::Counted, 1))
+    Some(becomes(host, job, Counted::Counted, 1))
 }
 
 // Whether alpha is answered this to a command, if it is one of the host's.
@@ -115,13 +137,18 @@ fn has_its_own_sum(alloc: Global, host: &mut Host) -> bool {
 
 // Whether alpha's job of another host, with the name of its own and another input, is late and changes nothing, and its own counts.
 fn counts_its_own_job_alone(alloc: Global) -> Option<bool> {
+    let mut host = new_host(alloc)?;
+    run(alloc, &mut host, ALPHA)?;
+    counts_own_alone(alloc, &mut host)
+}
+
+fn counts_own_alone(alloc: Global, host: &mut Host) -> Option<bool> {
     let foreign = job_of(alloc, ALPHA, 6)?;
-    let mut host = running(alloc, &[ALPHA])?;
-    let own = released(&mut host, ALPHA, 0, 5)?;
-    let is_late = becomes(&mut host, foreign, Counted::Late, 1);
-    let is_as_before = is_behind_its_first_instant(alloc, &mut host);
-    let is_counted = becomes(&mut host, own, Counted::Counted, 0);
-    let has_sum = has_its_own_sum(alloc, &mut host);
+    let own = released(host, ALPHA, 0, 5)?;
+    let is_late = becomes(host, foreign, Counted::Late, 1);
+    let is_as_before = is_behind_its_first_instant(alloc, host);
+    let is_counted = becomes(host, own, Counted::Counted, 0);
+    let has_sum = has_its_own_sum(alloc, host);
     Some(is_late && is_as_before && is_counted && has_sum)
 }
 

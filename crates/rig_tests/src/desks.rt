@@ -2,9 +2,11 @@
 
 ghost use Rattle.std.specs.Prelude.{◌≡◌};
 
+use call_history::histories::NewHistory;
+use call_history::naming::Naming;
+use locked_book::books::Book;
 use locked_book::desks::Desk;
 use locked_book::faults::{DeskFault, PassFault};
-use locked_book::naming::Naming;
 use locked_book::passes::Pass;
 use rig_config::{Config, TenantId, built_in};
 use std::alloc::Global;
@@ -29,7 +31,7 @@ enum Shown {
 // Shows it on desks of the built-in configuration.
 fn is_shown<R: Wait>(rt: &R, alloc: Global, shown: Shown) -> Option<bool> {
     let config = built_in(alloc).ok()?;
-    on_desks::<Brand, _>(rt, alloc, &config, 0, shown)
+    on_desks::<Brand, _>(rt, alloc, &config, NewHistory::new(), shown)
 }
 
 // Shows it on a desk, beside another of the same configuration.
@@ -37,14 +39,15 @@ fn on_desks<N: Naming, R: Wait>(
     rt: &R,
     alloc: Global,
     config: &Config,
-    first_tick: u64,
+    history: NewHistory,
     shown: Shown,
 ) -> Option<bool>
     requires config { config.now ≡ N.config }
-    requires first_tick { first_tick ≡ N.first_tick }
+    requires first_tick { 0 ≡ N.first_tick }
+    requires history { history ≡ N.history }
 {
-    let desk = Desk::<N>::new(alloc, config, first_tick).ok()?;
-    let other = Desk::<N>::new(alloc, config, first_tick).ok()?;
+    let desk = Desk::<N>::new(alloc, config, 0, Some(history)).ok()?;
+    let other = Desk::<N>::new(alloc, config, 0, None).ok()?;
     match shown {
         Shown::Full => refuses_full_pass(rt, &desk),
         Shown::StrangePass => refuses_strange_pass(rt, &desk, &other),
@@ -54,17 +57,40 @@ fn on_desks<N: Naming, R: Wait>(
 }
 
 // A pass of another desk, with one call.
-pub(crate) fn other_pass<N: Naming>(rt: &impl Wait, other: &Desk<N>) -> Option<Pass> {
+pub(crate) fn other_pass<N: Naming>(rt: &impl Wait, other: &Desk<N>) -> Option<Pass<N>> {
     let mut pass = other.pass(rt).ok()?;
     let _ = other.call(rt, &mut pass, ALPHA, Command::ShowMode).ok()?;
     Some(pass)
+}
+
+// Both, the first one first.
+pub(crate) fn both<N: Naming>(
+    alloc: Global,
+    first: Pass<N>,
+    second: Pass<N>,
+) -> Option<Vec<Pass<N>>> {
+    let mut passes = Vec::new(alloc);
+    passes.push(first).ok()?;
+    passes.push(second).ok()?;
+    Some(passes)
+}
+
+// The book, if the desk closes with these passes.
+pub(crate) fn book_of<N: Naming>(desk: Desk<N>, passes: Vec<Pass<N>>) -> Option<Book<N>> {
+    desk.close(passes).ok()
+}
+
+// How many entries its log has.
+pub(crate) fn entries<N: Naming>(desk: Desk<N>, passes: Vec<Pass<N>>) -> Option<usize> {
+    let book = book_of(desk, passes)?;
+    Some(book.log().len())
 }
 
 // Whether a call of this pass for a tenant is refused for this reason.
 pub(crate) fn is_refused<N: Naming>(
     rt: &impl Wait,
     desk: &Desk<N>,
-    pass: &mut Pass,
+    pass: &mut Pass<N>,
     tenant: TenantId,
     why: DeskFault,
 ) -> bool {

@@ -21,11 +21,14 @@ mod greetings;
 mod isolation;
 #[cfg(test)]
 mod plays;
-pub mod pools;
+#[cfg(test)]
+mod pools;
 #[cfg(test)]
 mod readers;
 #[cfg(test)]
 mod sessions;
+#[cfg(test)]
+mod suppliers;
 #[cfg(test)]
 mod threads;
 #[cfg(test)]

@@ -1,11 +1,13 @@
 //! Workers: a job that is held lets the others pass, a job that is sent is run, and a pool that is dropped leaves no thread behind. What
-//! passes here fails with each of three wrong crews, in the same numbers: `measure` runs it as often as it is told.
+//! passes here fails with each of three wrong crews, in the same numbers. `scripts/check-pools` runs two of these tests many times.
 
 ghost use Rattle.std.specs.Prelude.{◌≡◌, ◌≤◌};
 
+use crate::desks::{both, entries};
+use call_history::histories::NewHistory;
+use call_history::naming::Naming;
 use instant_engine::{JobId, Jobs};
 use locked_book::desks::Desk;
-use locked_book::naming::Naming;
 use locked_book::passes::Pass;
 use rig_config::{Config, TenantId, built_in};
 use std::alloc::Global;
@@ -37,58 +39,55 @@ const BETA: TenantId = 1;
 // How often the job that is held looks whether two others have entered, a millisecond apart.
 const TURNS: u32 = 10_000;
 
-/// What is shown of workers.
+// What is shown of workers.
 #[derive(Clone, Copy)]
-pub enum Shown {
-    /// Of three jobs the first to enter the gate is held until both others have entered.
+enum Shown {
+    // Of three jobs the first to enter the gate is held until both others have entered.
     HeldJob(Crew),
-    /// A job that was sent is run before its worker is stopped.
+    // A job that was sent is run before its worker is stopped.
     StoppedWorker(Worker),
-    /// A pool that is dropped runs what was sent, and its threads end.
+    // A pool that is dropped runs what was sent, and its threads end.
     DroppedPool,
 }
 
-/// Who computes three jobs.
+// Who computes three jobs.
 #[derive(Clone, Copy)]
-pub enum Crew {
-    /// Two workers.
+enum Crew {
+    // Two workers.
     Two,
-    /// One thread alone.
+    // One thread alone.
     One,
-    /// Two workers that call their gate under one lock.
+    // Two workers that call their gate under one lock.
     TwoUnderOneLock,
 }
 
-/// What a worker does with a job.
+// What a worker does with a job.
 #[derive(Clone, Copy)]
-pub enum Worker {
-    /// It runs the job.
+enum Worker {
+    // It runs the job.
     Runs,
-    /// It drops the job.
+    // It drops the job.
     Drops,
 }
 
-/// Whether it is so, on a desk of the built-in configuration. `None` where there is want of memory, or of a thread.
-pub fn is_shown<R: Threads + Wait + Clock + Sync>(
-    rt: &R,
-    alloc: Global,
-    shown: Shown,
-) -> Option<bool> {
+// Whether it is so, on a desk of the built-in configuration. `None` where there is want of memory, or of a thread.
+fn is_shown<R: Threads + Wait + Clock + Sync>(rt: &R, alloc: Global, shown: Shown) -> Option<bool> {
     let config = built_in(alloc).ok()?;
-    on_desk::<Brand, _>(rt, alloc, &config, 0, shown)
+    on_desk::<Brand, _>(rt, alloc, &config, NewHistory::new(), shown)
 }
 
 fn on_desk<N: Naming + Send + Sync, R: Threads + Wait + Clock + Sync>(
     rt: &R,
     alloc: Global,
     config: &Config,
-    first_tick: u64,
+    history: NewHistory,
     shown: Shown,
 ) -> Option<bool>
     requires config { config.now ≡ N.config }
-    requires first_tick { first_tick ≡ N.first_tick }
+    requires first_tick { 0 ≡ N.first_tick }
+    requires history { history ≡ N.history }
 {
-    let desk = Desk::<N>::new(alloc, config, first_tick).ok()?;
+    let desk = Desk::<N>::new(alloc, config, 0, Some(history)).ok()?;
     match shown {
         Shown::HeldJob(crew) => held_job_lets_others_pass(rt, alloc, desk, crew),
         Shown::StoppedWorker(worker) => stopped_worker_has_run_its_job(rt, alloc, &desk, worker),
@@ -148,7 +147,7 @@ fn load_and_start<N: Naming>(
     rt: &impl Wait,
     alloc: Global,
     desk: &Desk<N>,
-    pass: &mut Pass,
+    pass: &mut Pass<N>,
     tenant: TenantId,
     program: &str,
 ) -> Option<()> {
@@ -159,21 +158,12 @@ fn load_and_start<N: Naming>(
 }
 
 // Alpha starts the pair and beta the adder, each on its own pass.
-fn both_start<N: Naming>(rt: &impl Wait, alloc: Global, desk: &Desk<N>) -> Option<Vec<Pass>> {
+fn both_start<N: Naming>(rt: &impl Wait, alloc: Global, desk: &Desk<N>) -> Option<Vec<Pass<N>>> {
     let mut alphas = desk.pass(rt).ok()?;
     let mut betas = desk.pass(rt).ok()?;
     let _ = load_and_start(rt, alloc, desk, &mut alphas, ALPHA, PAIR);
     let _ = load_and_start(rt, alloc, desk, &mut betas, BETA, ADDER);
-    let mut passes = Vec::new(alloc);
-    passes.push(alphas).ok()?;
-    passes.push(betas).ok()?;
-    Some(passes)
-}
-
-// How many entries the log has, closed with these passes.
-fn entries<N: Naming>(desk: Desk<N>, passes: Vec<Pass>) -> Option<usize> {
-    let book = desk.close(passes).ok()?;
-    Some(book.log().len())
+    both(alloc, alphas, betas)
 }
 
 // Three jobs run by this crew, where the first is held until two others have entered: two calls of each tenant, an instant and three
@@ -310,7 +300,7 @@ fn is_answered<N: Naming>(
     rt: &impl Wait,
     alloc: Global,
     desk: &Desk<N>,
-    pass: &mut Pass,
+    pass: &mut Pass<N>,
     line: &str,
     text: &str,
 ) -> Option<bool> {

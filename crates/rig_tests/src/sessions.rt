@@ -2,11 +2,13 @@
 
 ghost use Rattle.std.specs.Prelude.{◌≡◌};
 
+use crate::desks::{both, entries};
+use call_history::histories::NewHistory;
+use call_history::naming::Naming;
 use host_core::hosts::Counted;
 use instant_engine::Jobs;
 use locked_book::desks::Desk;
 use locked_book::faults::DeskFault;
-use locked_book::naming::Naming;
 use locked_book::passes::Pass;
 use rig_config::{Config, TenantId, built_in};
 use rig_sessions::calls::Calls;
@@ -22,12 +24,21 @@ use tenant_lines::commands::Command;
 use tenant_lines::replies::{Reply, Status};
 
 // Alpha's lines: it loads a program that reads a sensor, adds 1 and drives an actuator with the sum, grants the actuator, and starts.
-const ALPHAS: &[u8] =
+pub(crate) const ALPHAS: &[u8] =
     b"hello alpha ka\nload sensor s := 0 line 0; actuator a := 0; output o := 0; task T(i) output o { o := i + 1; } mode m period 2 { actfreq 1 do a := o; taskfreq 1 do T(s); } start m;\noffer a to beta\nstart\n";
 
 // Beta's: it loads a program whose sensor takes the granted value, and starts.
-const BETAS: &[u8] =
+pub(crate) const BETAS: &[u8] =
     b"hello beta kb\nload sensor g := -1 grant; mode n period 1 { } start n;\nbind g from alpha.a\nstart\n";
+
+pub(crate) const ALPHAS_REPLIES: &[u8] = b"ok hello\nok load\nok offer\nok start\n";
+
+pub(crate) const BETAS_REPLIES: &[u8] = b"ok hello\nok load\nok bind\nok start\n";
+
+// Beta's in a third session.
+pub(crate) const THIRDS: &[u8] = b"hello beta kb\nshow port g\n";
+
+pub(crate) const THIRDS_REPLIES: &[u8] = b"ok hello\nok port g 6\n";
 
 // What is shown.
 #[derive(Clone, Copy)]
@@ -44,20 +55,21 @@ enum Shown {
 // Shows it on a desk of the built-in configuration.
 fn is_shown<R: Wait>(rt: &R, alloc: Global, shown: Shown) -> Option<bool> {
     let config = built_in(alloc).ok()?;
-    on_desk::<Brand, _>(rt, alloc, &config, 0, shown)
+    on_desk::<Brand, _>(rt, alloc, &config, NewHistory::new(), shown)
 }
 
 fn on_desk<N: Naming, R: Wait>(
     rt: &R,
     alloc: Global,
     config: &Config,
-    first_tick: u64,
+    history: NewHistory,
     shown: Shown,
 ) -> Option<bool>
     requires config { config.now ≡ N.config }
-    requires first_tick { first_tick ≡ N.first_tick }
+    requires first_tick { 0 ≡ N.first_tick }
+    requires history { history ≡ N.history }
 {
-    let desk = Desk::<N>::new(alloc, config, first_tick).ok()?;
+    let desk = Desk::<N>::new(alloc, config, 0, Some(history)).ok()?;
     match shown {
         Shown::Greetings => greets(rt, alloc, config, &desk),
         Shown::BadLine => ends_at_bad_line(rt, alloc, config, &desk),
@@ -70,15 +82,28 @@ fn on_desk<N: Naming, R: Wait>(
 }
 
 // The pass behind a session of a new one, in which these bytes are answered so.
-fn talked<N: Naming, R: Wait>(
+pub(crate) fn talked<N: Naming, R: Wait>(
     rt: &R,
     alloc: Global,
     config: &Config,
     desk: &Desk<N>,
     text: &[u8],
     expected: &[u8],
-) -> Option<Pass> {
+) -> Option<Pass<N>> {
     let pass = desk.pass(rt).ok()?;
+    talked_on(rt, alloc, config, desk, pass, text, expected)
+}
+
+// The pass behind a session of this one, in which these bytes are answered so.
+pub(crate) fn talked_on<N: Naming, D: Calls<N>, R: Wait>(
+    rt: &R,
+    alloc: Global,
+    config: &Config,
+    desk: &D,
+    pass: Pass<N>,
+    text: &[u8],
+    expected: &[u8],
+) -> Option<Pass<N>> {
     let mut reader = text;
     let mut written = Vec::new(alloc);
     let (pass, ends) = talk(rt, alloc, config, desk, pass, &mut reader, &mut written);
@@ -167,11 +192,11 @@ struct Once {
     refusal: DeskFault,
 }
 
-impl Calls for Once {
+impl<N: Naming> Calls<N> for Once {
     fn call<R: Wait>(
         &self,
         _rt: &R,
-        pass: &mut Pass,
+        pass: &mut Pass<N>,
         tenant: TenantId,
         command: Command,
     ) -> Result<Reply, DeskFault> {
@@ -264,16 +289,12 @@ fn stand_in_one_history<N: Naming, R: Wait>(
     config: &Config,
     desk: Desk<N>,
 ) -> Option<bool> {
-    let started = b"ok hello\nok load\nok offer\nok start\n";
-    let alphas = talked(rt, alloc, config, &desk, ALPHAS, started.as_slice())?;
-    let bound = b"ok hello\nok load\nok bind\nok start\n";
-    let betas = talked(rt, alloc, config, &desk, BETAS, bound.as_slice())?;
+    let alphas = talked(rt, alloc, config, &desk, ALPHAS, ALPHAS_REPLIES)?;
+    let betas = talked(rt, alloc, config, &desk, BETAS, BETAS_REPLIES)?;
     let first = work_at(rt, &desk, 5)?;
     let second = work_at(rt, &desk, 7)?;
     let third_instant = work_at(rt, &desk, 9)?;
-    let text = b"hello beta kb\nshow port g\n";
-    let said = b"ok hello\nok port g 6\n";
-    let third = talked(rt, alloc, config, &desk, text.as_slice(), said.as_slice())?;
+    let third = talked(rt, alloc, config, &desk, THIRDS, THIRDS_REPLIES)?;
     let entries = closed_entries(alloc, desk, alphas, betas, third)?;
     Some(first && !second && third_instant && entries == 12)
 }
@@ -303,16 +324,13 @@ fn complete<N: Naming>(rt: &impl Wait, desk: &Desk<N>, jobs: Jobs) -> Option<boo
 fn closed_entries<N: Naming>(
     alloc: Global,
     desk: Desk<N>,
-    alphas: Pass,
-    betas: Pass,
-    third: Pass,
+    alphas: Pass<N>,
+    betas: Pass<N>,
+    third: Pass<N>,
 ) -> Option<usize> {
-    let mut passes = Vec::new(alloc);
-    passes.push(alphas).ok()?;
-    passes.push(betas).ok()?;
+    let mut passes = both(alloc, alphas, betas)?;
     passes.push(third).ok()?;
-    let book = desk.close(passes).ok()?;
-    Some(book.log().len())
+    entries(desk, passes)
 }
 
 #[test]

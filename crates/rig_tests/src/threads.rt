@@ -2,14 +2,15 @@
 
 ghost use Rattle.std.specs.Prelude.{◌≡◌};
 
-use crate::desks::{NOBODY, is_refused, other_pass};
+use crate::desks::{NOBODY, book_of, both, entries, is_refused, other_pass};
+use call_history::histories::NewHistory;
+use call_history::naming::Naming;
 use giotto_tasks::lists::List;
 use giotto_tasks::names::Name;
 use host_core::hosts::Counted;
 use locked_book::books::Book;
 use locked_book::desks::Desk;
 use locked_book::faults::{CloseFault, DeskFault};
-use locked_book::naming::Naming;
 use locked_book::passes::Pass;
 use rig_config::{Config, TenantId, built_in};
 use rig_model::logged::{Call, Logged};
@@ -51,7 +52,7 @@ enum Shown {
 // Shows it on desks of the built-in configuration.
 fn is_shown<R: Threads + Wait + Sync>(rt: &R, alloc: Global, shown: Shown) -> Option<bool> {
     let config = built_in(alloc).ok()?;
-    on_desks::<Brand, _>(rt, alloc, &config, 0, shown)
+    on_desks::<Brand, _>(rt, alloc, &config, NewHistory::new(), shown)
 }
 
 // Shows it on a desk, beside another of the same configuration.
@@ -59,14 +60,15 @@ fn on_desks<N: Naming + Send + Sync, R: Threads + Wait + Sync>(
     rt: &R,
     alloc: Global,
     config: &Config,
-    first_tick: u64,
+    history: NewHistory,
     shown: Shown,
 ) -> Option<bool>
     requires config { config.now ≡ N.config }
-    requires first_tick { first_tick ≡ N.first_tick }
+    requires first_tick { 0 ≡ N.first_tick }
+    requires history { history ≡ N.history }
 {
-    let desk = Desk::<N>::new(alloc, config, first_tick).ok()?;
-    let other = Desk::<N>::new(alloc, config, first_tick).ok()?;
+    let desk = Desk::<N>::new(alloc, config, 0, Some(history)).ok()?;
+    let other = Desk::<N>::new(alloc, config, 0, None).ok()?;
     match shown {
         Shown::OneHistory => stand_in_one_history(rt, alloc, desk, &other),
         Shown::Late => drops_late_completion(rt, alloc, desk),
@@ -79,7 +81,7 @@ fn load_and_start<N: Naming>(
     rt: &impl Wait,
     alloc: Global,
     desk: &Desk<N>,
-    pass: &mut Pass,
+    pass: &mut Pass<N>,
     tenant: TenantId,
     program: &str,
 ) -> Option<()> {
@@ -94,8 +96,8 @@ fn both_start<N: Naming + Send + Sync, R: Threads + Wait + Sync>(
     rt: &R,
     alloc: Global,
     desk: &Desk<N>,
-    alphas: &mut Pass,
-    betas: &mut Pass,
+    alphas: &mut Pass<N>,
+    betas: &mut Pass<N>,
 ) {
     thread::scope(thread::scope_env(), rt, |scope| {
         let _ = scope
@@ -112,7 +114,7 @@ fn both_start<N: Naming + Send + Sync, R: Threads + Wait + Sync>(
 }
 
 // Whether the calls are a load and a start of this tenant, both carried out.
-fn has_started(pass: &Pass, tenant: TenantId) -> bool {
+fn has_started<N: Naming>(pass: &Pass<N>, tenant: TenantId) -> bool {
     match pass.calls() {
         [load, start] => is_load(load, tenant) && is_start(start, tenant),
         _ => false,
@@ -175,37 +177,37 @@ fn stand_in_one_history<N: Naming + Send + Sync, R: Threads + Wait + Sync>(
     }
     let (tick, done) = tick_and_done(rt, &desk)?;
     let stranger = other_pass(rt, other)?;
-    let book = closed(alloc, desk, alphas, betas, stranger)?;
+    let book = closed(desk, Vec::new(alloc), alphas, betas, stranger)?;
     let stand = stand_at(alloc, &book, tick, done)?;
     let exchanged = stand_at(alloc, &book, done, tick)?;
     Some(book.log().len() == 6 && stand && !exchanged)
 }
 
-// The desk's book, closed with both passes. Before that it doesn't close without alpha's, and not with a stranger's.
-fn closed<N: Naming>(
-    alloc: Global,
+// The desk's book, closed with these passes. Before that it doesn't close without alpha's, and not with a stranger's.
+pub(crate) fn closed<N: Naming>(
     desk: Desk<N>,
-    alphas: Pass,
-    betas: Pass,
-    stranger: Pass,
+    others: Vec<Pass<N>>,
+    alphas: Pass<N>,
+    betas: Pass<N>,
+    stranger: Pass<N>,
 ) -> Option<Book<N>> {
     let alphas_seat = alphas.seat();
     let strangers_seat = stranger.seat();
     let missing = CloseFault::Missing(alphas_seat);
     let mismatch = CloseFault::Mismatch(strangers_seat);
-    let (desk, passes) = refused_with(desk, Vec::new(alloc), betas, missing)?;
+    let (desk, passes) = refused_with(desk, others, betas, missing)?;
     let (desk, passes) = refused_with(desk, passes, stranger, mismatch)?;
     let (desk, passes) = refused_with(desk, passes, alphas, mismatch)?;
-    closed_without_second(desk, passes)
+    closed_without_stranger(desk, passes)
 }
 
 // Desk and passes, which with this pass added don't close for this fault.
 fn refused_with<N: Naming>(
     desk: Desk<N>,
-    passes: Vec<Pass>,
-    pass: Pass,
+    passes: Vec<Pass<N>>,
+    pass: Pass<N>,
     why: CloseFault,
-) -> Option<(Desk<N>, Vec<Pass>)> {
+) -> Option<(Desk<N>, Vec<Pass<N>>)> {
     let mut passes = passes;
     passes.push(pass).ok()?;
     match desk.close(passes) {
@@ -219,14 +221,14 @@ fn refused_with<N: Naming>(
     }
 }
 
-// The book closed with these passes but for the second.
-fn closed_without_second<N: Naming>(desk: Desk<N>, passes: Vec<Pass>) -> Option<Book<N>> {
+// The book closed with these passes but for the last one but one.
+fn closed_without_stranger<N: Naming>(desk: Desk<N>, passes: Vec<Pass<N>>) -> Option<Book<N>> {
     let mut passes = passes;
     if passes.len() < 2 {
         return None;
     }
-    let _ = passes.swap_remove(1);
-    desk.close(passes).ok()
+    let _ = passes.swap_remove(passes.len() - 2);
+    book_of(desk, passes)
 }
 
 // Whether the instant with the reading 5 and the completion of its job stand in the log at these places.
@@ -262,7 +264,7 @@ fn is_late_behind_stop<N: Naming>(
     rt: &impl Wait,
     alloc: Global,
     desk: &Desk<N>,
-    pass: &mut Pass,
+    pass: &mut Pass<N>,
 ) -> Option<bool> {
     load_and_start(rt, alloc, desk, pass, ALPHA, ADDER)?;
     let (job, _place) = one_job(rt, desk)?;
@@ -273,10 +275,10 @@ fn is_late_behind_stop<N: Naming>(
 }
 
 // Whether the log has a load, a start, an instant, a stop and a load.
-fn is_its_history<N: Naming>(alloc: Global, desk: Desk<N>, pass: Pass) -> Option<bool> {
+fn is_its_history<N: Naming>(alloc: Global, desk: Desk<N>, pass: Pass<N>) -> Option<bool> {
     let mut passes = Vec::new(alloc);
     passes.push(pass).ok()?;
-    let book = desk.close(passes).ok()?;
+    let book = book_of(desk, passes)?;
     Some(matches!(
         book.log(),
         [
@@ -299,19 +301,16 @@ fn stand_in_one_book<N: Naming + Send + Sync, R: Threads + Wait + Sync>(
     let mut betas = desk.pass(rt).ok()?;
     both_call(rt, &desk, &mut alphas, &mut betas);
     let are_many = alphas.calls().len() == MANY && betas.calls().len() == MANY;
-    let mut passes = Vec::new(alloc);
-    passes.push(alphas).ok()?;
-    passes.push(betas).ok()?;
-    let book = desk.close(passes).ok()?;
-    Some(are_many && book.log().len() == 2 * MANY)
+    let passes = both(alloc, alphas, betas)?;
+    Some(are_many && entries(desk, passes)? == 2 * MANY)
 }
 
 // Both tenants ask for their modes many times, each in a thread of its own.
 fn both_call<N: Naming + Send + Sync, R: Threads + Wait + Sync>(
     rt: &R,
     desk: &Desk<N>,
-    alphas: &mut Pass,
-    betas: &mut Pass,
+    alphas: &mut Pass<N>,
+    betas: &mut Pass<N>,
 ) {
     thread::scope(thread::scope_env(), rt, |scope| {
         let _ = scope
@@ -323,7 +322,7 @@ fn both_call<N: Naming + Send + Sync, R: Threads + Wait + Sync>(
     });
 }
 
-fn call_often<N: Naming>(rt: &impl Wait, desk: &Desk<N>, pass: &mut Pass, tenant: TenantId) {
+fn call_often<N: Naming>(rt: &impl Wait, desk: &Desk<N>, pass: &mut Pass<N>, tenant: TenantId) {
     for _call in 0..MANY {
         let _ = desk.call(rt, pass, tenant, Command::ShowMode).is_ok();
     }

@@ -1,0 +1,7 @@
+use denote.Param.Send.{sendable}
+use Rattle.std.proofs.Crossing.{crosses}
+use Rattle.locked_book.proofs.cited.Crossing.{desk_sync}
+use Rattle.rig_tests.proofs.suppliers.whole_day.Goals as goal
+
+pub both_talk-requires-sync-D : goal.both_talk-requires-sync-D
+both_talk-requires-sync-D g c κs within = search (crosses, desk_sync, sendable) depth 60 fits 20000
