@@ -1,0 +1,168 @@
+"""Sixteen tenants with four sessions each, what they say in rounds, and what a script answers them.
+
+What the sessions of one tenant say at once in a round gets the same answers in whatever order it comes:
+
+- One of them at most changes the tenant's program, and then no other asks for anything that a program shows.
+- One of them at most changes its rows, and then no other asks for these.
+- The others say what is answered alike in every state.
+
+Instants come between two rounds, or beside one. Beside it, rows have names that no program has, and a program is changed by tenants alone
+that don't run, and to whom nobody is bound. A tenant is bound to those before it in its group of four alone. So its answers are those of
+a script with its own lines and with theirs.
+"""
+
+import random
+import subprocess
+
+from made_up import ACTUATORS, BUDGETS, SENSORS, program_of
+
+TENANTS = 16
+SESSIONS = 4
+GROUP = 4
+LINES = 3
+PROGRAMS = 60
+BLANKS = ("", " \t")
+
+
+def name(tenant):
+    return "t%d" % tenant
+
+
+def key(tenant):
+    return "k%d" % tenant
+
+
+def configuration():
+    text = "version = 1\nlines = %d\n" % LINES
+    for tenant in range(TENANTS):
+        text += '[[tenant]]\nname = "%s"\nkey = "%s"\n' % (name(tenant), key(tenant))
+        text += "reads = %s\nwrites = []\n" % list(range(LINES)) + BUDGETS + "trace = 8\noffers = 8\nbinds = 4\n"
+    return text
+
+
+class Round:
+    """What each session says, and the frames of the instants behind it or beside it."""
+
+    def __init__(self, frames, are_beside):
+        self.lines = {}
+        self.frames = frames
+        self.are_beside = are_beside
+
+
+def rounds_of(seed, rounds, lines):
+    """A round in which all load, start, offer and bind, and so many in which each session says so many lines, every third one with
+    instants beside it."""
+    speaker, made = Speaker(seed), []
+    for number in range(-1, rounds):
+        frames = [[speaker.draw.randint(-4, 9) for _ in range(LINES)] for _ in range(speaker.draw.randint(1, 3))]
+        made.append(Round(frames, number % 3 == 2 and number > 0))
+        for tenant in range(TENANTS):
+            if number < 0:
+                speaker.open(made[-1], tenant)
+            else:
+                # who stops as its last line stands still beside the instants of the next round
+                speaker.speak(made[-1], tenant, lines, number % 3 == 1 and is_last(tenant))
+    return made
+
+
+class Speaker:
+    """Makes up lines."""
+
+    def __init__(self, seed):
+        self.draw = random.Random(seed)
+        self.programs = [program_of(self.draw, set(range(LINES))).text() for _ in range(PROGRAMS)]
+
+    def open(self, made, tenant):
+        """Each tenant offers to those behind it in its group, and binds to those before it."""
+        behind = [it for it in range(tenant + 1, tenant - tenant % GROUP + GROUP)]
+        before = [it for it in range(tenant - tenant % GROUP, tenant)]
+        rows = ["offer %s to %s" % (a, name(it)) for it in behind for a in ACTUATORS]
+        rows += ["bind %s from %s.%s" % (s, name(self.draw.choice(before)), self.draw.choice(ACTUATORS)) for s in SENSORS if before]
+        for session, said in enumerate([["start", "load " + self.draw.choice(self.programs), "start"], rows, [], []]):
+            made.lines[tenant, session] = said
+
+    def speak(self, made, tenant, lines, stops):
+        """What the sessions of a tenant say in a round."""
+        of_program, of_rows = (self.draw.choice([None, *range(SESSIONS)]) for _ in range(2))
+        if stops:
+            of_program = 0
+        if made.are_beside and not is_last(tenant):
+            of_program = SESSIONS  # nobody speaks of the program
+        for session in range(SESSIONS):
+            kinds = [self.refused, self.refused]
+            if of_program == session:
+                kinds += [self.load if made.are_beside else self.change] * 4
+            if of_program is None:
+                kinds += [self.look] * 4
+            if of_rows == session:
+                kinds += [self.dead_row if made.are_beside else self.row] * 4
+            if of_rows is None:
+                kinds += [lambda _: "rows"]
+            said = [self.draw.choice(kinds)(tenant) for _ in range(lines)]
+            if of_program == session and not made.are_beside:
+                said[-1] = "stop" if stops else "start"
+            made.lines[tenant, session] = said
+
+    def refused(self, tenant):
+        """What is answered alike whatever the tenant is, and what is not answered."""
+        own = name(tenant)
+        return self.draw.choice(
+            ["fly", "show", "quit now", "load", "load start 5;", "replace start m;", "replace sensor", *BLANKS]
+            + ["offer a to nobody", "unoffer a to " + own, "bind g from %s.a" % own, "bind g from nobody.a", "offer a"]
+        )
+
+    def look(self, _tenant):
+        ports = SENSORS + ACTUATORS + ["o0_0", "T0.i0", "T0.n0"]
+        return self.draw.choice(["show mode", "show all", "trace", "show port " + self.draw.choice(ports)])
+
+    def change(self, tenant):
+        text = self.draw.choice(self.programs)
+        return self.draw.choice(["load " + text, "replace " + text, "start", "start", "start", "stop"] + [self.look(tenant) for _ in range(4)])
+
+    def load(self, tenant):
+        return self.draw.choice(["load " + self.draw.choice(self.programs), "stop", "replace " + self.programs[0], self.look(tenant)])
+
+    def row(self, tenant):
+        return self.row_of(tenant, self.draw.choice(SENSORS), self.draw.choice(ACTUATORS))
+
+    def dead_row(self, tenant):
+        return self.row_of(tenant, self.draw.choice(["x", "xx"]), self.draw.choice(["y", "yy"]))
+
+    def row_of(self, tenant, sensor, actuator):
+        """A line about a row: to those behind in the group, from those before."""
+        first = tenant - tenant % GROUP
+        consumer = self.draw.choice([it for it in range(first, first + GROUP + 1) if it != tenant]) % TENANTS
+        said = ["rows", "unbind " + sensor] + ["%s %s to %s" % (it, actuator, name(consumer)) for it in ("offer", "offer", "offer", "unoffer")]
+        if tenant != first:
+            said += ["bind %s from %s.%s" % (sensor, name(self.draw.randrange(first, tenant)), actuator)] * 3
+        return self.draw.choice(said)
+
+
+def wanted_of(program, path, rounds, tenant):
+    """What each session of a tenant has to be answered, by a script with the lines of those on whom its answers can depend."""
+    script, asked = [], []
+    for made in rounds:
+        for other in range(tenant - tenant % GROUP, tenant + 1):
+            for session in range(SESSIONS):
+                said = [it for it in made.lines[other, session] if it not in BLANKS]
+                script += ["%s %s" % (name(other), it) for it in said]
+                asked += [session] * len(said) if other == tenant else []
+        for frame in made.frames:
+            script += [tick_of(frame, "op tick"), "op work"]
+    given = "\n".join(script).encode()
+    ran = subprocess.run([program, "script", "--config", path], input=given, stdout=subprocess.PIPE, timeout=600, check=True)
+    begun = name(tenant) + " "
+    told = [it[len(begun) :] for it in ran.stdout.decode().splitlines() if it.startswith(begun)]
+    answers = [[] for _ in range(SESSIONS)]
+    for session, reply in zip(asked, told, strict=True):
+        answers[session].append(reply)
+    return answers
+
+
+def is_last(tenant):
+    """Whether it is the last of its group, to whom nobody is bound."""
+    return tenant % GROUP == GROUP - 1
+
+
+def tick_of(frame, word="tick"):
+    return word + "".join(" %d" % it for it in frame)
