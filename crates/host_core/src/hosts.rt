@@ -26,6 +26,7 @@ ghost use Rattle.tenant_state.specs.Memory.{takes_memory};
 ghost use Rattle.tenant_state.specs.Standing.{IsKnown, Standing, at_rest};
 
 use crate::new_tenants::{new_tenant, places};
+use giotto_check::Checked;
 use giotto_tasks::names::Name;
 use instant_engine::instants::{advance, instant, ready};
 use instant_engine::{Done, Finished, Job, JobId, Jobs, run_job};
@@ -140,13 +141,19 @@ impl Host {
         ensures step { result ≢ Reply.Refused Refusal.Memory → TakesEvent (Event.Own tenant command) self.old self.new }
     {
         let prepared = prepare(self.alloc, command);
-        self.carry_out(tenant, prepared)
+        let mut left = None;
+        self.carry_out(tenant, prepared, &mut left)
     }
 
-    /// Carries out a tenant's command that is prepared. A refusal changes nothing, want of memory included, and no command changes another
+    /// Carries out a tenant's command that is prepared. The program whose place is taken, or which isn't taken itself, is left in `left`. A refusal changes nothing, want of memory included, and no command changes another
     /// tenant, nor makes more jobs outstanding; one that is answered by a list changes nothing. Only `load`, `replace`, `show all` of a program with a port, `trace` where there is a record, `offer` and `bind` where the row may be
     /// made, and `rows` where there is one, are ever refused for want of memory.
-    pub fn carry_out(&mut self, tenant: TenantId, prepared: Prepared) -> Reply
+    pub fn carry_out(
+        &mut self,
+        tenant: TenantId,
+        prepared: Prepared,
+        left: &mut Option<Checked>,
+    ) -> Reply
         requires { tenant < length self.old.config.tenants }
         ensures memory { result ≡ Reply.Refused Refusal.Memory → self.new ≡ self.old }
         ensures room { takes_memory (tenant_at self.old.tenants tenant).tenancy.owner prepared (tenant_at self.old.tenants tenant).row ≡ false → result ≢ Reply.Refused Refusal.Memory }
@@ -158,7 +165,7 @@ impl Host {
         ensures step { result ≢ Reply.Refused Refusal.Memory → TakesEvent (Event.Own tenant prepared) self.old self.new }
     {
         let tenant = &mut self.tenants[tenant];
-        let reply = tenant.carry_out(prepared);
+        let reply = tenant.carry_out(prepared, left);
         tenant.known();
         tenant.leave(&mut self.finished);
         reply

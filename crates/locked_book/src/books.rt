@@ -31,6 +31,7 @@ use crate::seats::Seat;
 use crate::standing::{all_apart, all_there};
 use call_history::histories::NewHistory;
 use call_history::naming::Naming;
+use giotto_check::Checked;
 use host_core::hosts::{Counted, Host, TickFault};
 use instant_engine::{Done, Jobs};
 use rig_config::{Config, TenantId};
@@ -313,10 +314,12 @@ impl<N: Naming> Book<N> {
             × (¬ ((tenant < length self.old.host.config.tenants) × Knows self.old pass.old))) }
     {
         let prepared = prepare(self.alloc, command);
-        self.carry_out(pass, tenant, prepared)
+        let mut left = None;
+        self.carry_out(pass, tenant, prepared, &mut left)
     }
 
-    /// As `call`, of a command that was prepared, so that its text needn't be read now.
+    /// As `call`, of a command that was prepared, so that its text needn't be read now. The program whose place is taken, or which isn't taken
+    /// itself, is left in `left`.
     ///
     /// # Errors
     /// As `call`.
@@ -325,6 +328,7 @@ impl<N: Naming> Book<N> {
         pass: &mut Pass<N>,
         tenant: TenantId,
         prepared: Prepared,
+        left: &mut Option<Checked>,
     ) -> Result<Reply, DeskFault>
         ensures answered { IfOk result (λ r. IsAnswered self.old self.new pass.old pass.new (record { tenant = tenant; command = prepared; reply = r })) }
         ensures memory { IfOk result (λ r. r ≢ Reply.Refused Refusal.Memory) }
@@ -345,7 +349,7 @@ impl<N: Naming> Book<N> {
         if !self.knows(pass) {
             return Err(DeskFault::Strange(length));
         }
-        let Ok(reply) = self.carry_out_known(pass, tenant, prepared) else {
+        let Ok(reply) = self.carry_out_known(pass, tenant, prepared, left) else {
             return Err(DeskFault::Memory);
         };
         pass.seen = length + 1;
@@ -360,6 +364,7 @@ impl<N: Naming> Book<N> {
         pass: &mut Pass<N>,
         tenant: TenantId,
         prepared: Prepared,
+        left: &mut Option<Checked>,
     ) -> Result<Reply, AllocError>
         requires tenant { tenant < length self.old.host.config.tenants }
         requires room { length pass.old.calls < 4096 }
@@ -386,7 +391,7 @@ impl<N: Naming> Book<N> {
             &mut pass.calls,
             &mut seat.places,
         )?;
-        let carried = carry_out(self.alloc, &mut self.host, tenant, prepared)?;
+        let carried = carry_out(self.alloc, &mut self.host, tenant, prepared, left)?;
         seat.places.push_reserved(place);
         seat.calls += 1;
         self.log
@@ -459,6 +464,7 @@ fn carry_out(
     host: &mut Host,
     tenant: TenantId,
     prepared: Prepared,
+    left: &mut Option<Checked>,
 ) -> Result<Carried, AllocError>
     requires { tenant < length host.old.config.tenants }
     ensures logged { IfOk result (λ r. r.logged ≡ record { tenant = tenant; command = prepared; reply = r.reply }) }
@@ -471,7 +477,7 @@ fn carry_out(
 {
     let for_log = prepared.command().copy(alloc)?;
     let for_pass = prepared.command().copy(alloc)?;
-    let reply = host.carry_out(tenant, prepared);
+    let reply = host.carry_out(tenant, prepared, left);
     if reply.is_memory() {
         return Err(AllocError);
     }

@@ -70,7 +70,8 @@ impl<N: Naming> Desk<N> {
         self.book.lock(rt).seat()
     }
 
-    /// A call of a pass: a tenant's command, and its reply. The text of a `load` or a `replace` is read before the lock is taken. It is the last entry of a legal log, in which the seat's calls are exactly
+    /// A call of a pass: a tenant's command, and its reply. The text of a `load` or a `replace` is read before the lock is taken,
+    /// and the program that it puts out of its place is dropped behind it. It is the last entry of a legal log, in which the seat's calls are exactly
     /// those of the pass, and which is longer than any that the pass had seen.
     ///
     /// # Errors
@@ -95,8 +96,10 @@ impl<N: Naming> Desk<N> {
         ensures refused { OnErr result (pass.new ≡ pass.old) }
     {
         let prepared = prepare(self.alloc, command);
+        // Dropped behind the lock.
+        let mut left = None;
         let mut book = self.book.lock(rt);
-        let reply = book.carry_out(pass, tenant, prepared)?;
+        let reply = book.carry_out(pass, tenant, prepared, &mut left)?;
         let _ = book.log();
         if book.outstanding() == 0 {
             self.settled.notify_all();

@@ -42,7 +42,10 @@ fn loaded(
         let prepared = prepare(alloc, command);
         if !carried_out {
             drop(prepared);
-        } else if let Reply::Loaded = host.carry_out(FIRST, prepared) {
+            continue;
+        }
+        let mut left = None;
+        if let Reply::Loaded = host.carry_out(FIRST, prepared, &mut left) {
             loaded = loaded.saturating_add(1);
         }
     }

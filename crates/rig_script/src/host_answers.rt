@@ -108,7 +108,9 @@ fn tenant_line<R: Record>(
     };
     let prepared = prepare(alloc, command);
     events.command(alloc, tenant, prepared.command())?;
-    let reply = host.carry_out(tenant, prepared);
+    let mut left = None;
+    let reply = host.carry_out(tenant, prepared, &mut left);
+    drop(left);
     if reply.is_memory() {
         return Err(AllocError);
     }

@@ -39,13 +39,15 @@ impl Tenant {
         ensures step { HoldsOfRow self.old (λ row. result ≢ Reply.Refused Refusal.Memory → IsOutcome (commanded self.old.tenancy command row) result self.new) }
     {
         let prepared = prepare(self.alloc, command);
-        self.carry_out(prepared)
+        let mut left = None;
+        self.carry_out(prepared, &mut left)
     }
 
-    /// Carries out a command that is prepared. A refusal changes nothing, want of memory included. Only `load`, `replace`, `show all` of a program with a
+    /// Carries out a command that is prepared. The program whose place is taken, or which isn't taken itself, is left in `left`, so that who
+    /// carries it out under a lock may drop it behind that; what stood there is dropped. A refusal changes nothing, want of memory included. Only `load`, `replace`, `show all` of a program with a
     /// port, `trace` where there is a record, `offer` and `bind` where the row may be made, and `rows` where there is one, take memory;
     /// nothing else is refused for it.
-    pub fn carry_out(&mut self, prepared: Prepared) -> Reply
+    pub fn carry_out(&mut self, prepared: Prepared, left: &mut Option<Checked>) -> Reply
         requires rest { self.old.ready.ended ≡ [] }
         ensures memory { result ≡ Reply.Refused Refusal.Memory → self.new ≡ self.old }
         ensures room { takes_memory self.old.tenancy.owner prepared self.old.row ≡ false → result ≢ Reply.Refused Refusal.Memory }
@@ -57,11 +59,11 @@ impl Tenant {
     {
         let (command, reading) = prepared.into_parts();
         match command {
-            Command::Load(text) => match self.load(text.as_str(), reading) {
+            Command::Load(text) => match self.load(text.as_str(), reading, left) {
                 Ok(()) => Reply::Loaded,
                 Err(refusal) => Reply::Refused(refusal),
             },
-            Command::Replace(text) => match self.replace(text.as_str(), reading) {
+            Command::Replace(text) => match self.replace(text.as_str(), reading, left) {
                 Ok(()) => Reply::Replaced,
                 Err(refusal) => Reply::Refused(refusal),
             },
@@ -97,7 +99,12 @@ impl Tenant {
     }
 
     // Takes the program that the text spells, where this is what it reads as. All that takes memory is made before the first change.
-    fn load(&mut self, text: &str, reading: Reading) -> Result<(), Refusal>
+    fn load(
+        &mut self,
+        text: &str,
+        reading: Reading,
+        left: &mut Option<Checked>,
+    ) -> Result<(), Refusal>
         requires reading { IsReadingOf text.now reading }
         ensures unchanged { OnErr result (self.new ≡ self.old) }
         ensures tenancy { self.new.tenancy ≡ self.old.tenancy }
@@ -109,11 +116,11 @@ impl Tenant {
         let program = program_by_reading(self.alloc, text, reading)?;
         match self.beginning(text.len(), &program) {
             Ok(beginning) => {
-                self.install(program, beginning);
+                *left = self.install(program, beginning);
                 Ok(())
             }
             Err(refusal) => {
-                drop(program);
+                *left = Some(program);
                 Err(refusal)
             }
         }
@@ -136,8 +143,8 @@ impl Tenant {
         beginning_of(self.alloc, program)
     }
 
-    // Puts a program in place, at its beginning.
-    fn install(&mut self, program: Checked, beginning: Beginning)
+    // Puts a program in place, at its beginning. The one that stood there.
+    fn install(&mut self, program: Checked, beginning: Beginning) -> Option<Checked>
         requires begins { IsBeginning program beginning }
         ensures tenancy { self.new.tenancy ≡ self.old.tenancy }
         ensures next_tick { self.new.row.next_tick ≡ self.old.row.next_tick }
@@ -154,7 +161,7 @@ impl Tenant {
         self.values = beginning.values;
         self.shares = beginning.shares;
         self.waiting = None;
-        drop(self.program.replace(program));
+        self.program.replace(program)
     }
 
     // Runs the program from its beginning. Takes no memory.

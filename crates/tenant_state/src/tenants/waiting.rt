@@ -51,7 +51,12 @@ pub(crate) struct Waiting {
 impl Tenant {
     // Keeps the program that the text spells, where this is what it reads as, until it is installed, in place of one that waited. All
     // that takes memory, then and at the installation, is made before the first change.
-    pub(crate) fn replace(&mut self, text: &str, reading: Reading) -> Result<(), Refusal>
+    pub(crate) fn replace(
+        &mut self,
+        text: &str,
+        reading: Reading,
+        left: &mut Option<Checked>,
+    ) -> Result<(), Refusal>
         requires reading { IsReadingOf text.now reading }
         ensures unchanged { OnErr result (self.new ≡ self.old) }
         ensures tenancy { self.new.tenancy ≡ self.old.tenancy }
@@ -64,7 +69,7 @@ impl Tenant {
         let program = program_by_reading(self.alloc, text, reading)?;
         match self.needs(text.len(), &program) {
             Ok((beginning, carried)) => {
-                self.wait(Waiting {
+                *left = self.wait(Waiting {
                     program,
                     beginning,
                     carried,
@@ -72,7 +77,7 @@ impl Tenant {
                 Ok(())
             }
             Err(refusal) => {
-                drop(program);
+                *left = Some(program);
                 Err(refusal)
             }
         }
@@ -108,8 +113,8 @@ impl Tenant {
         }
     }
 
-    // A program waits from now on, and no other.
-    fn wait(&mut self, waiting: Waiting)
+    // A program waits from now on, and no other. The one that waited.
+    fn wait(&mut self, waiting: Waiting) -> Option<Checked>
         requires fits { IsWaitingFor self.old.row.program waiting }
         ensures step { IsBehind self.old (λ row. record row { waiting = Some waiting.program }) self.new }
         ensures tenancy { self.new.tenancy ≡ self.old.tenancy }
@@ -117,7 +122,8 @@ impl Tenant {
         ensures tasks { AreTasksKept self.old self.new }
         ensures ended { self.new.ready.ended ≡ self.old.ready.ended }
     {
-        drop(self.waiting.replace(waiting));
+        let before = self.waiting.replace(waiting)?;
+        Some(before.program)
     }
 
     // Installs the program that waits, if one does, where the mode's period has ended. Takes no memory.
