@@ -3,8 +3,8 @@
 use clap::{Arg, ArgAction, Command, value_parser};
 use std::alloc::{AllocError, Global};
 
-// The version of the program, and the toolchain with which it is proved, as `rt version` prints it.
-const VERSION: &str = "0.1.0 (rattle-kit-13f)";
+// The version of the program, and the logic in which it is proved, as `rt version` tells it behind the name of the kit.
+const VERSION: &str = "0.1.0 (logic dac8208d650f15bf)";
 
 // What stands below the help of `script`.
 const SCRIPT_EXAMPLES: &str = "\
