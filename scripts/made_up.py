@@ -4,8 +4,8 @@ import os
 import subprocess
 import tempfile
 
-from giotto import text_of
-from one_tenant import Machine, Mode, Program, Refused, Task, Tenancy
+from giotto import GREATEST, LEAST, text_of
+from one_tenant import WHOLE, Machine, Mode, Program, Refused, Task, Tenancy
 from views import Views
 
 NAMES = ["alpha", "beta", "gamma", "delta", "epsilon"]
@@ -17,6 +17,9 @@ REFUSED = [
     Refused("start m;", "err rule 11"),
     Refused("sensor s := 0 line 63; mode m period 1 { } start m;", "err budget lines"),
 ]
+# What a configuration of version 1 may say of bounds: nobody looks at it.
+IGNORED = ["", "", "low = 1\nhigh = 2\n", "low = 3\nhigh = 2\n", "low = true\n", 'high = "2"\n']
+NO_NUMBERS = [str(GREATEST + 1), str(LEAST - 1), "+5", "-", "--5", "5x", "1.0", "0x1", "low", "\u0665"]
 
 
 def expression(chosen, readable):
@@ -119,30 +122,73 @@ def replacement_of(chosen, reads):
     return program_of(chosen, reads, (["s", "b", "a"], ["h", "g"]) if what < 0.3 else (SENSORS, ACTUATORS))
 
 
+def bounds_of(chosen):
+    """A least and a greatest value: mostly near those that programs compute, and at times at an end of all values, or both."""
+    low = chosen.randint(-6, 9)
+    high = low + chosen.choice([0, 1, 3, 10])
+    return chosen.choice([(low, high)] * 5 + [(LEAST, high), (low, GREATEST), WHOLE])
+
+
 class Rig:
-    """Two to five tenants over one to three lines."""
+    """Two to five tenants over one to three lines, with bounds of their own for their offers or without."""
 
     def __init__(self, chosen, least=2):
-        self.lines = chosen.randint(1, 3)
+        self.lines, self.version = chosen.randint(1, 3), chosen.choice([1, 2])
         roster = NAMES[:chosen.randint(least, 5)]
         self.tenancies = [
-            Tenancy(own, roster, chosen.randint(1, 5), chosen.randint(1, 4), chosen.choice([1, 2, 3, 8, 30, 4096])) for own in roster
+            Tenancy(
+                own, roster, chosen.randint(1, 5), chosen.randint(1, 4), chosen.choice([1, 2, 3, 8, 30, 4096]),
+                bounds_of(chosen) if self.version == 2 else WHOLE)
+            for own in roster
         ]
         self.reads = {own: {k for k in range(self.lines) if chosen.random() < 0.7} for own in roster}
+        self.bounds = {
+            it.own: "low = %d\nhigh = %d\n" % it.bounds if self.version == 2 else chosen.choice(IGNORED) for it in self.tenancies}
 
     def configuration(self):
-        text = "version = 1\nlines = %d\n" % self.lines
+        text = "version = %d\nlines = %d\n" % (self.version, self.lines)
         for it in self.tenancies:
             text += '[[tenant]]\nname = "%s"\nkey = "k"\nreads = %s\nwrites = []\n' % (it.own, sorted(self.reads[it.own]))
-            text += BUDGETS + "trace = %d\noffers = %d\nbinds = %d\n" % (it.trace, it.offers, it.binds)
+            text += BUDGETS + "trace = %d\noffers = %d\nbinds = %d\n" % (it.trace, it.offers, it.binds) + self.bounds[it.own]
         return text
+
+
+def spelled(chosen, number):
+    """A number as it may stand in a line, with zeros in front."""
+    sign = "-" if number < 0 or number == 0 and chosen.random() < 0.2 else ""
+    return sign + "0" * chosen.choice([0, 0, 0, 1, 20]) + str(abs(number))
+
+
+def bounding(chosen):
+    """The words of bounds behind the tenant of an offer."""
+    low, high = bounds_of(chosen)
+    return ["from", spelled(chosen, low), "to", spelled(chosen, high)]
+
+
+def offer_of(chosen, actuator, tenant):
+    """An offer with bounds or without."""
+    return ("offer", actuator, tenant, *(bounding(chosen) if chosen.random() < 0.6 else []))
+
+
+def bad_offer_of(chosen, actuator, tenant):
+    """An offer with a slip in its bounds: they are exchanged, a number or a word is another one, or a word is missing or too many."""
+    words, at, slip = bounding(chosen), chosen.randrange(4), chosen.choice(["exchanged", "other", "missing", "more"])
+    if slip == "exchanged":
+        words[1::2] = str(chosen.randint(3, 9)), spelled(chosen, chosen.randint(-9, 2))
+    elif slip == "other":
+        words[at] = chosen.choice(NO_NUMBERS) if at % 2 else chosen.choice(["To", "From", "till", words[2 - at]])
+    elif slip == "missing":
+        del words[at:chosen.choice([at + 1, 4]) if at else 1]
+    else:
+        words.insert(at + 1, chosen.choice(["from", "to", "5"]))
+    return ("offer", actuator, tenant, *words)
 
 
 def line_of(command):
     """The line that spells a command."""
     word, parts = command[0], command[1:]
     if word in ("offer", "unoffer"):
-        return "%s %s to %s" % (word, *parts)
+        return " ".join([word, parts[0], "to", *parts[1:]])
     if word == "bind":
         return "bind %s from %s.%s" % parts
     return " ".join([word.replace("_", " ")] + [it if isinstance(it, str) else it.text() for it in parts])
@@ -179,13 +225,14 @@ class Script:
 
 
 def row_about(chosen, roster, own):
-    """A command about a row that may stand or not."""
+    """A command about a row that may stand or not, or an offer with a slip in its bounds."""
     others = [it for it in roster if it != own]
     tenant = chosen.choice(others) if chosen.random() < 0.9 else chosen.choice([own, "nobody"])
     sensor, actuator = chosen.choice(SENSORS + ["x"]), chosen.choice(ACTUATORS * 2 + ["y"])
     return chosen.choice([
-        ("offer", actuator, tenant), ("offer", actuator, tenant), ("unoffer", actuator, tenant),
-        ("bind", sensor, tenant, actuator), ("bind", sensor, tenant, actuator), ("unbind", sensor), ("rows",),
+        offer_of(chosen, actuator, tenant), offer_of(chosen, actuator, tenant), bad_offer_of(chosen, actuator, tenant),
+        ("unoffer", actuator, tenant), ("bind", sensor, tenant, actuator), ("bind", sensor, tenant, actuator), ("unbind", sensor),
+        ("rows",),
     ])
 
 

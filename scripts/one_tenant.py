@@ -5,17 +5,31 @@ program of a load or a replace is a `Program`, or a text that is `Refused`.
 """
 
 import math
+import re
 from collections import namedtuple
 
-from giotto import block_text, run, text_of, value
+from giotto import GREATEST, LEAST, block_text, run, text_of, value
 
 # The values of the lines that the tenant may read, the names of its due tasks that had no completion, and the value that is
 # granted through each of its binds, by the bind's sensor; a bind through which nothing is granted has none.
 Instant = namedtuple("Instant", "readings unfinished granted")
 
-# What a tenant knows of the rig: its name, the names of all tenants, how many offers and binds it may have, and how many records
-# its trace keeps.
-Tenancy = namedtuple("Tenancy", "own roster offers binds trace")
+# What a tenant knows of the rig: its name, the names of all tenants, how many offers and binds it may have, how many records its
+# trace keeps, and the least and the greatest value of an offer that names none.
+Tenancy = namedtuple("Tenancy", "own roster offers binds trace bounds")
+
+# The bounds within which all values lie.
+WHOLE = LEAST, GREATEST
+
+NUMBER = re.compile("-?[0-9]+")
+
+
+def bounds_in(words):
+    """The least and the greatest value that the words behind the tenant of an offer name, or None where they are no bounds."""
+    if len(words) != 4 or words[::2] != ("from", "to") or not all(NUMBER.fullmatch(it) for it in words[1::2]):
+        return None
+    low, high = map(int, words[1::2])
+    return (low, high) if LEAST <= low <= high <= GREATEST else None
 
 
 class Refused:
@@ -110,7 +124,7 @@ class Machine:
     """One tenant. It begins empty, before the first instant."""
 
     def __init__(self, tenancy):
-        self.tenancy, self.offers, self.binds, self.ticks, self.records = tenancy, [], [], 0, []
+        self.tenancy, self.offers, self.binds, self.ticks, self.records = tenancy, {}, [], 0, []
         self.program, self.waiting, self.state, self.active = None, None, "empty", []
 
     def answers_to(self, view):
@@ -152,9 +166,13 @@ class Machine:
             return []
         return [a for w, _, t, _ in self.mode.invocations if self.due(w) for a in self.active if a.task.name == t]
 
-    def actuator(self, name):
-        """The value of an actuator, or None where the tenant has no such actuator."""
-        return self.ports[name] if self.program is not None and name in self.program.actuator_names() else None
+    def granted(self, actuator, tenant):
+        """What is granted of an actuator to a tenant: its value, or the end of the offer's bounds beyond which it lies. None where the
+        actuator isn't offered, or there is none."""
+        if (actuator, tenant) not in self.offers or self.program is None or actuator not in self.program.actuator_names():
+            return None
+        low, high = self.offers[actuator, tenant]
+        return max(low, min(high, self.ports[actuator]))
 
     def first_half(self, unfinished):
         if self.state != "running":
@@ -285,15 +303,17 @@ class Machine:
             return "err no-tenant"
         return "err own" if tenant == self.tenancy.own else None
 
-    def offer(self, actuator, tenant):
-        wrong = self.stranger(tenant)
+    def offer(self, actuator, tenant, *words):
+        """An offer with the bounds that these words name, or without any word with the tenant's own."""
+        bounds = bounds_in(words) if words else self.tenancy.bounds
+        wrong = "err bad-command" if bounds is None else self.stranger(tenant)
         if wrong:
             return wrong
         if (actuator, tenant) in self.offers:
             return "err twice"
         if len(self.offers) >= self.tenancy.offers:
             return "err budget offers"
-        self.offers.append((actuator, tenant))
+        self.offers[actuator, tenant] = bounds
         return "ok offer"
 
     def unoffer(self, actuator, tenant):
@@ -302,7 +322,7 @@ class Machine:
             return wrong
         if (actuator, tenant) not in self.offers:
             return "err not-there"
-        self.offers.remove((actuator, tenant))
+        del self.offers[actuator, tenant]
         return "ok unoffer"
 
     def bind(self, sensor, tenant, actuator):
@@ -323,5 +343,5 @@ class Machine:
         return "ok unbind"
 
     def rows(self):
-        offers = [" offer:%s:%s" % it for it in self.offers]
+        offers = [" offer:%s:%s" % it + ("" if bounds == WHOLE else ":%d:%d" % bounds) for it, bounds in self.offers.items()]
         return "ok rows" + "".join(offers + [" bind:%s:%s:%s" % it for it in self.binds])

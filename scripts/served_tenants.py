@@ -33,10 +33,11 @@ def key(tenant):
 
 
 def configuration():
-    text = "version = 1\nlines = %d\n" % LINES
+    text = "version = 2\nlines = %d\n" % LINES
     for tenant in range(TENANTS):
         text += '[[tenant]]\nname = "%s"\nkey = "%s"\n' % (name(tenant), key(tenant))
         text += "reads = %s\nwrites = []\n" % list(range(LINES)) + BUDGETS + "trace = 8\noffers = 8\nbinds = 4\n"
+        text += "low = %d\nhigh = %d\n" % (-tenant, tenant)
     return text
 
 
@@ -109,6 +110,7 @@ class Speaker:
         return self.draw.choice(
             ["fly", "show", "quit now", "load", "load start 5;", "replace start m;", "replace sensor", *BLANKS]
             + ["offer a to nobody", "unoffer a to " + own, "bind g from %s.a" % own, "bind g from nobody.a", "offer a"]
+            + ["offer a to nobody from 9 to 7", "offer a to %s from 1" % own]
         )
 
     def look(self, _tenant):
@@ -132,7 +134,8 @@ class Speaker:
         """A line about a row: to those behind in the group, from those before."""
         first = tenant - tenant % GROUP
         consumer = self.draw.choice([it for it in range(first, first + GROUP + 1) if it != tenant]) % TENANTS
-        said = ["rows", "unbind " + sensor] + ["%s %s to %s" % (it, actuator, name(consumer)) for it in ("offer", "offer", "offer", "unoffer")]
+        said = ["rows", "unbind " + sensor] + ["%s %s to %s" % (it, actuator, name(consumer)) for it in ("offer", "offer", "unoffer")]
+        said.append("offer %s to %s from %d to 6" % (actuator, name(consumer), self.draw.randint(-6, 6)))
         if tenant != first:
             said += ["bind %s from %s.%s" % (sensor, name(self.draw.randrange(first, tenant)), actuator)] * 3
         return self.draw.choice(said)

@@ -51,7 +51,7 @@ class Views:
         """The value that passes through each bind of a tenant, where one does."""
         passed = {}
         for sensor, supplier, actuator in self.machines[tenant].binds:
-            now = self.machines[supplier].actuator(actuator)
-            if (actuator, tenant) in self.machines[supplier].offers and now is not None:
-                passed[sensor] = now
+            granted = self.machines[supplier].granted(actuator, tenant)
+            if granted is not None:
+                passed[sensor] = granted
         return passed

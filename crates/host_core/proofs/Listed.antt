@@ -1,4 +1,5 @@
 -- A command that is answered by a list changes nothing.
+use Rattle.std.specs.Prelude.{unwrap_or}
 use Rattle.std.proofs.Common.{◌≡◌, ◌≢◌, ◌<◌, ℕ, Bool, true, false, not, ◌&&◌, ◌||◌, cond, List, [], ◌∷◌, map, length, set, Option, Some, None, Result, Ok, Err, refl, sym, ap, ◌∙◌, subst, take, arith, zero, suc}
 use Rattle.std.proofs.Math.ListN.{get_or}
 use Rattle.std.proofs.lemmas.List.{map-set}
@@ -88,7 +89,7 @@ binds_by owner row reply none (Ok bs) e = absurd (cc)
 binds_by owner row reply none (Err f) e = refl
 
 grants_listed : (tenancy : Tenancy) (c : GrantCommand) (row : Row) → LeavesRow row (with_grants row (grants_commanded c (grant_rows tenancy.owner row)))
-grants_listed tenancy (about.Offer a t) row e = offers_by tenancy.owner row Offered refl (offered tenancy.owner row.offers a t) e
+grants_listed tenancy (about.Offer a t bounds) row e = offers_by tenancy.owner row Offered refl (offered tenancy.owner row.offers a t (unwrap_or bounds tenancy.owner.bounds)) e
 grants_listed tenancy (about.Unoffer a t) row e = offers_by tenancy.owner row Unoffered refl (unoffered tenancy.owner row.offers a t) e
 grants_listed tenancy (about.Bind s t a) row e = binds_by tenancy.owner row Bound refl (bound tenancy.owner row.binds s t a) e
 grants_listed tenancy (about.Unbind s) row e = binds_by tenancy.owner row Unbound refl (unbound row.binds s) e

@@ -28,7 +28,9 @@ pub(crate) fn new_tenant(
     ensures { IfOk result (λ tenant. tenant ≡ empty_standing (budgets_at config.now place) (no_rows (owner_at config.now place)) first_tick) }
 {
     let budgets = config.tenants()[place].budgets.copy(alloc)?;
-    let grants = Grants::new(alloc, place, roster(config), budgets.offers, budgets.binds)?;
+    let (offers, binds) = (budgets.offers, budgets.binds);
+    let bounds = budgets.bounds.copy();
+    let grants = Grants::new(alloc, place, roster(config), offers, binds, bounds)?;
     Tenant::new(alloc, budgets, grants, first_tick)
 }
 

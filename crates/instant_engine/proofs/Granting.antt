@@ -1,17 +1,17 @@
 -- What is granted through the binds of a tenant, and how it is written place by place.
-use Rattle.std.proofs.Common.{◌≡◌, ℕ, ◌+◌, ◌<◌, ◌≤◌, ℤ, List, [], ◌∷◌, ◌++◌, length, map, take, drop, set, get_or, cond, slice_get, Option, Some, None, option_map, refl, sym, ap, ◌∙◌, arith, length-drop}
-use Rattle.std.specs.Prelude.{is_some}
+use Rattle.std.proofs.Common.{◌≡◌, ℕ, ◌+◌, ◌<◌, ◌≤◌, ℤ, List, [], ◌∷◌, ◌++◌, length, map, take, drop, set, get_or, slice_get, Option, Some, None, option_map, refl, sym, ap, ◌∙◌, arith, length-drop}
 use Rattle.std.specs.Option.{option_and_then}
 use Rattle.std.proofs.lemmas.List.{drop-set-add, drop-take, take-take, get_or-map, length-map, take-set-le, take_more, take_more_set}
 use Rattle.std.proofs.lemmas.List.Quantifiers.{position-Some}
 use Rattle.std.proofs.lemmas.Option.{slice_get-get_or}
 use Rattle.giotto_tasks.specs.declared.names.Name.{Name}
 use Rattle.giotto_tasks.specs.Names.{same_name}
-use Rattle.giotto_tasks.proofs.cited.ListLemmas.{find_is_any, some_same}
+use Rattle.giotto_tasks.proofs.cited.ListLemmas.{some_same}
 use Rattle.rig_model.specs.Granted.{granted_by, granted_from}
 use Rattle.instant_engine.specs.Tenants.{tenant_at}
 use Rattle.instant_engine.specs.cited.Tenants.{HaveRoster, roster_among, rows_of}
-use Rattle.tenant_grants.specs.Grants.{bind_at, granted_value, is_offer_of, name_of_place, offer_of, offers, place_in, with_place}
+use Rattle.instant_engine.specs.inner.Within.{granted_within}
+use Rattle.tenant_grants.specs.Grants.{bind_at, bounds_of_offer, granted_value, name_of_place, offer_of, place_in, with_place}
 use Rattle.tenant_grants.specs.declared.rows.Bind.{Bind}
 use Rattle.tenant_grants.specs.declared.rows.Offer.{Offer}
 use Rattle.rig_model.specs.Row.{actuator_value}
@@ -45,8 +45,8 @@ through_bind roster bs i from = by (slice_get bs i)
     by None = refl
     by (Some b) = placed b (place_in roster b.tenant)
 
--- an offer grants the value as it is
-by_offer : (o : Option Offer) (v : Option ℤ) → option_and_then (λ o. option_map (granted_value o) v) o ≡ cond (is_some o) v None
+-- an offer grants the value within its ends
+by_offer : (o : Option Offer) (v : Option ℤ) → option_and_then (λ o. option_map (granted_value o) v) o ≡ granted_within (option_map (λ (o : Offer). (o.bounds.low, o.bounds.high)) o) v
 by_offer None v = refl
 by_offer (Some o) None = refl
 by_offer (Some o) (Some z) = refl
@@ -55,7 +55,7 @@ by_offer (Some o) (Some z) = refl
 pub granted_there : (tenants : List Standing) (place i u : ℕ) (sensor actuator : Name) (x s : Standing) → HaveRoster tenants → place < length tenants → x ≡ tenant_at tenants place → s ≡ tenant_at tenants u → u < length tenants
     → bind_at x.tenancy.owner.roster x.row.binds i ≡ Some (sensor, u, actuator)
     → option_and_then (granted_by (roster_among tenants) (rows_of tenants) (rows_of tenants) place) (slice_get (rows_of tenants place).binds i)
-    ≡ cond (offers s.row.offers actuator (name_of_place s.tenancy.owner.roster place)) (actuator_value s.row actuator) None
+    ≡ granted_within (bounds_of_offer s.row.offers actuator (name_of_place s.tenancy.owner.roster place)) (actuator_value s.row actuator)
 granted_there tenants place i u sensor actuator x s shared lt own supplier below bound =
     let roster : x.tenancy.owner.roster ≡ roster_among tenants = ap (λ (y : Standing). y.tenancy.owner.roster) own ∙ shared.same place lt in
     let its : s.tenancy.owner.roster ≡ roster_among tenants = ap (λ (y : Standing). y.tenancy.owner.roster) supplier ∙ shared.same u below in
@@ -63,8 +63,7 @@ granted_there tenants place i u sensor actuator x s shared lt own supplier below
     through_bind (roster_among tenants) (rows_of tenants place).binds i (granted_from (roster_among tenants) (rows_of tenants) (rows_of tenants) place)
     ∙ ap (option_and_then (λ (y : Name × ℕ × Name). granted_from (roster_among tenants) (rows_of tenants) (rows_of tenants) place y.2 y.1)) at
     ∙ by_offer (offer_of (rows_of tenants u).offers actuator (name_of_place (roster_among tenants) place)) (actuator_value (rows_of tenants u) actuator)
-    ∙ ap (λ b. cond b (actuator_value (rows_of tenants u) actuator) None) (find_is_any (is_offer_of actuator (name_of_place (roster_among tenants) place)) (rows_of tenants u).offers)
-    ∙ (λ k. cond (offers (sym supplier k).row.offers actuator (name_of_place (sym its k) place)) (actuator_value (sym supplier k).row actuator) None)
+    ∙ (λ k. granted_within (bounds_of_offer (sym supplier k).row.offers actuator (name_of_place (sym its k) place)) (actuator_value (sym supplier k).row actuator))
 
 -- what stands before the places that are written
 pub written_others : (old new : List (Option ℤ)) (first n from : ℕ) → from + n ≤ first → take first new ≡ take first old → take n (drop from new) ≡ take n (drop from old)

@@ -5,12 +5,18 @@ ghost use Rattle.std.specs.Option.{option_and_then};
 ghost use Rattle.rig_model.specs.Granted.{granted_by};
 ghost use Rattle.instant_engine.specs.cited.Tenants.{HaveRoster, binds_of, roster_among, rows_of};
 ghost use Rattle.instant_engine.specs.cited.Halves.{AreGranted};
+ghost use Rattle.instant_engine.specs.inner.Within.{granted_within};
+ghost use Rattle.rig_model.specs.Row.{actuator_value};
+ghost use Rattle.tenant_grants.specs.Grants.{bounds_of_offer, name_of_place};
 
+use giotto_tasks::names::Name;
 use rig_config::TenantId;
+use rig_config::intervals::clamped;
 use tenant_state::tenants::Tenant;
 
 /// Writes what is granted through each bind, tenant by tenant, where all tenants are behind the first half of an instant: the value of
-/// the actuator that it is bound to, where the other tenant offers it to this one and its program has it. Takes no memory.
+/// the actuator that it is bound to, within the bounds of the offer, where the other tenant offers it to this one and its program has it.
+/// Takes no memory.
 pub fn grant(tenants: &[Tenant], granted: &mut [Option<i64>])
     requires rosters { HaveRoster tenants.now }
     requires places { binds_of tenants.now ≤ length granted.old }
@@ -46,9 +52,14 @@ fn granted_by(tenants: &[Tenant], place: TenantId, i: usize) -> Option<i64>
     ensures { result ≡ option_and_then (granted_by (roster_among tenants.now) (rows_of tenants.now) (rows_of tenants.now) place) (slice_get (rows_of tenants.now place).binds i) }
 {
     let (_, supplier, actuator) = tenants[place].bind_at(i)?;
-    let supplier = &tenants[supplier];
-    if !supplier.offers(&actuator, place) {
-        return None;
-    }
-    supplier.actuator(actuator.as_str())
+    granted_from(&tenants[supplier], &actuator, place)
+}
+
+// What a supplier grants of this actuator to the tenant at a place: its value, within the bounds of the supplier's offer.
+fn granted_from(supplier: &Tenant, actuator: &Name, place: TenantId) -> Option<i64>
+    ensures { result ≡ granted_within (bounds_of_offer supplier.now.row.offers actuator.now (name_of_place supplier.now.tenancy.owner.roster place)) (actuator_value supplier.now.row actuator.now) }
+{
+    let (low, high) = supplier.bounds(actuator, place)?;
+    let value = supplier.actuator(actuator.as_str())?;
+    Some(clamped(value, low, high))
 }

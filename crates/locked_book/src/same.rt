@@ -3,6 +3,7 @@
 ghost use Rattle.std.specs.Prelude.{◌≡◌, ◌↔◌, IsTrue};
 
 use giotto_tasks::names::Name;
+use rig_config::intervals::Bounds;
 use rig_model::jobs::JobId;
 use rig_model::logged::{Call, Logged};
 use tenant_grants::rows::{Bind, Offer, Row};
@@ -62,7 +63,7 @@ impl Same for JobId {
     }
 }
 
-fn is_same_task(one: &Option<Name>, other: &Option<Name>) -> bool
+fn is_same_option<T: Same>(one: &Option<T>, other: &Option<T>) -> bool
     ensures { IsTrue result ↔ one.now ≡ other.now }
 {
     match (one, other) {
@@ -74,7 +75,7 @@ fn is_same_task(one: &Option<Name>, other: &Option<Name>) -> bool
 
 impl Same for PortName {
     fn is_same(&self, other: &PortName) -> bool {
-        if !is_same_task(&self.task, &other.task) {
+        if !is_same_option(&self.task, &other.task) {
             return false;
         }
         self.name.is_same(&other.name)
@@ -90,12 +91,18 @@ impl Same for PortValue {
     }
 }
 
+impl Same for Bounds {
+    fn is_same(&self, other: &Bounds) -> bool {
+        self.low() == other.low() && self.high() == other.high()
+    }
+}
+
 impl Same for Offer {
     fn is_same(&self, other: &Offer) -> bool {
-        if !self.actuator.is_same(&other.actuator) {
+        if !self.actuator.is_same(&other.actuator) || !self.tenant.is_same(&other.tenant) {
             return false;
         }
-        self.tenant.is_same(&other.tenant)
+        self.bounds.is_same(&other.bounds)
     }
 }
 
@@ -159,12 +166,22 @@ impl Same for GrantCommand {
     fn is_same(&self, other: &GrantCommand) -> bool {
         match (self, other) {
             (
-                GrantCommand::Offer { actuator, tenant },
+                GrantCommand::Offer {
+                    actuator,
+                    tenant,
+                    bounds,
+                },
                 GrantCommand::Offer {
                     actuator: others,
                     tenant: to,
+                    bounds: within,
                 },
-            ) => are_same_two(actuator, tenant, others, to),
+            ) => {
+                if !are_same_two(actuator, tenant, others, to) {
+                    return false;
+                }
+                is_same_option(bounds, within)
+            }
             (
                 GrantCommand::Unoffer { actuator, tenant },
                 GrantCommand::Unoffer {

@@ -99,6 +99,7 @@ fn offer(actuator: Option<Name>, tenant: Option<Name>) -> Option<GrantCommand> {
     Some(GrantCommand::Offer {
         actuator: actuator?,
         tenant: tenant?,
+        bounds: None,
     })
 }
 

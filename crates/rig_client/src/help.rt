@@ -13,6 +13,7 @@ show port TASK.NAME                the value of an input or a state of a task
 show all                           all ports with their values
 trace                              the last records of what happened, oldest first
 offer NAME to TENANT               lets a tenant bind the value of an actuator
+offer NAME to TENANT from LO to HI the same, the value kept from LO to HI
 unoffer NAME to TENANT             takes that back
 bind NAME from TENANT.NAME         gives a sensor the value that another tenant's actuator has
 unbind NAME                        takes that back

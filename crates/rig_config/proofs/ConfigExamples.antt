@@ -35,6 +35,11 @@ sixteen : config_of (codes "version = 1\nlines = 1\ntenant = [{}, {}, {}, {}, {}
 unfolding toml_on_literals rig_of tenant_of
 sixteen = refl
 
+-- a third version there isn't
+third_version : config_of (codes "version = 3\nlines = 0") ≡ Err (Range (rig_field field.Version))
+unfolding toml_on_literals rig_of
+third_version = refl
+
 seventeen : config_of (codes "version = 1\nlines = 1\ntenant = [{}, {}, {}, {}, {}, {}, {}, {}, {}, {}, {}, {}, {}, {}, {}, {}, {}]") ≡ Err (Range (rig_field field.Tenant))
 unfolding toml_on_literals rig_of
 seventeen = refl

@@ -1,4 +1,5 @@
 pub mod ArrayValues
+pub mod BoundsExamples
 pub mod ConfigExamples
 pub mod Drivers
 pub mod NumbersOf

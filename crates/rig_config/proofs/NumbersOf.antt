@@ -23,9 +23,9 @@ before : {A B C : Type 0} (m : Result A ConfigFault) (f : A → Result B ConfigF
     → ((x : A) → f x >>= g ≡ h x) → (m >>= f) >>= g ≡ m >>= h
 before m f g h same = bind_again m f g ∙ under m (λ x. f x >>= g) h same
 
-pub budgets_by_parts : (lines t : ℕ) (fields : Members) → budgets_of lines t fields ≡ budgets_by_parts_of lines t fields
+pub budgets_by_parts : (version lines t : ℕ) (fields : Members) → budgets_of version lines t fields ≡ budgets_by_parts_of version lines t fields
 unfolding budgets_of numbers_of
-budgets_by_parts lines t fields =
+budgets_by_parts version lines t fields =
     under (lines_of field.Reads) _ _ (λ reads. under (lines_of field.Writes) _ _ (λ writes. sym (
     before (n field.Bytes) _ _ _ (λ bytes. before (n field.Ports) _ _ _ (λ ports. before (n field.Tasks) _ _ _ (λ tasks. before (n field.Modes) _ _ _ (λ modes. before (n field.Steps) _ _ _ (λ steps. before (n field.Trace) _ _ _ (λ trace. before (n field.Offers) _ _ _ (λ offers. before (n field.Binds) _ _ _ (λ binds. refl)))))))))))
   where

@@ -22,15 +22,15 @@ behind_one before x (Err fault) = refl
 items_at : (vs : List Value) (i : ℕ) (d : Value) → i < length vs → items_view (drop i vs) ≡ item (view (get_or vs i d)) (items_view (drop (i + 1) vs))
 items_at vs i d lt = rw (add-one, drop-cons vs i d)
 
-tenants_of_item : (lines t : ℕ) (before : List TenantConfig) (value : Data) (others : Items) (fields : Members) (x : TenantConfig)
-    → as_table value ≡ Some fields → tenant_of lines t fields ≡ Ok x
-    → behind (before ++ x ∷ []) (tenants_from lines (t + 1) others) ≡ behind before (tenants_from lines t (item value others))
-tenants_of_item lines t before value others fields x is_table is_tenant =
-    behind_one before x (tenants_from lines (t + 1) others) ∙ rw (is_table, is_tenant)
+tenants_of_item : (version lines t : ℕ) (before : List TenantConfig) (value : Data) (others : Items) (fields : Members) (x : TenantConfig)
+    → as_table value ≡ Some fields → tenant_of version lines t fields ≡ Ok x
+    → behind (before ++ x ∷ []) (tenants_from version lines (t + 1) others) ≡ behind before (tenants_from version lines t (item value others))
+tenants_of_item version lines t before value others fields x is_table is_tenant =
+    behind_one before x (tenants_from version lines (t + 1) others) ∙ rw (is_table, is_tenant)
 
 -- one tenant more
-pub next_tenant : (lines t : ℕ) (before : List TenantConfig) (vs : List Value) (value : Value) (fields : Members) (x : TenantConfig)
-    → t < length vs → value ≡ get_or vs t value → as_table (view value) ≡ Some fields → tenant_of lines t fields ≡ Ok x
-    → behind (before ++ x ∷ []) (tenants_from lines (t + 1) (items_view (drop (t + 1) vs))) ≡ behind before (tenants_from lines t (items_view (drop t vs)))
-next_tenant lines t before vs value fields x lt here is_table is_tenant =
-    rw (items_at vs t value lt, ← here) (tenants_of_item lines t before (view value) (items_view (drop (t + 1) vs)) fields x is_table is_tenant)
+pub next_tenant : (version lines t : ℕ) (before : List TenantConfig) (vs : List Value) (value : Value) (fields : Members) (x : TenantConfig)
+    → t < length vs → value ≡ get_or vs t value → as_table (view value) ≡ Some fields → tenant_of version lines t fields ≡ Ok x
+    → behind (before ++ x ∷ []) (tenants_from version lines (t + 1) (items_view (drop (t + 1) vs))) ≡ behind before (tenants_from version lines t (items_view (drop t vs)))
+next_tenant version lines t before vs value fields x lt here is_table is_tenant =
+    rw (items_at vs t value lt, ← here) (tenants_of_item version lines t before (view value) (items_view (drop (t + 1) vs)) fields x is_table is_tenant)

@@ -1,5 +1,6 @@
 -- The built-in configuration: one line, and two tenants.
 use Rattle.std.specs.Prelude.{ℕ, List, [], ◌∷◌, ◌++◌, codes}
+use Rattle.rig_config.specs.Intervals.{whole}
 use Rattle.rig_config.specs.declared.TenantConfig.{TenantConfig}
 use Rattle.rig_config.specs.declared.Config.{Config}
 
@@ -8,7 +9,7 @@ abbrev pub built_in_tenant : List ℕ → List ℕ → List ℕ → TenantConfig
 built_in_tenant name key writes = record {
   name = name;
   key = key;
-  budgets = record { reads = 0 ∷ []; writes = writes; bytes = 4096; ports = 64; tasks = 16; modes = 16; steps = 10000; trace = 8; offers = 4; binds = 4 };
+  budgets = record { reads = 0 ∷ []; writes = writes; bytes = 4096; ports = 64; tasks = 16; modes = 16; steps = 10000; trace = 8; offers = 4; binds = 4; bounds = whole };
 }
 
 abbrev pub built_in_config : Config

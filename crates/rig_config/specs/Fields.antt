@@ -1,5 +1,5 @@
 -- The fields of a configuration: their words, their ranges, and what is told of a fault.
-use Rattle.std.specs.Prelude.{ℕ, Bool, true, ◌&&◌, ◌==◌, nat_le, List, codes, Option, Some, None}
+use Rattle.std.specs.Prelude.{ℕ, Bool, true, ◌&&◌, nat_le, List, codes, Option, Some, None}
 use Rattle.rig_config.specs.declared.faults.Field.{Field}
 use Rattle.rig_config.specs.declared.faults.Field.TheVariants as field
 use Rattle.rig_config.specs.declared.faults.FieldPlace.{FieldPlace}
@@ -23,13 +23,15 @@ word_of field.Steps = codes "steps"
 word_of field.Trace = codes "trace"
 word_of field.Offers = codes "offers"
 word_of field.Binds = codes "binds"
+word_of field.Low = codes "low"
+word_of field.High = codes "high"
 
 abbrev pub from_to : ℕ → ℕ → ℕ → Bool
 from_to least greatest n = nat_le least n && nat_le n greatest
 
 -- The range of a field: of its number, of how many tenants there are, or of how many bytes a name or a key has.
 abbrev pub is_in_range : Field → ℕ → Bool
-is_in_range field.Version n = n == 1
+is_in_range field.Version n = from_to 1 2 n
 is_in_range field.Lines n = from_to 1 64 n
 is_in_range field.Tenant n = from_to 1 16 n
 is_in_range field.Name n = from_to 1 32 n
@@ -44,6 +46,8 @@ is_in_range field.Steps n = from_to 1 1000000 n
 is_in_range field.Trace n = from_to 1 4096 n
 is_in_range field.Offers n = from_to 1 64 n
 is_in_range field.Binds n = from_to 1 64 n
+is_in_range field.Low n = true
+is_in_range field.High n = true
 
 -- a field of the rig
 abbrev pub rig_field : Field → FieldPlace

@@ -1,5 +1,6 @@
 pub mod BuiltIn
 pub mod Fields
+pub mod Intervals
 pub mod Ranges
 pub mod Reading
 pub mod Roster

@@ -4,6 +4,7 @@ use Rattle.std.specs.List.{list_all, list_any}
 use Rattle.giotto_tasks.specs.Names.{same_name}
 use Rattle.giotto_tasks.specs.Sound.{all_different}
 use Rattle.rig_config.specs.Fields.{from_to, is_in_range}
+use Rattle.rig_config.specs.Intervals.{is_in_order}
 use Rattle.rig_config.specs.Roster.{Rig, may_use}
 use Rattle.rig_config.specs.declared.Budgets.{Budgets}
 use Rattle.rig_config.specs.declared.TenantConfig.{TenantConfig}
@@ -37,7 +38,7 @@ abbrev pub are_budgets : ℕ → Budgets → Bool
 are_budgets lines b =
     are_lines lines b.reads && (are_lines lines b.writes
     && (is_in_range field.Bytes b.bytes && (is_in_range field.Ports b.ports && (is_in_range field.Tasks b.tasks && (is_in_range field.Modes b.modes
-    && (is_in_range field.Steps b.steps && (is_in_range field.Trace b.trace && (is_in_range field.Offers b.offers && is_in_range field.Binds b.binds))))))))
+    && (is_in_range field.Steps b.steps && (is_in_range field.Trace b.trace && (is_in_range field.Offers b.offers && (is_in_range field.Binds b.binds && is_in_order b.bounds)))))))))
 
 -- each field of the tenant is within its range
 abbrev pub is_tenant_config : ℕ → TenantConfig → Bool

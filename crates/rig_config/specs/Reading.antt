@@ -1,11 +1,12 @@
 -- From a text to a configuration, or to the first fault.
-use Rattle.std.specs.Prelude.{ℕ, suc, ◌+◌, pos, Bool, true, not, ◌&&◌, if◌then◌else◌, nat_lt, List, [], ◌∷◌, map, Option, Some, None, option_map, is_some, Result, Ok, Err}
+use Rattle.std.specs.Prelude.{ℕ, suc, ◌+◌, pos, Bool, true, not, ◌&&◌, ◌==◌, if◌then◌else◌, nat_lt, List, [], ◌∷◌, map, Option, Some, None, option_map, is_some, Result, Ok, Err}
 use Rattle.std.specs.Bool.{then_some}
 use Rattle.std.specs.Option.{option_and_then, ok_or, option_map_or}
-use Rattle.toml.specs.Data.{Data, integer, Items, no_items, item, Members, as_str, as_array, as_table, get_member}
+use Rattle.toml.specs.Data.{Data, integer, Items, no_items, item, Members, as_integer, as_str, as_array, as_table, get_member}
 use Rattle.toml.specs.Parse.{parse_document}
 use Rattle.giotto_tasks.specs.Sound.{all_different}
 use Rattle.rig_config.specs.Fields.{is_in_range, rig_field, tenant_field, word_of}
+use Rattle.rig_config.specs.Intervals.{Interval, from_to, whole}
 use Rattle.rig_config.specs.Ranges.{all_drive_apart, is_key, is_tenant_name}
 use Rattle.rig_config.specs.declared.Config.{Config}
 use Rattle.rig_config.specs.declared.Budgets.{Budgets}
@@ -79,9 +80,20 @@ read accepts at fields = do
 abbrev pub number : FieldPlace → Members → Result ℕ ConfigFault
 number at fields = read (number_in at.field) at fields
 
--- the budgets of the tenant at a place of a rig with so many lines: their fields in their order
-unfoldable pub budgets_of : ℕ → ℕ → Members → Result Budgets ConfigFault
-budgets_of lines t fields = do
+-- the bounds of the tenant at a place: its least value, and its greatest, which isn't below the least
+abbrev pub bounds_read : ℕ → Members → Result Interval ConfigFault
+bounds_read t fields = do
+  low ← read as_integer (tenant_field t field.Low) fields
+  high ← read as_integer (tenant_field t field.High) fields
+  ok_or (from_to low high) (Range (tenant_field t field.High))
+
+-- In version 1 no tenant has bounds of its own: they are all values.
+abbrev pub bounds_of : ℕ → ℕ → Members → Result Interval ConfigFault
+bounds_of version t fields = if version == 1 then Ok whole else bounds_read t fields
+
+-- the budgets of the tenant at a place of a rig with so many lines, in this version of the format: their fields in their order
+unfoldable pub budgets_of : ℕ → ℕ → ℕ → Members → Result Budgets ConfigFault
+budgets_of version lines t fields = do
   reads ← read (lines_in lines) (tenant_field t field.Reads) fields
   writes ← read (lines_in lines) (tenant_field t field.Writes) fields
   bytes ← number (tenant_field t field.Bytes) fields
@@ -92,6 +104,7 @@ budgets_of lines t fields = do
   trace ← number (tenant_field t field.Trace) fields
   offers ← number (tenant_field t field.Offers) fields
   binds ← number (tenant_field t field.Binds) fields
+  bounds ← bounds_of version t fields
   Ok (record {
     reads = reads;
     writes = writes;
@@ -103,14 +116,15 @@ budgets_of lines t fields = do
     trace = trace;
     offers = offers;
     binds = binds;
+    bounds = bounds;
   })
 
 -- the tenant at a place of a rig with so many lines: its name, its key, its budgets
-unfoldable pub tenant_of : ℕ → ℕ → Members → Result TenantConfig ConfigFault
-tenant_of lines t fields = do
+unfoldable pub tenant_of : ℕ → ℕ → ℕ → Members → Result TenantConfig ConfigFault
+tenant_of version lines t fields = do
   name ← read tenant_name_in (tenant_field t field.Name) fields
   key ← read key_in (tenant_field t field.Key) fields
-  budgets ← budgets_of lines t fields
+  budgets ← budgets_of version lines t fields
   Ok (record { name = name; key = key; budgets = budgets })
 
 -- the fields of one of the tenants' tables
@@ -118,12 +132,12 @@ abbrev pub fields_in : Data → Result Members ConfigFault
 fields_in value = ok_or (as_table value) (Range (rig_field field.Tenant))
 
 -- the tenants from a place on, one after the other
-abbrev pub tenants_from : ℕ → ℕ → Items → Result (List TenantConfig) ConfigFault
-tenants_from lines t no_items = Ok []
-tenants_from lines t (item value others) = do
+abbrev pub tenants_from : ℕ → ℕ → ℕ → Items → Result (List TenantConfig) ConfigFault
+tenants_from version lines t no_items = Ok []
+tenants_from version lines t (item value others) = do
   fields ← fields_in value
-  tenant ← tenant_of lines t fields
-  tenants ← tenants_from lines (t + 1) others
+  tenant ← tenant_of version lines t fields
+  tenants ← tenants_from version lines (t + 1) others
   Ok (tenant ∷ tenants)
 
 -- a rig of these tenants: their names are different, and no line may be driven by two
@@ -139,7 +153,7 @@ rig_of fields = do
   version ← number (rig_field field.Version) fields
   lines ← number (rig_field field.Lines) fields
   tables ← read tables_in (rig_field field.Tenant) fields
-  tenants ← tenants_from lines 0 tables
+  tenants ← tenants_from version lines 0 tables
   rig_with lines tenants
 
 -- The configuration that a text describes, or the first fault in the order of the checks.

@@ -4,6 +4,7 @@ use Rattle.std.specs.List.{list_any, position}
 use Rattle.std.specs.Option.{option_map_or}
 use Rattle.giotto_tasks.specs.declared.names.Name.{Name}
 use Rattle.giotto_tasks.specs.Names.{same_name}
+use Rattle.rig_config.specs.Intervals.{whole}
 use Rattle.rig_config.specs.declared.Budgets.{Budgets}
 use Rattle.rig_config.specs.declared.TenantConfig.{TenantConfig}
 
@@ -33,7 +34,7 @@ name_at rig t = option_map_or (λ (tenant : TenantConfig). tenant.name) (slice_g
 
 -- no room for anything
 abbrev pub no_budgets : Budgets
-no_budgets = record { reads = []; writes = []; bytes = 0; ports = 0; tasks = 0; modes = 0; steps = 0; trace = 0; offers = 0; binds = 0 }
+no_budgets = record { reads = []; writes = []; bytes = 0; ports = 0; tasks = 0; modes = 0; steps = 0; trace = 0; offers = 0; binds = 0; bounds = whole }
 
 -- the budgets of the tenant at a place; no room where the roster has no such place
 abbrev pub budgets_at : Rig → ℕ → Budgets

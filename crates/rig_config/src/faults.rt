@@ -11,7 +11,7 @@ use thiserror::Error;
 /// A field of a configuration: the first three are the rig's, the others a tenant's.
 #[derive(Clone, Copy, Debug, PartialEq, Eq)]
 pub enum Field {
-    /// `version`: the version of the format, which is 1.
+    /// `version`: the version of the format, which is 1 or 2.
     Version,
     /// `lines`: the number of lines, 1 to 64.
     Lines,
@@ -41,6 +41,10 @@ pub enum Field {
     Offers,
     /// `binds`: the greatest number of binds.
     Binds,
+    /// `low`, in version 2: the least value of an offer that names none.
+    Low,
+    /// `high`, in version 2: the greatest value of an offer that names none.
+    High,
 }
 
 impl Field {
@@ -64,6 +68,8 @@ impl Field {
             Field::Trace => "trace",
             Field::Offers => "offers",
             Field::Binds => "binds",
+            Field::Low => "low",
+            Field::High => "high",
         }
     }
 
@@ -72,7 +78,7 @@ impl Field {
         ensures { result ≡ is_in_range self number }
     {
         match self {
-            Field::Version => number == 1,
+            Field::Version => 1 <= number && number <= 2,
             Field::Lines => 1 <= number && number <= 64,
             Field::Tenant => 1 <= number && number <= 16,
             Field::Name => 1 <= number && number <= 32,
@@ -87,6 +93,8 @@ impl Field {
             Field::Trace => 1 <= number && number <= 4096,
             Field::Offers => 1 <= number && number <= 64,
             Field::Binds => 1 <= number && number <= 64,
+            Field::Low => true,
+            Field::High => true,
         }
     }
 }

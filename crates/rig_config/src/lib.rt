@@ -11,12 +11,14 @@ ghost use Rattle.rig_config.specs.Ranges.{IsConfig};
 ghost use Rattle.rig_config.specs.Roster.{greeted, has, place_of};
 
 pub mod faults;
+pub mod intervals;
 pub mod laws;
 mod reading;
 mod values;
 
 use giotto_tasks::lists::List;
 use giotto_tasks::names::Name;
+use intervals::Bounds;
 pub use reading::read_config;
 use std::alloc::{AllocError, Global};
 use std::marker::Model;
@@ -47,6 +49,8 @@ pub struct Budgets {
     pub offers: usize,
     /// The greatest number of binds: 1 to 64.
     pub binds: usize,
+    /// How far the values of an offer may go that names no bounds of its own.
+    pub bounds: Bounds,
 }
 
 impl Budgets {
@@ -68,6 +72,7 @@ impl Budgets {
             trace: self.trace,
             offers: self.offers,
             binds: self.binds,
+            bounds: self.bounds.copy(),
         })
     }
 }
@@ -216,6 +221,7 @@ fn built_in_tenant(
         trace: 8,
         offers: 4,
         binds: 4,
+        bounds: Bounds::whole(),
     };
     Ok(TenantConfig {
         name,

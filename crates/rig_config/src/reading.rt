@@ -3,9 +3,11 @@
 ghost use Rattle.std.specs.Prelude.{◌≡◌, ◌≢◌, Ok, Err, IfOk, IfErr, IsTrue, length, map};
 ghost use Rattle.std.specs.List.{list_all, list_any};
 ghost use Rattle.toml.specs.View.{array_view, items_view, table_view, view};
+ghost use Rattle.toml.specs.Data.{as_integer};
 ghost use Rattle.rig_config.specs.Fields.{is_in_range, rig_field, tenant_field};
+ghost use Rattle.rig_config.specs.Intervals.{is_in_order};
 ghost use Rattle.rig_config.specs.Ranges.{all_drive_apart, are_budgets, are_lines, drive_apart, is_key, is_tenant_config, is_tenant_name};
-ghost use Rattle.rig_config.specs.Reading.{budgets_of, config_of, key_in, lines_in, tenant_name_in, number, read, rig_of, rig_with, tables_in, tenant_of, tenants_from, value_of};
+ghost use Rattle.rig_config.specs.Reading.{bounds_of, bounds_read, budgets_of, config_of, key_in, lines_in, tenant_name_in, number, read, rig_of, rig_with, tables_in, tenant_of, tenants_from, value_of};
 ghost use Rattle.giotto_tasks.specs.Names.{is_among};
 ghost use Rattle.giotto_tasks.specs.Sound.{all_different};
 ghost use Rattle.rig_config.specs.Roster.{may_use};
@@ -15,6 +17,7 @@ ghost use Rattle.rig_config.specs.inner.Numbers.{are_in_range, numbers_of};
 ghost use Rattle.rig_config.specs.declared.faults.Field.TheVariants as field;
 
 use crate::faults::{ConfigFault, Field, FieldPlace};
+use crate::intervals::Bounds;
 use crate::values::{key_in, lines_in, name_in, number_in, tables_in};
 use crate::{Budgets, Config, TenantConfig, TenantId};
 use giotto_tasks::lists::List;
@@ -108,15 +111,49 @@ fn numbers_of(fields: &Table, tenant: TenantId) -> Result<Numbers, ConfigFault>
     })
 }
 
-// The budgets of the tenant at a place of a rig with so many lines.
+// A field that is a value of ports.
+fn port_value(fields: &Table, at: FieldPlace) -> Result<i64, ConfigFault>
+    ensures { result ≡ read as_integer at (table_view fields.now) }
+{
+    let value = value_of(fields, at)?;
+    value.as_integer().ok_or(ConfigFault::Range(at))
+}
+
+// The bounds that the fields of the tenant at a place tell.
+fn bounds_read(fields: &Table, tenant: TenantId) -> Result<Bounds, ConfigFault>
+    ensures { result ≡ bounds_read tenant (table_view fields.now) }
+{
+    let low = port_value(fields, FieldPlace::of_tenant(tenant, Field::Low))?;
+    let at = FieldPlace::of_tenant(tenant, Field::High);
+    let high = port_value(fields, at)?;
+    Bounds::new(low, high).ok_or(ConfigFault::Range(at))
+}
+
+// The bounds of the tenant at a place, in this version of the format.
+fn bounds_of(fields: &Table, version: usize, tenant: TenantId) -> Result<Bounds, ConfigFault>
+    ensures value { result ≡ bounds_of version tenant (table_view fields.now) }
+    ensures order { IfOk result (λ bounds. IsTrue (is_in_order bounds)) }
+{
+    let bounds = if version == 1 {
+        Bounds::whole()
+    } else {
+        bounds_read(fields, tenant)?
+    };
+    // Its least value isn't above its greatest.
+    let _ = bounds.low();
+    Ok(bounds)
+}
+
+// The budgets of the tenant at a place of a rig with so many lines, in this version of the format.
 #[tactic(auto, using(crate::proofs::NumbersOf::budgets_by_parts))]
 fn budgets_of(
     alloc: Global,
     fields: &Table,
+    version: usize,
     lines: usize,
     tenant: TenantId,
 ) -> Result<Budgets, ConfigFault>
-    ensures value { Gives result (budgets_of lines tenant (table_view fields.now)) }
+    ensures value { Gives result (budgets_of version lines tenant (table_view fields.now)) }
     ensures ranges { IfOk result (λ budgets. IsTrue (are_budgets lines budgets)) }
 {
     let reads = line_set(
@@ -132,6 +169,7 @@ fn budgets_of(
         lines,
     )?;
     let numbers = numbers_of(fields, tenant)?;
+    let bounds = bounds_of(fields, version, tenant)?;
     Ok(Budgets {
         reads,
         writes,
@@ -143,29 +181,36 @@ fn budgets_of(
         trace: numbers.trace,
         offers: numbers.offers,
         binds: numbers.binds,
+        bounds,
     })
 }
 
-// The tenant at a place of a rig with so many lines.
+// The tenant at a place of a rig with so many lines, in this version of the format.
 #[tactic(auto, unfolding(crate::specs::Reading::tenant_of))]
 fn tenant(
     alloc: Global,
     fields: &Table,
+    version: usize,
     lines: usize,
     place: TenantId,
 ) -> Result<TenantConfig, ConfigFault>
-    ensures value { Gives result (tenant_of lines place (table_view fields.now)) }
+    ensures value { Gives result (tenant_of version lines place (table_view fields.now)) }
     ensures ranges { IfOk result (λ tenant. IsTrue (is_tenant_config lines tenant)) }
 {
     let name = name(fields, place)?;
     let key = key(alloc, fields, place)?;
-    let budgets = budgets_of(alloc, fields, lines, place)?;
+    let budgets = budgets_of(alloc, fields, version, lines, place)?;
     Ok(TenantConfig { name, key, budgets })
 }
 
 // The tenants of these tables, one after the other.
-fn tenants(alloc: Global, tables: &[Value], lines: usize) -> Result<List<TenantConfig>, ConfigFault>
-    ensures value { Gives result (tenants_from lines 0 (items_view tables.now)) }
+fn tenants(
+    alloc: Global,
+    tables: &[Value],
+    version: usize,
+    lines: usize,
+) -> Result<List<TenantConfig>, ConfigFault>
+    ensures value { Gives result (tenants_from version lines 0 (items_view tables.now)) }
     ensures ranges { IfOk result (λ tenants. IsTrue (list_all (is_tenant_config lines) tenants)) }
     ensures many { IfOk result (λ tenants. length tenants ≡ length tables.now) }
 {
@@ -174,7 +219,7 @@ fn tenants(alloc: Global, tables: &[Value], lines: usize) -> Result<List<TenantC
         let Some(fields) = table.as_table() else {
             return Err(ConfigFault::Range(FieldPlace::of_rig(Field::Tenant)));
         };
-        tenants.push(tenant(alloc, fields, lines, place)?)?;
+        tenants.push(tenant(alloc, fields, version, lines, place)?)?;
     }
     Ok(List::from_vec(tenants))
 }
@@ -272,15 +317,16 @@ fn roster(fields: &Table) -> Result<&Array, ConfigFault>
 fn rig(alloc: Global, fields: &Table) -> Result<Config, ConfigFault>
     ensures { Gives result (rig_of (table_view fields.now)) }
 {
-    number(fields, FieldPlace::of_rig(Field::Version))?;
+    let version = number(fields, FieldPlace::of_rig(Field::Version))?;
     let lines = number(fields, FieldPlace::of_rig(Field::Lines))?;
     let tables = roster(fields)?;
-    let tenants = tenants(alloc, tables, lines)?;
+    let tenants = tenants(alloc, tables, version, lines)?;
     configured(lines, tenants)
 }
 
-/// The configuration that a text describes, in TOML: `version`, which is 1, `lines`, and an array `tenant` of tables, each with the
-/// fields of [`Field`]. Fields of other names mean nothing.
+/// The configuration that a text describes, in TOML: `version`, which is 1 or 2, `lines`, and an array `tenant` of tables, each with the
+/// fields of [`Field`]; version 1 has no `low` and `high`, and all values are within the bounds of its tenants. Fields of other names
+/// mean nothing.
 ///
 /// # Errors
 /// The first fault in this order: `NotToml`; the rig's fields, then each tenant's, in the order of [`Field`], `Missing` before `Range`;

@@ -1,6 +1,6 @@
 -- Values that pass from tenant to tenant, computed from the definitions.
 use Rattle.std.proofs.Common.{◌≡◌, ℕ, List, [], ◌∷◌, ◌++◌, refl, reverse}
-use Rattle.std.specs.Prelude.{codes}
+use Rattle.std.specs.Prelude.{codes, None}
 use Rattle.std.specs.Fmt.{digits}
 use Rattle.rig_model.specs.declared.events.Event.{Event}
 use Rattle.rig_model.specs.declared.events.Event.TheVariants.{Own}
@@ -20,7 +20,7 @@ abbrev adding_text : List ℕ → List ℕ
 adding_text n = codes "sensor g := -1 grant; actuator a := 0; output o := 0; task T(i) output o { o := i + " ++ (n ++ codes "; } mode m period 1 { actfreq 1 do a := o; taskfreq 1 do T(g); } start m;")
 
 abbrev offered_to : ℕ → List ℕ → Event
-offered_to t tenant = Own t (Grants (Offer (codes "a") tenant))
+offered_to t tenant = Own t (Grants (Offer (codes "a") tenant None))
 
 abbrev pub bound_to : ℕ → List ℕ → Event
 bound_to t tenant = Own t (Grants (Bind (codes "g") tenant (codes "a")))

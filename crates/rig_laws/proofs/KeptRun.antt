@@ -1,6 +1,6 @@
 -- What is kept of lists for a tenant, and its sources, computed from the definitions.
 use Rattle.std.proofs.Common.{◌≡◌, ℕ, List, [], ◌∷◌, ◌++◌, refl, true, reverse, map, take, drop}
-use Rattle.std.specs.Prelude.{codes}
+use Rattle.std.specs.Prelude.{codes, None}
 use Rattle.std.specs.Fmt.{digits}
 use Rattle.rig_config.specs.BuiltIn.{built_in_tenant}
 use Rattle.rig_config.specs.Roster.{Rig}
@@ -30,7 +30,7 @@ all_is_kept_for_the_consumer = refl
 -- Alpha is bound to nobody, so nothing of beta's is kept for it.
 abbrev alpha_alone : List Event
 alpha_alone =
-    Own 0 (Load adder_text) ∷ Own 0 (Grants (Offer (codes "a") (codes "beta"))) ∷ Own 0 Start ∷ tick 5 ∷ tick 7 ∷ completed 0 0 ∷ tick 9
+    Own 0 (Load adder_text) ∷ Own 0 (Grants (Offer (codes "a") (codes "beta") None)) ∷ Own 0 Start ∷ tick 5 ∷ tick 7 ∷ completed 0 0 ∷ tick 9
     ∷ Own 0 (Grants (Unoffer (codes "a") (codes "beta"))) ∷ tick 11 ∷ []
 
 pub supplier_is_kept_alone : kept_of rig (reverse granted_run) 0 ≡ reverse alpha_alone

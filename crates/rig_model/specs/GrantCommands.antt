@@ -1,5 +1,5 @@
 -- What a command about offers and binds does, and its reply.
-use Rattle.std.specs.Prelude.{Result, Ok, Err, List}
+use Rattle.std.specs.Prelude.{Result, Ok, Err, List, unwrap_or}
 use Rattle.tenant_grants.specs.Grants.{GrantRows, offered, unoffered, bound, unbound, rows_of}
 use Rattle.tenant_grants.specs.declared.faults.GrantFault.{GrantFault}
 use Rattle.tenant_grants.specs.declared.faults.GrantFault.TheVariants as fault
@@ -38,9 +38,9 @@ abbrev pub with_binds : GrantRows → Reply → Result (List binds.Bind) GrantFa
 with_binds rows done (Ok bs) = record { rows = record rows { binds = bs }; reply = done }
 with_binds rows done (Err f) = record { rows = rows; reply = Refused (refusal_of_row Binds f) }
 
--- the step of a command about grants: the rows behind it, and its reply
+-- The step of a command about grants: the rows behind it, and its reply. An offer that names no bounds has its owner's.
 abbrev pub grants_commanded : GrantCommand → GrantRows → GrantOutcome
-grants_commanded (command.Offer actuator tenant) rows = with_offers rows Offered (offered rows.owner rows.offers actuator tenant)
+grants_commanded (command.Offer actuator tenant bounds) rows = with_offers rows Offered (offered rows.owner rows.offers actuator tenant (unwrap_or bounds rows.owner.bounds))
 grants_commanded (command.Unoffer actuator tenant) rows = with_offers rows Unoffered (unoffered rows.owner rows.offers actuator tenant)
 grants_commanded (command.Bind sensor tenant actuator) rows = with_binds rows Bound (bound rows.owner rows.binds sensor tenant actuator)
 grants_commanded (command.Unbind sensor) rows = with_binds rows Unbound (unbound rows.binds sensor)

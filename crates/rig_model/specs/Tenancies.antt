@@ -7,7 +7,7 @@ use Rattle.rig_config.specs.Roster.{Rig, budgets_at}
 use Rattle.rig_config.specs.declared.TenantConfig.{TenantConfig}
 
 pub record Tenancy : Type 0 where
-  -- its place in the roster, the roster, and how many offers and binds it may have
+  -- its place in the roster, the roster, how many offers and binds it may have, and the bounds of an offer that names none
   pub owner : Owner
   -- what it may use
   pub budgets : Budgets
@@ -18,7 +18,7 @@ roster_of config = map (λ (tenant : TenantConfig). tenant.name) config.tenants
 
 -- the tenant at place t, as the owner of its offers and binds
 abbrev pub owner_at : Rig → ℕ → Owner
-owner_at config t = record { place = t; roster = roster_of config; most_offers = (budgets_at config t).offers; most_binds = (budgets_at config t).binds }
+owner_at config t = record { place = t; roster = roster_of config; most_offers = (budgets_at config t).offers; most_binds = (budgets_at config t).binds; bounds = (budgets_at config t).bounds }
 
 -- what the tenant at place t is given
 abbrev pub tenancy_at : Rig → ℕ → Tenancy

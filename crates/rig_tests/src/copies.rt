@@ -3,6 +3,7 @@
 use giotto_tasks::lists::List;
 use giotto_tasks::names::Name;
 use host_core::events::Event;
+use rig_config::intervals::Bounds;
 use std::alloc::Global;
 use tenant_grants::rows::{Offer, Row};
 use tenant_jobs::jobs::JobId;
@@ -38,6 +39,7 @@ fn one_row(alloc: Global) -> Option<Reply> {
     let offer = Offer {
         actuator: Name::new("a")?,
         tenant: Name::new("beta")?,
+        bounds: Bounds::whole(),
     };
     let mut rows = Vec::new(alloc);
     rows.push(Row::Offer(offer)).ok()?;

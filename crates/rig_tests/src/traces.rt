@@ -50,7 +50,9 @@ fn new_tenant(alloc: Global) -> Option<Tenant> {
     let budgets = config.tenants().first()?.budgets.copy(alloc).ok()?;
     let mut roster = ArrayVec::new();
     roster.push(Name::new("alpha")?);
-    let grants = Grants::new(alloc, ALPHA, roster, budgets.offers, budgets.binds).ok()?;
+    let (offers, binds) = (budgets.offers, budgets.binds);
+    let bounds = budgets.bounds.copy();
+    let grants = Grants::new(alloc, ALPHA, roster, offers, binds, bounds).ok()?;
     Tenant::new(alloc, budgets, grants, 0).ok()
 }
 

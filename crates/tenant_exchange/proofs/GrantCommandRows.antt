@@ -1,5 +1,6 @@
 -- What commands about grants do to the rows of tenant alpha, of the roster alpha, beta, which of them take memory, and what its sensors are granted, computed from the definitions.
 use Rattle.std.proofs.Common.{◌≡◌, true, false, pos, [], ◌∷◌, Some, None, codes, refl}
+use Rattle.rig_config.specs.Intervals.{Interval, whole}
 use Rattle.tenant_grants.specs.Grants.{GrantRows}
 use Rattle.tenant_grants.specs.declared.rows.Row.TheVariants as row
 use Rattle.tenant_lines.specs.declared.grant_lines.GrantCommand.TheVariants.{Offer, Unoffer, Bind, Unbind, Rows}
@@ -11,21 +12,40 @@ use Rattle.rig_model.specs.GrantCommands.{grants_commanded}
 use Rattle.tenant_exchange.specs.Memory.{takes_memory}
 use Rattle.rig_model.specs.Granted.{granted_along}
 
+-- from 0 to 5
+to_five : Interval
+to_five = record { low = pos 0; high = pos 5 }
+
 -- one offer, one bind, and room for no more
 alpha : GrantRows
 alpha = record {
-  owner = record { place = 0; roster = codes "alpha" ∷ codes "beta" ∷ []; most_offers = 1; most_binds = 1 };
-  offers = (record { actuator = codes "a"; tenant = codes "beta" }) ∷ [];
+  owner = record { place = 0; roster = codes "alpha" ∷ codes "beta" ∷ []; most_offers = 1; most_binds = 1; bounds = to_five };
+  offers = (record { actuator = codes "a"; tenant = codes "beta"; bounds = whole }) ∷ [];
   binds = (record { sensor = codes "s"; tenant = codes "beta"; actuator = codes "x" }) ∷ [];
 }
 
-offer_twice : grants_commanded (Offer (codes "a") (codes "beta")) alpha ≡ record { rows = alpha; reply = reply.Refused Twice }
+offer_twice : grants_commanded (Offer (codes "a") (codes "beta") None) alpha ≡ record { rows = alpha; reply = reply.Refused Twice }
 unfolding alpha
 offer_twice = refl
 
-offer_over_budget : grants_commanded (Offer (codes "b") (codes "beta")) alpha ≡ record { rows = alpha; reply = reply.Refused (OverBudget budget.Offers) }
+offer_over_budget : grants_commanded (Offer (codes "b") (codes "beta") None) alpha ≡ record { rows = alpha; reply = reply.Refused (OverBudget budget.Offers) }
 unfolding alpha
 offer_over_budget = refl
+
+-- an offer that names no bounds has alpha's, and another its own
+offer_within_own_bounds : (grants_commanded (Offer (codes "a") (codes "beta") None) (record alpha { offers = [] })).rows.offers ≡ (record { actuator = codes "a"; tenant = codes "beta"; bounds = to_five }) ∷ []
+unfolding alpha
+offer_within_own_bounds = refl
+
+offer_within_bounds : (grants_commanded (Offer (codes "a") (codes "beta") (Some (record { low = pos 7; high = pos 9 }))) (record alpha { offers = [] })).rows.offers
+    ≡ (record { actuator = codes "a"; tenant = codes "beta"; bounds = record { low = pos 7; high = pos 9 } }) ∷ []
+unfolding alpha
+offer_within_bounds = refl
+
+-- an offer stands twice whatever its bounds
+other_bounds_twice : grants_commanded (Offer (codes "a") (codes "beta") (Some (record { low = pos 7; high = pos 9 }))) alpha ≡ record { rows = alpha; reply = reply.Refused Twice }
+unfolding alpha
+other_bounds_twice = refl
 
 bind_over_budget : grants_commanded (Bind (codes "r") (codes "beta") (codes "x")) alpha ≡ record { rows = alpha; reply = reply.Refused (OverBudget budget.Binds) }
 unfolding alpha
@@ -51,7 +71,7 @@ unbind_done : grants_commanded (Unbind (codes "s")) alpha ≡ record { rows = re
 unfolding alpha
 unbind_done = refl
 
-rows_listed : (grants_commanded Rows alpha).reply ≡ reply.Rows (row.Offer (record { actuator = codes "a"; tenant = codes "beta" }) ∷ row.Bind (record { sensor = codes "s"; tenant = codes "beta"; actuator = codes "x" }) ∷ [])
+rows_listed : (grants_commanded Rows alpha).reply ≡ reply.Rows (row.Offer (record { actuator = codes "a"; tenant = codes "beta"; bounds = whole }) ∷ row.Bind (record { sensor = codes "s"; tenant = codes "beta"; actuator = codes "x" }) ∷ [])
 unfolding alpha
 rows_listed = refl
 
@@ -78,15 +98,15 @@ unfolding alpha
 no_rows_take_none = refl
 
 -- a refused offer or bind takes none, and one whose row may be made does
-refused_offer_takes_none : takes_memory (Offer (codes "a") (codes "beta")) alpha ≡ false
+refused_offer_takes_none : takes_memory (Offer (codes "a") (codes "beta") None) alpha ≡ false
 unfolding alpha
 refused_offer_takes_none = refl
 
-offer_over_budget_takes_none : takes_memory (Offer (codes "b") (codes "beta")) alpha ≡ false
+offer_over_budget_takes_none : takes_memory (Offer (codes "b") (codes "beta") None) alpha ≡ false
 unfolding alpha
 offer_over_budget_takes_none = refl
 
-offer_takes_memory : takes_memory (Offer (codes "b") (codes "beta")) (record alpha { offers = [] }) ≡ true
+offer_takes_memory : takes_memory (Offer (codes "b") (codes "beta") None) (record alpha { offers = [] }) ≡ true
 unfolding alpha
 offer_takes_memory = refl
 

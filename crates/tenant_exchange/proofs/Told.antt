@@ -1,6 +1,7 @@
 -- What a change of the rows leads to is told as the definitions say.
 use Rattle.std.proofs.Common.{◌≡◌, ◌≢◌, ℕ, Bool, true, false, if◌then◌else◌, nat_eq, nat_lt, List, [], ◌∷◌, ◌++◌, length, Option, Some, None, ok_or, Result, Ok, Err, IfOk, IfErr, IsOk, is_ok, refl, sym, ap, ◌∙◌}
 use Rattle.giotto_tasks.specs.declared.names.Name.{Name}
+use Rattle.rig_config.specs.Intervals.{Interval}
 use Rattle.tenant_grants.specs.Grants.{Owner, ◌>>=◌, place_in, other_side, one_more, offered, bound}
 use Rattle.tenant_grants.specs.declared.faults.GrantFault.{GrantFault}
 use Rattle.tenant_grants.specs.declared.faults.GrantFault.TheVariants as fault
@@ -63,8 +64,8 @@ more_faults {A} false most rows new = by (nat_lt (length rows) most)
     by true = tt
     by false = λ e. cc
 
-pub offer_faults : (owner : Owner) (os : List Offer) (actuator tenant : Name) → NotForMemory (offered owner os actuator tenant)
-offer_faults owner os actuator tenant = joined (other_side owner tenant) _ (side_faults owner tenant) (λ u. more_faults _ _ os _)
+pub offer_faults : (owner : Owner) (os : List Offer) (actuator tenant : Name) (bounds : Interval) → NotForMemory (offered owner os actuator tenant bounds)
+offer_faults owner os actuator tenant bounds = joined (other_side owner tenant) _ (side_faults owner tenant) (λ u. more_faults _ _ os _)
 
 pub bind_faults : (owner : Owner) (bs : List Bind) (sensor tenant actuator : Name) → NotForMemory (bound owner bs sensor tenant actuator)
 bind_faults owner bs sensor tenant actuator = joined (other_side owner tenant) _ (side_faults owner tenant) (λ u. more_faults _ _ bs _)

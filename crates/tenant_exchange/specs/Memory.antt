@@ -1,12 +1,12 @@
 -- Which commands about offers and binds take memory, and so can be refused for want of it.
-use Rattle.std.specs.Prelude.{Bool, false, ◌+◌, nat_lt, length, is_ok}
+use Rattle.std.specs.Prelude.{Bool, false, ◌+◌, nat_lt, length, is_ok, unwrap_or}
 use Rattle.tenant_grants.specs.Grants.{GrantRows, offered, bound}
 use Rattle.tenant_lines.specs.declared.grant_lines.GrantCommand.{GrantCommand}
 use Rattle.tenant_lines.specs.declared.grant_lines.GrantCommand.TheVariants as command
 
 -- whether it takes memory, and so can be refused for want of it: `offer` and `bind` for a row that may be made, and `rows` where there is a row
 abbrev pub takes_memory : GrantCommand → GrantRows → Bool
-takes_memory (command.Offer actuator tenant) rows = is_ok (offered rows.owner rows.offers actuator tenant)
+takes_memory (command.Offer actuator tenant bounds) rows = is_ok (offered rows.owner rows.offers actuator tenant (unwrap_or bounds rows.owner.bounds))
 takes_memory (command.Unoffer actuator tenant) rows = false
 takes_memory (command.Bind sensor tenant actuator) rows = is_ok (bound rows.owner rows.binds sensor tenant actuator)
 takes_memory (command.Unbind sensor) rows = false

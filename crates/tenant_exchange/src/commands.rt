@@ -1,11 +1,15 @@
 //! What the commands about grants do.
 
-ghost use Rattle.std.specs.Prelude.{◌≡◌, ◌≢◌, false, IfErr, IfOk};
+ghost use Rattle.std.specs.Prelude.{◌≡◌, ◌≢◌, false, Err, IfErr, IfOk, OnErr, OnOk, unwrap_or};
+ghost use Rattle.tenant_grants.specs.Grants.{offered};
+ghost use Rattle.tenant_grants.specs.declared.faults.GrantFault.{GrantFault};
 ghost use Rattle.rig_model.specs.GrantCommands.{grants_commanded, refusal_of_row};
 ghost use Rattle.tenant_exchange.specs.Memory.{takes_memory};
 ghost use Rattle.tenant_lines.specs.declared.replies.Refusal.{Refusal};
 ghost use Rattle.tenant_lines.specs.declared.replies.Reply.{Reply};
 
+use giotto_tasks::names::Name;
+use rig_config::intervals::Bounds;
 use std::alloc::Global;
 use tenant_grants::faults::GrantFault;
 use tenant_grants::grants::Grants;
@@ -23,8 +27,12 @@ pub fn carry_out(alloc: Global, grants: &mut Grants, command: GrantCommand) -> R
     ensures rows { result ≢ Reply.Refused Refusal.Memory → grants.new ≡ (grants_commanded command grants.old).rows }
 {
     match command {
-        GrantCommand::Offer { actuator, tenant } => answer(
-            grants.offer(actuator, tenant),
+        GrantCommand::Offer {
+            actuator,
+            tenant,
+            bounds,
+        } => answer(
+            offer(grants, actuator, tenant, bounds),
             Reply::Offered,
             Budget::Offers,
         ),
@@ -52,6 +60,25 @@ pub fn carry_out(alloc: Global, grants: &mut Grants, command: GrantCommand) -> R
             Err(_) => Reply::Refused(Refusal::Memory),
         },
     }
+}
+
+// Offers an actuator to a tenant within these bounds, or within the owner's where there are none.
+fn offer(
+    grants: &mut Grants,
+    actuator: Name,
+    tenant: Name,
+    bounds: Option<Bounds>,
+) -> Result<(), GrantFault>
+    ensures refused { IfErr (offered grants.old.owner grants.old.offers actuator tenant (unwrap_or bounds grants.old.owner.bounds)) (λ fault. result ≡ Err fault) }
+    ensures offered { IfOk (offered grants.old.owner grants.old.offers actuator tenant (unwrap_or bounds grants.old.owner.bounds)) (λ os. OnOk result (grants.new ≡ record grants.old { offers = os })) }
+    ensures memory { IfOk (offered grants.old.owner grants.old.offers actuator tenant (unwrap_or bounds grants.old.owner.bounds)) (λ os. IfErr result (λ fault. fault ≡ GrantFault.Memory)) }
+    ensures same { OnErr result (grants.new ≡ grants.old) }
+{
+    let bounds = match bounds {
+        Some(bounds) => bounds,
+        None => grants.own_bounds().copy(),
+    };
+    grants.offer(actuator, tenant, bounds.low(), bounds.high())
 }
 
 // The reply to a change of the rows: that it is done, or why it isn't. The budget is that of such rows.

@@ -1,65 +1,66 @@
 -- Rows of tenant alpha, of the roster alpha, beta, gamma.
 use Rattle.std.proofs.Common.{◌≡◌, true, false, [], ◌∷◌, Some, None, Ok, Err, refl, codes}
+use Rattle.rig_config.specs.Intervals.{Interval, whole}
 use Rattle.tenant_grants.specs.Grants.{Owner, offered, unoffered, bound, unbound, offers, bind_at, rows_of}
 use Rattle.tenant_grants.specs.declared.rows.Row.TheVariants as row
 use Rattle.tenant_grants.specs.declared.faults.GrantFault.TheVariants.{NoTenant, Own, Twice, NotThere, Budget}
 
 -- alpha may have two offers and two binds
 alpha : Owner
-alpha = record { place = 0; roster = codes "alpha" ∷ codes "beta" ∷ codes "gamma" ∷ []; most_offers = 2; most_binds = 2 }
+alpha = record { place = 0; roster = codes "alpha" ∷ codes "beta" ∷ codes "gamma" ∷ []; most_offers = 2; most_binds = 2; bounds = whole }
 
 -- the first offer
-first_offer : offered alpha [] (codes "a") (codes "beta") ≡ Ok ((record { actuator = codes "a"; tenant = codes "beta" }) ∷ [])
+first_offer : offered alpha [] (codes "a") (codes "beta") whole ≡ Ok ((record { actuator = codes "a"; tenant = codes "beta"; bounds = whole }) ∷ [])
 unfolding alpha
 first_offer = refl
 
 -- one actuator to another tenant is another offer, behind the first
-second_offer : offered alpha ((record { actuator = codes "a"; tenant = codes "beta" }) ∷ []) (codes "a") (codes "gamma") ≡ Ok ((record { actuator = codes "a"; tenant = codes "beta" }) ∷ (record { actuator = codes "a"; tenant = codes "gamma" }) ∷ [])
+second_offer : offered alpha ((record { actuator = codes "a"; tenant = codes "beta"; bounds = whole }) ∷ []) (codes "a") (codes "gamma") whole ≡ Ok ((record { actuator = codes "a"; tenant = codes "beta"; bounds = whole }) ∷ (record { actuator = codes "a"; tenant = codes "gamma"; bounds = whole }) ∷ [])
 unfolding alpha
 second_offer = refl
 
 -- one actuator to one tenant is offered once
-offered_twice : offered alpha ((record { actuator = codes "a"; tenant = codes "beta" }) ∷ []) (codes "a") (codes "beta") ≡ Err Twice
+offered_twice : offered alpha ((record { actuator = codes "a"; tenant = codes "beta"; bounds = whole }) ∷ []) (codes "a") (codes "beta") whole ≡ Err Twice
 unfolding alpha
 offered_twice = refl
 
 -- that is told also where there is no room
-twice_before_budget : offered alpha ((record { actuator = codes "a"; tenant = codes "beta" }) ∷ (record { actuator = codes "a"; tenant = codes "gamma" }) ∷ []) (codes "a") (codes "beta") ≡ Err Twice
+twice_before_budget : offered alpha ((record { actuator = codes "a"; tenant = codes "beta"; bounds = whole }) ∷ (record { actuator = codes "a"; tenant = codes "gamma"; bounds = whole }) ∷ []) (codes "a") (codes "beta") whole ≡ Err Twice
 unfolding alpha
 twice_before_budget = refl
 
 -- a third is over the budget
-third_offer : offered alpha ((record { actuator = codes "a"; tenant = codes "beta" }) ∷ (record { actuator = codes "a"; tenant = codes "gamma" }) ∷ []) (codes "b") (codes "beta") ≡ Err Budget
+third_offer : offered alpha ((record { actuator = codes "a"; tenant = codes "beta"; bounds = whole }) ∷ (record { actuator = codes "a"; tenant = codes "gamma"; bounds = whole }) ∷ []) (codes "b") (codes "beta") whole ≡ Err Budget
 unfolding alpha
 third_offer = refl
 
 -- no offer to a tenant that the roster has not, nor to itself
-offer_to_nobody : offered alpha ((record { actuator = codes "a"; tenant = codes "beta" }) ∷ (record { actuator = codes "a"; tenant = codes "gamma" }) ∷ []) (codes "a") (codes "Gamma") ≡ Err NoTenant
+offer_to_nobody : offered alpha ((record { actuator = codes "a"; tenant = codes "beta"; bounds = whole }) ∷ (record { actuator = codes "a"; tenant = codes "gamma"; bounds = whole }) ∷ []) (codes "a") (codes "Gamma") whole ≡ Err NoTenant
 unfolding alpha
 offer_to_nobody = refl
 
 -- nor to itself, whatever stands
-offer_to_itself : offered alpha ((record { actuator = codes "a"; tenant = codes "beta" }) ∷ (record { actuator = codes "a"; tenant = codes "gamma" }) ∷ []) (codes "a") (codes "alpha") ≡ Err Own
+offer_to_itself : offered alpha ((record { actuator = codes "a"; tenant = codes "beta"; bounds = whole }) ∷ (record { actuator = codes "a"; tenant = codes "gamma"; bounds = whole }) ∷ []) (codes "a") (codes "alpha") whole ≡ Err Own
 unfolding alpha
 offer_to_itself = refl
 
 -- an offer taken out
-taken_out : unoffered alpha ((record { actuator = codes "a"; tenant = codes "beta" }) ∷ (record { actuator = codes "a"; tenant = codes "gamma" }) ∷ []) (codes "a") (codes "beta") ≡ Ok ((record { actuator = codes "a"; tenant = codes "gamma" }) ∷ [])
+taken_out : unoffered alpha ((record { actuator = codes "a"; tenant = codes "beta"; bounds = whole }) ∷ (record { actuator = codes "a"; tenant = codes "gamma"; bounds = whole }) ∷ []) (codes "a") (codes "beta") ≡ Ok ((record { actuator = codes "a"; tenant = codes "gamma"; bounds = whole }) ∷ [])
 unfolding alpha
 taken_out = refl
 
 -- and made again stands last
-made_again : offered alpha ((record { actuator = codes "a"; tenant = codes "gamma" }) ∷ []) (codes "a") (codes "beta") ≡ Ok ((record { actuator = codes "a"; tenant = codes "gamma" }) ∷ (record { actuator = codes "a"; tenant = codes "beta" }) ∷ [])
+made_again : offered alpha ((record { actuator = codes "a"; tenant = codes "gamma"; bounds = whole }) ∷ []) (codes "a") (codes "beta") whole ≡ Ok ((record { actuator = codes "a"; tenant = codes "gamma"; bounds = whole }) ∷ (record { actuator = codes "a"; tenant = codes "beta"; bounds = whole }) ∷ [])
 unfolding alpha
 made_again = refl
 
 -- what doesn't stand isn't taken out
-not_there : unoffered alpha ((record { actuator = codes "a"; tenant = codes "beta" }) ∷ []) (codes "a") (codes "gamma") ≡ Err NotThere
+not_there : unoffered alpha ((record { actuator = codes "a"; tenant = codes "beta"; bounds = whole }) ∷ []) (codes "a") (codes "gamma") ≡ Err NotThere
 unfolding alpha
 not_there = refl
 
 -- nor an offer to itself
-unoffer_itself : unoffered alpha ((record { actuator = codes "a"; tenant = codes "beta" }) ∷ []) (codes "a") (codes "alpha") ≡ Err Own
+unoffer_itself : unoffered alpha ((record { actuator = codes "a"; tenant = codes "beta"; bounds = whole }) ∷ []) (codes "a") (codes "alpha") ≡ Err Own
 unfolding alpha
 unoffer_itself = refl
 
@@ -87,11 +88,11 @@ unbound_none : unbound ((record { sensor = codes "s"; tenant = codes "beta"; act
 unbound_none = refl
 
 -- an actuator is offered to whom it is offered
-offered_to_beta : offers ((record { actuator = codes "a"; tenant = codes "beta" }) ∷ []) (codes "a") (codes "beta") ≡ true
+offered_to_beta : offers ((record { actuator = codes "a"; tenant = codes "beta"; bounds = whole }) ∷ []) (codes "a") (codes "beta") ≡ true
 offered_to_beta = refl
 
 -- and to no other
-not_offered_to_gamma : offers ((record { actuator = codes "a"; tenant = codes "beta" }) ∷ []) (codes "a") (codes "gamma") ≡ false
+not_offered_to_gamma : offers ((record { actuator = codes "a"; tenant = codes "beta"; bounds = whole }) ∷ []) (codes "a") (codes "gamma") ≡ false
 not_offered_to_gamma = refl
 
 -- the second bind with the place of gamma
@@ -103,5 +104,5 @@ no_third : bind_at (codes "alpha" ∷ codes "beta" ∷ codes "gamma" ∷ []) ((r
 no_third = refl
 
 -- all rows: offers, then binds
-all_rows : rows_of ((record { actuator = codes "a"; tenant = codes "beta" }) ∷ []) ((record { sensor = codes "s"; tenant = codes "beta"; actuator = codes "x" }) ∷ []) ≡ row.Offer (record { actuator = codes "a"; tenant = codes "beta" }) ∷ row.Bind (record { sensor = codes "s"; tenant = codes "beta"; actuator = codes "x" }) ∷ []
+all_rows : rows_of ((record { actuator = codes "a"; tenant = codes "beta"; bounds = whole }) ∷ []) ((record { sensor = codes "s"; tenant = codes "beta"; actuator = codes "x" }) ∷ []) ≡ row.Offer (record { actuator = codes "a"; tenant = codes "beta"; bounds = whole }) ∷ row.Bind (record { sensor = codes "s"; tenant = codes "beta"; actuator = codes "x" }) ∷ []
 all_rows = refl

@@ -4,6 +4,7 @@ use Rattle.std.specs.List.{list_any, position, find}
 use Rattle.std.specs.Option.{option_and_then, ok_or}
 use Rattle.giotto_tasks.specs.declared.names.Name.{Name}
 use Rattle.giotto_tasks.specs.Names.{same_name}
+use Rattle.rig_config.specs.Intervals.{Interval, clamped}
 use Rattle.tenant_grants.specs.declared.faults.GrantFault.{GrantFault}
 use Rattle.tenant_grants.specs.declared.faults.GrantFault.TheVariants.{NoTenant, Own, Twice, NotThere, Budget}
 use Rattle.tenant_grants.specs.declared.rows.Offer.{Offer}
@@ -11,12 +12,14 @@ use Rattle.tenant_grants.specs.declared.rows.Bind.{Bind}
 use Rattle.tenant_grants.specs.declared.rows.Row.{Row}
 use Rattle.tenant_grants.specs.declared.rows.Row.TheVariants as row
 
--- whose rows they are: the owner's place in the roster of all tenants' names, and how many offers and binds it may have
+-- whose rows they are: the owner's place in the roster of all tenants' names, how many offers and binds it may have, and the bounds of
+-- an offer that names none
 pub record Owner : Type 0 where
   pub place : ℕ
   pub roster : List Name
   pub most_offers : ℕ
   pub most_binds : ℕ
+  pub bounds : Interval
 
 -- the rows of one owner, each list in the order in which its rows were made
 pub record GrantRows : Type 0 where
@@ -47,9 +50,13 @@ is_bind_of sensor b = same_name b.sensor sensor
 abbrev pub offer_of : List Offer → Name → Name → Option Offer
 offer_of offers actuator tenant = find (is_offer_of actuator tenant) offers
 
--- what an offer makes of the actuator's value: it grants it as it is
+-- what an offer makes of the actuator's value: it grants it as it is, or the bound that it is beyond
 abbrev pub granted_value : Offer → ℤ → ℤ
-granted_value o z = z
+granted_value o z = clamped o.bounds z
+
+-- the least and the greatest value of the offer of this actuator to the tenant of this name, where there is one
+abbrev pub bounds_of_offer : List Offer → Name → Name → Option (ℤ × ℤ)
+bounds_of_offer offers actuator tenant = option_map (λ (o : Offer). (o.bounds.low, o.bounds.high)) (offer_of offers actuator tenant)
 
 -- the actuator is offered to the tenant of this name
 abbrev pub offers : List Offer → Name → Name → Bool
@@ -79,11 +86,11 @@ one_more stands most rows new = if stands then Err Twice else (if nat_lt (length
 abbrev pub one_less : {A : Type 0} → (A → Bool) → List A → Result (List A) GrantFault
 one_less test rows = if list_any test rows then Ok (without test rows) else Err NotThere
 
--- `offer`: the offers behind it
-abbrev pub offered : Owner → List Offer → Name → Name → Result (List Offer) GrantFault
-offered owner os actuator tenant = do
+-- `offer`: the offers behind it. An actuator is offered to a tenant once, whatever the bounds.
+abbrev pub offered : Owner → List Offer → Name → Name → Interval → Result (List Offer) GrantFault
+offered owner os actuator tenant bounds = do
   u ← other_side owner tenant
-  one_more (offers os actuator tenant) owner.most_offers os (record { actuator = actuator; tenant = tenant })
+  one_more (offers os actuator tenant) owner.most_offers os (record { actuator = actuator; tenant = tenant; bounds = bounds })
 
 -- `unoffer`: the offers behind it
 abbrev pub unoffered : Owner → List Offer → Name → Name → Result (List Offer) GrantFault

@@ -1,7 +1,8 @@
 //! The rows of one owner.
 
-ghost use Rattle.std.specs.Prelude.{◌≡◌, ◌↔◌, ◌<◌, ◌+◌, [], ◌++◌, map, Err, Ok, IsErr, IsOk, IsSome, IfErr, IfOk, OnErr, OnOk, length};
-ghost use Rattle.tenant_grants.specs.Grants.{bind_at, bound, name_of_place, no_rows, offered, offers, other_side, place_in, rows_of, unbound, unoffered};
+ghost use Rattle.std.specs.Prelude.{◌≡◌, ◌↔◌, ◌<◌, ◌+◌, [], ◌++◌, map, Err, Ok, IsErr, IsOk, IsSome, IsTrue, IfErr, IfOk, OnErr, OnOk, int_le, is_some, length};
+ghost use Rattle.rig_config.specs.Intervals.{whole};
+ghost use Rattle.tenant_grants.specs.Grants.{bind_at, bound, bounds_of_offer, name_of_place, no_rows, offered, offers, other_side, place_in, rows_of, unbound, unoffered};
 ghost use Rattle.tenant_grants.specs.Kept.{AreKept};
 ghost use Rattle.tenant_grants.specs.declared.rows.Row.TheVariants as row;
 ghost use Rattle.tenant_grants.specs.inner.Tables.{bind_of};
@@ -14,6 +15,7 @@ use giotto_tasks::lists::List;
 use giotto_tasks::names::Name;
 use indexmap::{IndexMap, IndexSet};
 use rig_config::TenantId;
+use rig_config::intervals::Bounds;
 use std::alloc::{AllocError, Global};
 use std::marker::Model;
 
@@ -26,6 +28,7 @@ pub struct Grants {
     roster: Box<ArrayVec<Name, 16>>,
     most_offers: usize,
     most_binds: usize,
+    bounds: Bounds,
     offers: IndexSet<Offer>,
     binds: BindTable,
 }
@@ -39,16 +42,17 @@ impl Model for Grants {
     ghost Value = { GrantRows };
 
     ghost view = { λ g. record {
-      owner = record { place = g.own; roster = g.roster.value.items; most_offers = g.most_offers; most_binds = g.most_binds };
+      owner = record { place = g.own; roster = g.roster.value.items; most_offers = g.most_offers; most_binds = g.most_binds; bounds = g.bounds };
       offers = g.offers.keys;
       binds = map bind_of g.binds.entries;
     } };
 
-    ghost invariant = { λ g. AreHeld (record { place = g.own; roster = g.roster.value.items; most_offers = g.most_offers; most_binds = g.most_binds }) g.offers.keys g.binds.entries };
+    ghost invariant = { λ g. AreHeld (record { place = g.own; roster = g.roster.value.items; most_offers = g.most_offers; most_binds = g.most_binds; bounds = g.bounds }) g.offers.keys g.binds.entries };
 }
 
 impl Grants {
-    /// No rows, of the tenant at this place of the roster, with the most offers and binds that it may have.
+    /// No rows, of the tenant at this place of the roster, with the most offers and binds that it may have, and the bounds of an offer that
+    /// names none.
     ///
     /// # Errors
     /// Want of memory.
@@ -58,15 +62,17 @@ impl Grants {
         roster: ArrayVec<Name, 16>,
         most_offers: usize,
         most_binds: usize,
+        bounds: Bounds,
     ) -> Result<Grants, AllocError>
         requires { own < length roster.items }
-        ensures { IfOk result (λ grants. grants ≡ no_rows (record { place = own; roster = roster.items; most_offers = most_offers; most_binds = most_binds })) }
+        ensures { IfOk result (λ grants. grants ≡ no_rows (record { place = own; roster = roster.items; most_offers = most_offers; most_binds = most_binds; bounds = bounds })) }
     {
         Ok(Grants {
             own,
             roster: Box::new(alloc, roster)?,
             most_offers,
             most_binds,
+            bounds,
             offers: IndexSet::new(alloc),
             binds: IndexMap::new(alloc),
         })
@@ -79,6 +85,13 @@ impl Grants {
         ensures kept { AreKept self.now }
     {
         self.own
+    }
+
+    /// The bounds of an offer that names none.
+    pub fn own_bounds(&self) -> &Bounds
+        ensures { result.now ≡ self.now.owner.bounds }
+    {
+        &self.bounds
     }
 
     /// Opens what is known of the type, for a proof; does nothing.
@@ -100,19 +113,34 @@ impl Grants {
         }
     }
 
-    /// Offers an actuator to the tenant of this name, behind the other offers.
+    /// Offers an actuator to the tenant of this name, behind the other offers: what it grants lies from `low` to `high`.
     ///
     /// # Errors
-    /// [`GrantFault::NoTenant`], [`GrantFault::Own`], [`GrantFault::Twice`] where the actuator is offered to the tenant already,
+    /// [`GrantFault::NoTenant`], [`GrantFault::Own`], [`GrantFault::Twice`] where the actuator is offered to the tenant already, whatever
+    /// the bounds,
     /// [`GrantFault::Budget`], and last [`GrantFault::Memory`].
-    pub fn offer(&mut self, actuator: Name, tenant: Name) -> Result<(), GrantFault>
-        ensures refused { IfErr (offered self.old.owner self.old.offers actuator tenant) (λ fault. result ≡ Err fault) }
-        ensures offered { IfOk (offered self.old.owner self.old.offers actuator tenant) (λ os. OnOk result (self.new ≡ record self.old { offers = os })) }
-        ensures memory { IfOk (offered self.old.owner self.old.offers actuator tenant) (λ os. IfErr result (λ fault. fault ≡ GrantFault.Memory)) }
+    pub fn offer(
+        &mut self,
+        actuator: Name,
+        tenant: Name,
+        low: i64,
+        high: i64,
+    ) -> Result<(), GrantFault>
+        requires order { IsTrue (int_le low high) }
+        ensures refused { IfErr (offered self.old.owner self.old.offers actuator tenant (record { low = low; high = high })) (λ fault. result ≡ Err fault) }
+        ensures offered { IfOk (offered self.old.owner self.old.offers actuator tenant (record { low = low; high = high })) (λ os. OnOk result (self.new ≡ record self.old { offers = os })) }
+        ensures memory { IfOk (offered self.old.owner self.old.offers actuator tenant (record { low = low; high = high })) (λ os. IfErr result (λ fault. fault ≡ GrantFault.Memory)) }
         ensures same { OnErr result (self.new ≡ self.old) }
     {
         self.other_side(&tenant)?;
-        let offer = Offer { actuator, tenant };
+        let Some(bounds) = Bounds::new(low, high) else {
+            unreachable!()
+        };
+        let offer = Offer {
+            actuator,
+            tenant,
+            bounds,
+        };
         if self.offers.contains(&offer) {
             return Err(GrantFault::Twice);
         }
@@ -134,10 +162,7 @@ impl Grants {
         ensures same { OnErr result (self.new ≡ self.old) }
     {
         self.other_side(tenant)?;
-        let offer = Offer {
-            actuator: actuator.copy(),
-            tenant: tenant.copy(),
-        };
+        let offer = offer_of(actuator.copy(), tenant.copy());
         if !self.offers.shift_remove(&offer) {
             return Err(GrantFault::NotThere);
         }
@@ -149,10 +174,18 @@ impl Grants {
         ensures { result ≡ offers self.now.offers actuator.now (name_of_place self.now.owner.roster tenant) }
     {
         let tenant = name_in(self.roster.as_slice(), tenant);
-        self.offers.contains(&Offer {
-            actuator: actuator.copy(),
-            tenant,
-        })
+        self.offers.contains(&offer_of(actuator.copy(), tenant))
+    }
+
+    /// The least and the greatest value that the offer of the actuator to the tenant at a place grants, where it is offered. Takes no
+    /// memory.
+    pub fn bounds(&self, actuator: &Name, tenant: TenantId) -> Option<(i64, i64)>
+        ensures bounds { result ≡ bounds_of_offer self.now.offers actuator.now (name_of_place self.now.owner.roster tenant) }
+        ensures offered { is_some result ≡ offers self.now.offers actuator.now (name_of_place self.now.owner.roster tenant) }
+    {
+        let tenant = name_in(self.roster.as_slice(), tenant);
+        let offer = self.offers.get(&offer_of(actuator.copy(), tenant))?;
+        Some((offer.bounds.low(), offer.bounds.high()))
     }
 
     /// Binds a sensor to an actuator of the tenant of this name, behind the other binds.
@@ -227,6 +260,17 @@ impl Grants {
         push_offers(&mut rows, &self.offers)?;
         push_binds(&mut rows, &self.binds)?;
         Ok(List::from_vec(rows))
+    }
+}
+
+// An offer of this actuator to the tenant of this name, to be looked for: with which bounds doesn't matter.
+fn offer_of(actuator: Name, tenant: Name) -> Offer
+    ensures { result ≡ record { actuator = actuator; tenant = tenant; bounds = whole } }
+{
+    Offer {
+        actuator,
+        tenant,
+        bounds: Bounds::whole(),
     }
 }
 

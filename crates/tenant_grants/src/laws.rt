@@ -1,16 +1,19 @@
 //! Laws about rows. Each is a function with an empty body, whose contract is the law.
 
-ghost use Rattle.std.specs.Prelude.{◌≡◌, ℕ, ℤ, List, is_some, map};
+ghost use Rattle.std.specs.Prelude.{◌≡◌, ℕ, ℤ, List, IsTrue, is_some, map};
 ghost use Rattle.giotto_tasks.specs.declared.names.Name.{Name};
+ghost use Rattle.rig_config.specs.Intervals.{is_in_order, is_within};
 ghost use Rattle.rig_config.specs.Roster.{Rig, name_at, place_of};
 ghost use Rattle.rig_config.specs.declared.TenantConfig.{TenantConfig};
 ghost use Rattle.tenant_grants.specs.Grants.{granted_value, name_of_place, offer_of, offers, place_in};
 ghost use Rattle.tenant_grants.specs.declared.rows.Offer.{Offer};
 
-/// An actuator is offered where there is an offer of it, and an offer grants the actuator's value as it is.
+/// An actuator is offered where there is an offer of it, and an offer grants a value of its bounds: the actuator's, where that lies
+/// within them.
 pub fn granted_by_an_offer()
     ensures offered { (os : List Offer) (actuator tenant : Name) → offers os actuator tenant ≡ is_some (offer_of os actuator tenant) }
-    ensures value { (o : Offer) (z : ℤ) → granted_value o z ≡ z }
+    ensures bounds { (o : Offer) (z : ℤ) → IsTrue (is_in_order o.bounds) → IsTrue (is_within o.bounds (granted_value o z)) }
+    ensures value { (o : Offer) (z : ℤ) → IsTrue (is_within o.bounds z) → granted_value o z ≡ z }
 {}
 
 /// The roster of a rig's names has the rig's places and names.

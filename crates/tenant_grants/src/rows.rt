@@ -7,14 +7,18 @@ ghost use Rattle.std.proofs.Common.{rules};
 ghost use Rattle.giotto_tasks.specs.Names.{same_name};
 
 use giotto_tasks::names::Name;
+use rig_config::intervals::Bounds;
 use std::hash::{Hash, Hasher};
 
-/// One of the owner's actuators, offered to another tenant.
+/// One of the owner's actuators, offered to another tenant within bounds. Two offers of one actuator to one tenant are the same row,
+/// whatever their bounds.
 #[derive(Drop)]
 pub struct Offer {
     pub actuator: Name,
     /// The name of the tenant that may bind it.
     pub tenant: Name,
+    /// How far the values that it grants may go.
+    pub bounds: Bounds,
 }
 
 /// One of the owner's sensors, bound to another tenant's actuator.
@@ -41,6 +45,7 @@ impl Offer {
         Offer {
             actuator: self.actuator.copy(),
             tenant: self.tenant.copy(),
+            bounds: self.bounds.copy(),
         }
     }
 }
@@ -75,7 +80,7 @@ impl Row {
     }
 }
 
-// Two offers are the same row where they offer the same actuator to the same tenant.
+// Two offers are the same row where they offer the same actuator to the same tenant, whatever the bounds.
 impl PartialEq for Offer {
     ghost eq = { λ o p. same_name p.actuator o.actuator && same_name p.tenant o.tenant };
 

@@ -1,12 +1,45 @@
 -- Which lines are commands about grants, computed from the definitions.
-use Rattle.std.proofs.Common.{◌≡◌, Some, None, codes, refl}
+use Rattle.std.proofs.Common.{◌≡◌, pos, neg_ℤ, Some, None, codes, refl}
 use Rattle.tenant_lines.specs.declared.grant_lines.GrantCommand.TheVariants.{Offer, Unoffer, Bind, Unbind, Rows}
 use Rattle.tenant_lines.specs.declared.commands.Command.TheVariants.{Grants}
 use Rattle.tenant_lines.specs.CommandLine.{command_of_line}
 use Rattle.tenant_lines.specs.inner.GrantWords.{grant_command_of_line}
 
-pub offer_to : grant_command_of_line (codes "offer a to beta") ≡ Some (Offer (codes "a") (codes "beta"))
+pub offer_to : grant_command_of_line (codes "offer a to beta") ≡ Some (Offer (codes "a") (codes "beta") None)
 offer_to = refl
+
+pub offer_within_bounds : grant_command_of_line (codes "offer a to beta from 0 to 5") ≡ Some (Offer (codes "a") (codes "beta") (Some (record { low = pos 0; high = pos 5 })))
+offer_within_bounds = refl
+
+pub bounds_below_zero : grant_command_of_line (codes "offer a to beta from -007  to\t007 ") ≡ Some (Offer (codes "a") (codes "beta") (Some (record { low = neg_ℤ (pos 7); high = pos 7 })))
+bounds_below_zero = refl
+
+pub one_value : grant_command_of_line (codes "offer a to beta from 7 to 7") ≡ Some (Offer (codes "a") (codes "beta") (Some (record { low = pos 7; high = pos 7 })))
+one_value = refl
+
+pub bounds_out_of_order : grant_command_of_line (codes "offer a to beta from 9 to 7") ≡ None
+bounds_out_of_order = refl
+
+pub bound_beyond_all_values : grant_command_of_line (codes "offer a to beta from 0 to 9223372036854775808") ≡ None
+bound_beyond_all_values = refl
+
+pub bound_with_a_plus : grant_command_of_line (codes "offer a to beta from +0 to 5") ≡ None
+bound_with_a_plus = refl
+
+pub no_greatest_value : grant_command_of_line (codes "offer a to beta from 0 to") ≡ None
+no_greatest_value = refl
+
+pub greatest_value_alone : grant_command_of_line (codes "offer a to beta to 5") ≡ None
+greatest_value_alone = refl
+
+pub word_behind_bounds : grant_command_of_line (codes "offer a to beta from 0 to 5 now") ≡ None
+word_behind_bounds = refl
+
+pub other_word_before_bounds : grant_command_of_line (codes "offer a to beta with 0 to 5") ≡ None
+other_word_before_bounds = refl
+
+pub unoffer_of_bounds : grant_command_of_line (codes "unoffer a to beta from 0 to 5") ≡ None
+unoffer_of_bounds = refl
 
 pub unoffer_to : grant_command_of_line (codes "unoffer a to beta") ≡ Some (Unoffer (codes "a") (codes "beta"))
 unoffer_to = refl
@@ -20,13 +53,13 @@ unbind_name = refl
 pub rows_alone : grant_command_of_line (codes "rows") ≡ Some Rows
 rows_alone = refl
 
-pub blanks_between : grant_command_of_line (codes " \toffer  a\tto   beta \r") ≡ Some (Offer (codes "a") (codes "beta"))
+pub blanks_between : grant_command_of_line (codes " \toffer  a\tto   beta \r") ≡ Some (Offer (codes "a") (codes "beta") None)
 blanks_between = refl
 
 pub blanks_at_ends : grant_command_of_line (codes "  rows\r") ≡ Some Rows
 blanks_at_ends = refl
 
-pub great_letter : grant_command_of_line (codes "offer a to Gamma") ≡ Some (Offer (codes "a") (codes "Gamma"))
+pub great_letter : grant_command_of_line (codes "offer a to Gamma") ≡ Some (Offer (codes "a") (codes "Gamma") None)
 great_letter = refl
 
 pub keywords_are_names : grant_command_of_line (codes "bind from from to.line") ≡ Some (Bind (codes "from") (codes "to") (codes "line"))
@@ -66,7 +99,7 @@ pub blank_line : grant_command_of_line (codes " ") ≡ None
 blank_line = refl
 
 -- to a tenant such a line is one of its commands
-pub offer_commanded : command_of_line (codes "offer a to beta") ≡ Some (Grants (Offer (codes "a") (codes "beta")))
+pub offer_commanded : command_of_line (codes "offer a to beta") ≡ Some (Grants (Offer (codes "a") (codes "beta") None))
 offer_commanded = refl
 
 pub unoffer_commanded : command_of_line (codes "unoffer a to beta") ≡ Some (Grants (Unoffer (codes "a") (codes "beta")))

@@ -1,8 +1,10 @@
--- The text of a trace, and what a copy of one takes, computed from the definitions.
+-- The text of a trace and of rows, and what a copy of a trace takes, computed from the definitions.
 use Rattle.std.proofs.Common.{◌≡◌, false, pos, neg_ℤ, [], ◌∷◌, codes, refl}
 use Rattle.std.specs.Fmt.{digits}
 use Rattle.tenant_trace.specs.declared.records.Happening.TheVariants.{Start, Mode, Act, Out, Asked, Overrun, Replaced}
-use Rattle.tenant_lines.specs.declared.replies.Reply.TheVariants.{Trace}
+use Rattle.tenant_lines.specs.declared.replies.Reply.TheVariants.{Rows, Trace}
+use Rattle.tenant_grants.specs.declared.rows.Row.TheVariants as row
+use Rattle.rig_config.specs.Intervals.{whole}
 use Rattle.tenant_lines.specs.Replies.{text_of_reply}
 use Rattle.tenant_lines.specs.cited.Copies.{has_list}
 
@@ -22,6 +24,14 @@ pub other_records :
     ≡ codes "ok trace 7:mode:n 8:act:a:-12 9:replaced:k 10:stop:asked 11:stop:overrun:T"
 unfolding digits
 other_records = refl
+
+-- all values aren't told as bounds
+pub rows_told :
+    text_of_reply (Rows (row.Offer (record { actuator = codes "a"; tenant = codes "beta"; bounds = whole }) ∷ row.Offer (record { actuator = codes "b"; tenant = codes "beta"; bounds = record { low = neg_ℤ (pos 1); high = pos 5 } })
+    ∷ row.Bind (record { sensor = codes "g"; tenant = codes "beta"; actuator = codes "a" }) ∷ []))
+    ≡ codes "ok rows offer:a:beta offer:b:beta:-1:5 bind:g:beta:a"
+unfolding digits
+rows_told = refl
 
 pub no_records : text_of_reply (Trace []) ≡ codes "ok trace"
 no_records = refl

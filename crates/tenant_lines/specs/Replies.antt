@@ -1,9 +1,10 @@
 -- The text of each reply.
-use Rattle.std.specs.Prelude.{ℕ, List, ◌++◌, codes}
+use Rattle.std.specs.Prelude.{ℕ, List, [], ◌++◌, codes, if◌then◌else◌}
 use Rattle.std.specs.Fmt.{decimal, signed_decimal}
 use Rattle.std.specs.List.{flat_map}
 use Rattle.std.specs.Option.{option_map_or}
 use Rattle.giotto_text.specs.PortNames.{own_port}
+use Rattle.rig_config.specs.Intervals.{Interval, is_whole}
 use Rattle.tenant_grants.specs.declared.rows.Row.{Row}
 use Rattle.tenant_grants.specs.declared.rows.Row.TheVariants as row
 use Rattle.tenant_trace.specs.declared.records.Happening.{Happening}
@@ -71,9 +72,13 @@ text_of_happening (happening.Replaced m) = codes "replaced:" ++ m
 abbrev pub text_of_record : Record → List ℕ
 text_of_record r = codes " " ++ (decimal r.tick ++ (codes ":" ++ text_of_happening r.happening))
 
--- " offer:ACTUATOR:TENANT" or " bind:SENSOR:TENANT:ACTUATOR"
+-- ":LO:HI"; nothing where these are all values
+abbrev pub text_of_bounds : Interval → List ℕ
+text_of_bounds i = if is_whole i then [] else codes ":" ++ (signed_decimal i.low ++ (codes ":" ++ signed_decimal i.high))
+
+-- " offer:ACTUATOR:TENANT" with its bounds, or " bind:SENSOR:TENANT:ACTUATOR"
 abbrev pub text_of_row : Row → List ℕ
-text_of_row (row.Offer o) = codes " offer:" ++ (o.actuator ++ (codes ":" ++ o.tenant))
+text_of_row (row.Offer o) = codes " offer:" ++ (o.actuator ++ (codes ":" ++ (o.tenant ++ text_of_bounds o.bounds)))
 text_of_row (row.Bind b) = codes " bind:" ++ (b.sensor ++ (codes ":" ++ (b.tenant ++ (codes ":" ++ b.actuator))))
 
 -- what stands behind "ok mode "

@@ -1,22 +1,26 @@
 //! The commands by which tenants grant each other values, and the lines that spell them.
 
-ghost use Rattle.std.specs.Prelude.{◌≡◌, ◌<◌, length};
-ghost use Rattle.tenant_lines.specs.GrantLines.{offer_command, unoffer_command, bind_command, bind_command_to, unbind_command};
+ghost use Rattle.std.specs.Prelude.{◌≡◌, ◌&&◌, ◌<◌, codes, length};
+ghost use Rattle.giotto_tasks.specs.Names.{same_name};
+ghost use Rattle.tenant_lines.specs.GrantLines.{bounds_of_words, offer_command, unoffer_command, bind_command, bind_command_to, unbind_command};
 ghost use Rattle.tenant_lines.specs.Words.{words_of};
-ghost use Rattle.tenant_lines.specs.inner.GrantWords.{grant_command_of_line, word_behind};
+ghost use Rattle.tenant_lines.specs.inner.GrantWords.{grant_command_of_line, offer_by, offer_within, word_behind};
 
 use crate::command_lines::name_of_word;
-use crate::words::{behind_first_word, first_word};
+use crate::words::{behind_first_word, first_word, value_of_word};
 use giotto_tasks::names::Name;
+use rig_config::intervals::Bounds;
 
 /// A command about grants, one variant for each form. An *offer* lets another tenant read an actuator; a *bind* takes the
 /// value of an offered actuator for a sensor of one's own.
 #[derive(Drop)]
 pub enum GrantCommand {
-    /// `offer NAME to TENANT`: offers the value of an actuator to a tenant.
+    /// `offer NAME to TENANT` or `offer NAME to TENANT from LO to HI`: offers the value of an actuator to a tenant.
     Offer {
         actuator: Name,
         tenant: Name,
+        /// From LO to HI, where the command names them.
+        bounds: Option<Bounds>,
     },
     /// `unoffer NAME to TENANT`: takes that offer back.
     Unoffer {
@@ -43,9 +47,14 @@ impl GrantCommand {
         ensures { result ≡ self.now }
     {
         match self {
-            GrantCommand::Offer { actuator, tenant } => GrantCommand::Offer {
+            GrantCommand::Offer {
+                actuator,
+                tenant,
+                bounds,
+            } => GrantCommand::Offer {
                 actuator: actuator.copy(),
                 tenant: tenant.copy(),
+                bounds: copy_of(bounds),
             },
             GrantCommand::Unoffer { actuator, tenant } => GrantCommand::Unoffer {
                 actuator: actuator.copy(),
@@ -68,11 +77,21 @@ impl GrantCommand {
     }
 }
 
-/// The command about grants that a line spells, without the tenant's name: `offer NAME to TENANT`, `unoffer NAME to TENANT`,
-/// `bind NAME from TENANT.NAME`, `unbind NAME` or `rows`. `None` for every other line.
+// Equal bounds, or none.
+fn copy_of(bounds: &Option<Bounds>) -> Option<Bounds>
+    ensures { result ≡ bounds.now }
+{
+    match bounds {
+        Some(bounds) => Some(bounds.copy()),
+        None => None,
+    }
+}
+
+/// The command about grants that a line spells, without the tenant's name: `offer NAME to TENANT`, `offer NAME to TENANT from LO to HI`,
+/// `unoffer NAME to TENANT`, `bind NAME from TENANT.NAME`, `unbind NAME` or `rows`. `None` for every other line.
 ///
 /// Words are separated by one or more blanks. NAME and TENANT have the shape of a program's name, keywords included;
-/// TENANT.NAME is cut at its first dot. Takes no memory.
+/// TENANT.NAME is cut at its first dot; LO and HI are i64s in decimal, and LO isn't above HI. Takes no memory.
 pub(crate) fn grant_command_of(line: &str) -> Option<GrantCommand>
     ensures { result ≡ grant_command_of_line line.now }
 {
@@ -80,7 +99,7 @@ pub(crate) fn grant_command_of(line: &str) -> Option<GrantCommand>
     let name = first_word(behind);
     let rest = behind_first_word(behind);
     match first_word(line) {
-        "offer" => offer(name, word_behind("to", rest)),
+        "offer" => offer_by(name, rest),
         "unoffer" => unoffer(name, word_behind("to", rest)),
         "bind" => bind(name, word_behind("from", rest)),
         "unbind" => {
@@ -109,12 +128,52 @@ fn word_behind<'a>(word: &str, line: &'a str) -> &'a str
     first_word(behind)
 }
 
-fn offer(actuator: &str, tenant: &str) -> Option<GrantCommand>
-    ensures { result ≡ offer_command actuator.now tenant.now }
+// `rest` is `to TENANT`, and `from LO to HI` behind it where the offer has bounds.
+fn offer_by(actuator: &str, rest: &str) -> Option<GrantCommand>
+    ensures { result ≡ offer_by actuator.now (words_of rest.now) }
+{
+    let behind = behind_first_word(rest);
+    let more = behind_first_word(behind);
+    if first_word(more).is_empty() {
+        return offer(actuator, word_behind("to", rest), None);
+    }
+    if !lead_to_bounds(first_word(rest), first_word(more)) {
+        return None;
+    }
+    offer_within(actuator, first_word(behind), behind_first_word(more))
+}
+
+// Whether these are the words before a tenant and before bounds.
+fn lead_to_bounds(before_tenant: &str, before_bounds: &str) -> bool
+    ensures { result ≡ (same_name before_tenant.now (codes "to") && same_name before_bounds.now (codes "from")) }
+{
+    before_tenant == "to" && before_bounds == "from"
+}
+
+// `rest` is `LO to HI`.
+fn offer_within(actuator: &str, tenant: &str, rest: &str) -> Option<GrantCommand>
+    ensures { result ≡ offer_within actuator.now tenant.now (words_of rest.now) }
+{
+    let high = word_behind("to", behind_first_word(rest));
+    let bounds = bounds_of(first_word(rest), high)?;
+    offer(actuator, tenant, Some(bounds))
+}
+
+fn bounds_of(low: &str, high: &str) -> Option<Bounds>
+    ensures { result ≡ bounds_of_words low.now high.now }
+{
+    let low = value_of_word(low)?;
+    let high = value_of_word(high)?;
+    Bounds::new(low, high)
+}
+
+fn offer(actuator: &str, tenant: &str, bounds: Option<Bounds>) -> Option<GrantCommand>
+    ensures { result ≡ offer_command actuator.now tenant.now bounds }
 {
     Some(GrantCommand::Offer {
         actuator: name_of_word(actuator)?,
         tenant: name_of_word(tenant)?,
+        bounds,
     })
 }
 

@@ -3,12 +3,13 @@
 ghost use Rattle.std.specs.Prelude.{◌≡◌, ◌↔◌, ◌<◌, ◌++◌, codes, IfOk, IsErr, IsTrue, length, string_bytes};
 ghost use Rattle.std.specs.Fmt.{signed_decimal};
 ghost use Rattle.std.specs.List.{flat_map};
-ghost use Rattle.tenant_lines.specs.Replies.{word_of_budget, text_of_happening, text_of_port, text_of_record, text_of_refusal, text_of_reply, text_of_row, text_of_status, text_of_value};
+ghost use Rattle.tenant_lines.specs.Replies.{word_of_budget, text_of_happening, text_of_port, text_of_record, text_of_refusal, text_of_reply, text_of_bounds, text_of_row, text_of_status, text_of_value};
 ghost use Rattle.tenant_lines.specs.cited.Copies.{has_list};
 
 use crate::ports::PortValue;
 use giotto_tasks::lists::List;
 use giotto_tasks::names::Name;
+use rig_config::intervals::Bounds;
 use std::alloc::{AllocError, Global};
 use tenant_grants::rows::Row;
 use tenant_trace::records::{Happening, Record};
@@ -343,11 +344,15 @@ fn print_row(alloc: Global, row: &Row) -> Result<String, AllocError>
     ensures { IfOk result (λ text. string_bytes text ≡ text_of_row row.now) }
 {
     match row {
-        Row::Offer(offer) => format!(in alloc;
-            " offer:{}:{}",
-            offer.actuator.as_str(),
-            offer.tenant.as_str()
-        ),
+        Row::Offer(offer) => {
+            let bounds = print_bounds(alloc, &offer.bounds)?;
+            format!(in alloc;
+                " offer:{}:{}{}",
+                offer.actuator.as_str(),
+                offer.tenant.as_str(),
+                bounds.as_str()
+            )
+        }
         Row::Bind(bind) => format!(in alloc;
             " bind:{}:{}:{}",
             bind.sensor.as_str(),
@@ -355,6 +360,16 @@ fn print_row(alloc: Global, row: &Row) -> Result<String, AllocError>
             bind.actuator.as_str()
         ),
     }
+}
+
+// The bounds of an offer, as a row tells them: nothing where they are all values.
+fn print_bounds(alloc: Global, bounds: &Bounds) -> Result<String, AllocError>
+    ensures { IfOk result (λ text. string_bytes text ≡ text_of_bounds bounds.now) }
+{
+    if bounds.is_whole() {
+        return Ok(String::new(alloc));
+    }
+    format!(in alloc; ":{}:{}", bounds.low(), bounds.high())
 }
 
 // The text of a refusal, without the word `err`.

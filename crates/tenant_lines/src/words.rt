@@ -32,7 +32,7 @@ fn is_blank(byte: u8) -> bool
 
 // The value of a word: an optional `-`, then digits, leading zeros allowed. `None` where the word has another shape,
 // or its value is no i64.
-fn value_of_word(word: &str) -> Option<i64>
+pub(crate) fn value_of_word(word: &str) -> Option<i64>
     ensures { result ≡ value_of_word word.now }
 {
     let [first, ..] = word.as_bytes() else {

@@ -22,6 +22,7 @@ use Rattle.tenant_slots.specs.Places.{name_of_task}
 use Rattle.tenant_slots.proofs.cited.Numbered.{mode_fits_at}
 use Rattle.tenant_state.specs.declared.tenants.Active.{Active}
 use Rattle.tenant_state.specs.Jobs.{job_in, released_at}
+use Rattle.rig_config.specs.Intervals.{whole}
 use Rattle.rig_model.specs.Row.{running, ActiveTask, Row}
 use Rattle.rig_model.specs.SecondHalf.{released, all_released}
 use Rattle.tenant_state.specs.Standing.{is_another, all_different_releases, most_released}
@@ -101,7 +102,7 @@ module _ (p : GiottoProgram) (kept : ProgramFits p) (mode : ℕ) where
           short_time = omega (arith, below, lasts, fits.short);
           rests = λ e. absurd (false≢true (sym e));
           different = ap all_different_releases ran.tasks
-              ∙ other_joined n (map (active_of p) old) (all_released p m time n m.invocations ports) (early_of (no_rows (record { place = 0; roster = []; most_offers = 0; most_binds = 0 })) from before since old gone values shares n (Some p) is.fits) (new_releases p m time n m.invocations ports)
+              ∙ other_joined n (map (active_of p) old) (all_released p m time n m.invocations ports) (early_of (no_rows (record { place = 0; roster = []; most_offers = 0; most_binds = 0; bounds = whole })) from before since old gone values shares n (Some p) is.fits) (new_releases p m time n m.invocations ports)
               is.different (released_other p m time n m.invocations ports fits.tasks_once);
           fits = record {
             long = ran.long;

@@ -7,6 +7,7 @@ use Rattle.giotto_tasks.specs.Names.{same_name}
 use Rattle.giotto_text.specs.Program.{GiottoProgram, ModeDeclaration, ModeSwitch, TaskInvocation}
 use Rattle.giotto_rules.specs.Costs.{greatest}
 use Rattle.giotto_rules.specs.Declarations.{mode_named}
+use Rattle.rig_config.specs.Intervals.{whole}
 use Rattle.rig_config.specs.Roster.{no_budgets}
 use Rattle.rig_config.specs.declared.Budgets.{Budgets}
 use Rattle.tenant_grants.specs.Grants.{GrantRows, no_rows}
@@ -49,7 +50,7 @@ empty_standing budgets rows first_tick = record {
 
 -- that of no tenant, which may use nothing
 abbrev pub no_tenant : Standing
-no_tenant = empty_standing no_budgets (no_rows (record { place = 0; roster = []; most_offers = 0; most_binds = 0 })) 0
+no_tenant = empty_standing no_budgets (no_rows (record { place = 0; roster = []; most_offers = 0; most_binds = 0; bounds = whole })) 0
 
 -- the row with the last n of its records alone
 abbrev pub with_last : ℕ → Row → Row

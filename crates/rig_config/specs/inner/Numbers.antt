@@ -2,7 +2,8 @@
 use Rattle.std.specs.Prelude.{ℕ, Bool, ◌&&◌, List, Result, Ok}
 use Rattle.toml.specs.Data.{Members}
 use Rattle.rig_config.specs.Fields.{is_in_range, tenant_field}
-use Rattle.rig_config.specs.Reading.{◌>>=◌, lines_in, number, read}
+use Rattle.rig_config.specs.Intervals.{Interval}
+use Rattle.rig_config.specs.Reading.{◌>>=◌, bounds_of, lines_in, number, read}
 use Rattle.rig_config.specs.declared.Budgets.{Budgets}
 use Rattle.rig_config.specs.declared.faults.ConfigFault.{ConfigFault}
 use Rattle.rig_config.specs.declared.faults.Field.TheVariants as field
@@ -26,13 +27,14 @@ are_in_range n =
     is_in_range field.Bytes n.bytes && (is_in_range field.Ports n.ports && (is_in_range field.Tasks n.tasks && (is_in_range field.Modes n.modes
     && (is_in_range field.Steps n.steps && (is_in_range field.Trace n.trace && (is_in_range field.Offers n.offers && is_in_range field.Binds n.binds))))))
 
-abbrev pub budgets_with : List ℕ → List ℕ → Numbers → Budgets
-budgets_with reads writes n = record { reads = reads; writes = writes; bytes = n.bytes; ports = n.ports; tasks = n.tasks; modes = n.modes; steps = n.steps; trace = n.trace; offers = n.offers; binds = n.binds }
+abbrev pub budgets_with : List ℕ → List ℕ → Numbers → Interval → Budgets
+budgets_with reads writes n bounds = record { reads = reads; writes = writes; bytes = n.bytes; ports = n.ports; tasks = n.tasks; modes = n.modes; steps = n.steps; trace = n.trace; offers = n.offers; binds = n.binds; bounds = bounds }
 
--- the budgets of the tenant at a place, by its line sets and its numbers
-abbrev pub budgets_by_parts_of : ℕ → ℕ → Members → Result Budgets ConfigFault
-budgets_by_parts_of lines t fields = do
+-- the budgets of the tenant at a place, by its line sets, its numbers and its bounds
+abbrev pub budgets_by_parts_of : ℕ → ℕ → ℕ → Members → Result Budgets ConfigFault
+budgets_by_parts_of version lines t fields = do
   reads ← read (lines_in lines) (tenant_field t field.Reads) fields
   writes ← read (lines_in lines) (tenant_field t field.Writes) fields
   n ← numbers_of t fields
-  Ok (budgets_with reads writes n)
+  bounds ← bounds_of version t fields
+  Ok (budgets_with reads writes n bounds)

@@ -1,7 +1,7 @@
 //! What a tenant tells of its offers and binds.
 
-ghost use Rattle.std.specs.Prelude.{◌≡◌, ◌↔◌, ◌<◌, IsSome, length};
-ghost use Rattle.tenant_grants.specs.Grants.{bind_at, name_of_place, offers};
+ghost use Rattle.std.specs.Prelude.{◌≡◌, ◌↔◌, ◌<◌, IsSome, is_some, length};
+ghost use Rattle.tenant_grants.specs.Grants.{bind_at, bounds_of_offer, name_of_place, offers};
 
 use crate::tenants::Tenant;
 use giotto_tasks::names::Name;
@@ -13,6 +13,15 @@ impl Tenant {
         ensures { result ≡ offers self.now.row.offers actuator.now (name_of_place self.now.tenancy.owner.roster tenant) }
     {
         self.grants.offers(actuator, tenant)
+    }
+
+    /// The least and the greatest value that the tenant's offer of this actuator to the tenant at a place of the roster grants, where it
+    /// offers it. Takes no memory.
+    pub fn bounds(&self, actuator: &Name, tenant: TenantId) -> Option<(i64, i64)>
+        ensures bounds { result ≡ bounds_of_offer self.now.row.offers actuator.now (name_of_place self.now.tenancy.owner.roster tenant) }
+        ensures offered { is_some result ≡ offers self.now.row.offers actuator.now (name_of_place self.now.tenancy.owner.roster tenant) }
+    {
+        self.grants.bounds(actuator, tenant)
     }
 
     /// How many binds the tenant has.

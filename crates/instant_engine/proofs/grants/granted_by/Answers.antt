@@ -1,16 +1,12 @@
-use Rattle.std.proofs.Common.{◌≡◌, ◌<◌, cond, length, None, Some, sym, ap, ◌∙◌, arith}
+use Rattle.std.proofs.Common.{◌≡◌, ◌<◌, length, Some, sym, ap, ◌∙◌, arith}
 use Rattle.std.specs.Prelude.{slice_get}
-use Rattle.std.specs.Option.{option_and_then}
 use Rattle.std.proofs.lemmas.List.{get_or_default}
-use Rattle.rig_model.specs.Granted.{granted_by}
 use Rattle.instant_engine.specs.Tenants.{tenant_at}
-use Rattle.instant_engine.specs.cited.Tenants.{roster_among, rows_of}
 use Rattle.tenant_grants.specs.Grants.{bind_at}
-use Rattle.rig_model.specs.Row.{actuator_value}
 use Rattle.tenant_state.specs.Standing.{Standing, no_tenant}
 use Rattle.instant_engine.proofs.Granting.{bound_within, granted_there}
 use Rattle.instant_engine.proofs.grants.granted_by.Goals as goal
-use Rattle.instant_engine.proofs.grants.granted_by.Goals.{After-offers, In_ok-supplier}
+use Rattle.instant_engine.proofs.grants.granted_by.Goals.{In_ok-supplier}
 
 module _ (c : In_ok-supplier) where
   own : c.index-tenants-place.result ≡ tenant_at c.args.tenants.now c.args.place
@@ -29,21 +25,10 @@ module _ (c : In_ok-supplier) where
         c.requires.rosters.whole,
       )
 
-granted : (c : After-offers)
-    → option_and_then (granted_by (roster_among c.args.tenants.now) (rows_of c.args.tenants.now) (rows_of c.args.tenants.now) c.args.place) (slice_get (rows_of c.args.tenants.now c.args.place).binds c.args.i)
-    ≡ cond c.offers.result (actuator_value c.index-tenants-supplier.result.row c.in_ok-supplier.actuator) None
-granted c =
-    let earlier = (goal.at.After-offers c).In_ok-supplier in
-    let s = c.index-tenants-supplier.result in
-    let supplier = c.index-tenants-supplier.is ∙ get_or_default c.args.tenants.now c.in_ok-supplier.supplier s no_tenant (below earlier) in
-    granted_there c.args.tenants.now c.args.place c.args.i c.in_ok-supplier.supplier c.in_ok-supplier.field-0-0 c.in_ok-supplier.actuator c.index-tenants-place.result s c.requires.rosters c.requires.tenant (own earlier) supplier (below earlier) (bound earlier)
-    ∙ ap (λ b. cond b (actuator_value s.row c.in_ok-supplier.actuator) None) (sym c.offers.ensures)
-
-pub returns-then-not-offers : goal.returns-then-not-offers
-returns-then-not-offers c =
-    sym (granted (goal.at.returns-then-not-offers c).After-offers ∙ ap (λ b. cond b (actuator_value c.index-tenants-supplier.result.row c.in_ok-supplier.actuator) None) c.if-not-offers.true)
-
 pub returns : goal.returns
 returns c =
-    c.actuator.ensures ∙ ap (actuator_value c.index-tenants-supplier.result.row) c.as_str.ensures
-    ∙ sym (granted (goal.at.returns c).After-offers ∙ ap (λ b. cond b (actuator_value c.index-tenants-supplier.result.row c.in_ok-supplier.actuator) None) c.if-not-offers.false)
+    let earlier = (goal.at.returns c).In_ok-supplier in
+    let s = c.index-tenants-supplier.result in
+    let supplier = c.index-tenants-supplier.is ∙ get_or_default c.args.tenants.now c.in_ok-supplier.supplier s no_tenant (below earlier) in
+    c.granted_from.ensures
+    ∙ sym (granted_there c.args.tenants.now c.args.place c.args.i c.in_ok-supplier.supplier c.in_ok-supplier.field-0-0 c.in_ok-supplier.actuator c.index-tenants-place.result s c.requires.rosters c.requires.tenant (own earlier) supplier (below earlier) (bound earlier))

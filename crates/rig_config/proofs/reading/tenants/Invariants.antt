@@ -9,6 +9,6 @@ use Rattle.rig_config.proofs.reading.tenants.Given as goal
 
 abbrev pub invariant-loop-place : goal.invariant-loop-place
 invariant-loop-place l =
-    (behind l.tenants.items (tenants_from l.lines l.place (items_view (drop l.place l.tables))) ≡ tenants_from l.lines 0 (items_view l.tables))
+    (behind l.tenants.items (tenants_from l.version l.lines l.place (items_view (drop l.place l.tables))) ≡ tenants_from l.version l.lines 0 (items_view l.tables))
     × IsTrue (list_all (is_tenant_config l.lines) l.tenants.items)
     × (length l.tenants.items ≡ l.place)

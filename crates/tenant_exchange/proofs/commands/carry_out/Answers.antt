@@ -1,4 +1,4 @@
-use Rattle.std.proofs.Common.{◌≡◌, false, is_ok, List, refl}
+use Rattle.std.proofs.Common.{◌≡◌, false, is_ok, List, refl, unwrap_or}
 use Rattle.tenant_grants.specs.Grants.{offered, unoffered, bound}
 use Rattle.tenant_grants.specs.declared.rows.Offer.{Offer}
 use Rattle.tenant_lines.specs.declared.replies.Budget.TheVariants.{Offers, Binds}
@@ -10,7 +10,7 @@ use Rattle.tenant_exchange.proofs.commands.carry_out.Goals as goal
 pub returns-in-Offer-clause-reply : goal.returns-in-Offer-clause-reply
 returns-in-Offer-clause-reply c = λ other.
     let rows = c.args.grants.now in
-    rw c.in-Offer.is (more_told Offers Offered (with_offers rows Offered) (λ x. refl) (λ f. refl) (offered rows.owner rows.offers c.in-Offer.actuator c.in-Offer.tenant) c.offer.result c.answer.result
+    rw c.in-Offer.is (more_told Offers Offered (with_offers rows Offered) (λ x. refl) (λ f. refl) (offered rows.owner rows.offers c.in-Offer.actuator c.in-Offer.tenant (unwrap_or c.in-Offer.bounds rows.owner.bounds)) c.offer.result c.answer.result
     c.offer.ensures.refused c.offer.ensures.memory c.answer.ensures.done c.answer.ensures.refused other)
 
 pub returns-in-Unoffer-clause-reply : goal.returns-in-Unoffer-clause-reply
@@ -29,9 +29,9 @@ returns-in-Bind-clause-reply c = λ other.
 pub returns-in-Offer-clause-room : goal.returns-in-Offer-clause-room
 returns-in-Offer-clause-room c = λ none.
     let rows = c.args.grants.now in
-    let refused : is_ok (offered rows.owner rows.offers c.in-Offer.actuator c.in-Offer.tenant) ≡ false = rw c.in-Offer.is at none in
-    refused_told Offers (offered rows.owner rows.offers c.in-Offer.actuator c.in-Offer.tenant) c.offer.result c.answer.result
-    (offer_faults rows.owner rows.offers c.in-Offer.actuator c.in-Offer.tenant) c.offer.ensures.refused c.answer.ensures.refused refused
+    let refused : is_ok (offered rows.owner rows.offers c.in-Offer.actuator c.in-Offer.tenant (unwrap_or c.in-Offer.bounds rows.owner.bounds)) ≡ false = rw c.in-Offer.is at none in
+    refused_told Offers (offered rows.owner rows.offers c.in-Offer.actuator c.in-Offer.tenant (unwrap_or c.in-Offer.bounds rows.owner.bounds)) c.offer.result c.answer.result
+    (offer_faults rows.owner rows.offers c.in-Offer.actuator c.in-Offer.tenant (unwrap_or c.in-Offer.bounds rows.owner.bounds)) c.offer.ensures.refused c.answer.ensures.refused refused
 
 pub returns-in-Bind-clause-room : goal.returns-in-Bind-clause-room
 returns-in-Bind-clause-room c = λ none.

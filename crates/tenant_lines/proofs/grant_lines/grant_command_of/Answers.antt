@@ -8,12 +8,12 @@ use Rattle.tenant_lines.proofs.grant_lines.grant_command_of.Goals as goal
 pub returns-in-offer : goal.returns-in-offer
 returns-in-offer c =
     let whole = by_verb c.args.line.now (codes "offer") (sym c.first_word.ensures ∙ c.in-offer.is) (omega arith) ∙ offered (behind_first_word c.args.line.now) in
-    c.offer.ensures ∙ rw (c.first_word-name.ensures, c.word_behind.ensures, c.behind_first_word-rest.ensures, c.behind_first_word-behind.ensures) (sym whole)
+    c.offer_by.ensures ∙ rw (c.first_word-name.ensures, c.behind_first_word-rest.ensures, c.behind_first_word-behind.ensures) (sym whole)
 
 pub returns-in-unoffer : goal.returns-in-unoffer
 returns-in-unoffer c =
     let whole = by_verb c.args.line.now (codes "unoffer") (sym c.first_word.ensures ∙ c.in-unoffer.is) (omega arith) ∙ unoffered (behind_first_word c.args.line.now) in
-    c.unoffer.ensures ∙ rw (c.first_word-name.ensures, c.word_behind-in-unoffer.ensures, c.behind_first_word-rest.ensures, c.behind_first_word-behind.ensures) (sym whole)
+    c.unoffer.ensures ∙ rw (c.first_word-name.ensures, c.word_behind.ensures, c.behind_first_word-rest.ensures, c.behind_first_word-behind.ensures) (sym whole)
 
 pub returns-in-bind : goal.returns-in-bind
 returns-in-bind c =

@@ -5,7 +5,7 @@ use Rattle.tenant_grants.proofs.grants.Grants.bind_at.Goals as goal
 pub returns-clause-bind : goal.returns-clause-bind
 returns-clause-bind c =
     let inside = c.self.inside in
-    rw (← c.self.view_is) (c.entry_at.ensures ∙ bind_at_entries (record { place = inside.own; roster = inside.roster.value.items; most_offers = inside.most_offers; most_binds = inside.most_binds }) inside.binds.entries c.self.invariant.placed c.args.i)
+    rw (← c.self.view_is) (c.entry_at.ensures ∙ bind_at_entries (record { place = inside.own; roster = inside.roster.value.items; most_offers = inside.most_offers; most_binds = inside.most_binds; bounds = inside.bounds }) inside.binds.entries c.self.invariant.placed c.args.i)
 
 pub returns-clause-found : goal.returns-clause-found
 returns-clause-found c = rw (← c.self.view_is, c.entry_at.ensures) (bind_at_found c.self.inside.binds.entries c.args.i)

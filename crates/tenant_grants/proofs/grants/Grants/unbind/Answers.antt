@@ -11,6 +11,6 @@ returns-clause-unbound c =
 
 pub invariant_of-self-2 : goal.invariant_of-self-2
 invariant_of-self-2 c =
-    held_unbound (record { place = c.self.inside.own; roster = c.self.inside.roster.value.items; most_offers = c.self.inside.most_offers; most_binds = c.self.inside.most_binds })
+    held_unbound (record { place = c.self.inside.own; roster = c.self.inside.roster.value.items; most_offers = c.self.inside.most_offers; most_binds = c.self.inside.most_binds; bounds = c.self.inside.bounds })
     c.self.inside.offers.keys c.self.inside.binds.entries c.take_out.new.binds.entries (λ (s : Sensor). same_name s.name c.args.sensor.now) c.self.invariant
     c.take_out.ensures.left c.take_out.ensures.differ

@@ -1,0 +1,2 @@
+-- What the proofs speak of, and no contract of a public call.
+pub mod Within
