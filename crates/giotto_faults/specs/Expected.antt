@@ -1,0 +1,40 @@
+-- What could stand at a place in a text: each kind of token with which the text up to there begins some program.
+use Rattle.std.specs.Prelude.{◌≡◌, ℕ, nat_eq, Bool, true, false, List, ◌∷◌, ◌++◌, length, filter, Result, Ok, Err}
+use Rattle.giotto_text.specs.declared.faults.ReadFault.{ReadFault}
+use Rattle.giotto_text.specs.declared.faults.ReadFault.TheVariants.{Syntax, TooDeep, TooMany, Memory}
+use Rattle.giotto_text.specs.declared.tokens.PlacedToken.{PlacedToken}
+use Rattle.giotto_text.specs.Nesting.{nests_too_deep}
+use Rattle.giotto_text.specs.Parsing.{parsed}
+use Rattle.giotto_text.specs.Program.{GiottoProgram}
+use Rattle.giotto_text.specs.Spelling.{IsPrefix}
+use Rattle.giotto_text.specs.Tokens.{tokens_of, bare}
+use Rattle.giotto_faults.specs.declared.kinds.TokenKind.{TokenKind}
+use Rattle.giotto_faults.specs.declared.kinds.TheConstants.{KINDS}
+use Rattle.giotto_faults.specs.Kinds.{sample_of}
+
+-- The tokens of a text are a prefix of some program's tokens, and nest at most 32 deep.
+pub record BeginsProgram (text : List ℕ) : Type 0 where
+  pub tokens : List PlacedToken
+  pub cut : tokens_of text ≡ Ok tokens
+  pub prefix : IsPrefix (bare tokens)
+  pub shallow : nests_too_deep (bare tokens) ≡ false
+
+-- a text of this length reads so: a program, or one that only goes on too short or has too many ports
+abbrev pub begins_if_read : ℕ → Result GiottoProgram ReadFault → Bool
+begins_if_read end (Ok p) = true
+begins_if_read end (Err (Syntax offset)) = nat_eq offset end
+begins_if_read end (Err TooDeep) = false
+begins_if_read end (Err TooMany) = true
+begins_if_read end (Err Memory) = false
+
+-- the text begins a program, as its reader tells
+abbrev pub begins_program : List ℕ → Bool
+begins_program text = begins_if_read (length text) (parsed text)
+
+-- the text with a blank and a token of this kind behind it
+abbrev pub with_token : List ℕ → TokenKind → List ℕ
+with_token text kind = text ++ 32 ∷ sample_of kind
+
+-- the kinds of tokens with which the text begins a program
+abbrev pub expected_behind : List ℕ → List TokenKind
+expected_behind text = filter (λ kind. begins_program (with_token text kind)) KINDS

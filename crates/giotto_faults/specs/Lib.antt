@@ -1,0 +1,3 @@
+pub mod Expected
+pub mod Kinds
+pub mod Places
