@@ -1,3 +1,6 @@
+mod AsciiFronts
 mod Beginnings
+mod DeepTokens
 mod ExpectedKinds
+mod FaultPlaces
 mod TokenPlaces

@@ -36,5 +36,5 @@ abbrev pub with_token : List ℕ → TokenKind → List ℕ
 with_token text kind = text ++ 32 ∷ sample_of kind
 
 -- the kinds of tokens with which the text begins a program
-abbrev pub expected_behind : List ℕ → List TokenKind
+unfoldable pub expected_behind : List ℕ → List TokenKind
 expected_behind text = filter (λ kind. begins_program (with_token text kind)) KINDS

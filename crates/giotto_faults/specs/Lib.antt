@@ -1,3 +1,5 @@
 pub mod Expected
+pub mod Faults
 pub mod Kinds
+pub mod Nesting
 pub mod Places

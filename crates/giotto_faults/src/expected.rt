@@ -14,6 +14,7 @@ use std::alloc::{AllocError, Global};
 ///
 /// # Errors
 /// Want of memory.
+#[tactic(auto, unfolding(crate::specs::Expected::expected_behind))]
 pub fn expected_behind(alloc: Global, text: &str) -> Result<Vec<TokenKind>, AllocError>
     ensures { IfOk result (λ kinds. kinds.items ≡ spec.expected_behind text.now) }
 {

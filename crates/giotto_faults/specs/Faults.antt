@@ -1,0 +1,21 @@
+-- What a fault says of the text that has it.
+use Rattle.std.specs.Prelude.{◌≡◌, ℕ, List, take, Some, Ok, Err}
+use Rattle.giotto_text.specs.declared.faults.ReadFault.TheVariants as faults
+use Rattle.giotto_text.specs.declared.tokens.PlacedToken.{PlacedToken}
+use Rattle.giotto_text.specs.Parsing.{parsed}
+use Rattle.giotto_text.specs.Tokens.{tokens_of}
+use Rattle.giotto_faults.specs.declared.faults.ProgramFault.{ProgramFault}
+use Rattle.giotto_faults.specs.declared.faults.ProgramFault.TheVariants.{Syntax, TooDeep, TooMany, Memory}
+use Rattle.giotto_faults.specs.Expected.{expected_behind}
+use Rattle.giotto_faults.specs.Nesting.{first_too_deep}
+
+-- the first of the text's tokens behind which more than 32 parentheses and braces are open has this offset
+abbrev pub NestsTooDeepAt : List ℕ → ℕ → Type 0
+NestsTooDeepAt text offset = (ts : List PlacedToken) × (tokens_of text ≡ Ok ts) × (first_too_deep 0 ts ≡ Some offset)
+
+-- The text is refused for what the fault says, and what the fault says of it is so. Of memory nothing is said.
+abbrev pub Tells : List ℕ → ProgramFault → Type 0
+Tells text (Syntax f) = (parsed text ≡ Err (faults.Syntax f.offset)) × (f.expected ≡ expected_behind (take f.offset text))
+Tells text (TooDeep offset) = (parsed text ≡ Err faults.TooDeep) × NestsTooDeepAt text offset
+Tells text (TooMany port) = parsed text ≡ Err faults.TooMany
+Tells text Memory = Unit {0}
