@@ -33,6 +33,8 @@ pub struct Finding {
     pub len: usize,
     /// What is found, in one line.
     pub message: String,
+    /// The rule that it breaks, in one line.
+    pub rule: Option<String>,
     /// How it can be mended, in one line.
     pub help: Option<String>,
 }
@@ -74,6 +76,9 @@ impl Finding {
                 "\n",
             ],
         )?;
+        if let Some(rule) = &self.rule {
+            push_parts(&mut shown, &[margin.as_str(), " = ", rule.as_str(), "\n"])?;
+        }
         if let Some(help) = &self.help {
             push_parts(
                 &mut shown,

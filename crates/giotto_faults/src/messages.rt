@@ -39,6 +39,7 @@ fn syntax_finding(
         offset,
         len: found.len(),
         message: syntax_message(alloc, found, expected)?,
+        rule: None,
         help: hint(alloc, text, source, fault.offset, expected)?,
     })
 }
@@ -138,6 +139,7 @@ fn too_deep_finding(alloc: Global, offset: usize) -> Result<Finding, AllocError>
         offset,
         len: 1,
         message: String::from_str(alloc, "more than 32 parentheses and braces are open here")?,
+        rule: None,
         help: None,
     })
 }
@@ -153,6 +155,7 @@ fn too_many_finding(
             offset: 0,
             len: 0,
             message: String::from_str(alloc, "a task has more than 16 inputs, outputs or states")?,
+            rule: None,
             help: None,
         });
     };
@@ -163,6 +166,7 @@ fn too_many_finding(
         offset: port.offset,
         len: piece_at(text, port.offset).len(),
         message: format!(in alloc; "the task `{task}` has more than 16 {ports}: this is the 17th")?,
+        rule: None,
         help: None,
     })
 }

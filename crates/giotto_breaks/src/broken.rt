@@ -1,0 +1,109 @@
+//! The first rule that a program breaks, and what is told of it.
+
+ghost use Rattle.std.specs.Prelude.{◌≡◌, ◌↔◌, IfOk, IfSome, Some, None};
+ghost use Rattle.giotto_rules.specs.Rules.{first_broken_rule};
+
+use crate::finders::{Break, Site, breaks_of};
+use crate::hints::hint;
+use crate::outlines::outline_of;
+use crate::words::words_of_rule;
+use giotto_faults::findings::{Finding, Severity};
+use giotto_read::{Program, ReadFault};
+use giotto_rules::first_broken;
+use giotto_text::lexer;
+use std::alloc::{AllocError, Global};
+
+/// A rule that a program breaks, and what is told of each place that breaks it.
+#[derive(Drop)]
+pub struct BrokenRule {
+    /// The rule's number, 1 to 11.
+    pub rule: usize,
+    /// In the order of what the rule says, and in text order.
+    pub findings: Vec<Finding>,
+}
+
+/// The first rule that a program breaks, and what is told of it, where this is the text that reads as the program; or `None` where
+/// the program is well-formed.
+///
+/// # Errors
+/// Want of memory.
+pub fn broken_rule(
+    alloc: Global,
+    program: &Program,
+    text: &str,
+) -> Result<Option<BrokenRule>, AllocError>
+    ensures well_formed { IfOk result (λ broken. (broken ≡ None) ↔ (first_broken_rule program.now ≡ None)) }
+    ensures rule { IfOk result (λ broken. IfSome broken (λ b. first_broken_rule program.now ≡ Some b.rule)) }
+{
+    match first_broken(alloc, program)? {
+        None => Ok(None),
+        Some(rule) => {
+            let findings = findings_of(alloc, rule, text)?;
+            Ok(Some(BrokenRule { rule, findings }))
+        }
+    }
+}
+
+fn findings_of(alloc: Global, rule: usize, text: &str) -> Result<Vec<Finding>, AllocError> {
+    let tokens = match lexer::tokens(alloc, text.as_bytes()) {
+        Ok(tokens) => tokens,
+        Err(ReadFault::Memory) => return Err(AllocError),
+        Err(_) => Vec::new(alloc),
+    };
+    let outline = outline_of(alloc, &tokens)?;
+    let breaks = breaks_of(alloc, rule, &outline)?;
+    let mut findings = Vec::new(alloc);
+    for found in &breaks {
+        findings.push(Finding {
+            severity: Severity::Error,
+            offset: found.site.offset,
+            len: found.site.len,
+            message: format!(in alloc; "{}", found.what)?,
+            rule: words_once(alloc, rule, findings.is_empty())?,
+            help: hint(alloc, &outline, &found.what)?,
+        })?;
+        if let Some((site, words)) = found.other {
+            findings.push(note(alloc, site, words)?)?;
+        }
+    }
+    if findings.is_empty() {
+        findings.push(without_place(alloc, rule)?)?;
+    }
+    Ok(findings)
+}
+
+// The rule is told with the first place alone.
+fn words_once(alloc: Global, rule: usize, is_first: bool) -> Result<Option<String>, AllocError> {
+    if !is_first {
+        return Ok(None);
+    }
+    Ok(Some(words(alloc, rule)?))
+}
+
+fn words(alloc: Global, rule: usize) -> Result<String, AllocError> {
+    let words = words_of_rule(rule);
+    format!(in alloc; "rule {rule}: {words}")
+}
+
+fn note(alloc: Global, site: Site, words: &str) -> Result<Finding, AllocError> {
+    Ok(Finding {
+        severity: Severity::Note,
+        offset: site.offset,
+        len: site.len,
+        message: String::from_str(alloc, words)?,
+        rule: None,
+        help: None,
+    })
+}
+
+// What is told where no place is found.
+fn without_place(alloc: Global, rule: usize) -> Result<Finding, AllocError> {
+    Ok(Finding {
+        severity: Severity::Error,
+        offset: 0,
+        len: 0,
+        message: format!(in alloc; "the program breaks rule {rule}")?,
+        rule: Some(words(alloc, rule)?),
+        help: None,
+    })
+}

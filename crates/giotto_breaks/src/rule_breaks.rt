@@ -1,0 +1,402 @@
+//! What breaks a rule, with the names concerned.
+
+use giotto_tasks::names::Name;
+use std::fmt;
+
+/// A way in which a program breaks one of the eleven rules, with the names and numbers concerned.
+#[derive(Clone, Copy)]
+pub enum RuleBreak<'a> {
+    /// Rule 1: a name that is declared before.
+    DeclaredTwice {
+        name: &'a Name,
+    },
+    /// Rule 1: an output that stands before it in the task's list.
+    OutputTwice {
+        name: &'a Name,
+        task: &'a Name,
+    },
+    /// Rule 1: an input or a state that stands before it among the task's.
+    PortTwice {
+        name: &'a Name,
+        task: &'a Name,
+    },
+    /// Rule 1: an input or a state with a name that is declared.
+    PortDeclared {
+        name: &'a Name,
+        task: &'a Name,
+    },
+    /// Rule 1: a line that an actuator before drives.
+    LineTwice {
+        line: u64,
+    },
+    /// Rule 2: what a task names as its output.
+    NoOutput {
+        name: &'a Name,
+        task: &'a Name,
+    },
+    /// Rule 2: what an update writes.
+    NoActuator {
+        name: &'a Name,
+    },
+    /// Rule 2: where a switch leads.
+    NoTarget {
+        name: &'a Name,
+    },
+    /// Rule 2: to what a switch gives a value.
+    NoDestination {
+        name: &'a Name,
+    },
+    /// Rule 2: what is invoked.
+    NoTask {
+        name: &'a Name,
+    },
+    /// Rule 2: what a driver reads.
+    NoPort {
+        name: &'a Name,
+    },
+    /// Rule 3: what a body assigns.
+    Assigned {
+        name: &'a Name,
+        task: &'a Name,
+    },
+    /// Rule 3: what a body reads.
+    Read {
+        name: &'a Name,
+        task: &'a Name,
+    },
+    /// Rule 4: a mode's period.
+    Period {
+        mode: &'a Name,
+        period: u64,
+    },
+    /// Rule 4: a frequency in a mode of this period.
+    Frequency {
+        mode: &'a Name,
+        period: u64,
+        frequency: u64,
+    },
+    /// Rule 5: a task that the mode invokes before.
+    InvokedTwice {
+        task: &'a Name,
+        mode: &'a Name,
+    },
+    /// Rule 6: a task, invoked behind another that has one of its outputs.
+    SharedOutput {
+        output: &'a Name,
+        task: &'a Name,
+        other: &'a Name,
+        mode: &'a Name,
+    },
+    /// Rule 7: an actuator that the mode updates before.
+    UpdatedTwice {
+        actuator: &'a Name,
+        mode: &'a Name,
+    },
+    /// Rule 8: how many arguments a task with so many inputs is given.
+    Arguments {
+        task: &'a Name,
+        inputs: usize,
+        given: usize,
+    },
+    /// Rule 9: a sensor that an update reads.
+    UpdateReadsSensor {
+        name: &'a Name,
+    },
+    /// Rule 9: an actuator that a driver reads.
+    ReadsActuator {
+        name: &'a Name,
+    },
+    /// Rule 9: an output that a driver reads, of no task that the mode invokes.
+    ReadsOther {
+        name: &'a Name,
+        mode: &'a Name,
+    },
+    /// Rule 9: an output to which a switch gives a value, of no task that its target invokes.
+    GivesOther {
+        name: &'a Name,
+        target: &'a Name,
+    },
+    /// Rule 9: an output to which the switch gives a value before.
+    GivesTwice {
+        name: &'a Name,
+    },
+    /// Rule 10: a task that may be unfinished at a switch, and that the target doesn't invoke with the same period, but with another
+    /// one or not at all.
+    Unfinished {
+        task: &'a Name,
+        period: u64,
+        target: &'a Name,
+        other: Option<u64>,
+    },
+    /// Rule 11: where the program starts.
+    NoStart {
+        name: &'a Name,
+    },
+}
+
+impl RuleBreak<'_> {
+    /// The rule's number, 1 to 11.
+    pub fn rule(&self) -> usize {
+        match self {
+            RuleBreak::DeclaredTwice { .. }
+            | RuleBreak::OutputTwice { .. }
+            | RuleBreak::PortTwice { .. }
+            | RuleBreak::PortDeclared { .. }
+            | RuleBreak::LineTwice { .. } => 1,
+            RuleBreak::NoOutput { .. }
+            | RuleBreak::NoActuator { .. }
+            | RuleBreak::NoTarget { .. }
+            | RuleBreak::NoDestination { .. }
+            | RuleBreak::NoTask { .. }
+            | RuleBreak::NoPort { .. } => 2,
+            RuleBreak::Assigned { .. } | RuleBreak::Read { .. } => 3,
+            RuleBreak::Period { .. } | RuleBreak::Frequency { .. } => 4,
+            RuleBreak::InvokedTwice { .. } => 5,
+            RuleBreak::SharedOutput { .. } => 6,
+            RuleBreak::UpdatedTwice { .. } => 7,
+            RuleBreak::Arguments { .. } => 8,
+            RuleBreak::UpdateReadsSensor { .. }
+            | RuleBreak::ReadsActuator { .. }
+            | RuleBreak::ReadsOther { .. }
+            | RuleBreak::GivesOther { .. }
+            | RuleBreak::GivesTwice { .. } => 9,
+            RuleBreak::Unfinished { .. } => 10,
+            RuleBreak::NoStart { .. } => 11,
+        }
+    }
+}
+
+impl fmt::Display for RuleBreak<'_> {
+    fn fmt<W: fmt::Write>(&self, f: &mut fmt::Formatter<W>) -> fmt::Result {
+        match self {
+            RuleBreak::DeclaredTwice { .. }
+            | RuleBreak::OutputTwice { .. }
+            | RuleBreak::PortTwice { .. }
+            | RuleBreak::PortDeclared { .. }
+            | RuleBreak::LineTwice { .. } => write_declared(f, self),
+            RuleBreak::NoOutput { .. }
+            | RuleBreak::NoActuator { .. }
+            | RuleBreak::NoTarget { .. }
+            | RuleBreak::NoDestination { .. }
+            | RuleBreak::NoTask { .. }
+            | RuleBreak::NoPort { .. }
+            | RuleBreak::NoStart { .. } => write_kind(f, self),
+            RuleBreak::UpdateReadsSensor { .. }
+            | RuleBreak::ReadsActuator { .. }
+            | RuleBreak::ReadsOther { .. }
+            | RuleBreak::GivesOther { .. }
+            | RuleBreak::GivesTwice { .. } => write_driver(f, self),
+            _ => write_other(f, self),
+        }
+    }
+}
+
+// Rule 1.
+fn write_declared<W: fmt::Write>(f: &mut fmt::Formatter<W>, what: &RuleBreak) -> fmt::Result {
+    match what {
+        RuleBreak::DeclaredTwice { name } => {
+            let name = name.as_str();
+            write!(f, "`{name}` is declared twice")
+        }
+        RuleBreak::OutputTwice { name, task } => {
+            let (name, task) = (name.as_str(), task.as_str());
+            write!(f, "`{name}` stands twice among the outputs of `{task}`")
+        }
+        RuleBreak::PortTwice { name, task } => {
+            let (name, task) = (name.as_str(), task.as_str());
+            write!(
+                f,
+                "`{name}` stands twice among the inputs and states of `{task}`"
+            )
+        }
+        RuleBreak::PortDeclared { name, task } => {
+            let (name, task) = (name.as_str(), task.as_str());
+            write!(
+                f,
+                "the input or state `{name}` of `{task}` has a name that is declared outside of the task too"
+            )
+        }
+        RuleBreak::LineTwice { line } => write!(f, "two actuators drive line {line}"),
+        _ => Ok(()),
+    }
+}
+
+// Rules 2 and 11.
+fn write_kind<W: fmt::Write>(f: &mut fmt::Formatter<W>, what: &RuleBreak) -> fmt::Result {
+    match what {
+        RuleBreak::NoOutput { name, task } => {
+            let (name, task) = (name.as_str(), task.as_str());
+            write!(f, "`{name}`, which `{task}` names as an output, is none")
+        }
+        RuleBreak::NoActuator { name } => {
+            let name = name.as_str();
+            write!(f, "`{name}` is no actuator, and `actfreq` updates one")
+        }
+        RuleBreak::NoTarget { name } => {
+            let name = name.as_str();
+            write!(f, "`{name}` is no mode, and `exitfreq` leads to one")
+        }
+        RuleBreak::NoDestination { name } => {
+            let name = name.as_str();
+            write!(
+                f,
+                "`{name}` is no output, and a switch gives values to outputs alone"
+            )
+        }
+        RuleBreak::NoTask { name } => {
+            let name = name.as_str();
+            write!(f, "`{name}` is no task, and `taskfreq` invokes one")
+        }
+        RuleBreak::NoPort { name } => {
+            let name = name.as_str();
+            write!(
+                f,
+                "`{name}` is no sensor, actuator or output, and nothing else can be read here"
+            )
+        }
+        RuleBreak::NoStart { name } => {
+            let name = name.as_str();
+            write!(f, "`{name}` is no mode, and `start` names one")
+        }
+        _ => Ok(()),
+    }
+}
+
+// Rule 9.
+fn write_driver<W: fmt::Write>(f: &mut fmt::Formatter<W>, what: &RuleBreak) -> fmt::Result {
+    match what {
+        RuleBreak::UpdateReadsSensor { name } => {
+            let name = name.as_str();
+            write!(f, "an update reads the sensor `{name}`")
+        }
+        RuleBreak::ReadsActuator { name } => {
+            let name = name.as_str();
+            write!(f, "the actuator `{name}` is read")
+        }
+        RuleBreak::ReadsOther { name, mode } => {
+            let (name, mode) = (name.as_str(), mode.as_str());
+            write!(
+                f,
+                "`{name}` is read here, and is no output of a task that the mode `{mode}` invokes"
+            )
+        }
+        RuleBreak::GivesOther { name, target } => {
+            let (name, target) = (name.as_str(), target.as_str());
+            write!(
+                f,
+                "`{name}` is given a value, and is no output of a task that the mode `{target}` invokes"
+            )
+        }
+        RuleBreak::GivesTwice { name } => {
+            let name = name.as_str();
+            write!(f, "this switch gives `{name}` two values")
+        }
+        _ => Ok(()),
+    }
+}
+
+// Rules 3 to 8, and 10.
+fn write_other<W: fmt::Write>(f: &mut fmt::Formatter<W>, what: &RuleBreak) -> fmt::Result {
+    match what {
+        RuleBreak::Assigned { name, task } => {
+            let (name, task) = (name.as_str(), task.as_str());
+            write!(
+                f,
+                "the body of `{task}` assigns `{name}`, which is no output and no state of `{task}`"
+            )
+        }
+        RuleBreak::Read { name, task } => {
+            let (name, task) = (name.as_str(), task.as_str());
+            write!(
+                f,
+                "the body of `{task}` reads `{name}`, which is no input, state or output of `{task}`"
+            )
+        }
+        RuleBreak::Period { mode, period } => {
+            let mode = mode.as_str();
+            write!(
+                f,
+                "the period of `{mode}` is {period}, and a period is 1 to 1000000 ticks"
+            )
+        }
+        RuleBreak::Frequency {
+            mode,
+            period,
+            frequency,
+        } => {
+            let mode = mode.as_str();
+            write!(
+                f,
+                "the frequency {frequency} doesn't divide {period}, the period of `{mode}`"
+            )
+        }
+        RuleBreak::InvokedTwice { task, mode } => {
+            let (task, mode) = (task.as_str(), mode.as_str());
+            write!(f, "`{task}` is invoked twice in mode `{mode}`")
+        }
+        RuleBreak::UpdatedTwice { actuator, mode } => {
+            let (actuator, mode) = (actuator.as_str(), mode.as_str());
+            write!(f, "`{actuator}` is updated twice in mode `{mode}`")
+        }
+        RuleBreak::Arguments {
+            task,
+            inputs,
+            given,
+        } => {
+            let task = task.as_str();
+            write!(
+                f,
+                "`{task}` has {inputs} inputs, and the arguments here are {given}"
+            )
+        }
+        RuleBreak::SharedOutput { .. } => write_shared(f, what),
+        _ => write_unfinished(f, what),
+    }
+}
+
+// Rule 6.
+fn write_shared<W: fmt::Write>(f: &mut fmt::Formatter<W>, what: &RuleBreak) -> fmt::Result {
+    let RuleBreak::SharedOutput {
+        output,
+        task,
+        other,
+        mode,
+    } = what
+    else {
+        return Ok(());
+    };
+    let (output, task, other, mode) = (
+        output.as_str(),
+        task.as_str(),
+        other.as_str(),
+        mode.as_str(),
+    );
+    write!(
+        f,
+        "`{other}` and `{task}`, both invoked in mode `{mode}`, share the output `{output}`"
+    )
+}
+
+// Rule 10.
+fn write_unfinished<W: fmt::Write>(f: &mut fmt::Formatter<W>, what: &RuleBreak) -> fmt::Result {
+    let RuleBreak::Unfinished {
+        task,
+        period,
+        target,
+        other,
+    } = what
+    else {
+        return Ok(());
+    };
+    let (task, target) = (task.as_str(), target.as_str());
+    match other {
+        Some(other) => write!(
+            f,
+            "`{task}`, with the period {period}, may be unfinished at this switch, and `{target}` invokes it with the period {other}"
+        ),
+        None => write!(
+            f,
+            "`{task}`, with the period {period}, may be unfinished at this switch, and `{target}` doesn't invoke it"
+        ),
+    }
+}
