@@ -4,7 +4,7 @@ use giotto_text::name_bytes::{is_digit, is_letter, is_name_byte};
 
 /// What stands at this offset: a run of letters and digits behind a letter, a run of digits, a mark, or else one character.
 /// It is empty at the end of the text.
-pub fn piece_at(text: &str, offset: usize) -> &str {
+pub(crate) fn piece_at(text: &str, offset: usize) -> &str {
     let rest = text.get(offset..).unwrap_or("");
     rest.get(..piece_len(rest)).unwrap_or("")
 }
@@ -33,7 +33,7 @@ fn is_long_mark(text: &[u8]) -> bool {
 }
 
 /// Whether nothing but blanks stands before this offset in its line.
-pub fn is_first_in_line(text: &str, offset: usize) -> bool {
+pub(crate) fn is_first_in_line(text: &str, offset: usize) -> bool {
     text.as_bytes()
         .iter()
         .take(offset)

@@ -29,7 +29,7 @@ impl TokenKind {
     }
 
     /// Whether it is a mark between two operands.
-    pub fn is_operator(self) -> bool {
+    pub(crate) fn is_operator(self) -> bool {
         matches!(
             self,
             TokenKind::Symbol(
