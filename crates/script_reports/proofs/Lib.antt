@@ -1,0 +1,4 @@
+pub mod Comparing
+pub mod Escaping
+pub mod Reading
+pub mod Telling

@@ -1,0 +1,5 @@
+pub mod Differences
+pub mod Heard
+pub mod Runs
+pub mod Suites
+pub mod Told

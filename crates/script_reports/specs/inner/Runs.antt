@@ -1,0 +1,61 @@
+-- Runs: scripts with the reply that each line should get.
+use Rattle.std.specs.Prelude.{◌≡◌, ℕ, ◌+◌, ◌==◌, Bool, true, false, if◌then◌else◌, List, [], ◌∷◌, ◌++◌, drop, get_or, Result, Ok, Err, Vec}
+use Rattle.std.specs.List.{before_first, flat_map, slice_split}
+use Rattle.std.specs.declared.alloc.Global.{Global}
+use Rattle.script_reports.specs.declared.runs.RunFault.{RunFault}
+use Rattle.script_reports.specs.declared.runs.RunFault.TheVariants.{NoLine, Memory}
+
+-- a line of a script, with its number in the file and the reply that it should get; no byte where there should be none
+pub record RunEntry : Type 0 where
+  pub number : ℕ
+  pub text : List ℕ
+  pub reply : List ℕ
+
+-- the lines of a file
+abbrev pub parts_of : List ℕ → List (List ℕ)
+parts_of text = slice_split (λ c. c == 10) text
+
+-- four blanks, and more
+abbrev pub is_reply : List ℕ → Bool
+is_reply (a ∷ b ∷ c ∷ d ∷ e ∷ more) = if a == 32 then (if b == 32 then (if c == 32 then d == 32 else false) else false) else false
+is_reply part = false
+
+-- nothing, or `#` in front
+abbrev pub is_remark : List ℕ → Bool
+is_remark [] = true
+is_remark (c ∷ cs) = c == 35
+
+-- the reply that a line of a file is
+abbrev pub reply_in : List ℕ → List ℕ
+reply_in part = if is_reply part then drop 4 part else []
+
+-- this entry in front, where there is no fault behind
+abbrev pub with_entry : RunEntry → Result (List RunEntry) ℕ → Result (List RunEntry) ℕ
+with_entry entry (Ok entries) = Ok (entry ∷ entries)
+with_entry entry (Err number) = Err number
+
+-- The lines of the script among the lines of a file from a place on, or the number of the first reply that stands below none. A reply
+-- is awaited behind a line of the script.
+abbrev pub entries_from : Bool → ℕ → List (List ℕ) → Result (List RunEntry) ℕ
+entries_from awaited place [] = Ok []
+entries_from awaited place (part ∷ parts) =
+    if is_reply part then (if awaited then entries_from false (place + 1) parts else Err (place + 1))
+    else (if is_remark part then entries_from false (place + 1) parts
+    else with_entry (record { number = place + 1; text = part; reply = reply_in (get_or parts 0 []) }) (entries_from true (place + 1) parts))
+
+abbrev pub entries_of : List ℕ → Result (List RunEntry) ℕ
+entries_of text = entries_from false 0 (parts_of text)
+
+-- these lines were read, or this fault told; want of memory says nothing
+abbrev pub IsReadAs : Result (List RunEntry) ℕ → Result (Vec RunEntry Global) RunFault → Type 0
+IsReadAs wanted (Ok lines) = wanted ≡ Ok lines.items
+IsReadAs wanted (Err (NoLine number)) = wanted ≡ Err number
+IsReadAs wanted (Err Memory) = Unit {0}
+
+-- the lines of the script, each with LF
+abbrev pub script_of : List RunEntry → List ℕ
+script_of lines = flat_map (λ (l : RunEntry). l.text ++ 10 ∷ []) lines
+
+-- a reply without its LF
+abbrev pub line_in : List ℕ → List ℕ
+line_in reply = before_first (λ c. c == 10) reply

@@ -1,0 +1,307 @@
+//! Runs: scripts with the reply that each line should get.
+
+ghost use Rattle.std.specs.Prelude.{◌≡◌, ◌++◌, ◌∷◌, [], ◌<◌, ◌==◌, IfOk, IsTrue, OnOk, false, get_or, length, map, string_bytes};
+ghost use Rattle.std.specs.List.{after_first, before_first, position_or_len};
+ghost use Rattle.script_reports.specs.inner.Runs.{IsReadAs, entries_from, entries_of, is_remark, is_reply, line_in, parts_of, reply_in, script_of};
+
+use crate::listeners::{Listener, Overrun};
+use std::alloc::{AllocError, Global};
+use std::marker::Model;
+use thiserror::Error;
+
+/// What is wrong with the text of a run.
+#[derive(Clone, Copy, Debug, PartialEq, Eq, Error)]
+pub enum RunFault {
+    /// The line of this number is a reply, and no line of the script stands right above it.
+    #[error("a reply stands below no line of the script")]
+    NoLine(usize),
+    /// Want of memory.
+    #[error("no memory for the run")]
+    Memory,
+}
+
+impl From<AllocError> for RunFault {
+    ghost use Rattle.std.specs.Prelude.{◌≡◌};
+    ghost use Rattle.script_reports.specs.declared.runs.RunFault.TheVariants.{Memory};
+
+    ghost from_gives = { λ _ fault. fault ≡ Memory };
+
+    fn from(_error: AllocError) -> RunFault {
+        RunFault::Memory
+    }
+}
+
+/// A line of a script with the reply that it should get. Contracts see it as the place, the text and the reply.
+#[derive(Drop)]
+pub struct RunLine {
+    number: usize,
+    text: String,
+    reply: String,
+}
+
+impl Model for RunLine {
+    ghost use Rattle.std.specs.Prelude.{string_bytes};
+    ghost use Rattle.script_reports.specs.inner.Runs.{RunEntry};
+
+    ghost Value = { RunEntry };
+
+    ghost view = { λ l. record { number = l.number; text = string_bytes l.text; reply = string_bytes l.reply } };
+}
+
+impl RunLine {
+    /// The line's number in the file, counted from 1.
+    pub fn number(&self) -> usize
+        ensures { result ≡ self.now.number }
+    {
+        self.number
+    }
+
+    /// The line, as the script has it.
+    pub fn text(&self) -> &str
+        ensures { result.now ≡ self.now.text }
+    {
+        self.text.as_str()
+    }
+
+    /// The reply, without LF; no byte where there should be none.
+    pub fn reply(&self) -> &str
+        ensures { result.now ≡ self.now.reply }
+    {
+        self.reply.as_str()
+    }
+}
+
+/// Reads a run. A line that begins with four blanks and has more than these is the reply to the line of the script right above it; one that
+/// begins with `#`, and one with no byte, mean nothing; each other one is a line of the script.
+///
+/// # Errors
+/// `NoLine` with the first reply that stands below no line of the script; `Memory`.
+pub fn read_run(alloc: Global, text: &str) -> Result<Vec<RunLine>, RunFault>
+    ensures { IsReadAs (entries_of text.now) result }
+{
+    let parts = parts_of(alloc, text)?;
+    lines_of_parts(alloc, parts.as_slice())
+}
+
+// The lines of the script among the lines of a file.
+fn lines_of_parts(alloc: Global, parts: &[&str]) -> Result<Vec<RunLine>, RunFault>
+    ensures { IsReadAs (entries_from false 0 (map (λ p. p.now) parts.now)) result }
+{
+    let mut lines = Vec::new(alloc);
+    let mut is_awaited = false;
+    for (place, part) in parts.iter().enumerate() {
+        if is_reply(part) {
+            if !is_awaited {
+                return Err(RunFault::NoLine(place + 1));
+            }
+            is_awaited = false;
+        } else if is_remark(part) {
+            is_awaited = false;
+        } else {
+            let reply = reply_at(parts, place + 1);
+            add_line(alloc, &mut lines, place + 1, part, reply)?;
+            is_awaited = true;
+        }
+    }
+    Ok(lines)
+}
+
+// The lines of a file.
+fn parts_of(alloc: Global, text: &str) -> Result<Vec<&str>, AllocError>
+    ensures { IfOk result (λ parts. map (λ p. p.now) parts.items ≡ parts_of text.now) }
+{
+    let mut parts = Vec::new(alloc);
+    let mut rest = text;
+    while has_feed(rest) {
+        parts.push(before_feed(rest))?;
+        rest = behind_feed(rest);
+    }
+    parts.push(rest)?;
+    Ok(parts)
+}
+
+// Whether a text has an LF.
+fn has_feed(text: &str) -> bool
+    ensures some { IsTrue result → position_or_len (λ c. c == 10) text.now < length text.now }
+    ensures none { result ≡ false → position_or_len (λ c. c == 10) text.now ≡ length text.now }
+{
+    match text.split_once('\n') {
+        Some(_) => true,
+        None => false,
+    }
+}
+
+// What stands before the first LF.
+fn before_feed(text: &str) -> &str
+    ensures { position_or_len (λ c. c == 10) text.now < length text.now → result.now ≡ before_first (λ c. c == 10) text.now }
+{
+    match text.split_once('\n') {
+        Some((before, _behind)) => before,
+        None => text,
+    }
+}
+
+// What stands behind the first LF.
+fn behind_feed(text: &str) -> &str
+    ensures { result.now ≡ after_first (λ c. c == 10) text.now }
+{
+    match text.split_once('\n') {
+        Some((_before, behind)) => behind,
+        None => "",
+    }
+}
+
+// The reply at this place, without its blanks, if there is one.
+fn reply_at<'a>(parts: &[&'a str], place: usize) -> &'a str
+    ensures { result.now ≡ reply_in (get_or (map (λ p. p.now) parts.now) place []) }
+{
+    match parts.get(place) {
+        Some(part) => reply_in(part),
+        None => "",
+    }
+}
+
+// The reply that a line of a file is, without its blanks; no byte where it is none.
+fn reply_in(part: &str) -> &str
+    ensures { result.now ≡ reply_in part.now }
+{
+    if !is_reply(part) {
+        return "";
+    }
+    &part[4..]
+}
+
+// Adds a line with its reply.
+fn add_line(
+    alloc: Global,
+    lines: &mut Vec<RunLine>,
+    number: usize,
+    text: &str,
+    reply: &str,
+) -> Result<(), AllocError>
+    ensures { OnOk result (lines.new.items ≡ lines.old.items ++ record { number = number; text = text.now; reply = reply.now } ∷ []) }
+{
+    let line = run_line(alloc, number, text, reply)?;
+    lines.push(line)?;
+    Ok(())
+}
+
+// A line with its reply.
+fn run_line(alloc: Global, number: usize, text: &str, reply: &str) -> Result<RunLine, AllocError>
+    ensures { IfOk result (λ line. line ≡ record { number = number; text = text.now; reply = reply.now }) }
+{
+    Ok(RunLine {
+        number,
+        text: String::from_str(alloc, text)?,
+        reply: String::from_str(alloc, reply)?,
+    })
+}
+
+// Whether a line of a file is a reply: it begins with four blanks, and has more than these.
+fn is_reply(part: &str) -> bool
+    ensures { result ≡ is_reply part.now }
+{
+    matches!(part.as_bytes(), [b' ', b' ', b' ', b' ', _, ..])
+}
+
+// Whether a line of a file means nothing.
+fn is_remark(part: &str) -> bool
+    ensures { result ≡ is_remark part.now }
+{
+    matches!(part.as_bytes(), [] | [b'#', ..])
+}
+
+/// The lines of the script, each with LF.
+///
+/// # Errors
+/// Want of memory.
+pub fn script_of(alloc: Global, lines: &[RunLine]) -> Result<String, AllocError>
+    ensures { IfOk result (λ text. string_bytes text ≡ script_of lines.now) }
+{
+    let mut text = String::new(alloc);
+    for line in lines {
+        text.push_str(line.text())?;
+        text.push('\n')?;
+    }
+    Ok(text)
+}
+
+/// The path of the configuration that a run names in its first line, `# --config PATH`.
+pub fn configuration_of(text: &str) -> Option<&str> {
+    let (first, _rest) = text.split_once('\n')?;
+    let path = first.strip_prefix("# --config ")?;
+    Some(path.trim())
+}
+
+/// The replies to the lines of a script, without LF; no byte where there is none. Contracts see it as their list.
+#[derive(Drop)]
+pub struct Replies {
+    replies: Vec<String>,
+}
+
+impl Model for Replies {
+    ghost use Rattle.std.specs.Prelude.{ℕ, List, map, string_bytes};
+
+    ghost Value = { List (List ℕ) };
+
+    ghost view = { λ r. map string_bytes r.replies.items };
+}
+
+impl Replies {
+    /// None.
+    pub fn new(alloc: Global) -> Replies
+        ensures { result ≡ [] }
+    {
+        Replies {
+            replies: Vec::new(alloc),
+        }
+    }
+
+    /// The replies, the first line's first.
+    pub fn as_slice(&self) -> &[String]
+        ensures { map string_bytes result.now ≡ self.now }
+    {
+        self.replies.as_slice()
+    }
+
+    /// Takes the reply to one more line, up to its LF.
+    ///
+    /// # Errors
+    /// Want of memory.
+    pub fn add(&mut self, alloc: Global, reply: &str) -> Result<(), AllocError>
+        ensures { OnOk result (self.new ≡ self.old ++ line_in reply.now ∷ []) }
+    {
+        let line = String::from_str(alloc, line_in(reply))?;
+        self.replies.push(line)?;
+        Ok(())
+    }
+}
+
+// What stands before an LF.
+fn line_in(reply: &str) -> &str
+    ensures { result.now ≡ line_in reply.now }
+{
+    match reply.split_once('\n') {
+        Some((line, _behind)) => line,
+        None => reply,
+    }
+}
+
+impl Listener for Replies {
+    ghost use Rattle.std.specs.Prelude.{◌≡◌, map};
+    ghost use Rattle.script_reports.specs.inner.Heard.{HeardLine};
+    ghost use Rattle.script_reports.specs.inner.Runs.{line_in};
+
+    ghost heard = { λ replies lines. replies ≡ map (λ (l : HeardLine). line_in l.reply) lines };
+
+    fn hear(
+        &mut self,
+        alloc: Global,
+        _number: u64,
+        _text: &str,
+        reply: &str,
+        _overruns: &[Overrun],
+    ) -> Result<(), AllocError> {
+        self.add(alloc, reply)
+    }
+}

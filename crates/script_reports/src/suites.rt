@@ -1,0 +1,94 @@
+//! What was compared, as a suite of tests in the form of JUnit, for a server that builds and tests.
+
+ghost use Rattle.std.specs.Prelude.{◌≡◌, ◌++◌, IfOk, OnOk, map, string_bytes};
+ghost use Rattle.script_reports.specs.inner.Differences.{failures_from};
+ghost use Rattle.script_reports.specs.inner.Suites.{IsEscaped, escaped_character};
+
+use crate::differences::{reply_at, text_of_changes};
+use crate::runs::RunLine;
+use crate::told::first_words;
+use std::alloc::{AllocError, Global};
+
+/// The suite of a run in XML: a test for each line of its script, named by its number and first words, which fails where its reply isn't
+/// the one that it should get.
+///
+/// # Errors
+/// Want of memory.
+pub fn text_of_suite(
+    alloc: Global,
+    name: &str,
+    lines: &[RunLine],
+    replies: &[String],
+) -> Result<String, AllocError> {
+    let name = escaped(alloc, name)?;
+    let tests = lines.len();
+    let failures = failures(lines, replies);
+    let mut text = format!(in alloc;
+        "<?xml version=\"1.0\" encoding=\"UTF-8\"?>\n<testsuites>\n<testsuite name=\"{name}\" tests=\"{tests}\" failures=\"{failures}\">\n"
+    )?;
+    for (place, line) in lines.iter().enumerate() {
+        let test = text_of_test(alloc, name.as_str(), line, reply_at(replies, place))?;
+        text.push_str(test.as_str())?;
+    }
+    text.push_str("</testsuite>\n</testsuites>\n")?;
+    Ok(text)
+}
+
+// How many lines have another reply than they should get.
+fn failures(lines: &[RunLine], replies: &[String]) -> usize
+    ensures { result ≡ failures_from (map string_bytes replies.now) 0 lines.now }
+{
+    let mut failures = 0;
+    for (place, line) in lines.iter().enumerate() {
+        if reply_at(replies, place) != line.reply() {
+            failures += 1;
+        }
+    }
+    failures
+}
+
+// The test of a line.
+fn text_of_test(
+    alloc: Global,
+    suite: &str,
+    line: &RunLine,
+    came: &str,
+) -> Result<String, AllocError> {
+    let number = line.number();
+    let words = first_words(alloc, line.text())?;
+    let words = escaped(alloc, words.as_str())?;
+    if line.reply() == came {
+        return format!(in alloc; "<testcase classname=\"{suite}\" name=\"{number}: {words}\"/>\n");
+    }
+    let changes = text_of_changes(alloc, line.reply(), came)?;
+    let changes = escaped(alloc, changes.as_str())?;
+    format!(in alloc;
+        "<testcase classname=\"{suite}\" name=\"{number}: {words}\">\n<failure message=\"another reply\">{changes}</failure>\n</testcase>\n"
+    )
+}
+
+// A text as it may stand in XML: what has a meaning there by its entity, and a control character but LF by `?`.
+fn escaped(alloc: Global, text: &str) -> Result<String, AllocError>
+    ensures { IfOk result (λ shown. IsEscaped text.now (string_bytes shown)) }
+{
+    let mut shown = String::new(alloc);
+    for c in text.chars() {
+        push_escaped(&mut shown, c)?;
+    }
+    Ok(shown)
+}
+
+// Writes a character as it may stand in XML.
+fn push_escaped(shown: &mut String, c: char) -> Result<(), AllocError>
+    ensures { OnOk result (string_bytes shown.new ≡ string_bytes shown.old ++ escaped_character c) }
+{
+    match c {
+        '&' => shown.push_str("&amp;"),
+        '<' => shown.push_str("&lt;"),
+        '>' => shown.push_str("&gt;"),
+        '"' => shown.push_str("&quot;"),
+        '\n' => shown.push('\n'),
+        '\0'..='\u{1f}' => shown.push('?'),
+        _ => shown.push(c),
+    }
+}

@@ -1,0 +1,188 @@
+//! What is told of the lines of a script: which were refused, at which a tenant was stopped by an overrun, and which ended it.
+
+ghost use Rattle.std.specs.Prelude.{◌≡◌, ◌++◌, ◌==◌, [], ℕ, IfOk, OnOk, List, string_bytes};
+ghost use Rattle.std.specs.List.{flat_map};
+ghost use Rattle.std.specs.Str.{IsCharBoundary};
+ghost use Rattle.script_reports.specs.inner.Told.{answer_in, first_words, is_refusal, last_boundary, told_of, told_of_end, told_of_overrun, told_of_reply, text_of_overrun};
+
+use crate::listeners::{Listener, Overrun};
+use std::alloc::{AllocError, Global};
+use std::marker::Model;
+
+/// How many bytes of a line are shown at most.
+pub const SHOWN: usize = 40;
+
+/// What is told of the lines of a script: a line of text for each refusal, for each overrun, and for the one that ended the script.
+/// Contracts see it as its bytes.
+#[derive(Drop)]
+pub struct Report {
+    text: String,
+}
+
+impl Model for Report {
+    ghost use Rattle.std.specs.Prelude.{ℕ, List, string_bytes};
+
+    ghost Value = { List ℕ };
+
+    ghost view = { λ r. string_bytes r.text };
+}
+
+impl Report {
+    /// Of no line.
+    pub fn new(alloc: Global) -> Report
+        ensures { result ≡ [] }
+    {
+        Report {
+            text: String::new(alloc),
+        }
+    }
+
+    /// The lines of the report, each with LF; no byte where nothing went wrong.
+    pub fn as_str(&self) -> &str
+        ensures { result.now ≡ self.now }
+    {
+        self.text.as_str()
+    }
+
+    /// Tells that the line of this number was too long or no text, and ended the script.
+    ///
+    /// # Errors
+    /// Want of memory.
+    pub fn tell_end(&mut self, alloc: Global, number: u64) -> Result<(), AllocError>
+        ensures { OnOk result (self.new ≡ self.old ++ told_of_end number) }
+    {
+        let end = format!(in alloc;
+            "{number}: longer than 16384 bytes or no text: it ends the script\n"
+        )?;
+        self.add(end.as_str())
+    }
+
+    // Writes a text behind what stands there.
+    fn add(&mut self, told: &str) -> Result<(), AllocError>
+        ensures { OnOk result (self.new ≡ self.old ++ told.now) }
+    {
+        self.text.push_str(told)
+    }
+}
+
+impl Listener for Report {
+    ghost use Rattle.std.specs.Prelude.{◌≡◌};
+    ghost use Rattle.script_reports.specs.inner.Told.{told_of_lines};
+
+    ghost heard = { λ report lines. report ≡ told_of_lines lines };
+
+    fn hear(
+        &mut self,
+        alloc: Global,
+        number: u64,
+        text: &str,
+        reply: &str,
+        overruns: &[Overrun],
+    ) -> Result<(), AllocError> {
+        let refusal = told_of_reply(alloc, number, text, reply)?;
+        let stops = told_of_overruns(alloc, number, text, overruns)?;
+        let told = format!(in alloc; "{refusal}{stops}")?;
+        self.add(told.as_str())
+    }
+}
+
+// What a reply says, behind who is answered.
+fn answer_in(reply: &str) -> &str
+    ensures { result.now ≡ answer_in reply.now }
+{
+    match reply.split_once(' ') {
+        Some((_who, answer)) => answer,
+        None => "",
+    }
+}
+
+// Whether what a reply says is a refusal.
+fn is_refusal(answer: &str) -> bool
+    ensures { (reply : List ℕ) → answer.now ≡ answer_in reply → result ≡ is_refusal reply }
+{
+    matches!(answer.as_bytes(), [b'e', b'r', b'r', b' ', ..])
+}
+
+// What is told of a reply to a line.
+fn told_of_reply(alloc: Global, number: u64, line: &str, reply: &str) -> Result<String, AllocError>
+    ensures { IfOk result (λ told. string_bytes told ≡ told_of_reply number line.now reply.now) }
+{
+    let answer = answer_in(reply);
+    if !is_refusal(answer) {
+        return Ok(String::new(alloc));
+    }
+    told_of(alloc, number, line, answer)
+}
+
+// What is told of the overruns at the instant that a line gave.
+fn told_of_overruns(
+    alloc: Global,
+    number: u64,
+    line: &str,
+    overruns: &[Overrun],
+) -> Result<String, AllocError>
+    ensures { IfOk result (λ told. string_bytes told ≡ flat_map (told_of_overrun number line.now) overruns.now) }
+{
+    let mut text = String::new(alloc);
+    for overrun in overruns {
+        let told = told_of_overrun(alloc, number, line, overrun)?;
+        text.push_str(told.as_str())?;
+    }
+    Ok(text)
+}
+
+// What is told of an overrun at the instant that a line gave.
+fn told_of_overrun(
+    alloc: Global,
+    number: u64,
+    line: &str,
+    overrun: &Overrun,
+) -> Result<String, AllocError>
+    ensures { IfOk result (λ told. string_bytes told ≡ told_of_overrun number line.now overrun.now) }
+{
+    let what = text_of_overrun(alloc, overrun)?;
+    told_of(alloc, number, line, what.as_str())
+}
+
+// What is told of a line, behind its number and its first words.
+fn told_of(alloc: Global, number: u64, line: &str, what: &str) -> Result<String, AllocError>
+    ensures { IfOk result (λ told. string_bytes told ≡ told_of number line.now what.now) }
+{
+    let words = first_words(alloc, line)?;
+    format!(in alloc; "{number}: {words}: {what}")
+}
+
+// That a tenant was stopped by an overrun.
+fn text_of_overrun(alloc: Global, overrun: &Overrun) -> Result<String, AllocError>
+    ensures { IfOk result (λ text. string_bytes text ≡ text_of_overrun overrun.now) }
+{
+    let tenant = overrun.tenant.as_str();
+    let task = overrun.task.as_str();
+    format!(in alloc; "{tenant} stopped, overrun {task}\n")
+}
+
+/// The first words of a line: its first 40 bytes, or less where a character would be cut, with ` ..` behind them where it is longer.
+///
+/// # Errors
+/// Want of memory.
+pub fn first_words(alloc: Global, line: &str) -> Result<String, AllocError>
+    ensures { IfOk result (λ words. string_bytes words ≡ first_words line.now) }
+{
+    if line.len() <= SHOWN {
+        return String::from_str(alloc, line);
+    }
+    let (front, _rest) = line.split_at(last_boundary(line, SHOWN));
+    format!(in alloc; "{front} ..")
+}
+
+// The last place at which a character begins, or the text ends, and that isn't behind this one.
+fn last_boundary(text: &str, most: usize) -> usize
+    ensures place { result ≡ last_boundary text.now most }
+    ensures boundary { IsCharBoundary text.now result }
+{
+    let mut end = most;
+    while end > 0 && !text.is_char_boundary(end) {
+        end -= 1;
+    }
+    end
+}
