@@ -10,7 +10,7 @@ use crate::questions::views_of;
 use host_core::hosts::Host;
 use rig_config::{Config, TenantId};
 use rig_script::answers::{Answers, answer_lines};
-use rig_script::faults::ScriptFault;
+use rig_script::faults::{ScriptFault, Unanswered};
 use rig_script::speakers::{Speaker, who_speaks};
 use std::alloc::{AllocError, Global};
 use std::io::{Read, Write};
@@ -98,16 +98,12 @@ impl<W: Watch> Answers for Watched<W> {
 
     ghost stands = { λ watched setting past. IsHostAfter setting watched.host past };
 
-    fn speaker(&self, line: &str) -> Speaker {
-        self.host.speaker(line)
-    }
-
-    fn answer(&mut self, alloc: Global, line: &str) -> Result<String, AllocError> {
-        let reply = self.host.answer(alloc, line)?;
-        if self.is_whole && self.show(alloc, line, reply.as_str()).is_err() {
+    fn answer(&mut self, alloc: Global, line: &str, text: &mut String) -> Result<(), Unanswered> {
+        self.host.answer(alloc, line, text)?;
+        if self.is_whole && self.show(alloc, line, text.as_str()).is_err() {
             self.is_whole = false;
         }
-        Ok(reply)
+        Ok(())
     }
 }
 

@@ -10,8 +10,8 @@ use host_core::hosts::Host;
 use rig_config::Config;
 use rig_script::answers::{Answers, Ending, answer_lines};
 use rig_script::carry_out;
-use rig_script::faults::ScriptFault;
-use rig_script::speakers::Speaker;
+use rig_script::faults::{ScriptFault, Unanswered};
+use rig_script::speakers::{Speaker, who_speaks};
 use std::alloc::{AllocError, Global};
 use std::io;
 use std::io::Read;
@@ -130,16 +130,20 @@ impl Answers for Recorder {
 
     ghost stands = { λ r setting past. IsRecorded setting r.host r.recording.events.items past };
 
-    fn speaker(&self, line: &str) -> Speaker {
-        self.host.speaker(line)
-    }
-
-    fn answer(&mut self, alloc: Global, line: &str) -> Result<String, AllocError> {
-        let speaker = self.host.speaker(line);
-        let before = self.recording.events.len();
-        let reply = carry_out(alloc, &mut self.host, &mut self.recording.events, line)?;
-        let events = self.recording.events.len().saturating_sub(before);
-        self.note(alloc, speaker, line, reply.as_str(), events)?;
-        Ok(reply)
+    fn answer(&mut self, alloc: Global, line: &str, text: &mut String) -> Result<(), Unanswered> {
+        let speaker = who_speaks(self.host.config(), line);
+        let told = self.recording.events.len();
+        carry_out(
+            alloc,
+            &mut self.host,
+            &mut self.recording.events,
+            line,
+            text,
+        )?;
+        let events = self.recording.events.len().saturating_sub(told);
+        match self.note(alloc, speaker, line, text.as_str(), events) {
+            Ok(()) => Ok(()),
+            Err(_) => Err(Unanswered { speaker }),
+        }
     }
 }

@@ -16,8 +16,7 @@ ghost use Rattle.rig_model.specs.Script.{past_after};
 use host_core::hosts::Host;
 use rig_config::{Config, TenantId};
 use rig_script::answers::{Answers, answer_lines};
-use rig_script::faults::ScriptFault;
-use rig_script::speakers::Speaker;
+use rig_script::faults::{ScriptFault, Unanswered};
 use std::alloc::{AllocError, Global};
 use std::io;
 use std::io::Read;
@@ -119,20 +118,16 @@ impl Answers for Watched {
 
     ghost stands = { λ w setting past. IsWatching setting w.host w.table w.is_whole past };
 
-    fn speaker(&self, line: &str) -> Speaker {
-        self.host.speaker(line)
-    }
-
-    fn answer(&mut self, alloc: Global, line: &str) -> Result<String, AllocError> {
+    fn answer(&mut self, alloc: Global, line: &str, text: &mut String) -> Result<(), Unanswered> {
         let clock = self.host.clock();
         let added = self.table.additions(alloc, &self.host);
-        let reply = self.host.answer(alloc, line)?;
+        self.host.answer(alloc, line, text)?;
         self.answered = self.answered.saturating_add(1);
         if self.host.clock() == clock {
-            return Ok(reply);
+            return Ok(());
         }
         self.keep(added);
-        Ok(reply)
+        Ok(())
     }
 }
 

@@ -1,5 +1,5 @@
 -- What a step answers, and the host behind it.
-use Rattle.std.proofs.Common.{◌≡◌, ℕ, ◌-◌, ◌^◌, ◌<◌, ◌==◌, nat_lt, Bool, true, false, if◌then◌else◌, ℤ, List, [], ◌∷◌, ◌++◌, length, Some, None, Result, Ok, Err, IfOk, String, Global, reverse, append-nil, string_bytes, codes, refl, sym, ap, ◌∙◌, subst, arith}
+use Rattle.std.proofs.Common.{◌≡◌, ℕ, ◌-◌, ◌^◌, ◌<◌, ◌==◌, nat_lt, Bool, true, false, if◌then◌else◌, ℤ, List, [], ◌∷◌, ◌++◌, length, Some, None, Result, Ok, Err, OnOk, reverse, append-nil, codes, refl, sym, ap, ◌∙◌, subst, arith}
 use Rattle.std.proofs.lemmas.Bool.Decides.{nat_tests}
 use Rattle.std.proofs.lemmas.Bool.{eqb-true, and_from}
 use Rattle.std.specs.Cmp.Lexicographic.{same_text}
@@ -33,15 +33,15 @@ use Rattle.rig_script.specs.inner.Script.{IsCarriedOut}
 use Rattle.rig_script.specs.inner.Records.{AreNone, IsTold}
 
 -- this text was answered, the events were told, and they have happened
-pub step_done : (step : Step) (past : List Event) (r : Result (String Global) AllocError) (Before After Stands : List Event → Type 0) (text : List ℕ)
-    → IfOk r (λ t. string_bytes t ≡ text) → text ≡ step.reply → IsTold Before After (reverse step.events) → Stands (step.events ++ past) → IsCarriedOut step past Before After r Stands
-step_done step past (Ok t) Before After Stands text given is told after = (given ∙ is, told, after)
-step_done step past (Err e) Before After Stands text given is told after = tt
+pub step_done : (step : Step) (past : List Event) (r : Result (Unit {0}) AllocError) (Before After : List Event → Type 0) (Said : List ℕ → Type 0) (Stands : List Event → Type 0) (text : List ℕ)
+    → OnOk r (Said text) → text ≡ step.reply → IsTold Before After (reverse step.events) → Stands (step.events ++ past) → IsCarriedOut step past Before After r Said Stands
+step_done step past (Ok u) Before After Said Stands text given is told after = (subst Said is given, told, after)
+step_done step past (Err e) Before After Said Stands text given is told after = tt
 
 -- where nothing was told, nobody was told anything
-pub none_told_to : (step : Step) (past : List Event) (r : Result (String Global) AllocError) (Told Stands : List Event → Type 0) → IsCarriedOut step past AreNone AreNone r Stands → IsCarriedOut step past Told Told r Stands
-none_told_to step past (Ok t) Told Stands h = (h.0, λ told before. subst Told (sym (ap (λ l. told ++ l) (h.1 [] refl) ∙ append-nil told)) before, h.2)
-none_told_to step past (Err e) Told Stands h = tt
+pub none_told_to : (step : Step) (past : List Event) (r : Result (Unit {0}) AllocError) (Told : List Event → Type 0) (Said : List ℕ → Type 0) (Stands : List Event → Type 0) → IsCarriedOut step past AreNone AreNone r Said Stands → IsCarriedOut step past Told Told r Said Stands
+none_told_to step past (Ok u) Told Said Stands h = (h.0, λ told before. subst Told (sym (ap (λ l. told ++ l) (h.1 [] refl) ∙ append-nil told)) before, h.2)
+none_told_to step past (Err e) Told Said Stands h = tt
 
 -- nothing was told
 pub none_told : (Told : List Event → Type 0) → IsTold Told Told []
@@ -53,6 +53,13 @@ decided m n h = by (m == n) refl
     by : (b : Bool) → (m == n) ≡ b → m ≡ n
     by true e = eqb-true m n e
     by false e = absurd (h (λ same. grind (arith, nat_tests, e, same)))
+
+differs : (m n : ℕ) → (m ≡ n → ⊥) → (m == n) ≡ false
+differs m n h = by (m == n) refl
+  where
+    by : (b : Bool) → (m == n) ≡ b → (m == n) ≡ false
+    by true e = absurd (h (eqb-true m n e))
+    by false e = e
 
 -- the words of a line, by its first word and what stands behind it
 pub words_with : (line first rest word : List ℕ) → first ≡ first_word_of line → rest ≡ behind_first_word line → first ≡ word → 0 < length word → words_of line ≡ word ∷ words_of rest
@@ -106,11 +113,11 @@ pub work_with_more : (line : List ℕ) → 0 < length (first_word_of line) → 0
 work_with_more line some more =
     ap (λ ws. operator_line_of (codes "work" ∷ ws)) (words_first line some ∙ ap (λ ws. first_word_of line ∷ ws) (words_first (behind_first_word line) more))
 
-module _ (setting : Setting) (past : List Event) (host later : HostStanding) (h : IsHostAfter setting host past) (r : Result (String Global) AllocError) (Before After : List Event → Type 0) where
+module _ (setting : Setting) (past : List Event) (host later : HostStanding) (h : IsHostAfter setting host past) (r : Result (Unit {0}) AllocError) (Before After : List Event → Type 0) (Said : List ℕ → Type 0) where
   -- a command was carried out
   pub command_done : (t : ℕ) (name line : List ℕ) (command : Command) (reply : Reply) → t < length host.config.tenants → command_of_line line ≡ Some command
       → reply ≡ (after_command setting t command (row_at (host_after setting past) t)).reply → Stands setting later (after_event setting (host_after setting past) (Own t command))
-      → IfOk r (λ text. string_bytes text ≡ reply_line name (text_of_reply reply)) → IsTold Before After (Own t command ∷ []) → IsCarriedOut (tenant_step setting past t name line) past Before After r (IsHostAfter setting later)
+      → OnOk r (Said (reply_line name (text_of_reply reply))) → IsTold Before After (Own t command ∷ []) → IsCarriedOut (tenant_step setting past t name line) past Before After r Said (IsHostAfter setting later)
   command_done t name line command reply lt spelled answered after given told =
       let same = h.stands.same_config in
       let within : t < length setting.config.tenants = subst (λ (c : Rig). t < length c.tenants) same lt in
@@ -118,52 +125,52 @@ module _ (setting : Setting) (past : List Event) (host later : HostStanding) (h 
       let row = same_rows setting h.base past t h.legal is in
       let step : Step = record { events = Own t command ∷ []; reply = reply_line name (text_of_reply (after_command setting t command (row_of setting past t)).reply) } in
       let steps : tenant_step setting past t name line ≡ step = rw spelled refl in
-      subst (λ (s : Step). IsCarriedOut s past Before After r (IsHostAfter setting later)) (sym steps)
-      (step_done step past r Before After (IsHostAfter setting later) (reply_line name (text_of_reply reply)) given
+      subst (λ (s : Step). IsCarriedOut s past Before After r Said (IsHostAfter setting later)) (sym steps)
+      (step_done step past r Before After Said (IsHostAfter setting later) (reply_line name (text_of_reply reply)) given
       (ap (λ p. reply_line name (text_of_reply p)) (answered ∙ ap (λ w. (after_command setting t command w).reply) row)) told
       (record { base = h.base; legal = and_from (is_tenant setting.config t) (is_legal setting past) is h.legal; stands = after }))
 
   -- a line of no form
-  pub operator_refused : (words : List (List ℕ)) → operator_line_of words ≡ None → later ≡ host → IfOk r (λ text. string_bytes text ≡ reply_line operator (codes "err bad-command"))
-      → IsTold Before After [] → IsCarriedOut (operator_step setting past words) past Before After r (IsHostAfter setting later)
+  pub operator_refused : (words : List (List ℕ)) → operator_line_of words ≡ None → later ≡ host → OnOk r (Said (reply_line operator (codes "err bad-command")))
+      → IsTold Before After [] → IsCarriedOut (operator_step setting past words) past Before After r Said (IsHostAfter setting later)
   operator_refused words none kept given told =
       let step : Step = only_answered (reply_line operator (codes "err bad-command")) in
       let steps : operator_step setting past words ≡ step = rw none refl in
-      subst (λ (s : Step). IsCarriedOut s past Before After r (IsHostAfter setting later)) (sym steps)
-      (step_done step past r Before After (IsHostAfter setting later) (reply_line operator (codes "err bad-command")) given refl told (subst (λ s. IsHostAfter setting s past) (sym kept) h))
+      subst (λ (s : Step). IsCarriedOut s past Before After r Said (IsHostAfter setting later)) (sym steps)
+      (step_done step past r Before After Said (IsHostAfter setting later) (reply_line operator (codes "err bad-command")) given refl told (subst (λ s. IsHostAfter setting s past) (sym kept) h))
 
   -- the values of the lines were told
   pub lines_told : (words : List (List ℕ)) → operator_line_of words ≡ Some line_values → later ≡ host → (text : List ℕ)
-      → IfOk r (λ t. string_bytes t ≡ reply_line operator text) → IsTold Before After [] → text ≡ codes "ok lines" ++ text_of_lines (line_of host) host.config.lines
-      → IsCarriedOut (operator_step setting past words) past Before After r (IsHostAfter setting later)
+      → OnOk r (Said (reply_line operator text)) → IsTold Before After [] → text ≡ codes "ok lines" ++ text_of_lines (line_of host) host.config.lines
+      → IsCarriedOut (operator_step setting past words) past Before After r Said (IsHostAfter setting later)
   lines_told words is kept text given none told =
       let same = h.stands.same_config in
       let values : text ≡ codes "ok lines" ++ text_of_lines (value_of_line setting.config (row_of setting past)) setting.config.lines =
       told ∙ ap (λ (c : Rig). codes "ok lines" ++ text_of_lines (line_of host) c.lines) same ∙ ap (λ ls. codes "ok lines" ++ ls) (same_lines setting h.base past h.legal host h.stands setting.config.lines) in
       let steps : operator_step setting past words ≡ lines_step setting past = rw is refl in
-      subst (λ (s : Step). IsCarriedOut s past Before After r (IsHostAfter setting later)) (sym steps)
-      (step_done (lines_step setting past) past r Before After (IsHostAfter setting later) (reply_line operator text) given (ap (reply_line operator) values) none (subst (λ s. IsHostAfter setting s past) (sym kept) h))
+      subst (λ (s : Step). IsCarriedOut s past Before After r Said (IsHostAfter setting later)) (sym steps)
+      (step_done (lines_step setting past) past r Before After Said (IsHostAfter setting later) (reply_line operator text) given (ap (reply_line operator) values) none (subst (λ s. IsHostAfter setting s past) (sym kept) h))
 
   -- `work` of one tenant
-  pub tenant_worked : (words : List (List ℕ)) (x : List ℕ) → operator_line_of words ≡ Some (work_of x) → IsCarriedOut (work_step_of setting past x) past Before After r (IsHostAfter setting later)
-      → IsCarriedOut (operator_step setting past words) past Before After r (IsHostAfter setting later)
+  pub tenant_worked : (words : List (List ℕ)) (x : List ℕ) → operator_line_of words ≡ Some (work_of x) → IsCarriedOut (work_step_of setting past x) past Before After r Said (IsHostAfter setting later)
+      → IsCarriedOut (operator_step setting past words) past Before After r Said (IsHostAfter setting later)
   tenant_worked words x is given =
       let steps : operator_step setting past words ≡ work_step_of setting past x = rw is refl in
-      subst (λ (s : Step). IsCarriedOut s past Before After r (IsHostAfter setting later)) (sym steps) given
+      subst (λ (s : Step). IsCarriedOut s past Before After r Said (IsHostAfter setting later)) (sym steps) given
 
   -- of a tenant of the roster
-  pub tenant_found : (x : List ℕ) (t : ℕ) → place_of setting.config x ≡ Some t → IsCarriedOut (work_step (outstanding_at setting past t)) past Before After r (IsHostAfter setting later)
-      → IsCarriedOut (work_step_of setting past x) past Before After r (IsHostAfter setting later)
+  pub tenant_found : (x : List ℕ) (t : ℕ) → place_of setting.config x ≡ Some t → IsCarriedOut (work_step (outstanding_at setting past t)) past Before After r Said (IsHostAfter setting later)
+      → IsCarriedOut (work_step_of setting past x) past Before After r Said (IsHostAfter setting later)
   tenant_found x t is given =
       let steps : work_step_of setting past x ≡ work_step (outstanding_at setting past t) = rw is refl in
-      subst (λ (s : Step). IsCarriedOut s past Before After r (IsHostAfter setting later)) (sym steps) given
+      subst (λ (s : Step). IsCarriedOut s past Before After r Said (IsHostAfter setting later)) (sym steps) given
 
   module _ (words : List (List ℕ)) (frame : List ℤ) (values : values_of_words words ≡ Some frame) where
     -- an instant happened
     pub tick_done : (n : ℕ) → n ≡ host.clock → n < 2 ^ 64 → ((length frame ≡ host.config.lines → ⊥) → ⊥) → ((length frame ≡ host.config.lines) × (host.clock ≡ 2 ^ 64 - 1) → ⊥)
         → Stands setting later (after_event setting (host_after setting past) (Tick frame))
-        → IfOk r (λ text. string_bytes text ≡ reply_line operator (codes "ok tick " ++ decimal n)) → IsTold Before After (Tick frame ∷ [])
-        → IsCarriedOut (operator_step setting past (codes "tick" ∷ words)) past Before After r (IsHostAfter setting later)
+        → OnOk r (Said (reply_line operator (codes "ok tick " ++ decimal n))) → IsTold Before After (Tick frame ∷ [])
+        → IsCarriedOut (operator_step setting past (codes "tick" ∷ words)) past Before After r Said (IsHostAfter setting later)
     tick_done n is fits whole goes_on after given told =
         let long : length frame ≡ host.config.lines = decided (length frame) host.config.lines whole in
         let lines : length frame ≡ setting.config.lines = long ∙ ap (λ (c : Rig). c.lines) h.stands.same_config in
@@ -174,16 +181,26 @@ module _ (setting : Setting) (past : List Event) (host later : HostStanding) (h 
         let clock_fits : nat_lt (next_tick setting past) (2 ^ 64 - 1) ≡ true = subst (λ k. nat_lt k (2 ^ 64 - 1) ≡ true) next (grind (arith, nat_tests, low)) in
         let step : Step = record { events = Tick frame ∷ []; reply = reply_line operator (codes "ok tick " ++ decimal (next_tick setting past)) } in
         let steps : operator_step setting past (codes "tick" ∷ words) ≡ step = rw (values, lines_fit, clock_fits) refl in
-        subst (λ (s : Step). IsCarriedOut s past Before After r (IsHostAfter setting later)) (sym steps)
-        (step_done step past r Before After (IsHostAfter setting later) (reply_line operator (codes "ok tick " ++ decimal n)) given (ap (λ k. reply_line operator (codes "ok tick " ++ decimal k)) next) told
+        subst (λ (s : Step). IsCarriedOut s past Before After r Said (IsHostAfter setting later)) (sym steps)
+        (step_done step past r Before After Said (IsHostAfter setting later) (reply_line operator (codes "ok tick " ++ decimal n)) given (ap (λ k. reply_line operator (codes "ok tick " ++ decimal k)) next) told
         (record { base = h.base; legal = and_from (may_follow setting past (Tick frame)) (is_legal setting past) (and_from _ _ lines_fit clock_fits) h.legal; stands = after }))
       where
         below : (n : ℕ) → n < 2 ^ 64 → (n ≡ 2 ^ 64 - 1 → ⊥) → n < 2 ^ 64 - 1
         below n lt other = omega (arith, lt, other)
 
+    -- the frame has another length
+    pub tick_refused : (length frame ≡ host.config.lines → ⊥) → later ≡ host
+        → OnOk r (Said (reply_line operator (codes "err bad-frame"))) → IsTold Before After [] → IsCarriedOut (operator_step setting past (codes "tick" ∷ words)) past Before After r Said (IsHostAfter setting later)
+    tick_refused other kept given told =
+        let differ : (length frame == setting.config.lines) ≡ false = differs (length frame) setting.config.lines (λ e. other (e ∙ sym (ap (λ (c : Rig). c.lines) h.stands.same_config))) in
+        let step : Step = only_answered (reply_line operator (codes "err bad-frame")) in
+        let steps : operator_step setting past (codes "tick" ∷ words) ≡ step = rw (values, differ) refl in
+        subst (λ (s : Step). IsCarriedOut s past Before After r Said (IsHostAfter setting later)) (sym steps)
+        (step_done step past r Before After Said (IsHostAfter setting later) (reply_line operator (codes "err bad-frame")) given refl told (subst (λ s. IsHostAfter setting s past) (sym kept) h))
+
     -- the clock has ended
     pub tick_ended : length frame ≡ host.config.lines → host.clock ≡ 2 ^ 64 - 1 → later ≡ host
-        → IfOk r (λ text. string_bytes text ≡ reply_line operator (codes "err clock-ended")) → IsTold Before After [] → IsCarriedOut (operator_step setting past (codes "tick" ∷ words)) past Before After r (IsHostAfter setting later)
+        → OnOk r (Said (reply_line operator (codes "err clock-ended"))) → IsTold Before After [] → IsCarriedOut (operator_step setting past (codes "tick" ∷ words)) past Before After r Said (IsHostAfter setting later)
     tick_ended long ended kept given told =
         let lines : length frame ≡ setting.config.lines = long ∙ ap (λ (c : Rig). c.lines) h.stands.same_config in
         let next : next_tick setting past ≡ 2 ^ 64 - 1 = sym (h.stands.same_clock ∙ same_clock setting past) ∙ ended in
@@ -191,5 +208,5 @@ module _ (setting : Setting) (past : List Event) (host later : HostStanding) (h 
         let clock_ends : nat_lt (next_tick setting past) (2 ^ 64 - 1) ≡ false = subst (λ k. nat_lt k (2 ^ 64 - 1) ≡ false) (sym next) refl in
         let step : Step = only_answered (reply_line operator (codes "err clock-ended")) in
         let steps : operator_step setting past (codes "tick" ∷ words) ≡ step = rw (values, lines_fit, clock_ends) refl in
-        subst (λ (s : Step). IsCarriedOut s past Before After r (IsHostAfter setting later)) (sym steps)
-        (step_done step past r Before After (IsHostAfter setting later) (reply_line operator (codes "err clock-ended")) given refl told (subst (λ s. IsHostAfter setting s past) (sym kept) h))
+        subst (λ (s : Step). IsCarriedOut s past Before After r Said (IsHostAfter setting later)) (sym steps)
+        (step_done step past r Before After Said (IsHostAfter setting later) (reply_line operator (codes "err clock-ended")) given refl told (subst (λ s. IsHostAfter setting s past) (sym kept) h))

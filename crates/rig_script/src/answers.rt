@@ -5,14 +5,15 @@ ghost use Rattle.std.specs.Io.KnownBytes.{Appends, Keeps};
 ghost use Rattle.rig_model.specs.Base.{Setting};
 ghost use Rattle.rig_model.specs.declared.events.Event.{Event};
 ghost use Rattle.rig_model.specs.Answered.{bye_bad_line, err_memory, IsText};
+ghost use Rattle.rig_script.specs.cited.HostAnswers.{Holds};
 ghost use Rattle.rig_script.specs.cited.Past.{ForEachPast, ForEachPastReading};
 ghost use Rattle.rig_script.specs.inner.Script.{IsUnanswered, IsReplied};
 ghost use Rattle.rig_model.specs.TextLines.{cut};
 ghost use Rattle.rig_script.specs.BrokenOff.{AreBrokenOff, AreFewRead};
 ghost use Rattle.rig_model.specs.Script.{speaker_of, line_step, memory_reply, reply_to_line, past_after, past_behind, script_from};
 
-use crate::faults::ScriptFault;
-use crate::speakers::{Speaker, addressee};
+use crate::faults::{ScriptFault, Unanswered};
+use crate::speakers::addressee;
 use std::alloc::{AllocError, Global};
 use std::io::{Read, Write};
 use text_lines::lines::{Line, Lines};
@@ -22,16 +23,13 @@ pub trait Answers {
     // it stands for what these events, the newest first, make of a rig
     ghost stands: { Self → Setting → List Event → Type 0 };
 
-    /// Who speaks in a line.
-    fn speaker(&self, line: &str) -> Speaker
-        ensures { ForEachPast (stands self.now) (λ setting past. result ≡ speaker_of setting.config line.now) };
-
-    /// The bytes that are written for a line, and no byte for a line that has no reply.
+    /// Writes the reply to a line into a text, in place of what stood there: no byte for a line that has no reply.
     ///
     /// # Errors
-    /// Where there is want of memory for the reply.
-    fn answer(&mut self, alloc: Global, line: &str) -> Result<String, AllocError>
-        ensures { ForEachPast (stands self.old) (λ setting past. IsReplied (line_step setting past line.now) past result (stands self.new setting)) };
+    /// Where there is want of memory for the reply: nothing is said of the text then.
+    fn answer(&mut self, alloc: Global, line: &str, text: &mut String) -> Result<(), Unanswered>
+        ensures { ForEachPast (stands self.old) (λ setting past. IsReplied (line_step setting past line.now) past (speaker_of setting.config line.now) result
+            (Holds text.new) (stands self.new setting)) };
 }
 
 /// How the lines of a reader ended.
@@ -68,10 +66,11 @@ pub fn answer_lines<R: Read, W: Write, A: Answers>(
         (AreBrokenOff (R.remaining reader.new) (Appends (W.contents writer.old) (W.contents writer.new)) fault)) }
     ensures reads { AreFewRead result (R.remaining reader.old) (R.remaining reader.new) }
 {
+    let mut text = String::new(alloc);
     let mut lines = Lines::new(alloc);
     loop {
         match lines.next_line(reader, writer)? {
-            Line::Whole(line) => answer_line(alloc, writer, answers, line.as_str())?,
+            Line::Whole(line) => answer_line(alloc, writer, answers, line.as_str(), &mut text)?,
             Line::Bad => {
                 say_bye(writer)?;
                 return Ok(Ending::BadLine);
@@ -84,22 +83,22 @@ pub fn answer_lines<R: Read, W: Write, A: Answers>(
     }
 }
 
-// Writes the reply to a line.
+// Writes the reply to a line, which is put together in this text; what stood there is gone.
 fn answer_line<W: Write, A: Answers>(
     alloc: Global,
     writer: &mut W,
     answers: &mut A,
     line: &str,
+    text: &mut String,
 ) -> Result<(), ScriptFault>
     ensures stands { OnOk result (ForEachPast (A.stands answers.old) (λ setting past. A.stands answers.new setting (past_behind setting past line.now))) }
     ensures written { OnOk result (ForEachPast (A.stands answers.old) (λ setting past. Appends (W.contents writer.old) (W.contents writer.new) (reply_to_line setting past line.now))) }
     ensures fault { IfErr result (λ fault. IsUnanswered fault (ForEachPast (A.stands answers.old) (λ setting past.
         Appends (W.contents writer.old) (W.contents writer.new) (memory_reply setting line.now)))) }
 {
-    let speaker = answers.speaker(line);
-    match answers.answer(alloc, line) {
-        Ok(reply) => write(writer, reply.as_str().as_bytes()),
-        Err(_) => {
+    match answers.answer(alloc, line, text) {
+        Ok(()) => write(writer, text.as_str().as_bytes()),
+        Err(Unanswered { speaker }) => {
             say_memory(writer, addressee(speaker, line).as_bytes())?;
             Err(ScriptFault::Memory)
         }

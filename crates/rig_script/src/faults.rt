@@ -3,6 +3,7 @@
 ghost use Rattle.std.specs.Prelude.{◌≡◌};
 ghost use Rattle.rig_script.specs.inner.Faults.{text_of_fault};
 
+use crate::speakers::Speaker;
 use std::alloc::AllocError;
 use text_lines::faults::LinesFault;
 use thiserror::Error;
@@ -62,4 +63,12 @@ impl ScriptFault {
             ScriptFault::Memory => "io: memory",
         }
     }
+}
+
+/// There was want of memory for the reply to a line.
+#[derive(Clone, Copy, Debug, PartialEq, Eq, Error)]
+#[error("no memory for the reply")]
+pub struct Unanswered {
+    /// Who speaks in the line, and is to be told.
+    pub speaker: Speaker,
 }

@@ -2,64 +2,77 @@
 
 ghost use Rattle.std.specs.Prelude.{◌≡◌, [], ◌∷◌, ◌++◌, ◌<◌, Some, codes, length, All, IfOk, IfErr, IfSome, OnOk, string_bytes};
 ghost use Rattle.std.specs.Io.KnownBytes.{Appends};
+ghost use Rattle.tenant_lines.specs.Replies.{text_of_reply};
 ghost use Rattle.tenant_lines.specs.Words.{words_of};
 ghost use Rattle.host_core.specs.HostStanding.{line_of};
 ghost use Rattle.rig_model.specs.Answered.{reply_line, IsText};
 ghost use Rattle.rig_model.specs.TextLines.{cut};
-ghost use Rattle.rig_script.specs.cited.HostAnswers.{CarriesOut, IsHostAfter};
+ghost use Rattle.rig_script.specs.cited.HostAnswers.{Adds, AnswersLine, CarriesOut, Holds, IsHostAfter};
 ghost use Rattle.rig_script.specs.inner.Records.{AreNone};
+ghost use Rattle.rig_script.specs.inner.Script.{IsTellable};
 ghost use Rattle.std.specs.Fmt.{decimal};
 ghost use Rattle.rig_model.specs.Script.{operator, line_step, tenant_step, operator_step, text_of_lines, work_step, work_step_of, outstanding_after, script_text_of};
 ghost use Rattle.rig_script.specs.BrokenOff.{IsScriptBrokenOff, ForNewHostReading, AreFewRead};
 
 use crate::answers::{Answers, answer_lines};
-use crate::faults::ScriptFault;
+use crate::faults::{ScriptFault, Unanswered};
 use crate::records::{Record, Unrecorded};
-use crate::speakers::{Speaker, who_speaks};
+use crate::speakers::{Speaker, who_is};
 use giotto_text::name_bytes::is_name;
 use host_core::hosts::{Host, TickFault};
 use rig_config::{Config, TenantId};
 use std::alloc::{AllocError, Global};
 use std::io::{Read, Write};
 use tenant_lines::command_lines::{LineFault, command_of};
-use tenant_lines::replies::print_reply;
+use tenant_lines::replies::Reply;
 use tenant_lines::words;
 use tenant_programs::prepared::prepare;
 
 impl Answers for Host {
     ghost stands = { λ host setting past. IsHostAfter setting host past };
 
-    fn speaker(&self, line: &str) -> Speaker {
-        who_speaks(self.config(), line)
-    }
-
-    fn answer(&mut self, alloc: Global, line: &str) -> Result<String, AllocError> {
-        carry_out(alloc, self, &mut Unrecorded, line)
+    fn answer(&mut self, alloc: Global, line: &str, text: &mut String) -> Result<(), Unanswered> {
+        carry_out(alloc, self, &mut Unrecorded, line, text)
     }
 }
 
 /// Carries out a line of a script: a tenant's by its command, and the operator's by `tick`, `work`, `work TENANT` or `lines`. Who records
-/// its events is told them. The bytes that are written for the line, and no byte where it has no reply.
+/// its events is told them. The reply is written into a text, in place of what stood there: no byte for a line that has none.
 ///
 /// # Errors
-/// Where there is want of memory: for a command, an instant, its events or the reply.
+/// Where there is want of memory: for a command, an instant, its events or the reply. Nothing is said of the text then.
 pub fn carry_out<R: Record>(
     alloc: Global,
     host: &mut Host,
     events: &mut R,
     line: &str,
-) -> Result<String, AllocError>
-    ensures { CarriesOut (λ setting past. line_step setting past line.now) (R.tells events.old) (R.tells events.new) host.old host.new result }
+    text: &mut String,
+) -> Result<(), Unanswered>
+    ensures { AnswersLine line.now (R.tells events.old) (R.tells events.new) host.old host.new result (Holds text.new) }
 {
-    let rest = words::behind_first_word(line);
-    match who_speaks(host.config(), line) {
-        Speaker::Nobody => Ok(String::new(alloc)),
-        Speaker::Operator => operator_line(alloc, host, events, rest),
+    text.clear();
+    let (word, rest) = words::cut(line);
+    let speaker = who_is(host.config(), word);
+    match speaker {
+        Speaker::Nobody => Ok(()),
+        Speaker::Operator => told(speaker, operator_line(alloc, host, events, rest, text)),
         Speaker::Tenant(tenant) => {
-            let name = words::first_word(line);
-            tenant_line(alloc, host, events, tenant, name, rest)
+            told(
+                speaker,
+                tenant_line(alloc, host, events, tenant, word, rest, text),
+            )
         }
-        Speaker::Unknown => reply_line(alloc, "host", "err who"),
+        Speaker::Unknown => told(speaker, reply_line(text, "host", "err who")),
+    }
+}
+
+// The same answer, with who is to be told that there was no memory.
+fn told(speaker: Speaker, answered: Result<(), AllocError>) -> Result<(), Unanswered>
+    ensures { IsTellable speaker answered result }
+{
+    match answered {
+        Ok(()) => Ok(()),
+        Err(_) => Err(Unanswered { speaker }),
     }
 }
 
@@ -97,13 +110,14 @@ fn tenant_line<R: Record>(
     tenant: TenantId,
     name: &str,
     line: &str,
-) -> Result<String, AllocError>
+    text: &mut String,
+) -> Result<(), AllocError>
     requires { tenant < length host.old.config.tenants }
-    ensures { CarriesOut (λ setting past. tenant_step setting past tenant name.now line.now) (R.tells events.old) (R.tells events.new) host.old host.new result }
+    ensures { CarriesOut (λ setting past. tenant_step setting past tenant name.now line.now) (R.tells events.old) (R.tells events.new) host.old host.new result (Adds text.old text.new) }
 {
     let command = match command_of(alloc, line) {
         Ok(command) => command,
-        Err(LineFault::BadCommand) => return reply_line(alloc, name, "err bad-command"),
+        Err(LineFault::BadCommand) => return reply_line(text, name, "err bad-command"),
         Err(LineFault::Memory) => return Err(AllocError),
     };
     let prepared = prepare(alloc, command);
@@ -114,8 +128,7 @@ fn tenant_line<R: Record>(
     if reply.is_memory() {
         return Err(AllocError);
     }
-    let text = print_reply(alloc, &reply)?;
-    reply_line(alloc, name, text.as_str())
+    tell(text, name, &reply)
 }
 
 // The step of an operator's line, which stands behind `op`.
@@ -124,15 +137,16 @@ fn operator_line<R: Record>(
     host: &mut Host,
     events: &mut R,
     line: &str,
-) -> Result<String, AllocError>
-    ensures { CarriesOut (λ setting past. operator_step setting past (words_of line.now)) (R.tells events.old) (R.tells events.new) host.old host.new result }
+    text: &mut String,
+) -> Result<(), AllocError>
+    ensures { CarriesOut (λ setting past. operator_step setting past (words_of line.now)) (R.tells events.old) (R.tells events.new) host.old host.new result (Adds text.old text.new) }
 {
     let rest = words::behind_first_word(line);
     match words::first_word(line) {
-        "tick" => tick(alloc, host, events, rest),
-        "work" => work(alloc, host, events, rest),
-        "lines" => lines(alloc, host, rest),
-        _ => reply_line(alloc, "op", "err bad-command"),
+        "tick" => tick(alloc, host, events, rest, text),
+        "work" => work(host, events, rest, text),
+        "lines" => lines(host, rest, text),
+        _ => reply_line(text, "op", "err bad-command"),
     }
 }
 
@@ -142,114 +156,128 @@ fn tick<R: Record>(
     host: &mut Host,
     events: &mut R,
     line: &str,
-) -> Result<String, AllocError>
-    ensures { CarriesOut (λ setting past. operator_step setting past (codes "tick" ∷ words_of line.now)) (R.tells events.old) (R.tells events.new) host.old host.new result }
+    text: &mut String,
+) -> Result<(), AllocError>
+    ensures { CarriesOut (λ setting past. operator_step setting past (codes "tick" ∷ words_of line.now)) (R.tells events.old) (R.tells events.new) host.old host.new result (Adds text.old text.new) }
 {
     let Some(frame) = words::values_of_words(alloc, line)? else {
-        return reply_line(alloc, "op", "err bad-command");
+        return reply_line(text, "op", "err bad-command");
     };
     let number = host.clock();
     match host.instant(frame.as_slice()) {
         Ok(()) => {
             events.tick(frame)?;
-            tick_reply(alloc, number)
+            tick_reply(text, number)
         }
-        Err(TickFault::BadFrame) => reply_line(alloc, "op", "err bad-frame"),
-        Err(TickFault::ClockEnded) => reply_line(alloc, "op", "err clock-ended"),
+        Err(TickFault::BadFrame) => reply_line(text, "op", "err bad-frame"),
+        Err(TickFault::ClockEnded) => reply_line(text, "op", "err clock-ended"),
         Err(TickFault::Memory) => Err(AllocError),
     }
 }
 
 // The step of `work` with these words behind it.
 fn work<R: Record>(
-    alloc: Global,
     host: &mut Host,
     events: &mut R,
     line: &str,
-) -> Result<String, AllocError>
-    ensures { CarriesOut (λ setting past. operator_step setting past (codes "work" ∷ words_of line.now)) (R.tells events.old) (R.tells events.new) host.old host.new result }
+    text: &mut String,
+) -> Result<(), AllocError>
+    ensures { CarriesOut (λ setting past. operator_step setting past (codes "work" ∷ words_of line.now)) (R.tells events.old) (R.tells events.new) host.old host.new result (Adds text.old text.new) }
 {
     let name = words::first_word(line);
     if name.is_empty() {
-        return complete_all(alloc, host, events);
+        return complete_all(host, events, text);
     }
     if is_name(name.as_bytes()) && words::first_word(words::behind_first_word(line)).is_empty() {
-        return complete_tenant(alloc, host, events, name);
+        return complete_tenant(host, events, name, text);
     }
-    reply_line(alloc, "op", "err bad-command")
+    reply_line(text, "op", "err bad-command")
 }
 
 // Runs and completes all outstanding jobs, and says how many they were.
 fn complete_all<R: Record>(
-    alloc: Global,
     host: &mut Host,
     events: &mut R,
-) -> Result<String, AllocError>
-    ensures { CarriesOut (λ setting past. work_step (outstanding_after setting past)) (R.tells events.old) (R.tells events.new) host.old host.new result }
+    text: &mut String,
+) -> Result<(), AllocError>
+    ensures { CarriesOut (λ setting past. work_step (outstanding_after setting past)) (R.tells events.old) (R.tells events.new) host.old host.new result (Adds text.old text.new) }
 {
     events.work(host)?;
     let number = host.complete_all();
-    work_reply(alloc, number)
+    work_reply(text, number)
 }
 
 // Runs and completes the outstanding jobs of the tenant of this name, and says how many they were.
 fn complete_tenant<R: Record>(
-    alloc: Global,
     host: &mut Host,
     events: &mut R,
     name: &str,
-) -> Result<String, AllocError>
-    ensures { CarriesOut (λ setting past. work_step_of setting past name.now) (R.tells events.old) (R.tells events.new) host.old host.new result }
+    text: &mut String,
+) -> Result<(), AllocError>
+    ensures { CarriesOut (λ setting past. work_step_of setting past name.now) (R.tells events.old) (R.tells events.new) host.old host.new result (Adds text.old text.new) }
 {
     let Some(tenant) = host.config().place_of(name) else {
-        return reply_line(alloc, "op", "err who");
+        return reply_line(text, "op", "err who");
     };
     events.work_of(host, tenant)?;
     let number = host.complete_tenant(tenant);
-    work_reply(alloc, number as u128)
+    work_reply(text, number as u128)
 }
 
 // The step of `lines` with these words behind it.
-fn lines(alloc: Global, host: &mut Host, line: &str) -> Result<String, AllocError>
-    ensures { CarriesOut (λ setting past. operator_step setting past (codes "lines" ∷ words_of line.now)) AreNone AreNone host.old host.new result }
+fn lines(host: &mut Host, line: &str, text: &mut String) -> Result<(), AllocError>
+    ensures { CarriesOut (λ setting past. operator_step setting past (codes "lines" ∷ words_of line.now)) AreNone AreNone host.old host.new result (Adds text.old text.new) }
 {
     if !words::first_word(line).is_empty() {
-        return reply_line(alloc, "op", "err bad-command");
+        return reply_line(text, "op", "err bad-command");
     }
-    let text = text_of_lines(alloc, host)?;
-    reply_line(alloc, "op", text.as_str())
+    line_values(text, host)
 }
 
-// The value of each line of the rig, behind `ok lines`.
-fn text_of_lines(alloc: Global, host: &Host) -> Result<String, AllocError>
-    ensures { IfOk result (λ text. string_bytes text ≡ codes "ok lines" ++ text_of_lines (line_of host.now) host.now.config.lines) }
+// The reply to `lines`: the value of each line of the rig.
+fn line_values(text: &mut String, host: &Host) -> Result<(), AllocError>
+    ensures { OnOk result (string_bytes text.new ≡ string_bytes text.old ++ reply_line operator (codes "ok lines" ++ text_of_lines (line_of host.now) host.now.config.lines)) }
 {
-    let mut text = String::from_str(alloc, "ok lines")?;
+    text.push_str("op ok lines")?;
+    add_values(text, host)?;
+    text.push_str("\n")
+}
+
+// Adds the value of each line of the rig, with a blank before it.
+fn add_values(text: &mut String, host: &Host) -> Result<(), AllocError>
+    ensures { OnOk result (string_bytes text.new ≡ string_bytes text.old ++ text_of_lines (line_of host.now) host.now.config.lines) }
+{
     for line in 0..host.config().lines() {
         let value = host.line_value(line);
-        let one = format!(in alloc; " {value}")?;
-        text.push_str(one.as_str())?;
+        write!(text, " {value}")?;
     }
-    Ok(text)
+    Ok(())
 }
 
 // The reply to an instant of this number.
-fn tick_reply(alloc: Global, number: u64) -> Result<String, AllocError>
-    ensures { IfOk result (λ line. string_bytes line ≡ reply_line operator (codes "ok tick " ++ decimal number)) }
+fn tick_reply(text: &mut String, number: u64) -> Result<(), AllocError>
+    ensures { OnOk result (string_bytes text.new ≡ string_bytes text.old ++ reply_line operator (codes "ok tick " ++ decimal number)) }
 {
-    format!(in alloc; "op ok tick {number}\n")
+    write!(text, "op ok tick {number}\n")
 }
 
 // The reply to `work` that completed so many jobs.
-fn work_reply(alloc: Global, number: u128) -> Result<String, AllocError>
-    ensures { IfOk result (λ line. string_bytes line ≡ reply_line operator (codes "ok work " ++ decimal number)) }
+fn work_reply(text: &mut String, number: u128) -> Result<(), AllocError>
+    ensures { OnOk result (string_bytes text.new ≡ string_bytes text.old ++ reply_line operator (codes "ok work " ++ decimal number)) }
 {
-    format!(in alloc; "op ok work {number}\n")
+    write!(text, "op ok work {number}\n")
+}
+
+// The reply to a tenant's command, as it is written: the tenant's name, a space, the reply, and LF.
+fn tell(text: &mut String, name: &str, reply: &Reply) -> Result<(), AllocError>
+    ensures { OnOk result (string_bytes text.new ≡ string_bytes text.old ++ reply_line name.now (text_of_reply reply.now)) }
+{
+    write!(text, "{name} {reply}\n")
 }
 
 // A reply as it is written: who is answered, a space, the reply, and LF.
-fn reply_line(alloc: Global, who: &str, reply: &str) -> Result<String, AllocError>
-    ensures { IfOk result (λ line. string_bytes line ≡ reply_line who.now reply.now) }
+fn reply_line(text: &mut String, who: &str, reply: &str) -> Result<(), AllocError>
+    ensures { OnOk result (string_bytes text.new ≡ string_bytes text.old ++ reply_line who.now reply.now) }
 {
-    format!(in alloc; "{who} {reply}\n")
+    write!(text, "{who} {reply}\n")
 }

@@ -1,7 +1,8 @@
 //! Who speaks in a line of a script.
 
-ghost use Rattle.std.specs.Prelude.{◌≡◌};
+ghost use Rattle.std.specs.Prelude.{◌≡◌, ℕ, List};
 ghost use Rattle.rig_model.specs.Script.{addressee_of, speaker_of};
+ghost use Rattle.tenant_lines.specs.Words.{first_word_of};
 
 use rig_config::Config;
 pub use rig_model::speakers::Speaker;
@@ -11,7 +12,13 @@ use tenant_lines::words;
 pub fn who_speaks(config: &Config, line: &str) -> Speaker
     ensures { result ≡ speaker_of config.now line.now }
 {
-    let word = words::first_word(line);
+    who_is(config, words::first_word(line))
+}
+
+// Who begins a line with this word.
+pub(crate) fn who_is(config: &Config, word: &str) -> Speaker
+    ensures { (line : List ℕ) → word.now ≡ first_word_of line → result ≡ speaker_of config.now line }
+{
     if word.is_empty() {
         return Speaker::Nobody;
     }

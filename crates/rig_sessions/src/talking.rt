@@ -1,6 +1,6 @@
 //! A session over a reader and a writer.
 
-ghost use Rattle.std.specs.Prelude.{◌≡◌, ◌⊎◌, ℕ, List, ◌++◌, string_bytes, IfOk, IfErr, IfSome, OnOk};
+ghost use Rattle.std.specs.Prelude.{◌≡◌, ◌⊎◌, ℕ, List, ◌++◌, string_bytes, IfErr, IfSome, OnOk};
 ghost use Rattle.std.specs.Io.KnownBytes.{Appends, Keeps};
 ghost use Rattle.rig_model.specs.declared.logged.Call.{Call};
 ghost use Rattle.tenant_lines.specs.Replies.{text_of_reply};
@@ -19,7 +19,7 @@ use std::alloc::{AllocError, Global};
 use std::io::{Read, Write};
 use std::sync::Wait;
 use tenant_lines::commands::Command;
-use tenant_lines::replies::{Reply, print_reply};
+use tenant_lines::replies::Reply;
 use text_lines::lines::{Line, Lines};
 
 /// Answers the lines of a client, in their order, until its input or the session ends: by itself, or by a call of the pass, which comes
@@ -70,12 +70,14 @@ fn converse<N: Naming, R: Wait, D: Calls<N>, I: Read, W: Write>(
         IsCutOff config.now pass.old pass.new (Appends (W.contents writer.old) (W.contents writer.new)) (I.remaining reader.new) bytes fault)) }
     ensures reads { AreFewRead result (I.remaining reader.old) (I.remaining reader.new) }
 {
+    let mut text = String::new(alloc);
     let mut session = Session::new(config);
     let mut lines = Lines::new(alloc);
     loop {
         match lines.next_line(reader, writer)? {
             Line::Whole(line) => {
-                answer(rt, alloc, desk, &mut session, pass, writer, line.as_str())?;
+                let line = line.as_str();
+                answer(rt, desk, &mut session, pass, writer, line, &mut text)?;
                 if session.has_ended() {
                     return flush(writer);
                 }
@@ -86,28 +88,28 @@ fn converse<N: Naming, R: Wait, D: Calls<N>, I: Read, W: Write>(
     }
 }
 
-// Answers one line.
+// Answers one line. A reply is put together in this text; what stood there is gone.
 fn answer<N: Naming, R: Wait, D: Calls<N>, W: Write>(
     rt: &R,
-    alloc: Global,
     desk: &D,
     session: &mut Session<'_>,
     pass: &mut Pass<N>,
     writer: &mut W,
     line: &str,
+    text: &mut String,
 ) -> Result<(), TalkFault>
     ensures ok { OnOk result (IsAnswered (text_step session.old.config session.old.state line.now) session.new.state pass.old pass.new (Appends (W.contents writer.old) (W.contents writer.new))) }
     ensures fault { IfErr result (IsUnanswered (text_step session.old.config session.old.state line.now) pass.old pass.new) }
     ensures config { session.new.config ≡ session.old.config }
     ensures seat { pass.new.seat ≡ pass.old.seat }
 {
-    let Ok(step) = session.line(alloc, line) else {
+    let Ok(step) = session.line(*text.allocator(), line) else {
         return say(writer, b"err memory\n");
     };
     match step {
         Step::Quiet => Ok(()),
         Step::Say(reply) => say(writer, reply.as_line().as_bytes()),
-        Step::Call(tenant, command) => request(rt, alloc, desk, pass, writer, tenant, command),
+        Step::Call(tenant, command) => request(rt, desk, pass, writer, tenant, command, text),
         Step::End => say(writer, b"bye\n"),
     }
 }
@@ -115,19 +117,19 @@ fn answer<N: Naming, R: Wait, D: Calls<N>, W: Write>(
 // Makes a call and writes what comes of it.
 fn request<N: Naming, R: Wait, D: Calls<N>, W: Write>(
     rt: &R,
-    alloc: Global,
     desk: &D,
     pass: &mut Pass<N>,
     writer: &mut W,
     tenant: TenantId,
     command: Command,
+    text: &mut String,
 ) -> Result<(), TalkFault>
     ensures ok { OnOk result ((s : State) → IsAnswered (record { act = call tenant command; state = s }) s pass.old pass.new (Appends (W.contents writer.old) (W.contents writer.new))) }
     ensures fault { IfErr result (λ fault. (s : State) → IsUnanswered (record { act = call tenant command; state = s }) pass.old pass.new fault) }
     ensures seat { pass.new.seat ≡ pass.old.seat }
 {
     match desk.call(rt, pass, tenant, command) {
-        Ok(reply) => say_reply(alloc, writer, &reply),
+        Ok(reply) => say_reply(writer, &reply, text),
         Err(DeskFault::Memory) => say(writer, b"err memory\n"),
         Err(DeskFault::PassFull) => Err(refuse(writer, DeskFault::PassFull)),
         Err(DeskFault::Strange(length)) => Err(refuse(writer, DeskFault::Strange(length))),
@@ -135,24 +137,23 @@ fn request<N: Naming, R: Wait, D: Calls<N>, W: Write>(
 }
 
 // Writes the reply to a call, or that there is no memory for its text.
-fn say_reply<W: Write>(alloc: Global, writer: &mut W, reply: &Reply) -> Result<(), TalkFault>
+fn say_reply<W: Write>(writer: &mut W, reply: &Reply, text: &mut String) -> Result<(), TalkFault>
     ensures written { OnOk result (Appends (W.contents writer.old) (W.contents writer.new) (written (text_of_reply reply.now))
         ⊎ Appends (W.contents writer.old) (W.contents writer.new) (written (text_of_outcome (untold reply.now)))) }
     ensures fault { IfErr result (λ fault. fault ≡ TalkFault.Write) }
 {
-    match reply_line(alloc, reply) {
-        Ok(line) => say(writer, line.as_str().as_bytes()),
+    match reply_line(text, reply) {
+        Ok(()) => say(writer, text.as_str().as_bytes()),
         Err(_) => say(writer, b"err memory\n"),
     }
 }
 
-// A reply as it is written.
-fn reply_line(alloc: Global, reply: &Reply) -> Result<String, AllocError>
-    ensures { IfOk result (λ line. string_bytes line ≡ written (text_of_reply reply.now)) }
+// Puts a reply as it is written into a text, in place of what stood there.
+fn reply_line(text: &mut String, reply: &Reply) -> Result<(), AllocError>
+    ensures { OnOk result (string_bytes text.new ≡ written (text_of_reply reply.now)) }
 {
-    let mut line = print_reply(alloc, reply)?;
-    line.push_str("\n")?;
-    Ok(line)
+    text.clear();
+    write!(text, "{reply}\n")
 }
 
 // Tells why a call was refused, also where that can't be written.

@@ -2,10 +2,10 @@
 
 use rig_config::built_in;
 use rig_script::answers::{Answers, answer_lines};
-use rig_script::faults::ScriptFault;
+use rig_script::faults::{ScriptFault, Unanswered};
 use rig_script::script;
 use rig_script::speakers::Speaker;
-use std::alloc::{AllocError, Global};
+use std::alloc::Global;
 use std::io;
 use std::io::Read;
 
@@ -68,42 +68,37 @@ fn lines_before_a_failing_read_are_answered(rt: HostRuntime) {
 // Has no memory for any reply.
 #[derive(Drop)]
 struct NoMemory {
-    is_unknown: bool,
+    // Who is to be told.
+    speaker: Speaker,
 }
 
 impl Answers for NoMemory {
     // no host
     ghost stands = { λ it setting past. ⊥ };
 
-    fn speaker(&self, _line: &str) -> Speaker {
-        if self.is_unknown {
-            Speaker::Unknown
-        } else {
-            Speaker::Operator
-        }
-    }
-
-    fn answer(&mut self, _alloc: Global, _line: &str) -> Result<String, AllocError> {
-        Err(AllocError)
+    fn answer(
+        &mut self,
+        _alloc: Global,
+        _line: &str,
+        _text: &mut String,
+    ) -> Result<(), Unanswered> {
+        Err(Unanswered {
+            speaker: self.speaker,
+        })
     }
 }
 
 // Whether a script without memory for a reply ends so, with this written.
-fn ends_without_memory(alloc: Global, is_unknown: bool, expected: &[u8]) -> bool {
+fn ends_without_memory(alloc: Global, speaker: Speaker, expected: &[u8]) -> bool {
     let mut written = Vec::new(alloc);
     let mut reader = b"\talpha start\nbeta start\n".as_slice();
-    let ends = answer_lines(
-        alloc,
-        &mut reader,
-        &mut written,
-        &mut NoMemory { is_unknown },
-    );
+    let ends = answer_lines(alloc, &mut reader, &mut written, &mut NoMemory { speaker });
     ends == Err(ScriptFault::Memory) && written.as_slice() == expected
 }
 
 #[test]
 fn want_of_memory_ends_the_script(rt: HostRuntime) {
     let alloc = rt.alloc();
-    assert!(rt; ends_without_memory(alloc, false, b"alpha err memory\n".as_slice()));
-    assert!(rt; ends_without_memory(alloc, true, b"host err memory\n".as_slice()));
+    assert!(rt; ends_without_memory(alloc, Speaker::Operator, b"alpha err memory\n".as_slice()));
+    assert!(rt; ends_without_memory(alloc, Speaker::Unknown, b"host err memory\n".as_slice()));
 }

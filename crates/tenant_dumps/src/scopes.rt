@@ -166,7 +166,7 @@ impl Scope {
         writeln!(text, "$var integer 64 {tenant}.mode-time mode-time $end")?;
         for signal in &self.signals {
             if signal.port.task.is_none() {
-                signal.declare(alloc, text, tenant)?;
+                signal.declare(text, tenant)?;
             }
         }
         self.declare_tasks(alloc, text)?;
@@ -180,7 +180,7 @@ impl Scope {
             if let Some(task) = &signal.port.task
                 && !seen.as_slice().contains(task)
             {
-                self.declare_task(alloc, text, task)?;
+                self.declare_task(text, task)?;
                 seen.push(task.copy())?;
             }
         }
@@ -188,17 +188,12 @@ impl Scope {
     }
 
     // Declares the inputs and states of a task.
-    fn declare_task(
-        &self,
-        alloc: Global,
-        text: &mut String,
-        task: &Name,
-    ) -> Result<(), AllocError> {
+    fn declare_task(&self, text: &mut String, task: &Name) -> Result<(), AllocError> {
         let name = task.as_str();
         writeln!(text, "$scope module {name} $end")?;
         for signal in &self.signals {
             if is_of(&signal.port, task) {
-                signal.declare(alloc, text, self.tenant.as_str())?;
+                signal.declare(text, self.tenant.as_str())?;
             }
         }
         text.push_str("$upscope $end\n")
@@ -238,17 +233,15 @@ impl Signal {
     fn line(&self, alloc: Global, tenant: &str, value: Option<i64>) -> Result<String, AllocError>
         ensures { IfOk result (λ line. string_bytes line ≡ line_of_value (variable_of tenant.now self.now.port) value) }
     {
-        let port = self.port.as_text(alloc)?;
-        let variable = format!(in alloc; "{tenant}.{}", port.as_str())?;
+        let variable = format!(in alloc; "{tenant}.{}", self.port)?;
         value_line(alloc, variable.as_str(), value)
     }
 
     // Declares the variable, by its name in its scope.
-    fn declare(&self, alloc: Global, text: &mut String, tenant: &str) -> Result<(), AllocError> {
-        let port = self.port.as_text(alloc)?;
-        let id = port.as_str();
-        let name = self.port.name.as_str();
-        writeln!(text, "$var integer 64 {tenant}.{id} {name} $end")
+    fn declare(&self, text: &mut String, tenant: &str) -> Result<(), AllocError> {
+        let port = &self.port;
+        let name = port.name.as_str();
+        writeln!(text, "$var integer 64 {tenant}.{port} {name} $end")
     }
 }
 

@@ -11,6 +11,7 @@ use Rattle.tenant_lines.specs.declared.ports.PortName.{PortName}
 use Rattle.tenant_lines.specs.CommandLine.{alone, command_of_line, command_of_words, port_of_word, port_shown_by, shown_by}
 use Rattle.tenant_lines.specs.GrantLines.{grant_command_of_words}
 use Rattle.tenant_lines.specs.Words.{words_of, first_word_of, behind_first_word}
+use Rattle.tenant_lines.specs.inner.CutLines.{words_from}
 use Rattle.tenant_lines.proofs.cited.WordLemmas.{words_first, words_none}
 
 -- by cases on whether a line has a word
@@ -62,11 +63,30 @@ others_shown rest no_mode no_all no_port = by_word rest (λ ws. shown_by ws ≡ 
     (λ some. rw (not_same (first_word_of rest) (codes "mode") no_mode, not_same (first_word_of rest) (codes "all") no_all, not_same (first_word_of rest) (codes "port") no_port) refl)
 
 -- what begins with another word is a command about grants, or none
-pub other_words : (line : List ℕ)
-    → (first_word_of line ≡ codes "start" → ⊥) → (first_word_of line ≡ codes "stop" → ⊥) → (first_word_of line ≡ codes "show" → ⊥) → (first_word_of line ≡ codes "trace" → ⊥)
-    → command_of_words (words_of line) ≡ option_map Grants (grant_command_of_words (words_of line))
-other_words line no_start no_stop no_show no_trace = by_word line (λ ws. command_of_words ws ≡ option_map Grants (grant_command_of_words ws)) (λ none. refl)
-    (λ some. rw (not_same (first_word_of line) (codes "start") no_start, not_same (first_word_of line) (codes "stop") no_stop, not_same (first_word_of line) (codes "show") no_show, not_same (first_word_of line) (codes "trace") no_trace) refl)
+pub other_words : (word rest : List ℕ)
+    → (word ≡ codes "start" → ⊥) → (word ≡ codes "stop" → ⊥) → (word ≡ codes "show" → ⊥) → (word ≡ codes "trace" → ⊥)
+    → command_of_words (words_from word rest) ≡ option_map Grants (grant_command_of_words (words_from word rest))
+other_words [] rest no_start no_stop no_show no_trace = refl
+other_words (c ∷ cs) rest no_start no_stop no_show no_trace =
+    rw (not_same (c ∷ cs) (codes "start") no_start, not_same (c ∷ cs) (codes "stop") no_stop, not_same (c ∷ cs) (codes "show") no_show, not_same (c ∷ cs) (codes "trace") no_trace) refl
+
+-- the words of a line that was cut
+pub cut_words : (line : List ℕ) → words_of line ≡ words_from (first_word_of line) (behind_first_word line)
+cut_words line = by_word line (λ ws. ws ≡ words_from (first_word_of line) (behind_first_word line)) none some
+  where
+    none : length (first_word_of line) ≡ 0 → [] ≡ words_from (first_word_of line) (behind_first_word line)
+    none e = by (first_word_of line) e
+      where
+        by : (w : List ℕ) → length w ≡ 0 → [] ≡ words_from w (behind_first_word line)
+        by [] is = refl
+        by (c ∷ cs) is = absurd (omega (arith, is))
+
+    some : 0 < length (first_word_of line) → first_word_of line ∷ words_of (behind_first_word line) ≡ words_from (first_word_of line) (behind_first_word line)
+    some lt = by (first_word_of line) lt
+      where
+        by : (w : List ℕ) → 0 < length w → w ∷ words_of (behind_first_word line) ≡ words_from w (behind_first_word line)
+        by [] is = absurd (omega (arith, is))
+        by (c ∷ cs) is = refl
 
 -- what begins with neither word that a text follows is a command of words alone, or none
 pub words_alone : (line : List ℕ) → (first_word_of line ≡ codes "load" → ⊥) → (first_word_of line ≡ codes "replace" → ⊥)

@@ -12,6 +12,7 @@ use Rattle.tenant_lines.specs.declared.grant_lines.GrantCommand.TheVariants.{Row
 use Rattle.rig_config.specs.Intervals.{Interval, from_to}
 use Rattle.tenant_lines.specs.GrantLines.{bounded_offer_command, bounds_of_words, offer_command, unoffer_command, bind_command, unbind_command, grant_command_of_words}
 use Rattle.tenant_lines.specs.Words.{value_of_word, words_of, first_word_of, behind_first_word}
+use Rattle.tenant_lines.specs.inner.CutLines.{words_from}
 use Rattle.tenant_lines.specs.inner.GrantWords.{offer_by, offer_within, word_behind}
 use Rattle.tenant_lines.proofs.CommandLines.{by_word, not_same, words_begin}
 use Rattle.tenant_lines.proofs.cited.WordLemmas.{words_first, words_none}
@@ -112,10 +113,6 @@ bind_nobody s = by (is_name s) refl
     by : (b : Bool) → is_name s ≡ b → bind_command s [] ≡ None
     by true e = rw e refl
     by false e = rw e refl
-
--- a line by its first word
-pub by_verb : (line v : List ℕ) → first_word_of line ≡ v → 0 < length v → grant_command_of_words (words_of line) ≡ grant_command_of_words (v ∷ words_of (behind_first_word line))
-by_verb line v is some = ap grant_command_of_words (words_begin line v is some)
 
 -- without a greatest value there are no bounds
 no_high : (a t low : List ℕ) → bounded_offer_command a t low [] ≡ None
@@ -276,16 +273,15 @@ rows_by rest = by_word rest (λ ws. grant_command_of_words (codes "rows" ∷ ws)
     rw not_none (rows_words (first_word_of rest) (words_of (behind_first_word rest))))
 
 -- no command about grants begins with another word
-pub other_grants : (line : List ℕ)
-    → (first_word_of line ≡ codes "offer" → ⊥) → (first_word_of line ≡ codes "unoffer" → ⊥) → (first_word_of line ≡ codes "bind" → ⊥)
-    → (first_word_of line ≡ codes "unbind" → ⊥) → (first_word_of line ≡ codes "rows" → ⊥)
-    → grant_command_of_words (words_of line) ≡ None
-other_grants line no_offer no_unoffer no_bind no_unbind no_rows = by_word line (λ ws. grant_command_of_words ws ≡ None) (λ none. refl)
-    (λ some. by (words_of (behind_first_word line)))
+pub other_grants : (word behind : List ℕ)
+    → (word ≡ codes "offer" → ⊥) → (word ≡ codes "unoffer" → ⊥) → (word ≡ codes "bind" → ⊥) → (word ≡ codes "unbind" → ⊥) → (word ≡ codes "rows" → ⊥)
+    → grant_command_of_words (words_from word behind) ≡ None
+other_grants [] behind no_offer no_unoffer no_bind no_unbind no_rows = refl
+other_grants (c ∷ cs) behind no_offer no_unoffer no_bind no_unbind no_rows = by (words_of behind)
   where
-    by : (ws : List (List ℕ)) → grant_command_of_words (first_word_of line ∷ ws) ≡ None
-    by [] = rw (not_same (first_word_of line) (codes "rows") no_rows) refl
-    by (x ∷ []) = rw (not_same (first_word_of line) (codes "unbind") no_unbind) refl
+    by : (ws : List (List ℕ)) → grant_command_of_words ((c ∷ cs) ∷ ws) ≡ None
+    by [] = rw (not_same (c ∷ cs) (codes "rows") no_rows) refl
+    by (x ∷ []) = rw (not_same (c ∷ cs) (codes "unbind") no_unbind) refl
     by (x ∷ w ∷ []) = refl
-    by (x ∷ w ∷ y ∷ []) = rw (not_same (first_word_of line) (codes "offer") no_offer, not_same (first_word_of line) (codes "unoffer") no_unoffer, not_same (first_word_of line) (codes "bind") no_bind) refl
-    by (x ∷ w ∷ y ∷ z ∷ zs) = no_more (first_word_of line) x w y z zs (not_same (first_word_of line) (codes "offer") no_offer)
+    by (x ∷ w ∷ y ∷ []) = rw (not_same (c ∷ cs) (codes "offer") no_offer, not_same (c ∷ cs) (codes "unoffer") no_unoffer, not_same (c ∷ cs) (codes "bind") no_bind) refl
+    by (x ∷ w ∷ y ∷ z ∷ zs) = no_more (c ∷ cs) x w y z zs (not_same (c ∷ cs) (codes "offer") no_offer)

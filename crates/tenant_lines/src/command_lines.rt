@@ -6,12 +6,13 @@ ghost use Rattle.giotto_text.specs.Bytes.{is_name};
 ghost use Rattle.tenant_lines.specs.CommandLine.{alone, command_of_words, command_of_line, own_port_of, port_of_word, port_shown_by, shown_by, text_behind};
 ghost use Rattle.tenant_lines.specs.Words.{words_of};
 ghost use Rattle.tenant_lines.specs.cited.Copies.{has_text};
+ghost use Rattle.tenant_lines.specs.inner.CutLines.{words_from};
 
 use crate::commands::Command;
 use crate::grant_lines::grant_command_of;
 use crate::ports::PortName;
 use crate::texts::Text;
-use crate::words::{behind_first_word, first_word};
+use crate::words::{behind_first_word, cut, first_word};
 use giotto_tasks::names::Name;
 use giotto_text::name_bytes::is_name;
 use std::alloc::Global;
@@ -43,10 +44,11 @@ pub fn command_of(alloc: Global, line: &str) -> Result<Command, LineFault>
     ensures none { result ≡ Err LineFault.BadCommand → command_of_line line.now ≡ None }
     ensures memory { result ≡ Err LineFault.Memory → option_map has_text (command_of_line line.now) ≡ Some true }
 {
-    match first_word(line) {
+    let (word, rest) = cut(line);
+    match word {
         "load" => Ok(Command::Load(text_of(alloc, line)?)),
         "replace" => Ok(Command::Replace(text_of(alloc, line)?)),
-        _ => command_of_words(line).ok_or(LineFault::BadCommand),
+        _ => command_of_words(word, rest).ok_or(LineFault::BadCommand),
     }
 }
 
@@ -67,17 +69,16 @@ fn text_behind(line: &str) -> &str
     if rest.is_empty() { rest } else { &rest[1..] }
 }
 
-// A command of words alone.
-fn command_of_words(line: &str) -> Option<Command>
-    ensures { result ≡ command_of_words (words_of line.now) }
+// A command of words alone: this one, and those behind it.
+fn command_of_words(word: &str, rest: &str) -> Option<Command>
+    ensures { result ≡ command_of_words (words_from word.now rest.now) }
 {
-    let rest = behind_first_word(line);
-    match first_word(line) {
-        "start" => alone(Command::Start, rest),
-        "stop" => alone(Command::Stop, rest),
+    match word {
         "show" => show(rest),
         "trace" => alone(Command::Trace, rest),
-        _ => Some(Command::Grants(grant_command_of(line)?)),
+        "start" => alone(Command::Start, rest),
+        "stop" => alone(Command::Stop, rest),
+        _ => Some(Command::Grants(grant_command_of(word, rest)?)),
     }
 }
 
@@ -92,11 +93,11 @@ fn alone(command: Command, rest: &str) -> Option<Command>
 fn show(rest: &str) -> Option<Command>
     ensures { result ≡ shown_by (words_of rest.now) }
 {
-    let behind = behind_first_word(rest);
-    match first_word(rest) {
+    let (word, behind) = cut(rest);
+    match word {
+        "port" => show_port(behind),
         "mode" => alone(Command::ShowMode, behind),
         "all" => alone(Command::ShowAll, behind),
-        "port" => show_port(behind),
         _ => None,
     }
 }
@@ -105,8 +106,9 @@ fn show(rest: &str) -> Option<Command>
 fn show_port(rest: &str) -> Option<Command>
     ensures { result ≡ port_shown_by (words_of rest.now) }
 {
-    let port = port_of_word(first_word(rest))?;
-    alone(Command::ShowPort(port), behind_first_word(rest))
+    let (word, behind) = cut(rest);
+    let port = port_of_word(word)?;
+    alone(Command::ShowPort(port), behind)
 }
 
 // A port's name: NAME, or TASK.NAME.

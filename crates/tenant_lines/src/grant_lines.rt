@@ -2,12 +2,13 @@
 
 ghost use Rattle.std.specs.Prelude.{◌≡◌, ◌&&◌, ◌<◌, codes, length};
 ghost use Rattle.giotto_tasks.specs.Names.{same_name};
-ghost use Rattle.tenant_lines.specs.GrantLines.{bounds_of_words, offer_command, unoffer_command, bind_command, bind_command_to, unbind_command};
+ghost use Rattle.tenant_lines.specs.GrantLines.{bounds_of_words, grant_command_of_words, offer_command, unoffer_command, bind_command, bind_command_to, unbind_command};
 ghost use Rattle.tenant_lines.specs.Words.{words_of};
-ghost use Rattle.tenant_lines.specs.inner.GrantWords.{grant_command_of_line, offer_by, offer_within, word_behind};
+ghost use Rattle.tenant_lines.specs.inner.CutLines.{words_from};
+ghost use Rattle.tenant_lines.specs.inner.GrantWords.{offer_by, offer_within, word_behind};
 
 use crate::command_lines::name_of_word;
-use crate::words::{behind_first_word, first_word, value_of_word};
+use crate::words::{behind_first_word, cut, first_word, value_of_word};
 use giotto_tasks::names::Name;
 use rig_config::intervals::Bounds;
 
@@ -87,18 +88,16 @@ fn copy_of(bounds: &Option<Bounds>) -> Option<Bounds>
     }
 }
 
-/// The command about grants that a line spells, without the tenant's name: `offer NAME to TENANT`, `offer NAME to TENANT from LO to HI`,
+/// The command about grants that begins with this word and goes on so behind it, without the tenant's name: `offer NAME to TENANT`, `offer NAME to TENANT from LO to HI`,
 /// `unoffer NAME to TENANT`, `bind NAME from TENANT.NAME`, `unbind NAME` or `rows`. `None` for every other line.
 ///
 /// Words are separated by one or more blanks. NAME and TENANT have the shape of a program's name, keywords included;
 /// TENANT.NAME is cut at its first dot; LO and HI are i64s in decimal, and LO isn't above HI. Takes no memory.
-pub(crate) fn grant_command_of(line: &str) -> Option<GrantCommand>
-    ensures { result ≡ grant_command_of_line line.now }
+pub(crate) fn grant_command_of(word: &str, behind: &str) -> Option<GrantCommand>
+    ensures { result ≡ grant_command_of_words (words_from word.now behind.now) }
 {
-    let behind = behind_first_word(line);
-    let name = first_word(behind);
-    let rest = behind_first_word(behind);
-    match first_word(line) {
+    let (name, rest) = cut(behind);
+    match word {
         "offer" => offer_by(name, rest),
         "unoffer" => unoffer(name, word_behind("to", rest)),
         "bind" => bind(name, word_behind("from", rest)),

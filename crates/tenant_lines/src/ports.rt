@@ -1,10 +1,11 @@
 //! Ports, as commands and replies name them.
 
-ghost use Rattle.std.specs.Prelude.{◌≡◌, IfOk, string_bytes};
+ghost use Rattle.std.specs.Prelude.{◌≡◌};
+ghost use Rattle.std.specs.Fmt.{WritesOnOk};
 ghost use Rattle.tenant_lines.specs.Replies.{text_of_port};
 
 use giotto_tasks::names::Name;
-use std::alloc::{AllocError, Global};
+use std::fmt;
 
 /// The name of a port: of a sensor, an actuator or an output, or of an input or a state of a task.
 #[derive(Drop)]
@@ -28,18 +29,27 @@ impl PortName {
             name: self.name.copy(),
         }
     }
+}
 
-    /// The name as it is shown: NAME, or TASK.NAME for an input or a state of a task.
-    ///
-    /// # Errors
-    /// Want of memory.
-    pub fn as_text(&self, alloc: Global) -> Result<String, AllocError>
-        ensures { IfOk result (λ text. string_bytes text ≡ text_of_port self.now) }
-    {
-        match &self.task {
-            Some(task) => format!(in alloc; "{}.{}", task.as_str(), self.name.as_str()),
-            None => String::from_str(alloc, self.name.as_str()),
-        }
+/// The name as it is shown: NAME, or TASK.NAME for an input or a state of a task.
+impl fmt::Display for PortName {
+    ghost use Rattle.std.specs.Prelude.{Some};
+    ghost use Rattle.tenant_lines.specs.Replies.{text_of_port};
+
+    ghost output = { λ p. Some (text_of_port p) };
+
+    fn fmt<W: fmt::Write>(&self, f: &mut fmt::Formatter<W>) -> fmt::Result {
+        write_port(f, self)
+    }
+}
+
+// Writes the name of a port.
+fn write_port<W: fmt::Write>(f: &mut fmt::Formatter<W>, port: &PortName) -> fmt::Result
+    ensures { WritesOnOk W.write_str_gives f.old result (text_of_port port.now) f.new }
+{
+    match &port.task {
+        Some(task) => write!(f, "{}.{}", task.as_str(), port.name.as_str()),
+        None => write!(f, "{}", port.name.as_str()),
     }
 }
 

@@ -1,7 +1,7 @@
 //! The replies to a tenant's commands.
 
 ghost use Rattle.std.specs.Prelude.{◌≡◌, ◌↔◌, ◌<◌, ◌++◌, codes, IfOk, IsErr, IsTrue, length, string_bytes};
-ghost use Rattle.std.specs.Fmt.{signed_decimal};
+ghost use Rattle.std.specs.Fmt.{WritesOnOk};
 ghost use Rattle.std.specs.List.{flat_map};
 ghost use Rattle.tenant_lines.specs.Replies.{word_of_budget, text_of_happening, text_of_port, text_of_record, text_of_refusal, text_of_reply, text_of_bounds, text_of_row, text_of_status, text_of_value};
 ghost use Rattle.tenant_lines.specs.cited.Copies.{has_list};
@@ -11,6 +11,8 @@ use giotto_tasks::lists::List;
 use giotto_tasks::names::Name;
 use rig_config::intervals::Bounds;
 use std::alloc::{AllocError, Global};
+use std::fmt;
+use std::string::ToString;
 use tenant_grants::rows::Row;
 use tenant_trace::records::{Happening, Record};
 
@@ -231,129 +233,128 @@ impl Budget {
 pub fn print_reply(alloc: Global, reply: &Reply) -> Result<String, AllocError>
     ensures { IfOk result (λ text. string_bytes text ≡ text_of_reply reply.now) }
 {
-    match reply {
-        Reply::Loaded => String::from_str(alloc, "ok load"),
-        Reply::Replaced => String::from_str(alloc, "ok replace"),
-        Reply::Started => String::from_str(alloc, "ok start"),
-        Reply::Stopped => String::from_str(alloc, "ok stop"),
-        Reply::Mode(status) => print_status(alloc, status),
-        Reply::Port(port) => print_port(alloc, port),
-        Reply::All(ports) => print_all(alloc, ports.as_slice()),
-        Reply::Trace(records) => print_trace(alloc, records.as_slice()),
-        Reply::Offered => String::from_str(alloc, "ok offer"),
-        Reply::Unoffered => String::from_str(alloc, "ok unoffer"),
-        Reply::Bound => String::from_str(alloc, "ok bind"),
-        Reply::Unbound => String::from_str(alloc, "ok unbind"),
-        Reply::Rows(rows) => print_rows(alloc, rows.as_slice()),
-        Reply::Refused(refusal) => {
-            let why = print_refusal(alloc, *refusal)?;
-            format!(in alloc; "err {}", why.as_str())
-        }
+    reply.to_string(alloc)
+}
+
+/// The text of a reply, without the name of the tenant and without LF.
+impl fmt::Display for Reply {
+    ghost use Rattle.std.specs.Prelude.{Some};
+    ghost use Rattle.tenant_lines.specs.Replies.{text_of_reply};
+
+    ghost output = { λ r. Some (text_of_reply r) };
+
+    fn fmt<W: fmt::Write>(&self, f: &mut fmt::Formatter<W>) -> fmt::Result {
+        write_reply(f, self)
     }
 }
 
-// The text of the reply to `show mode`.
-fn print_status(alloc: Global, status: &Status) -> Result<String, AllocError>
-    ensures { IfOk result (λ text. string_bytes text ≡ codes "ok mode " ++ text_of_status status.now) }
+// Writes the text of a reply.
+fn write_reply<W: fmt::Write>(f: &mut fmt::Formatter<W>, reply: &Reply) -> fmt::Result
+    ensures { WritesOnOk W.write_str_gives f.old result (text_of_reply reply.now) f.new }
+{
+    match reply {
+        Reply::Loaded => write!(f, "ok load"),
+        Reply::Replaced => write!(f, "ok replace"),
+        Reply::Started => write!(f, "ok start"),
+        Reply::Stopped => write!(f, "ok stop"),
+        Reply::Mode(status) => write_status(f, status),
+        Reply::Port(port) => write!(f, "ok port {} {}", port.port, port.value),
+        Reply::All(ports) => write_ports(f, ports.as_slice()),
+        Reply::Trace(records) => write_records(f, records.as_slice()),
+        Reply::Offered => write!(f, "ok offer"),
+        Reply::Unoffered => write!(f, "ok unoffer"),
+        Reply::Bound => write!(f, "ok bind"),
+        Reply::Unbound => write!(f, "ok unbind"),
+        Reply::Rows(rows) => write_rows(f, rows.as_slice()),
+        Reply::Refused(refusal) => write_refusal(f, *refusal),
+    }
+}
+
+// Writes the reply to `show mode`.
+fn write_status<W: fmt::Write>(f: &mut fmt::Formatter<W>, status: &Status) -> fmt::Result
+    ensures { WritesOnOk W.write_str_gives f.old result (codes "ok mode " ++ text_of_status status.now) f.new }
 {
     match status {
-        Status::Empty => String::from_str(alloc, "ok mode empty"),
-        Status::Loaded(mode) => format!(in alloc; "ok mode loaded {}", mode.as_str()),
-        Status::Running(mode, time) => format!(in alloc;
-            "ok mode running {} {}",
-            mode.as_str(),
-            time
-        ),
-        Status::StoppedAsked => String::from_str(alloc, "ok mode stopped asked"),
-        Status::StoppedOverrun(task) => {
-            format!(in alloc; "ok mode stopped overrun {}", task.as_str())
-        }
+        Status::Empty => write!(f, "ok mode empty"),
+        Status::Loaded(mode) => write!(f, "ok mode loaded {}", mode.as_str()),
+        Status::Running(mode, time) => write!(f, "ok mode running {} {time}", mode.as_str()),
+        Status::StoppedAsked => write!(f, "ok mode stopped asked"),
+        Status::StoppedOverrun(task) => write!(f, "ok mode stopped overrun {}", task.as_str()),
     }
 }
 
-// The text of the reply to `show port`.
-fn print_port(alloc: Global, port: &PortValue) -> Result<String, AllocError>
-    ensures { IfOk result (λ text. string_bytes text ≡ codes "ok port " ++ (text_of_port port.now.port ++ (codes " " ++ signed_decimal port.now.value))) }
+// Writes the reply to `show all`.
+fn write_ports<W: fmt::Write>(f: &mut fmt::Formatter<W>, ports: &[PortValue]) -> fmt::Result
+    ensures { WritesOnOk W.write_str_gives f.old result (codes "ok all" ++ flat_map text_of_value ports.now) f.new }
 {
-    let name = port.port.as_text(alloc)?;
-    format!(in alloc; "ok port {} {}", name.as_str(), port.value)
-}
-
-// The text of the reply to `show all`.
-fn print_all(alloc: Global, ports: &[PortValue]) -> Result<String, AllocError>
-    ensures { IfOk result (λ text. string_bytes text ≡ codes "ok all" ++ flat_map text_of_value ports.now) }
-{
-    let mut text = String::from_str(alloc, "ok all")?;
+    write!(f, "ok all")?;
     for port in ports {
-        let name = port.port.as_text(alloc)?;
-        let one = format!(in alloc; " {}={}", name.as_str(), port.value)?;
-        text.push_str(one.as_str())?;
+        write!(f, " {}={}", port.port, port.value)?;
     }
-    Ok(text)
+    Ok(())
 }
 
-// The text of the reply to `trace`.
-fn print_trace(alloc: Global, records: &[Record]) -> Result<String, AllocError>
-    ensures { IfOk result (λ text. string_bytes text ≡ codes "ok trace" ++ flat_map text_of_record records.now) }
+// Writes the reply to `trace`.
+fn write_records<W: fmt::Write>(f: &mut fmt::Formatter<W>, kept: &[Record]) -> fmt::Result
+    ensures { WritesOnOk W.write_str_gives f.old result (codes "ok trace" ++ flat_map text_of_record kept.now) f.new }
 {
-    let mut text = String::from_str(alloc, "ok trace")?;
-    for record in records {
-        let one = print_record(alloc, record)?;
-        text.push_str(one.as_str())?;
+    write!(f, "ok trace")?;
+    for record in kept {
+        write_record(f, record)?;
     }
-    Ok(text)
+    Ok(())
 }
 
-// A record as it is told, with the blank before it.
-fn print_record(alloc: Global, record: &Record) -> Result<String, AllocError>
-    ensures { IfOk result (λ text. string_bytes text ≡ text_of_record «record».now) }
+// Writes a record, with the blank before it.
+fn write_record<W: fmt::Write>(f: &mut fmt::Formatter<W>, record: &Record) -> fmt::Result
+    ensures { WritesOnOk W.write_str_gives f.old result (text_of_record «record».now) f.new }
 {
-    let what = print_happening(alloc, &record.happening)?;
-    format!(in alloc; " {}:{}", record.tick, what.as_str())
+    write!(f, " {}:", record.tick)?;
+    write_happening(f, &record.happening)
 }
 
-// What happened, as a record tells it.
-fn print_happening(alloc: Global, happening: &Happening) -> Result<String, AllocError>
-    ensures { IfOk result (λ text. string_bytes text ≡ text_of_happening happening.now) }
+// Writes what happened, as a record tells it.
+fn write_happening<W: fmt::Write>(f: &mut fmt::Formatter<W>, happening: &Happening) -> fmt::Result
+    ensures { WritesOnOk W.write_str_gives f.old result (text_of_happening happening.now) f.new }
 {
     match happening {
-        Happening::Start(mode) => format!(in alloc; "start:{}", mode.as_str()),
-        Happening::Mode(mode) => format!(in alloc; "mode:{}", mode.as_str()),
-        Happening::Act(actuator, value) => format!(in alloc; "act:{}:{}", actuator.as_str(), value),
-        Happening::Out(output, value) => format!(in alloc; "out:{}:{}", output.as_str(), value),
-        Happening::Asked => String::from_str(alloc, "stop:asked"),
-        Happening::Overrun(task) => format!(in alloc; "stop:overrun:{}", task.as_str()),
-        Happening::Replaced(mode) => format!(in alloc; "replaced:{}", mode.as_str()),
+        Happening::Start(mode) => write!(f, "start:{}", mode.as_str()),
+        Happening::Mode(mode) => write!(f, "mode:{}", mode.as_str()),
+        Happening::Act(actuator, value) => write!(f, "act:{}:{value}", actuator.as_str()),
+        Happening::Out(output, value) => write!(f, "out:{}:{value}", output.as_str()),
+        Happening::Asked => write!(f, "stop:asked"),
+        Happening::Overrun(task) => write!(f, "stop:overrun:{}", task.as_str()),
+        Happening::Replaced(mode) => write!(f, "replaced:{}", mode.as_str()),
     }
 }
 
-// The text of the reply to `rows`.
-fn print_rows(alloc: Global, rows: &[Row]) -> Result<String, AllocError>
-    ensures { IfOk result (λ text. string_bytes text ≡ codes "ok rows" ++ flat_map text_of_row rows.now) }
+// Writes the reply to `rows`.
+fn write_rows<W: fmt::Write>(f: &mut fmt::Formatter<W>, rows: &[Row]) -> fmt::Result
+    ensures { WritesOnOk W.write_str_gives f.old result (codes "ok rows" ++ flat_map text_of_row rows.now) f.new }
 {
-    let mut text = String::from_str(alloc, "ok rows")?;
+    write!(f, "ok rows")?;
     for row in rows {
-        let one = print_row(alloc, row)?;
-        text.push_str(one.as_str())?;
+        write_row(f, row)?;
     }
-    Ok(text)
+    Ok(())
 }
 
-// A row as it is told, with the blank before it.
-fn print_row(alloc: Global, row: &Row) -> Result<String, AllocError>
-    ensures { IfOk result (λ text. string_bytes text ≡ text_of_row row.now) }
+// Writes a row, with the blank before it.
+fn write_row<W: fmt::Write>(f: &mut fmt::Formatter<W>, row: &Row) -> fmt::Result
+    ensures { WritesOnOk W.write_str_gives f.old result (text_of_row row.now) f.new }
 {
     match row {
         Row::Offer(offer) => {
-            let bounds = print_bounds(alloc, &offer.bounds)?;
-            format!(in alloc;
-                " offer:{}:{}{}",
+            write!(
+                f,
+                " offer:{}:{}",
                 offer.actuator.as_str(),
-                offer.tenant.as_str(),
-                bounds.as_str()
-            )
+                offer.tenant.as_str()
+            )?;
+            write_bounds(f, &offer.bounds)
         }
-        Row::Bind(bind) => format!(in alloc;
+        Row::Bind(bind) => write!(
+            f,
             " bind:{}:{}:{}",
             bind.sensor.as_str(),
             bind.tenant.as_str(),
@@ -362,35 +363,35 @@ fn print_row(alloc: Global, row: &Row) -> Result<String, AllocError>
     }
 }
 
-// The bounds of an offer, as a row tells them: nothing where they are all values.
-fn print_bounds(alloc: Global, bounds: &Bounds) -> Result<String, AllocError>
-    ensures { IfOk result (λ text. string_bytes text ≡ text_of_bounds bounds.now) }
+// Writes the bounds of an offer, as a row tells them: nothing where they are all values.
+fn write_bounds<W: fmt::Write>(f: &mut fmt::Formatter<W>, bounds: &Bounds) -> fmt::Result
+    ensures { WritesOnOk W.write_str_gives f.old result (text_of_bounds bounds.now) f.new }
 {
     if bounds.is_whole() {
-        return Ok(String::new(alloc));
+        return Ok(());
     }
-    format!(in alloc; ":{}:{}", bounds.low(), bounds.high())
+    write!(f, ":{}:{}", bounds.low(), bounds.high())
 }
 
-// The text of a refusal, without the word `err`.
-fn print_refusal(alloc: Global, refusal: Refusal) -> Result<String, AllocError>
-    ensures { IfOk result (λ text. string_bytes text ≡ text_of_refusal refusal) }
+// Writes a refusal.
+fn write_refusal<W: fmt::Write>(f: &mut fmt::Formatter<W>, refusal: Refusal) -> fmt::Result
+    ensures { WritesOnOk W.write_str_gives f.old result (codes "err " ++ text_of_refusal refusal) f.new }
 {
     match refusal {
-        Refusal::BadCommand => String::from_str(alloc, "bad-command"),
-        Refusal::Syntax(offset) => format!(in alloc; "syntax {offset}"),
-        Refusal::TooDeep => String::from_str(alloc, "syntax deep"),
-        Refusal::TooMany => String::from_str(alloc, "syntax many"),
-        Refusal::Rule(number) => format!(in alloc; "rule {number}"),
-        Refusal::Running => String::from_str(alloc, "running"),
-        Refusal::NotRunning => String::from_str(alloc, "not-running"),
-        Refusal::NotLoaded => String::from_str(alloc, "not-loaded"),
-        Refusal::NoPort => String::from_str(alloc, "no-port"),
-        Refusal::NoTenant => String::from_str(alloc, "no-tenant"),
-        Refusal::Own => String::from_str(alloc, "own"),
-        Refusal::Twice => String::from_str(alloc, "twice"),
-        Refusal::NotThere => String::from_str(alloc, "not-there"),
-        Refusal::OverBudget(budget) => format!(in alloc; "budget {}", budget.as_str()),
-        Refusal::Memory => String::from_str(alloc, "memory"),
+        Refusal::BadCommand => write!(f, "err bad-command"),
+        Refusal::Syntax(offset) => write!(f, "err syntax {offset}"),
+        Refusal::TooDeep => write!(f, "err syntax deep"),
+        Refusal::TooMany => write!(f, "err syntax many"),
+        Refusal::Rule(number) => write!(f, "err rule {number}"),
+        Refusal::Running => write!(f, "err running"),
+        Refusal::NotRunning => write!(f, "err not-running"),
+        Refusal::NotLoaded => write!(f, "err not-loaded"),
+        Refusal::NoPort => write!(f, "err no-port"),
+        Refusal::NoTenant => write!(f, "err no-tenant"),
+        Refusal::Own => write!(f, "err own"),
+        Refusal::Twice => write!(f, "err twice"),
+        Refusal::NotThere => write!(f, "err not-there"),
+        Refusal::OverBudget(budget) => write!(f, "err budget {}", budget.as_str()),
+        Refusal::Memory => write!(f, "err memory"),
     }
 }

@@ -7,20 +7,28 @@ ghost use Rattle.tenant_lines.specs.Words.{is_blank_of_line, is_word_byte, words
 
 use std::alloc::{AllocError, Global};
 
+/// A line, cut behind its first word: that word, and what stands behind it, its blanks included. Neither has a byte where the line is
+/// blank.
+pub fn cut(line: &str) -> (&str, &str)
+    ensures word { result.0.now ≡ first_word_of line.now }
+    ensures rest { result.1.now ≡ behind_first_word line.now }
+{
+    let rest = skip_blanks(line);
+    rest.split_at(word_len(rest.as_bytes()))
+}
+
 /// The first word of a line, or no byte where the line is blank.
 pub fn first_word(line: &str) -> &str
     ensures { result.now ≡ first_word_of line.now }
 {
-    let rest = skip_blanks(line);
-    &rest[..word_len(rest.as_bytes())]
+    cut(line).0
 }
 
 /// What stands behind the first word of a line, its blanks included.
 pub fn behind_first_word(line: &str) -> &str
     ensures { result.now ≡ behind_first_word line.now }
 {
-    let rest = skip_blanks(line);
-    &rest[word_len(rest.as_bytes())..]
+    cut(line).1
 }
 
 // Whether a byte of a line is a blank: space, tab or CR. A line has no LF.

@@ -1,5 +1,5 @@
 -- The host behind the lines so far.
-use Rattle.std.specs.Prelude.{◌≡◌, true, List, Result, String}
+use Rattle.std.specs.Prelude.{◌≡◌, true, ℕ, List, ◌++◌, Result, String, string_bytes}
 use Rattle.std.specs.declared.alloc.AllocError.{AllocError}
 use Rattle.std.specs.declared.alloc.Global.{Global}
 use Rattle.rig_model.specs.Base.{IsBase, Setting}
@@ -7,8 +7,9 @@ use Rattle.host_core.specs.HostStanding.{HostStanding, Stands}
 use Rattle.rig_model.specs.Host.{host_after}
 use Rattle.rig_model.specs.Legal.{is_legal}
 use Rattle.rig_model.specs.declared.events.Event.{Event}
-use Rattle.rig_model.specs.Script.{Step}
-use Rattle.rig_script.specs.inner.Script.{IsCarriedOut}
+use Rattle.rig_model.specs.Script.{Step, line_step, speaker_of}
+use Rattle.rig_script.specs.declared.faults.Unanswered.{Unanswered}
+use Rattle.rig_script.specs.inner.Script.{IsAnswered, IsCarriedOut}
 
 -- the host stands for what these events, the newest first, make of the rig
 pub record IsHostAfter (setting : Setting) (host : HostStanding) (past : List Event) : Type 0 where
@@ -16,8 +17,21 @@ pub record IsHostAfter (setting : Setting) (host : HostStanding) (past : List Ev
   pub legal : is_legal setting past ≡ true
   pub stands : Stands setting host (host_after setting past)
 
+-- a text has just these bytes
+abbrev pub Holds : String Global → List ℕ → Type 0
+Holds text bytes = string_bytes text ≡ bytes
+
+-- a text was given these bytes behind its own
+abbrev pub Adds : String Global → String Global → List ℕ → Type 0
+Adds before after bytes = string_bytes after ≡ string_bytes before ++ bytes
+
 -- A host carries out a step, and who is told was told its events: whatever events it stands behind, the step that it has to take there is
 -- carried out.
-abbrev pub CarriesOut : (Setting → List Event → Step) → (List Event → Type 0) → (List Event → Type 0) → HostStanding → HostStanding → Result (String Global) AllocError → Type 0
-CarriesOut step Before After before after result = (setting : Setting) (past : List Event) → IsHostAfter setting before past
-    → IsCarriedOut (step setting past) past Before After result (IsHostAfter setting after)
+abbrev pub CarriesOut : (Setting → List Event → Step) → (List Event → Type 0) → (List Event → Type 0) → HostStanding → HostStanding → Result (Unit {0}) AllocError → (List ℕ → Type 0) → Type 0
+CarriesOut step Before After before after result Said = (setting : Setting) (past : List Event) → IsHostAfter setting before past
+    → IsCarriedOut (step setting past) past Before After result Said (IsHostAfter setting after)
+
+-- the same of the step of a line; where there was want of memory, who is to be told is its speaker
+abbrev pub AnswersLine : List ℕ → (List Event → Type 0) → (List Event → Type 0) → HostStanding → HostStanding → Result (Unit {0}) Unanswered → (List ℕ → Type 0) → Type 0
+AnswersLine line Before After before after result Said = (setting : Setting) (past : List Event) → IsHostAfter setting before past
+    → IsAnswered (line_step setting past line) past (speaker_of setting.config line) Before After result Said (IsHostAfter setting after)

@@ -1,13 +1,8 @@
--- A line that is a command about grants, and what is looked for behind the name.
+-- What is looked for behind the name in a command about grants.
 use Rattle.std.specs.Prelude.{ℕ, ◌&&◌, if◌then◌else◌, List, [], ◌∷◌, Option, None, codes}
 use Rattle.giotto_tasks.specs.Names.{same_name}
 use Rattle.tenant_lines.specs.declared.grant_lines.GrantCommand.{GrantCommand}
-use Rattle.tenant_lines.specs.GrantLines.{bounded_offer_command, grant_command_of_words, offer_command}
-use Rattle.tenant_lines.specs.Words.{words_of}
-
--- the words are separated by one or more blanks, and nothing stands behind them
-abbrev pub grant_command_of_line : List ℕ → Option GrantCommand
-grant_command_of_line line = grant_command_of_words (words_of line)
+use Rattle.tenant_lines.specs.GrantLines.{bounded_offer_command, offer_command}
 
 -- the word behind this one, where these are all words; else no byte
 abbrev pub word_behind : List ℕ → List (List ℕ) → List ℕ

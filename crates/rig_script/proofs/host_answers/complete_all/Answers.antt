@@ -17,6 +17,6 @@ returns g c = λ setting past h.
     let number : c.complete_all-number.result ≡ length jobs = c.complete_all-number.ensures.number ∙ ap (λ (js : List JobId). length js) named in
     let before = g.R.Record.tells c.args.events.now in
     let after = g.R.Record.tells c.work.new.self in
-    step_done (work_step jobs) past c.work_reply.result before after (IsHostAfter setting later) _ c.work_reply.ensures (rw number refl)
+    step_done (work_step jobs) past c.work_reply.result before after _ (IsHostAfter setting later) _ c.work_reply.ensures (rw number refl)
     (subst (IsTold before after) (ap (map Done) named ∙ sym (reverse-reverse (map Done jobs))) c.in_ok-work.ensures)
     (all_completed setting past c.args.host.now later h (c.complete_all-number.ensures.step setting past h.stands))

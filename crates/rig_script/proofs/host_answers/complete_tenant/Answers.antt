@@ -31,7 +31,7 @@ returns g c = λ setting past h.
     let number : c.complete_tenant-number.result ≡ length jobs = c.complete_tenant-number.ensures.number ∙ ap (λ (js : List JobId). length js) named in
     let before = g.R.Record.tells c.args.events.now in
     let after = g.R.Record.tells c.work_of.new.self in
-    tenant_found setting past c.args.host.now later h c.work_reply.result before after c.args.name.now t place
-    (step_done (work_step jobs) past c.work_reply.result before after (IsHostAfter setting later) _ c.work_reply.ensures (rw number refl)
+    tenant_found setting past c.args.host.now later h c.work_reply.result before after _ c.args.name.now t place
+    (step_done (work_step jobs) past c.work_reply.result before after _ (IsHostAfter setting later) _ c.work_reply.ensures (rw number refl)
     (subst (IsTold before after) (ap (map Done) named ∙ sym (reverse-reverse (map Done jobs))) c.in_ok-work_of.ensures)
     (completed_at setting past c.args.host.now later t within h (c.complete_tenant-number.ensures.step setting past h.stands)))

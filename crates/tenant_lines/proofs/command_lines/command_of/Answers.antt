@@ -1,8 +1,21 @@
-use Rattle.std.proofs.Common.{◌∙◌, rules}
-use Rattle.tenant_lines.proofs.CommandLines.{words_alone}
+use Rattle.std.proofs.Common.{◌≡◌, ℕ, List, codes, ap, sym, ◌∙◌, rules}
+use Rattle.tenant_lines.specs.CommandLine.{command_of_line, command_of_words}
+use Rattle.tenant_lines.specs.Words.{first_word_of, behind_first_word}
+use Rattle.tenant_lines.specs.inner.CutLines.{words_from}
+use Rattle.tenant_lines.proofs.CommandLines.{cut_words, words_alone}
 use Rattle.tenant_lines.proofs.command_lines.command_of.Goals as goal
+
+-- a line that was cut, and begins with neither word that a text follows
+by_words : (line word rest : List ℕ) → word ≡ first_word_of line → rest ≡ behind_first_word line → (word ≡ codes "load" → ⊥) → (word ≡ codes "replace" → ⊥)
+    → command_of_line line ≡ command_of_words (words_from word rest)
+by_words line word rest is_word is_rest no_load no_replace =
+    words_alone line (λ is. no_load (is_word ∙ is)) (λ is. no_replace (is_word ∙ is)) ∙ ap command_of_words (cut_words line)
+    ∙ (λ k. command_of_words (words_from (sym is_word k) (sym is_rest k)))
 
 pub returns-in_default-clause-command : goal.returns-in_default-clause-command
 returns-in_default-clause-command c =
-    let words = words_alone c.args.line.now (λ is. c.in_default.not-load (c.first_word.ensures ∙ is)) (λ is. c.in_default.not-replace (c.first_word.ensures ∙ is)) in
-    rw words (search rules)
+    rw (by_words c.args.line.now c.cut.result.0.now c.cut.result.1.now c.cut.ensures.word c.cut.ensures.rest c.in_default.not-load c.in_default.not-replace) (search rules)
+
+pub returns-in_default-clause-none : goal.returns-in_default-clause-none
+returns-in_default-clause-none c =
+    rw (by_words c.args.line.now c.cut.result.0.now c.cut.result.1.now c.cut.ensures.word c.cut.ensures.rest c.in_default.not-load c.in_default.not-replace) (search rules)

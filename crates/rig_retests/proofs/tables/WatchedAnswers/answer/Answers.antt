@@ -9,7 +9,7 @@ use Rattle.rig_retests.proofs.tables.WatchedAnswers.answer.Goals as goal
 
 pub returns-then-clock : goal.returns-then-clock
 returns-then-clock c = λ setting past w.
-    let done = c.in_ok-reply.ensures setting past w.0 in (
+    let done = c.in_ok-answer.ensures setting past w.0 in (
       done.0,
       (
         done.1,
@@ -21,7 +21,7 @@ returns-then-clock c = λ setting past w.
 
 pub returns : goal.returns
 returns c = λ setting past w.
-    let done = c.in_ok-reply.ensures setting past w.0 in (
+    let done = c.in_ok-answer.ensures setting past w.0 in (
       done.0,
       (
         subst (λ (h : HostStanding). IsHostAfter setting h (past_behind setting past c.args.line.now)) (sym c.keep.ensures.host) done.1,
