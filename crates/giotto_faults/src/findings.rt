@@ -41,7 +41,7 @@ pub struct Finding {
 
 impl Finding {
     /// The finding as text of several lines: `file`, its place and what is found; the text's line with a caret below each column
-    /// of what it is about; and the help. A tab is shown as one blank.
+    /// of what it is about; and the help. A tab, like any other control character, is shown as one blank.
     ///
     /// # Errors
     /// Want of memory.
@@ -50,13 +50,13 @@ impl Finding {
         let line = line_of(text, place.line);
         let number = format!(in alloc; "{}", place.line)?;
         let margin = blanks(alloc, number.len())?;
-        let before = without_tabs(
+        let before = without_controls(
             alloc,
             line.get(..bytes_before(text, self.offset)).unwrap_or(line),
         )?;
         let indent = blanks(alloc, before.as_str().width())?;
         let carets = carets(alloc, line, bytes_before(text, self.offset), self.len)?;
-        let shown_line = without_tabs(alloc, line)?;
+        let shown_line = without_controls(alloc, line)?;
         let mut shown = format!(in alloc;
             "{file}:{}:{}: {}: {}\n",
             place.line, place.column, self.severity, self.message
@@ -123,10 +123,14 @@ fn repeated(alloc: Global, piece: &str, count: usize) -> Result<String, AllocErr
     Ok(text)
 }
 
-fn without_tabs(alloc: Global, line: &str) -> Result<String, AllocError> {
+fn without_controls(alloc: Global, line: &str) -> Result<String, AllocError> {
     let mut text = String::new(alloc);
     for character in line.chars() {
-        text.push(if character == '\t' { ' ' } else { character })?;
+        text.push(if character.is_control() {
+            ' '
+        } else {
+            character
+        })?;
     }
     Ok(text)
 }
