@@ -20,13 +20,7 @@ pub(crate) fn hint(
     match what {
         RuleBreak::Assigned { name, task } => bodies::assigned_hint(alloc, outline, name, task),
         RuleBreak::Read { name, task } => bodies::read_hint(alloc, outline, name, task),
-        RuleBreak::PortDeclared { name, task } => {
-            let (name, task) = (name.as_str(), task.as_str());
-            let words = format!(in alloc;
-                "give it a name of its own; an invocation such as `{task}({name})` gives an input its value"
-            )?;
-            Ok(Some(words))
-        }
+        RuleBreak::PortDeclared { name, task } => names::own_name_hint(alloc, outline, name, task),
         RuleBreak::Frequency {
             period,
             frequency,

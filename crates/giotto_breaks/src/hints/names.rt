@@ -51,6 +51,26 @@ pub(crate) fn name_hint(
     Ok(Some(String::from_str(alloc, unknown_hint(outline, name))?))
 }
 
+/// A hint on an input or a state with a name that is declared outside of its task.
+///
+/// # Errors
+/// Want of memory.
+pub(crate) fn own_name_hint(
+    alloc: Global,
+    outline: &Outline,
+    name: &Name,
+    task: &Name,
+) -> Result<Option<String>, AllocError> {
+    let (words, task) = (name.as_str(), task.as_str());
+    let hint = match kind_of(outline, name) {
+        Some("a sensor" | "an output") => format!(in alloc;
+            "give it a name of its own; an invocation such as `{task}({words})` gives an input its value"
+        )?,
+        _ => String::from_str(alloc, "give it a name of its own")?,
+    };
+    Ok(Some(hint))
+}
+
 // A hint on a name that nothing declares.
 fn unknown_hint(outline: &Outline, name: &Name) -> &'static str {
     let is_listed = outline
