@@ -52,6 +52,7 @@ fn initial_hint(spot: &Spot) -> Option<&'static str> {
                 && spot.expects_mark(Symbol::Minus)
                 && !spot.expects_operand()
                 && !spot.finds_number() => { Some("an initial value is a number") }
+        "," if spot.opening != "task" => Some("each declaration has one name"),
         _ if spot.finds_operator() && spot.is_behind_number() => {
             Some("an initial value is a number, and no expression")
         }
@@ -93,6 +94,9 @@ fn task_hint(spot: &Spot) -> Option<&'static str> {
             Some("a task has parentheses, also without inputs: `task T()`")
         }
         ")" if spot.last == "," => Some("no `,` stands behind the last input"),
+        "(" if matches!(spot.last, "output" | "state") => {
+            Some("the outputs and the states of a task stand without parentheses: `output o, p`")
+        }
         ":=" if spot.expects_word(Keyword::State) => {
             Some("an output has its initial value where it is declared: `output o := 0;`")
         }

@@ -47,7 +47,7 @@ fn value_hint(spot: &Spot) -> Option<&'static str> {
         "+" | "-" | "*" | "/" | "%" if spot.expects_mark(Symbol::Becomes) => {
             Some("a statement gives a value by `:=`, as in `k := k + 1;`")
         }
-        "=" | ":" | "==" if spot.expects_mark(Symbol::Becomes) => {
+        "=" | ":" | "==" if spot.expects_mark(Symbol::Becomes) || spot.expected.is_empty() => {
             Some("`:=` gives a value; `==` compares two values")
         }
         _ => None,

@@ -20,6 +20,9 @@ fn number_hint(spot: &Spot) -> Option<&'static str> {
         "period" if spot.opening == "mode" => {
             Some("a period is a number of ticks, as in `mode m period 10 {`")
         }
+        _ if spot.found == "(" && spot.expects_word(Keyword::Period) => {
+            Some("a mode has no parentheses, as in `mode m period 10 {`")
+        }
         _ if spot.found == "{" && spot.expects_word(Keyword::Period) => {
             Some("a mode has a period, a number of ticks, as in `mode m period 10 {`")
         }
