@@ -57,13 +57,13 @@ fn findings_of(alloc: Global, rule: usize, text: &str) -> Result<Vec<Finding>, A
         findings.push(Finding {
             severity: Severity::Error,
             offset: found.site.offset,
-            len: found.site.len,
+            len: found.site.len_in(text),
             message: format!(in alloc; "{}", found.what)?,
             rule: words_once(alloc, rule, findings.is_empty())?,
             help: hint(alloc, &outline, &found.what)?,
         })?;
         if let Some((site, words)) = found.other {
-            findings.push(note(alloc, site, words)?)?;
+            findings.push(note(alloc, text, site, words)?)?;
         }
     }
     if findings.is_empty() {
@@ -85,11 +85,11 @@ fn words(alloc: Global, rule: usize) -> Result<String, AllocError> {
     format!(in alloc; "rule {rule}: {words}")
 }
 
-fn note(alloc: Global, site: Site, words: &str) -> Result<Finding, AllocError> {
+fn note(alloc: Global, text: &str, site: Site, words: &str) -> Result<Finding, AllocError> {
     Ok(Finding {
         severity: Severity::Note,
         offset: site.offset,
-        len: site.len,
+        len: site.len_in(text),
         message: String::from_str(alloc, words)?,
         rule: None,
         help: None,

@@ -20,6 +20,19 @@ pub(crate) struct Site {
     pub(crate) len: usize,
 }
 
+impl Site {
+    /// How many bytes of the text it has, where this is the text: all digits of a number.
+    pub(crate) fn len_in(&self, text: &str) -> usize {
+        let digits = text
+            .as_bytes()
+            .iter()
+            .skip(self.offset)
+            .take_while(|byte| byte.is_ascii_digit())
+            .count();
+        self.len.max(digits)
+    }
+}
+
 /// A place that breaks a rule, and another that belongs to it, with what is told of that one.
 #[derive(Clone, Copy)]
 pub(crate) struct Break<'a> {

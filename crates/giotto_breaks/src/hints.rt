@@ -1,10 +1,12 @@
-//! How the slips of a first day are mended.
+//! How the slips of a first day are mended: a file for each part of a program.
 
-use crate::finders::is_among;
 use crate::outlines::Outline;
 use crate::rule_breaks::RuleBreak;
-use giotto_tasks::names::Name;
 use std::alloc::{AllocError, Global};
+
+mod bodies;
+mod modes;
+mod names;
 
 /// A hint of one line for what breaks a rule, if there is one.
 ///
@@ -16,122 +18,49 @@ pub(crate) fn hint(
     what: &RuleBreak,
 ) -> Result<Option<String>, AllocError> {
     match what {
-        RuleBreak::Assigned { name, task } => assigned_hint(alloc, outline, name, task),
-        RuleBreak::Read { name, task } => read_hint(alloc, outline, name, task),
-        RuleBreak::Frequency { .. } => some(
-            alloc,
-            "a frequency is how often in a period, and no number of ticks",
+        RuleBreak::Assigned { name, task } => bodies::assigned_hint(alloc, outline, name, task),
+        RuleBreak::Read { name, task } => bodies::read_hint(alloc, outline, name, task),
+        RuleBreak::PortDeclared { name, task } => names::own_name_hint(alloc, outline, name, task),
+        RuleBreak::Frequency {
+            period,
+            frequency,
+            ..
+        } => modes::frequency_hint(alloc, *period, *frequency),
+        RuleBreak::ReadsOther { name, mode } => modes::reads_hint(alloc, outline, name, mode),
+        RuleBreak::Unfinished { .. } => modes::unfinished_hint(alloc, what),
+        _ => match fixed_hint(what) {
+            Some(words) => Ok(Some(String::from_str(alloc, words)?)),
+            None => names::hint(alloc, outline, what),
+        },
+    }
+}
+
+// Those that are the same in each program.
+fn fixed_hint(what: &RuleBreak) -> Option<&'static str> {
+    match what {
+        RuleBreak::LineTwice { .. } => {
+            Some("one actuator drives a line; each mode may update it in its own way")
+        }
+        RuleBreak::InvokedTwice { .. } => {
+            Some(
+                "one line of a mode invokes a task; its guard and its arguments may be expressions",
+            )
+        }
+        RuleBreak::SharedOutput { .. } => {
+            Some("give each task an output of its own, or invoke them in different modes")
+        }
+        RuleBreak::UpdatedTwice { .. } => Some(
+            "one line of a mode updates an actuator: let a task tell the cases apart, and give the actuator its output",
         ),
-        RuleBreak::PortDeclared { name, task } => {
-            let (name, task) = (name.as_str(), task.as_str());
-            let words = format!(in alloc;
-                "give it a name of its own; an invocation such as `{task}({name})` gives an input its value"
-            )?;
-            Ok(Some(words))
+        RuleBreak::UpdateReadsSensor { .. } => {
+            Some("a sensor's value comes to an actuator by a task, whose output the update reads")
         }
-        RuleBreak::UpdateReadsSensor { .. } => some(
-            alloc,
-            "a sensor's value comes to an actuator by a task, whose output the update reads",
+        RuleBreak::ReadsActuator { .. } => {
+            Some("nothing reads an actuator: read the output from which it is updated")
+        }
+        RuleBreak::GivesOther { .. } => Some(
+            "a switch gives values to outputs of tasks that its target invokes: leave it out, or invoke such a task there",
         ),
-        RuleBreak::ReadsOther { .. } => some(
-            alloc,
-            "is a `taskfreq` line missing in the mode, which invokes the task that has this output?",
-        ),
-        RuleBreak::NoOutput { name, .. }
-        | RuleBreak::NoActuator { name }
-        | RuleBreak::NoTarget { name }
-        | RuleBreak::NoDestination { name }
-        | RuleBreak::NoTask { name }
-        | RuleBreak::NoPort { name }
-        | RuleBreak::NoStart { name } => kind_hint(alloc, outline, name),
-        _ => Ok(None),
+        _ => None,
     }
-}
-
-fn some(alloc: Global, words: &str) -> Result<Option<String>, AllocError> {
-    Ok(Some(String::from_str(alloc, words)?))
-}
-
-fn assigned_hint(
-    alloc: Global,
-    outline: &Outline,
-    name: &Name,
-    task: &Name,
-) -> Result<Option<String>, AllocError> {
-    let (words, kind) = (name.as_str(), kind_of(outline, name));
-    let task = task.as_str();
-    match kind {
-        Some("an output") => {
-            let words = format!(in alloc;
-                "name it among the outputs of the task: `task {task}(..) output {words} {{`"
-            )?;
-            Ok(Some(words))
-        }
-        Some("an input of a task") => some(
-            alloc,
-            "an input can't be assigned; a state can: `state k := 0`",
-        ),
-        None => {
-            let words = format!(in alloc;
-                "declare `output {words} := 0;` and name it among the outputs of the task: `task {task}(..) output {words} {{`"
-            )?;
-            Ok(Some(words))
-        }
-        _ => Ok(None),
-    }
-}
-
-fn read_hint(
-    alloc: Global,
-    outline: &Outline,
-    name: &Name,
-    task: &Name,
-) -> Result<Option<String>, AllocError> {
-    let (words, kind) = (name.as_str(), kind_of(outline, name));
-    let task = task.as_str();
-    match kind {
-        Some("a sensor" | "an output") => {
-            let words = format!(in alloc;
-                "give the task an input, `task {task}(i)`, and the input this value where the task is invoked, `{task}({words})`"
-            )?;
-            Ok(Some(words))
-        }
-        None => some(alloc, "no declaration has this name"),
-        _ => Ok(None),
-    }
-}
-
-fn kind_hint(alloc: Global, outline: &Outline, name: &Name) -> Result<Option<String>, AllocError> {
-    match kind_of(outline, name) {
-        Some(kind) => Ok(Some(format!(in alloc; "the name is that of {kind}")?)),
-        None => some(alloc, "no declaration has this name"),
-    }
-}
-
-// What the name is declared as.
-fn kind_of(outline: &Outline, name: &Name) -> Option<&'static str> {
-    if is_among(outline.sensors.as_slice(), name) {
-        return Some("a sensor");
-    }
-    if is_among(outline.actuators.as_slice(), name) {
-        return Some("an actuator");
-    }
-    if is_among(outline.outputs.as_slice(), name) {
-        return Some("an output");
-    }
-    for task in &outline.tasks {
-        if *task.name.name == *name {
-            return Some("a task");
-        }
-        if is_among(task.inputs.as_slice(), name) {
-            return Some("an input of a task");
-        }
-        if is_among(task.states.as_slice(), name) {
-            return Some("a state of a task");
-        }
-    }
-    if outline.modes.iter().any(|mode| *mode.name.name == *name) {
-        return Some("a mode");
-    }
-    None
 }

@@ -120,11 +120,12 @@ pub enum RuleBreak<'a> {
     GivesTwice {
         name: &'a Name,
     },
-    /// Rule 10: a task that may be unfinished at a switch, and that the target doesn't invoke with the same period, but with another
-    /// one or not at all.
+    /// Rule 10: a task, invoked with this period and frequency, that may be unfinished at a switch, and that the target doesn't
+    /// invoke with the same period, but with another one or not at all.
     Unfinished {
         task: &'a Name,
         period: u64,
+        frequency: u64,
         target: &'a Name,
         other: Option<u64>,
     },
@@ -316,8 +317,11 @@ fn write_other<W: fmt::Write>(f: &mut fmt::Formatter<W>, what: &RuleBreak) -> fm
             let mode = mode.as_str();
             write!(
                 f,
-                "the period of `{mode}` is {period}, and a period is 1 to 1000000 ticks"
+                "the period of `{mode}` is {period}, and a period is 1 to 1,000,000 ticks"
             )
+        }
+        RuleBreak::Frequency { frequency: 0, .. } => {
+            write!(f, "the frequency is 0, and a frequency is at least 1")
         }
         RuleBreak::Frequency {
             mode,
@@ -344,9 +348,11 @@ fn write_other<W: fmt::Write>(f: &mut fmt::Formatter<W>, what: &RuleBreak) -> fm
             given,
         } => {
             let task = task.as_str();
+            let inputs_word = if *inputs == 1 { "input" } else { "inputs" };
+            let given_word = if *given == 1 { "argument" } else { "arguments" };
             write!(
                 f,
-                "`{task}` has {inputs} inputs, and the arguments here are {given}"
+                "`{task}` has {inputs} {inputs_word}, and this invocation has {given} {given_word}"
             )
         }
         RuleBreak::SharedOutput { .. } => write_shared(f, what),
@@ -384,6 +390,7 @@ fn write_unfinished<W: fmt::Write>(f: &mut fmt::Formatter<W>, what: &RuleBreak) 
         period,
         target,
         other,
+        ..
     } = what
     else {
         return Ok(());

@@ -41,7 +41,8 @@ pub struct Finding {
 
 impl Finding {
     /// The finding as text of several lines: `file`, its place and what is found; the text's line with a caret below each column
-    /// of what it is about; and the help. A tab is shown as one blank.
+    /// of what it is about; and the help. A tab, like any other control character, is shown as one blank, and of a line with more
+    /// than 120 characters those around the place alone, with `..` where some are left out.
     ///
     /// # Errors
     /// Want of memory.
@@ -50,13 +51,10 @@ impl Finding {
         let line = line_of(text, place.line);
         let number = format!(in alloc; "{}", place.line)?;
         let margin = blanks(alloc, number.len())?;
-        let before = without_tabs(
-            alloc,
-            line.get(..bytes_before(text, self.offset)).unwrap_or(line),
-        )?;
-        let indent = blanks(alloc, before.as_str().width())?;
-        let carets = carets(alloc, line, bytes_before(text, self.offset), self.len)?;
-        let shown_line = without_tabs(alloc, line)?;
+        let start = bytes_before(text, self.offset);
+        let excerpt = excerpt_of(alloc, line, start)?;
+        let indent = blanks(alloc, excerpt.indent)?;
+        let carets = carets(alloc, line, start, self.len)?;
         let mut shown = format!(in alloc;
             "{file}:{}:{}: {}: {}\n",
             place.line, place.column, self.severity, self.message
@@ -64,7 +62,7 @@ impl Finding {
         push_parts(&mut shown, &[margin.as_str(), " |\n"])?;
         push_parts(
             &mut shown,
-            &[number.as_str(), " | ", shown_line.as_str(), "\n"],
+            &[number.as_str(), " | ", excerpt.text.as_str(), "\n"],
         )?;
         push_parts(
             &mut shown,
@@ -104,11 +102,60 @@ fn line_of(text: &str, number: usize) -> &str {
     text.lines().nth(number.saturating_sub(1)).unwrap_or("")
 }
 
-// A caret for each column of these bytes of the line, and one at least.
+// As many characters of a line are shown.
+const WIDEST: usize = 120;
+
+// What is shown of a line, and how many columns stand before the place that it is about.
+#[derive(Drop)]
+struct Excerpt {
+    text: String,
+    indent: usize,
+}
+
+// The line, or where it is too long, the part around the byte at `start`.
+fn excerpt_of(alloc: Global, line: &str, start: usize) -> Result<Excerpt, AllocError> {
+    let before = line.get(..start).unwrap_or(line).chars().count();
+    let count = line.chars().count();
+    let from = if count > WIDEST {
+        before.saturating_sub(WIDEST / 2).min(count - WIDEST)
+    } else {
+        0
+    };
+    let mut text = String::from_str(alloc, if from > 0 { ".." } else { "" })?;
+    push_characters(&mut text, line, from, before.saturating_sub(from))?;
+    let indent = text.as_str().width();
+    let rest = WIDEST.saturating_sub(before.saturating_sub(from));
+    push_characters(&mut text, line, before, rest)?;
+    text.push_str(if count > from.saturating_add(WIDEST) {
+        ".."
+    } else {
+        ""
+    })?;
+    Ok(Excerpt { text, indent })
+}
+
+// Adds `count` characters of the line from this one on, with blanks for control characters.
+fn push_characters(
+    text: &mut String,
+    line: &str,
+    from: usize,
+    count: usize,
+) -> Result<(), AllocError> {
+    for character in line.chars().skip(from).take(count) {
+        text.push(if character.is_control() {
+            ' '
+        } else {
+            character
+        })?;
+    }
+    Ok(())
+}
+
+// A caret for each column of these bytes of the line, and one at least, at most half a long line.
 fn carets(alloc: Global, line: &str, start: usize, len: usize) -> Result<String, AllocError> {
     let end = start.saturating_add(len).min(line.len());
     let width = line.get(start..end).unwrap_or("").width();
-    repeated(alloc, "^", width.max(1))
+    repeated(alloc, "^", width.max(1).min(WIDEST / 2))
 }
 
 fn blanks(alloc: Global, count: usize) -> Result<String, AllocError> {
@@ -119,14 +166,6 @@ fn repeated(alloc: Global, piece: &str, count: usize) -> Result<String, AllocErr
     let mut text = String::new(alloc);
     for _ in 0..count {
         text.push_str(piece)?;
-    }
-    Ok(text)
-}
-
-fn without_tabs(alloc: Global, line: &str) -> Result<String, AllocError> {
-    let mut text = String::new(alloc);
-    for character in line.chars() {
-        text.push(if character == '\t' { ' ' } else { character })?;
     }
     Ok(text)
 }

@@ -8,6 +8,7 @@ use crate::kinds::TokenKind;
 use crate::ports::CrowdedPort;
 use giotto_text::lexer;
 use std::alloc::{AllocError, Global};
+use unicode_width::UnicodeWidthStr;
 
 impl ProgramFault {
     /// What is told of the fault, where this is the text that has it. `source` is that text as it stands in its file, with the
@@ -38,7 +39,7 @@ fn syntax_finding(
         severity: Severity::Error,
         offset,
         len: found.len(),
-        message: syntax_message(alloc, found, expected)?,
+        message: syntax_message(alloc, text, fault.offset, expected)?,
         rule: None,
         help: hint(alloc, text, source, fault.offset, expected)?,
     })
@@ -55,9 +56,11 @@ fn shown_offset(text: &str, offset: usize) -> usize {
 
 fn syntax_message(
     alloc: Global,
-    found: &str,
+    text: &str,
+    offset: usize,
     expected: &[TokenKind],
 ) -> Result<String, AllocError> {
+    let found = piece_at(text, offset);
     if found.is_empty() {
         let kinds = any_of(alloc, expected)?;
         return format!(in alloc; "expected {kinds}, found the end of the text");
@@ -65,11 +68,26 @@ fn syntax_message(
     if !is_token(alloc, found)? && (expected.is_empty() || is_run(found)) {
         return no_token_message(alloc, found);
     }
-    if expected.is_empty() {
-        return format!(in alloc; "`{found}` can't stand here");
+    let found = shown_piece(alloc, found)?;
+    if !expected.is_empty() {
+        let kinds = any_of(alloc, expected)?;
+        return format!(in alloc; "expected {kinds}, found {found}");
     }
-    let kinds = any_of(alloc, expected)?;
-    format!(in alloc; "expected {kinds}, found `{found}`")
+    if text.get(..offset).unwrap_or("").trim_end().ends_with(';') {
+        return format!(in alloc; "expected the end of the text, found {found}");
+    }
+    format!(in alloc; "{found} can't stand here")
+}
+
+// The piece in backquotes, or the number of a character that can't be seen.
+fn shown_piece(alloc: Global, piece: &str) -> Result<String, AllocError> {
+    match piece.chars().next() {
+        Some(first) if first.is_control() || first.is_whitespace() || piece.width() == 0 => {
+            let number = u32::from(first);
+            format!(in alloc; "the character U+{number:04X}")
+        }
+        _ => format!(in alloc; "`{piece}`"),
+    }
 }
 
 // Whether the piece is a token.
@@ -99,7 +117,10 @@ fn no_token_message(alloc: Global, piece: &str) -> Result<String, AllocError> {
         [b'a'..=b'z' | b'A'..=b'Z' | b'_', ..] => {
             format!(in alloc; "a name has at most 32 bytes, and this one has {count}")
         }
-        _ => format!(in alloc; "no word or mark begins with `{piece}`"),
+        _ => {
+            let piece = shown_piece(alloc, piece)?;
+            format!(in alloc; "no word or mark begins with {piece}")
+        }
     }
 }
 

@@ -38,6 +38,7 @@ fn at_switch<'a>(
                     what: RuleBreak::Unfinished {
                         task: task.name,
                         period,
+                        frequency: driver.frequency.value,
                         target: target.name,
                         other,
                     },

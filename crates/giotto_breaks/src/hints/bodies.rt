@@ -1,0 +1,135 @@
+//! What bodies assign and read.
+
+use crate::hints::names::{kind_of, name_hint, similar_hint};
+use crate::outlines::{Outline, PlacedName, TaskOutline};
+use giotto_tasks::names::Name;
+use std::alloc::{AllocError, Global};
+
+/// A hint on a name that a body assigns, and that is no output and no state of its task.
+///
+/// # Errors
+/// Want of memory.
+pub(crate) fn assigned_hint(
+    alloc: Global,
+    outline: &Outline,
+    name: &Name,
+    task: &Name,
+) -> Result<Option<String>, AllocError> {
+    let (words, owner) = (name.as_str(), task.as_str());
+    let hint = match kind_of(outline, name) {
+        Some("a sensor") => {
+            String::from_str(
+                alloc,
+                "a sensor has its reading, and nothing gives it a value",
+            )?
+        }
+        Some("an actuator") => format!(in alloc;
+            "an update gives an actuator its value, as in `actfreq 1 do {words} := o;` with an output `o` of the task"
+        )?,
+        Some("an output") => format!(in alloc;
+            "name it among the outputs of the task: `task {owner}(..) output {words} {{`"
+        )?,
+        Some("an input of a task") => {
+            String::from_str(
+                alloc,
+                "an input can't be assigned; a state can: `state k := 0`",
+            )?
+        }
+        Some("a state of a task") => {
+            String::from_str(
+                alloc,
+                "a state is its own task's alone: give this task one too",
+            )?
+        }
+        Some(kind) => format!(in alloc; "the name is that of {kind}")?,
+        None => return unknown_hint(alloc, outline, name, task),
+    };
+    Ok(Some(hint))
+}
+
+// A hint on a name that a body assigns, and that nothing declares.
+fn unknown_hint(
+    alloc: Global,
+    outline: &Outline,
+    name: &Name,
+    task: &Name,
+) -> Result<Option<String>, AllocError> {
+    let mut own = Vec::new(alloc);
+    if let Some(task) = task_of(outline, task) {
+        push_names(&mut own, task.outputs.as_slice())?;
+        push_names(&mut own, task.states.as_slice())?;
+    }
+    if let Some(words) = similar_hint(alloc, name, own.as_slice())? {
+        return Ok(Some(words));
+    }
+    let (name, task) = (name.as_str(), task.as_str());
+    let words = format!(in alloc;
+        "make it a state, `task {task}(..) state {name} := 0 {{`, or an output where others read it"
+    )?;
+    Ok(Some(words))
+}
+
+/// A hint on a name that a body reads, and that is no port of its task.
+///
+/// # Errors
+/// Want of memory.
+pub(crate) fn read_hint(
+    alloc: Global,
+    outline: &Outline,
+    name: &Name,
+    task: &Name,
+) -> Result<Option<String>, AllocError> {
+    let (words, owner) = (name.as_str(), task.as_str());
+    let hint = match kind_of(outline, name) {
+        Some("a sensor" | "an output") => format!(in alloc;
+            "give the task an input, `task {owner}(i)`, and the input this value where the task is invoked, `{owner}({words})`"
+        )?,
+        Some("an actuator") => String::from_str(
+            alloc,
+            "nothing reads an actuator: read the output from which it is updated",
+        )?,
+        Some("a state of a task") => String::from_str(
+            alloc,
+            "a state is its own task's alone; what another task reads is an output",
+        )?,
+        _ => return unknown_read_hint(alloc, outline, name, task),
+    };
+    Ok(Some(hint))
+}
+
+// A hint on a name that a body reads, and that is no value of any other task.
+fn unknown_read_hint(
+    alloc: Global,
+    outline: &Outline,
+    name: &Name,
+    task: &Name,
+) -> Result<Option<String>, AllocError> {
+    let mut names = Vec::new(alloc);
+    if let Some(task) = task_of(outline, task) {
+        push_names(&mut names, task.inputs.as_slice())?;
+        push_names(&mut names, task.states.as_slice())?;
+        push_names(&mut names, task.outputs.as_slice())?;
+    }
+    push_names(&mut names, outline.sensors.as_slice())?;
+    push_names(&mut names, outline.outputs.as_slice())?;
+    name_hint(alloc, outline, name, names.as_slice())
+}
+
+fn task_of<'o, 'a>(outline: &'o Outline<'a>, name: &Name) -> Option<&'o TaskOutline<'a>> {
+    for task in &outline.tasks {
+        if *task.name.name == *name {
+            return Some(task);
+        }
+    }
+    None
+}
+
+fn push_names<'a>(
+    names: &mut Vec<PlacedName<'a>>,
+    more: &[PlacedName<'a>],
+) -> Result<(), AllocError> {
+    for name in more {
+        names.push(*name)?;
+    }
+    Ok(())
+}

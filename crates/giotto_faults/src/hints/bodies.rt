@@ -1,0 +1,70 @@
+//! Statements and expressions.
+
+use crate::hints::spot::Spot;
+use crate::kinds::TokenKind;
+use giotto_text::tokens::{Keyword, Symbol};
+
+/// A hint on the body of a task, and on expressions.
+pub(crate) fn hint(spot: &Spot) -> Option<&'static str> {
+    block_hint(spot)
+        .or(loop_hint(spot))
+        .or(declaration_hint(spot))
+        .or(call_hint(spot))
+}
+
+// Blocks without braces.
+fn block_hint(spot: &Spot) -> Option<&'static str> {
+    if !spot.expects_mark(Symbol::OpenBrace) {
+        return None;
+    }
+    match (spot.last, spot.found) {
+        ("else", "if") => Some("an `else` has a block of its own: `else { if a { } }`"),
+        ("else", _) => Some("what an `else` does stands in braces: `else { a := 1; }`"),
+        (_, ":") => Some("what an `if` does stands in braces: `if a { b := 1; }`"),
+        _ if spot.opening == "if" && spot.finds_word() && !is_operator_word(spot) => {
+            Some("what an `if` does stands in braces: `if a { b := 1; }`")
+        }
+        _ => None,
+    }
+}
+
+// Whether a word is found, or stands before, that is an operator elsewhere.
+fn is_operator_word(spot: &Spot) -> bool {
+    matches!(spot.found, "and" | "or" | "mod") || spot.last == "not"
+}
+
+// Loops, and what else begins with a word in other languages.
+fn loop_hint(spot: &Spot) -> Option<&'static str> {
+    match spot.last {
+        "repeat" if spot.expects(TokenKind::Number) => {
+            Some("a `repeat` has a fixed number of turns, as in `repeat 3 { }`")
+        }
+        "while" | "for" | "loop" if spot.expects_mark(Symbol::Becomes) => {
+            Some("the only loop is `repeat` with a fixed number of turns, as in `repeat 3 { }`")
+        }
+        "return" if spot.expects_mark(Symbol::Becomes) => {
+            Some("a task gives its results to its outputs, as in `o := i + 1;`")
+        }
+        _ => None,
+    }
+}
+
+// Declarations in the body of a task.
+fn declaration_hint(spot: &Spot) -> Option<&'static str> {
+    match spot.found {
+        "sensor" | "actuator" | "output" | "state" if spot.expects_word(Keyword::Repeat) => Some(
+            "nothing is declared in a body; a value that only this task needs is a state: `task T(i) state k := 0 { }`",
+        ),
+        _ => None,
+    }
+}
+
+// What looks like a call of a function.
+fn call_hint(spot: &Spot) -> Option<&'static str> {
+    if spot.found == "(" && spot.expects_operator() && spot.is_behind_name() {
+        return Some(
+            "there are no functions; a task is invoked by a `taskfreq` line, and its outputs are read by their names",
+        );
+    }
+    None
+}

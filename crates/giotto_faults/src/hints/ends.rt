@@ -1,0 +1,33 @@
+//! Ends of declarations, blocks and texts.
+
+use crate::found::is_first_in_line;
+use crate::hints::spot::{Spot, is_keyword};
+use giotto_text::tokens::{Keyword, Symbol};
+
+/// A hint on what is missing at the end of a block or a text, or too much there.
+pub(crate) fn hint(spot: &Spot) -> Option<&'static str> {
+    match spot.found {
+        "" if spot.expects_word(Keyword::Start) => {
+            Some("a program ends with `start`, the name of a mode and `;`")
+        }
+        "sensor" | "actuator" | "output" | "task" if spot.expects_word(Keyword::Start) => Some(
+            "a program has its sensors first, then actuators, outputs, tasks and modes, and `start` at its end",
+        ),
+        _ if spot.expected.is_empty() && spot.last == ";" => {
+            Some("a program ends with its `start`")
+        }
+        ";" if spot.last == "}" => Some("no `;` stands behind this `}`"),
+        "}" if spot.expects_word(Keyword::Start) => Some("there is a `}` too many"),
+        "" | "task" | "mode" | "start" if spot.expects_mark(Symbol::CloseBrace) => {
+            Some("is a `}` missing before?")
+        }
+        _ => None,
+    }
+}
+
+/// Whether a `;` may be missing before what is found.
+pub(crate) fn wants_semicolon(spot: &Spot, source: &str) -> bool {
+    let found = spot.found;
+    let ends = found.is_empty() || found == "}" || is_keyword(found);
+    spot.expects_mark(Symbol::Semicolon) && (ends || is_first_in_line(source, spot.offset))
+}

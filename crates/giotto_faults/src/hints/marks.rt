@@ -1,0 +1,137 @@
+//! Marks, numbers, comments and words that are written in another way elsewhere.
+
+use crate::hints::spot::Spot;
+use crate::kinds::TokenKind;
+use giotto_text::tokens::{Keyword, Symbol};
+
+/// A hint on comments of other languages.
+pub(crate) fn comment_hint(spot: &Spot) -> Option<&'static str> {
+    if spot.found == "#" || spot.rest.starts_with("/*") || spot.before.contains("/*") {
+        return Some("a comment begins with `//` and ends with its line");
+    }
+    None
+}
+
+/// A hint on numbers.
+pub(crate) fn number_hint(spot: &Spot) -> Option<&'static str> {
+    if spot.found == "9223372036854775808" && spot.last == "-" {
+        return Some("the least value is written `(-9223372036854775807) - 1` in an expression");
+    }
+    if spot.found == "9223372036854775808" && spot.expects(TokenKind::Number) {
+        return Some("a number here is at most 9223372036854775807");
+    }
+    if spot.found == "." && spot.is_behind_number() {
+        return Some("all values are whole numbers");
+    }
+    if spot.finds_word() && spot.is_behind_number() && spot.is_joined() {
+        return Some("a number has decimal digits alone, and no unit");
+    }
+    None
+}
+
+/// A hint on operators, and on marks in their place.
+pub(crate) fn hint(spot: &Spot) -> Option<&'static str> {
+    value_hint(spot)
+        .or(comparison_hint(spot))
+        .or(word_hint(spot))
+        .or(other_mark_hint(spot))
+        .or(operand_hint(spot))
+}
+
+// What gives a value, and what compares two.
+fn value_hint(spot: &Spot) -> Option<&'static str> {
+    match spot.found {
+        "=" if matches!(spot.last, "+" | "-" | "*" | "/" | "%" | "&" | "|") => {
+            Some("no operator gives a value by itself: write `k := k + 1;`")
+        }
+        "+" | "-" | "*" | "/" | "%" if spot.expects_mark(Symbol::Becomes) => {
+            Some("a statement gives a value by `:=`, as in `k := k + 1;`")
+        }
+        "=" | ":" | "==" if spot.expects_mark(Symbol::Becomes) || spot.expected.is_empty() => {
+            Some("`:=` gives a value; `==` compares two values")
+        }
+        _ => None,
+    }
+}
+
+fn comparison_hint(spot: &Spot) -> Option<&'static str> {
+    if spot.rest.starts_with("=<") || spot.rest.starts_with("=>") {
+        return Some("at most is written `<=`, and at least `>=`");
+    }
+    match (spot.last, spot.found) {
+        ("<", ">") => Some("not equal is written `!=`"),
+        ("<", "<") | (">", ">") => Some("there are no operators on bits"),
+        (_, "=") if spot.expects_operator() => { Some("`==` compares two values; `:=` gives one") }
+        _ => None,
+    }
+}
+
+// Words in the place of operators.
+fn word_hint(spot: &Spot) -> Option<&'static str> {
+    if !spot.expects_operator() && !is_behind_operation(spot) {
+        return None;
+    }
+    match spot.found {
+        "and" => Some("`&&` is the operator"),
+        "or" => Some("`||` is the operator"),
+        "mod" => Some("`%` is the operator"),
+        _ if spot.last == "not" => Some("`!` is the operator"),
+        _ => None,
+    }
+}
+
+fn other_mark_hint(spot: &Spot) -> Option<&'static str> {
+    match spot.found {
+        "&" => Some("`&&` is the operator"),
+        "|" => Some("`||` is the operator"),
+        "^" | "~" => Some("there are no operators for powers or on bits"),
+        "?" => Some("an `if` in the body of a task tells two cases apart"),
+        "[" => Some("there are no arrays: each value is a port of its own"),
+        "\"" | "'" => Some("all values are whole numbers"),
+        _ => None,
+    }
+}
+
+// Operands that are operations.
+fn operand_hint(spot: &Spot) -> Option<&'static str> {
+    match spot.found {
+        "-" if spot.expects_operand() => {
+            Some("an operation that is an operand stands in parentheses, as in `a < (-1)`")
+        }
+        "!" if spot.expects_operand() => {
+            Some("an operation that is an operand stands in parentheses, as in `a && (!b)`")
+        }
+        _ if spot.finds_operator() && is_behind_operation(spot) => Some(
+            "no operator binds tighter than another: put an operand that is an operation in parentheses, as in `1 + (2 * 3)`",
+        ),
+        _ => None,
+    }
+}
+
+// Whether an expression ends there, and no operator goes on with it.
+fn is_behind_operation(spot: &Spot) -> bool {
+    !spot.expects_operator()
+        && !spot.expects_operand()
+        && (spot.expects_word(Keyword::Do)
+            || [
+                Symbol::Semicolon,
+                Symbol::CloseParenthesis,
+                Symbol::OpenBrace,
+                Symbol::Comma,
+            ]
+            .iter()
+            .any(|symbol| spot.expects_mark(*symbol)))
+}
+
+/// A hint on characters beyond ASCII.
+pub(crate) fn character_hint(spot: &Spot) -> Option<&'static str> {
+    match spot.found.chars().next() {
+        Some('\u{feff}') => Some(
+            "the file begins with a byte order mark: save it as UTF-8 without one",
+        ),
+        Some(first) if !first.is_ascii() => Some(
+            "outside of comments a program has the blanks, letters, digits and marks of ASCII alone",
+        ),
+        _ => None,
+    }
+}
