@@ -126,7 +126,7 @@ pub returns-in_err-answer-in-Whole-clause-calls : goal.returns-in_err-answer-in-
 returns-in_err-answer-in-Whole-clause-calls g c =
     let l = c.loop-lines in
     calls_both c.args.pass.now l.pass c.answer.new.pass l.invariant.pass
-    (unanswered_calls (text_step l.session.config l.session.state c.as_str.result.now) l.pass c.answer.new.pass c.in_err-answer-in-Whole.field-0.0 c.in_err-answer-in-Whole.ensures.fault)
+    (unanswered_calls (text_step l.session.config l.session.state c.as_str-line.result.now) l.pass c.answer.new.pass c.in_err-answer-in-Whole.field-0.0 c.in_err-answer-in-Whole.ensures.fault)
 
 pub returns-in_err-answer-in-Whole-clause-fault : goal.returns-in_err-answer-in-Whole-clause-fault
 returns-in_err-answer-in-Whole-clause-fault g c =
@@ -134,7 +134,7 @@ returns-in_err-answer-in-Whole-clause-fault g c =
     let left = g.I.Read.remaining in
     let contents = g.W.Write.contents in
     let given = c.in_ok-line.ensures in
-    let text = c.as_str.result.now in
+    let text = c.as_str-line.result.now in
     let failed = err_from_is_err_and c.from_residual-in_err-answer-in-Whole.result c.from_residual-in_err-answer-in-Whole.ensures.1 in
     let fault = c.in_err-answer-in-Whole.field-0.0 in
     let Written = Appends (contents c.args.writer.now) (contents c.answer.new.writer) in
@@ -143,7 +143,7 @@ returns-in_err-answer-in-Whole-clause-fault g c =
     (if_known (left c.args.reader.now) _ _ l.invariant.on (λ bytes h.
     let next = rw c.in-Whole.is at (given.line h.0 h.1) in
     line_cut c.args.config.now bytes h.0 (has_ended l.lines) l.session.state c.args.pass.now l.pass (contents c.args.writer.now) (contents l.writer) h.2 (contents c.next_line.new.writer) given.written
-    c.answer.new.pass next.0 next.1 text (has_ended c.next_line.new.self) next.2 (next.3 ∙ ap (λ t. Some t) (sym c.as_str.ensures.value)) fault Written (left c.next_line.new.reader)
+    c.answer.new.pass next.0 next.1 text (has_ended c.next_line.new.self) next.2 (next.3 ∙ ap (λ t. Some t) (sym c.as_str-line.ensures.value)) fault Written (left c.next_line.new.reader)
     (subst (λ config. IsUnanswered (text_step config l.session.state text) l.pass c.answer.new.pass fault) l.invariant.config c.in_err-answer-in-Whole.ensures.fault)))
 
 pub returns-in_err-answer-in-Whole-clause-reads : goal.returns-in_err-answer-in-Whole-clause-reads
@@ -155,7 +155,7 @@ returns-in_err-answer-in-Whole-clause-reads g c =
     few_read c.from_residual-in_err-answer-in-Whole.result (left c.args.reader.now) (left c.next_line.new.reader) (reads_of c.next_line.new.self)
     (both_counted 0 (reads_of l.lines) (reads_of c.next_line.new.self) (left c.args.reader.now) (left l.reader) (left c.next_line.new.reader) l.invariant.counted given.count)
     (given.bound l.invariant.begins.1)
-    (λ is. absurd (unanswered_no_turns (text_step l.session.config l.session.state c.as_str.result.now) l.pass c.answer.new.pass c.in_err-answer-in-Whole.field-0.0 c.in_err-answer-in-Whole.ensures.fault
+    (λ is. absurd (unanswered_no_turns (text_step l.session.config l.session.state c.as_str-line.result.now) l.pass c.answer.new.pass c.in_err-answer-in-Whole.field-0.0 c.in_err-answer-in-Whole.ensures.fault
     (sym failed.2 ∙ same_fault c.from_residual-in_err-answer-in-Whole.result failed.0 failed.1 is)))
 
 pub returns-then-has_ended-clause-ok : goal.returns-then-has_ended-clause-ok
@@ -164,7 +164,7 @@ returns-then-has_ended-clause-ok g c =
     let left = g.I.Read.remaining in
     let contents = g.W.Write.contents in
     let given = c.in_ok-line.ensures in
-    let text = c.as_str.result.now in
+    let text = c.as_str-line.result.now in
     let is_over : c.answer.new.session.state ≡ ended = c.has_ended.ensures.0 c.if-has_ended.true in
     let answered = subst (λ config. IsAnswered (text_step config l.session.state text) c.answer.new.session.state l.pass c.answer.new.pass (Appends (contents c.next_line.new.writer) (contents c.answer.new.writer))) l.invariant.config
     c.in_ok-answer-in-Whole.ensures.ok in
@@ -172,7 +172,7 @@ returns-then-has_ended-clause-ok g c =
     if_known (left c.args.reader.now) _ _ l.invariant.on (λ bytes h.
     let next = rw c.in-Whole.is at (given.line h.0 h.1) in
     let t = line_ended c.args.config.now bytes h.0 (has_ended l.lines) l.session.state c.args.pass.now l.pass (contents c.args.writer.now) (contents l.writer) h.2 (contents c.next_line.new.writer) given.written
-    c.answer.new.pass next.0 next.1 text (has_ended c.next_line.new.self) next.2 (next.3 ∙ ap (λ t. Some t) (sym c.as_str.ensures.value)) c.answer.new.session.state (contents c.answer.new.writer) (contents c.flush.new.writer)
+    c.answer.new.pass next.0 next.1 text (has_ended c.next_line.new.self) next.2 (next.3 ∙ ap (λ t. Some t) (sym c.as_str-line.ensures.value)) c.answer.new.session.state (contents c.answer.new.writer) (contents c.flush.new.writer)
     is_over answered c.flush.ensures.kept in
     (t.0, t.1, inr t.2)))
 
@@ -182,7 +182,7 @@ returns-then-has_ended-clause-fault g c =
     let left = g.I.Read.remaining in
     let contents = g.W.Write.contents in
     let given = c.in_ok-line.ensures in
-    let text = c.as_str.result.now in
+    let text = c.as_str-line.result.now in
     let answered = subst (λ config. IsAnswered (text_step config l.session.state text) c.answer.new.session.state l.pass c.answer.new.pass (Appends (contents c.next_line.new.writer) (contents c.answer.new.writer))) l.invariant.config
     c.in_ok-answer-in-Whole.ensures.ok in
     let Written = Appends (contents c.args.writer.now) (contents c.flush.new.writer) in
@@ -190,7 +190,7 @@ returns-then-has_ended-clause-fault g c =
     (if_known (left c.args.reader.now) _ _ l.invariant.on (λ bytes h.
     let next = rw c.in-Whole.is at (given.line h.0 h.1) in
     line_cut c.args.config.now bytes h.0 (has_ended l.lines) l.session.state c.args.pass.now l.pass (contents c.args.writer.now) (contents l.writer) h.2 (contents c.next_line.new.writer) given.written
-    c.answer.new.pass next.0 next.1 text (has_ended c.next_line.new.self) next.2 (next.3 ∙ ap (λ t. Some t) (sym c.as_str.ensures.value)) Write Written (left c.next_line.new.reader) (c.answer.new.session.state, answered.0)))
+    c.answer.new.pass next.0 next.1 text (has_ended c.next_line.new.self) next.2 (next.3 ∙ ap (λ t. Some t) (sym c.as_str-line.ensures.value)) Write Written (left c.next_line.new.reader) (c.answer.new.session.state, answered.0)))
 
 pub returns-then-has_ended-clause-reads : goal.returns-then-has_ended-clause-reads
 returns-then-has_ended-clause-reads g c =
@@ -207,7 +207,7 @@ loop-lines-preserved g c =
     let left = g.I.Read.remaining in
     let l = c.loop-lines in
     let given = c.in_ok-line.ensures in
-    let text = c.as_str.result.now in
+    let text = c.as_str-line.result.now in
     let answered = subst (λ config. IsAnswered (text_step config l.session.state text) c.answer.new.session.state l.pass c.answer.new.pass (Appends (contents c.next_line.new.writer) (contents c.answer.new.writer))) l.invariant.config
     c.in_ok-answer-in-Whole.ensures.ok in
     let on = rw c.in-Whole.is at (given.further l.invariant.begins) in
@@ -223,6 +223,6 @@ loop-lines-preserved g c =
             next.1,
             next.4,
             on_further c.args.config.now bytes h.0 (has_ended l.lines) l.session.state c.args.pass.now l.pass (contents c.args.writer.now) (contents l.writer) h.2 (contents c.next_line.new.writer) given.written
-                c.answer.new.pass (contents c.answer.new.writer) c.answer.new.session.state next.0 next.1 text (has_ended c.next_line.new.self) next.2 given.stays_ended (next.3 ∙ ap (λ t. Some t) (sym c.as_str.ensures.value)) answered,
+                c.answer.new.pass (contents c.answer.new.writer) c.answer.new.session.state next.0 next.1 text (has_ended c.next_line.new.self) next.2 given.stays_ended (next.3 ∙ ap (λ t. Some t) (sym c.as_str-line.ensures.value)) answered,
           ));
     }
