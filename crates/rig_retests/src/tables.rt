@@ -13,10 +13,14 @@ ghost use Rattle.rig_model.specs.TextLines.{cut};
 ghost use Rattle.rig_script.specs.BrokenOff.{ForNewHostReading};
 ghost use Rattle.rig_model.specs.Script.{past_after};
 
+use crate::courses::{Course, course_of};
+use crate::notes::Notes;
+use crate::shared_lines::SharedLines;
 use host_core::hosts::Host;
 use rig_config::{Config, TenantId};
 use rig_script::answers::{Answers, answer_lines};
 use rig_script::faults::{ScriptFault, Unanswered};
+use rig_script::speakers::who_speaks;
 use std::alloc::{AllocError, Global};
 use std::io;
 use std::io::Read;
@@ -29,6 +33,8 @@ pub struct Retests {
     table: SourceTable,
     // The line that gave each tick, from tick 0 on.
     lines: Vec<usize>,
+    shared: SharedLines,
+    course: Course,
 }
 
 impl Model for Retests {
@@ -80,6 +86,16 @@ impl Retests {
         };
         self.lines.get(tick).copied()
     }
+
+    /// The rig lines that the programs of the script use.
+    pub fn shared_lines(&self) -> &SharedLines {
+        &self.shared
+    }
+
+    /// How the script went.
+    pub fn course(&self) -> Course {
+        self.course
+    }
 }
 
 // A host that answers, and the sources behind its lines.
@@ -88,8 +104,7 @@ struct Watched {
     host: Host,
     table: SourceTable,
     lines: Vec<usize>,
-    // How many lines were answered.
-    answered: usize,
+    notes: Notes,
     // Whether all could be kept so far.
     is_whole: bool,
 }
@@ -106,7 +121,7 @@ impl Watched {
             return;
         };
         self.table.add(added.as_slice());
-        let Ok(()) = self.lines.push(self.answered) else {
+        let Ok(()) = self.lines.push(self.notes.answered) else {
             self.is_whole = false;
             return;
         };
@@ -121,8 +136,9 @@ impl Answers for Watched {
     fn answer(&mut self, alloc: Global, line: &str, text: &mut String) -> Result<(), Unanswered> {
         let clock = self.host.clock();
         let added = self.table.additions(alloc, &self.host);
+        let speaker = who_speaks(self.host.config(), line);
         self.host.answer(alloc, line, text)?;
-        self.answered = self.answered.saturating_add(1);
+        self.notes.note(alloc, speaker, line, text.as_str());
         if self.host.clock() == clock {
             return Ok(());
         }
@@ -148,19 +164,24 @@ pub fn retests_of<R: Read>(
         host,
         table,
         lines: Vec::new(alloc),
-        answered: 0,
+        notes: Notes::new(alloc),
         is_whole: true,
     };
-    answer_lines(alloc, reader, &mut io::sink(), &mut watched)?;
+    let ending = answer_lines(alloc, reader, &mut io::sink(), &mut watched)?;
     let Watched {
         host: _,
         table,
         lines,
-        answered: _,
+        notes,
         is_whole,
     } = watched;
-    if !is_whole {
+    if !is_whole || !notes.is_whole {
         return Err(ScriptFault::Memory);
     }
-    Ok(Retests { table, lines })
+    Ok(Retests {
+        table,
+        lines,
+        shared: notes.lines,
+        course: course_of(ending, notes.answered, notes.has_tenant),
+    })
 }

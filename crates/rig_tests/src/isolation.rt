@@ -182,6 +182,15 @@ fn text_of_rig(alloc: Global, alpha: &str, gamma: &str) -> Result<String, AllocE
     Ok(text)
 }
 
+// What a line is answered.
+fn reply_of(alloc: Global, host: &mut Host, line: &str) -> Result<String, AllocError> {
+    let mut text = String::new(alloc);
+    match host.answer(alloc, line, &mut text) {
+        Ok(()) => Ok(text),
+        Err(_) => Err(AllocError),
+    }
+}
+
 // Adds beta's replies to these lines, before each of which one of the others is answered as long as there is one.
 fn add_replies(
     alloc: Global,
@@ -192,9 +201,9 @@ fn add_replies(
 ) -> Result<(), AllocError> {
     for i in 0..lines.len() {
         if i < others.len() {
-            let _ = host.answer(alloc, others[i])?;
+            let _ = reply_of(alloc, host, others[i])?;
         }
-        let reply = host.answer(alloc, lines[i])?;
+        let reply = reply_of(alloc, host, lines[i])?;
         if first_word(reply.as_str()) == "beta" {
             text.push_str(reply.as_str())?;
         }
