@@ -7,18 +7,20 @@
 //! print!(rt; "{}", report.text)?;
 //! ```
 //!
-//! `specs/Reports.antt` says when a file is good: exactly where `read` and `check` pass its program.
+//! [`examine`] gives the program that a text spells, or what is told of the text, for whoever asks more of a program than that it is
+//! well-formed. `specs/Reports.antt` says when a text is good: exactly where `read` and `check` pass its program.
 #![tactic(auto)]
 
-ghost use Rattle.std.specs.Prelude.{◌≡◌, IfOk, Ok, None, string_bytes};
+ghost use Rattle.std.specs.Prelude.{◌≡◌, ◌++◌, ◌∷◌, [], IfOk, Ok, None, string_bytes};
 ghost use Rattle.giotto_files.specs.Comments.{one_line};
 ghost use Rattle.giotto_rules.specs.Rules.{first_broken_rule};
 ghost use Rattle.giotto_text.specs.Parsing.{parsed};
-ghost use Rattle.giotto_reports.specs.Reports.{Tells};
+ghost use Rattle.giotto_reports.specs.Reports.{IsExamined, IsWritten, Tells};
 
-use giotto_breaks::{BrokenRule, broken_rule};
-use giotto_check::{CheckFault, check};
+use giotto_breaks::broken_rule;
+use giotto_check::{CheckFault, Checked, check};
 use giotto_faults::faults::{ProgramFault, read_or_tell};
+use giotto_faults::findings::Finding;
 use giotto_files::one_line;
 use giotto_layouts::{load_line, pretty};
 use giotto_read::{Program, print};
@@ -41,11 +43,20 @@ pub enum Wish<'a> {
 /// What is told of a file.
 #[derive(Drop)]
 pub struct Report {
-    /// Whether its program is well-formed.
+    /// Whether nothing is wrong with it.
     pub is_good: bool,
-    /// What was wanted of a good program; of another what is wrong with it, as findings in the form of a compiler's messages. Each line
+    /// What was wanted of a good file; of another what is wrong with it, as findings in the form of a compiler's messages. Each line
     /// ends with an LF.
     pub text: String,
+}
+
+/// What a text was found to be.
+#[derive(Drop)]
+pub enum Examined {
+    /// It spells this well-formed program.
+    Good(Checked),
+    /// It spells none, as is told by one finding at least.
+    Faulty(Vec<Finding>),
 }
 
 /// What is told of a program's file with this name and this text.
@@ -56,82 +67,98 @@ pub fn report_on(alloc: Global, file: &str, source: &str, wish: Wish) -> Result<
     ensures { IfOk result (λ report. Tells source.now report.is_good) }
 {
     let text = one_line(alloc, source)?;
-    match read_or_tell(alloc, text.as_str()) {
-        Ok(program) => on_program(alloc, file, source, text.as_str(), program, wish),
+    match examine(alloc, text.as_str(), source)? {
+        Examined::Good(checked) => Ok(Report {
+            is_good: true,
+            text: written(alloc, &checked, wish)?,
+        }),
+        Examined::Faulty(findings) => Ok(Report {
+            is_good: false,
+            text: shown(alloc, file, source, &findings)?,
+        }),
+    }
+}
+
+/// The well-formed program that a text spells, or what is told of the text. `source` is the text as it stands in its file, with the
+/// same bytes in the same places but for line ends and comments.
+///
+/// # Errors
+/// Want of memory.
+pub fn examine(alloc: Global, text: &str, source: &str) -> Result<Examined, AllocError>
+    ensures { IfOk result (IsExamined text.now) }
+{
+    match read_or_tell(alloc, text) {
+        Ok(program) => by_rules(alloc, program, text),
         Err(ProgramFault::Memory) => Err(AllocError),
         Err(fault) => {
-            let finding = fault.finding(alloc, text.as_str(), source)?;
-            Ok(Report {
-                is_good: false,
-                text: finding.shown(alloc, file, source)?,
-            })
+            let finding = fault.finding(alloc, text, source)?;
+            let mut findings = Vec::new(alloc);
+            findings.push(finding)?;
+            Ok(Examined::Faulty(findings))
         }
     }
 }
 
-// What is told of the program of this text, which stands so in the file.
-fn on_program(
-    alloc: Global,
-    file: &str,
-    source: &str,
-    text: &str,
-    program: Program,
-    wish: Wish,
-) -> Result<Report, AllocError>
-    requires line { text.now ≡ one_line source.now }
-    requires read { parsed text.now ≡ Ok program }
-    ensures { IfOk result (λ report. Tells source.now report.is_good) }
+// What is told of the program of this text.
+fn by_rules(alloc: Global, program: Program, text: &str) -> Result<Examined, AllocError>
+    requires { parsed text.now ≡ Ok program }
+    ensures { IfOk result (IsExamined text.now) }
 {
     match broken_rule(alloc, &program, text)? {
-        Some(broken) => Ok(Report {
-            is_good: false,
-            text: shown(alloc, file, source, &broken)?,
-        }),
-        None => Ok(Report {
-            is_good: true,
-            text: wanted(alloc, program, wish)?,
-        }),
+        Some(broken) => Ok(Examined::Faulty(broken.findings)),
+        None => Ok(Examined::Good(checked(alloc, program)?)),
     }
 }
 
-fn shown(
+// The program, checked.
+fn checked(alloc: Global, program: Program) -> Result<Checked, AllocError>
+    requires { first_broken_rule program ≡ None }
+    ensures { IfOk result (λ checked. checked ≡ program) }
+{
+    match check(alloc, program) {
+        Ok(checked) => Ok(checked),
+        Err((_, CheckFault::Memory)) => Err(AllocError),
+        Err((_, CheckFault::Rule(_))) => unreachable!(),
+    }
+}
+
+/// What was wanted of a well-formed program. Each line ends with an LF.
+///
+/// # Errors
+/// Want of memory.
+pub fn written(alloc: Global, checked: &Checked, wish: Wish) -> Result<String, AllocError>
+    ensures { IfOk result (λ text. IsWritten wish.entry checked.now (string_bytes text)) }
+{
+    match wish {
+        Wish::Summary => summary_of(alloc, checked),
+        Wish::Load(tenant) => ended(load_line(alloc, tenant, checked.program())?),
+        Wish::Print => ended(print(alloc, checked.program())?),
+        Wish::Pretty => pretty(alloc, checked.program()),
+    }
+}
+
+/// Findings as text, one below the other, where `source` is the text of the file.
+///
+/// # Errors
+/// Want of memory.
+pub fn shown(
     alloc: Global,
     file: &str,
     source: &str,
-    broken: &BrokenRule,
+    findings: &[Finding],
 ) -> Result<String, AllocError> {
     let mut text = String::new(alloc);
-    for finding in &broken.findings {
+    for finding in findings {
         let told = finding.shown(alloc, file, source)?;
         text.push_str(told.as_str())?;
     }
     Ok(text)
 }
 
-// What is wanted of a program that keeps all rules.
-fn wanted(alloc: Global, program: Program, wish: Wish) -> Result<String, AllocError>
-    requires { first_broken_rule program ≡ None }
-{
-    match wish {
-        Wish::Summary => summary(alloc, program),
-        Wish::Load(tenant) => ended(load_line(alloc, tenant, &program)?),
-        Wish::Print => ended(print(alloc, &program)?),
-        Wish::Pretty => pretty(alloc, &program),
-    }
-}
-
-fn summary(alloc: Global, program: Program) -> Result<String, AllocError>
-    requires { first_broken_rule program ≡ None }
-{
-    match check(alloc, program) {
-        Ok(checked) => summary_of(alloc, &checked),
-        Err((_, CheckFault::Memory)) => Err(AllocError),
-        Err((_, CheckFault::Rule(_))) => unreachable!(),
-    }
-}
-
 // The line with its end.
-fn ended(line: String) -> Result<String, AllocError> {
+fn ended(line: String) -> Result<String, AllocError>
+    ensures { IfOk result (λ text. string_bytes text ≡ string_bytes line ++ 10 ∷ []) }
+{
     let mut line = line;
     line.push_str("\n")?;
     Ok(line)

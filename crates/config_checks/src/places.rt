@@ -1,0 +1,74 @@
+//! Where the fields of a configuration stand in its text.
+
+use rig_config::TenantId;
+use rig_config::faults::{Field, FieldPlace};
+
+/// A field of the tenant at this place.
+pub(crate) fn place_of(tenant: TenantId, field: Field) -> FieldPlace {
+    FieldPlace {
+        tenant: Some(tenant),
+        field,
+    }
+}
+
+/// The offset of a field, as it is usually written: at the front of a line, of a tenant's below the `[[tenant]]` with as many before it.
+/// Where it isn't found, that of the tenant, or else the front of the text.
+pub(crate) fn offset_of(text: &str, at: FieldPlace) -> usize {
+    let word = at.field.word();
+    let Some(tenant) = at.tenant else {
+        return offset_in(text, 0, word).unwrap_or(0);
+    };
+    let Some(begin) = offset_of_tenant(text, tenant) else {
+        return 0;
+    };
+    match offset_in(text, begin, word) {
+        Some(offset) => offset,
+        None => begin,
+    }
+}
+
+// The offset of the header of the tenant with so many before it.
+fn offset_of_tenant(text: &str, tenant: usize) -> Option<usize> {
+    let mut offset = 0usize;
+    let mut before = 0usize;
+    for line in text.split_inclusive('\n') {
+        if is_header(line) {
+            if before == tenant {
+                return Some(offset.saturating_add(indent_of(line)));
+            }
+            before = before.saturating_add(1);
+        }
+        offset = offset.saturating_add(line.len());
+    }
+    None
+}
+
+// The offset of a field, from an offset on and before the next header.
+fn offset_in(text: &str, begin: usize, word: &str) -> Option<usize> {
+    let mut offset = 0usize;
+    for line in text.split_inclusive('\n') {
+        if offset > begin && is_header(line) {
+            return None;
+        }
+        if offset >= begin && is_field(line, word) {
+            return Some(offset.saturating_add(indent_of(line)));
+        }
+        offset = offset.saturating_add(line.len());
+    }
+    None
+}
+
+fn is_header(line: &str) -> bool {
+    line.trim_start().starts_with("[[tenant]]")
+}
+
+fn is_field(line: &str, word: &str) -> bool {
+    match line.split_once('=') {
+        Some((name, _)) => name.trim() == word,
+        None => false,
+    }
+}
+
+fn indent_of(line: &str) -> usize {
+    line.len().saturating_sub(line.trim_start().len())
+}

@@ -1,0 +1,115 @@
+//! What is told of a program that is held against a tenant's budgets.
+
+ghost use Rattle.std.specs.Prelude.{◌≡◌, IfOk, Ok, length, string_bytes};
+ghost use Rattle.giotto_files.specs.Comments.{one_line};
+ghost use Rattle.giotto_rules.specs.Rules.{first_broken_rule};
+ghost use Rattle.giotto_text.specs.Parsing.{parsed};
+ghost use Rattle.rig_model.specs.Admission.{program_of};
+ghost use Rattle.giotto_reports.specs.Reports.{IsWritten};
+ghost use Rattle.program_checks.specs.Programs.{TellsFor, bytes_wanted};
+
+use crate::budgets::{Held, over_budget, text_of_budgets};
+use giotto_check::Checked;
+use giotto_files::one_line;
+use giotto_read::print;
+use giotto_reports::{Examined, Report, Wish, examine, shown, written};
+use rig_config::TenantConfig;
+use std::alloc::{AllocError, Global};
+
+// A program's file.
+#[derive(Clone, Copy)]
+struct File<'a> {
+    name: &'a str,
+    source: &'a str,
+    // Its text in one line.
+    text: &'a str,
+}
+
+/// What is told of a program's file with this name and this text, which a tenant is to load. Where the line of a script or the canonical
+/// text is wanted, the program has the bytes of that text; else those of the file, which are sent where the file itself is.
+///
+/// # Errors
+/// Want of memory.
+pub fn check_program(
+    alloc: Global,
+    file: &str,
+    source: &str,
+    wish: Wish,
+    tenant: &TenantConfig,
+) -> Result<Report, AllocError>
+    ensures { IfOk result (λ report. TellsFor tenant.now.budgets wish.entry source.now report.is_good (string_bytes report.text)) }
+{
+    let text = one_line(alloc, source)?;
+    match examine(alloc, text.as_str(), source)? {
+        Examined::Good(checked) => {
+            let file = File {
+                name: file,
+                source,
+                text: text.as_str(),
+            };
+            hold(alloc, &file, &checked, wish, tenant)
+        }
+        Examined::Faulty(findings) => Ok(Report {
+            is_good: false,
+            text: shown(alloc, file, source, &findings)?,
+        }),
+    }
+}
+
+// What is told of a well-formed program, the one of this file.
+fn hold(
+    alloc: Global,
+    file: &File,
+    checked: &Checked,
+    wish: Wish,
+    tenant: &TenantConfig,
+) -> Result<Report, AllocError>
+    requires line { file.now.text.now ≡ one_line file.now.source.now }
+    requires program { program_of file.now.text.now ≡ Ok checked.now }
+    ensures { IfOk result (λ report. TellsFor tenant.now.budgets wish.entry file.now.source.now report.is_good (string_bytes report.text)) }
+{
+    let held = Held {
+        tenant,
+        checked,
+        bytes: bytes_wanted(alloc, checked, wish, file.text)?,
+    };
+    match over_budget(alloc, &held, file.text)? {
+        Some(over) => Ok(Report {
+            is_good: false,
+            text: shown(alloc, file.name, file.source, &over.findings)?,
+        }),
+        None => Ok(Report {
+            is_good: true,
+            text: written_of(alloc, &held, wish)?,
+        }),
+    }
+}
+
+// How long the text is that the host would get.
+fn bytes_wanted(
+    alloc: Global,
+    checked: &Checked,
+    wish: Wish,
+    text: &str,
+) -> Result<usize, AllocError>
+    ensures { IfOk result (λ bytes. bytes ≡ bytes_wanted wish.entry text.now checked.now) }
+{
+    match wish {
+        Wish::Load(_) | Wish::Print => Ok(print(alloc, checked.program())?.len()),
+        Wish::Summary | Wish::Pretty => Ok(text.len()),
+    }
+}
+
+// What was wanted of a program that keeps all budgets; behind a summary they stand beside its numbers.
+fn written_of(alloc: Global, held: &Held, wish: Wish) -> Result<String, AllocError>
+    ensures { IfOk result (λ text. IsWritten wish.entry held.now.checked.now (string_bytes text)) }
+{
+    match wish {
+        Wish::Summary => {
+            let mut text = written(alloc, held.checked, wish)?;
+            text.push_str(text_of_budgets(alloc, held)?.as_str())?;
+            Ok(text)
+        }
+        Wish::Load(_) | Wish::Print | Wish::Pretty => written(alloc, held.checked, wish),
+    }
+}
