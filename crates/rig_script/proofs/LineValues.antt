@@ -1,5 +1,5 @@
 -- The values of the lines that a host tells are those of the definitions.
-use Rattle.std.proofs.Common.{◌≡◌, ℕ, zero, suc, ◌+◌, ◌<◌, true, ℤ, List, ◌++◌, length, Option, Some, None, codes, refl, ap, ◌∙◌, arith}
+use Rattle.std.proofs.Common.{◌≡◌, ℕ, zero, suc, ◌+◌, true, ℤ, List, ◌++◌, codes, refl, ap, ◌∙◌, arith}
 use Rattle.std.proofs.lemmas.Bool.Decides.{nat_tests}
 use Rattle.std.specs.Fmt.{signed_decimal}
 use Rattle.rig_model.specs.Base.{IsBase, Setting}
@@ -12,7 +12,6 @@ use Rattle.rig_model.specs.Views.{row_of}
 use Rattle.rig_model.specs.declared.events.Event.{Event}
 use Rattle.rig_laws.proofs.cited.AloneAlong.{same_rows}
 use Rattle.host_core.proofs.cited.LineValues.{line_of_rows, same_values}
-use Rattle.rig_config.specs.Roster.{is_tenant}
 use Rattle.rig_model.specs.Script.{text_of_lines}
 
 -- one line more

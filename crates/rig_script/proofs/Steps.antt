@@ -1,12 +1,9 @@
 -- What a step answers, and the host behind it.
-use Rattle.std.proofs.Common.{◌≡◌, ℕ, ◌-◌, ◌^◌, ◌<◌, ◌==◌, nat_lt, Bool, true, false, if◌then◌else◌, ℤ, List, [], ◌∷◌, ◌++◌, length, Some, None, Result, Ok, Err, OnOk, reverse, append-nil, codes, refl, sym, ap, ◌∙◌, subst, arith}
+use Rattle.std.proofs.Common.{◌≡◌, ℕ, ◌-◌, ◌^◌, ◌<◌, ◌==◌, nat_lt, Bool, true, false, ℤ, List, [], ◌∷◌, ◌++◌, length, Some, None, Result, Ok, Err, OnOk, reverse, append-nil, codes, refl, sym, ap, ◌∙◌, subst, arith}
 use Rattle.std.proofs.lemmas.Bool.Decides.{nat_tests}
 use Rattle.std.proofs.lemmas.Bool.{eqb-true, and_from}
-use Rattle.std.specs.Cmp.Lexicographic.{same_text}
 use Rattle.std.specs.Fmt.{decimal}
 use Rattle.std.specs.declared.alloc.AllocError.{AllocError}
-use Rattle.giotto_tasks.specs.Names.{same_name}
-use Rattle.giotto_text.specs.Bytes.{is_name}
 use Rattle.rig_model.specs.declared.events.Event.{Event}
 use Rattle.rig_model.specs.declared.events.Event.TheVariants.{Own, Tick}
 use Rattle.tenant_lines.specs.declared.commands.Command.{Command}
@@ -21,16 +18,16 @@ use Rattle.rig_model.specs.Views.{after_command, row_of}
 use Rattle.rig_config.specs.Roster.{Rig, is_tenant, place_of}
 use Rattle.tenant_lines.specs.CommandLine.{command_of_line}
 use Rattle.tenant_lines.specs.Replies.{text_of_reply}
-use Rattle.tenant_lines.specs.Words.{words_of, first_word_of, behind_first_word, values_of_words}
+use Rattle.tenant_lines.specs.Words.{values_of_words}
 use Rattle.rig_laws.proofs.cited.AloneAlong.{same_rows}
 use Rattle.rig_laws.proofs.cited.AloneAlong.{same_clock}
-use Rattle.tenant_lines.proofs.cited.WordLemmas.{words_first, words_none}
 use Rattle.rig_script.proofs.LineValues.{same_lines}
 use Rattle.rig_model.specs.Answered.{reply_line}
 use Rattle.rig_script.specs.cited.HostAnswers.{IsHostAfter}
 use Rattle.rig_model.specs.Script.{Step, line_values, work_of, operator, operator_line_of, operator_step, lines_step, text_of_lines, work_step, work_step_of, outstanding_at, tenant_step, only_answered}
 use Rattle.rig_script.specs.inner.Script.{IsCarriedOut}
 use Rattle.rig_script.specs.inner.Records.{AreNone, IsTold}
+pub use Rattle.script_speakers.proofs.cited.OperatorWords.{words_with, other_line, lines_with_more, work_with_name, work_with_no_name, work_with_more}
 
 -- this text was answered, the events were told, and they have happened
 pub step_done : (step : Step) (past : List Event) (r : Result (Unit {0}) AllocError) (Before After : List Event → Type 0) (Said : List ℕ → Type 0) (Stands : List Event → Type 0) (text : List ℕ)
@@ -60,58 +57,6 @@ differs m n h = by (m == n) refl
     by : (b : Bool) → (m == n) ≡ b → (m == n) ≡ false
     by true e = absurd (h (eqb-true m n e))
     by false e = e
-
--- the words of a line, by its first word and what stands behind it
-pub words_with : (line first rest word : List ℕ) → first ≡ first_word_of line → rest ≡ behind_first_word line → first ≡ word → 0 < length word → words_of line ≡ word ∷ words_of rest
-words_with line first rest word f b is some =
-    let front : first_word_of line ≡ word = sym f ∙ is in
-    words_first line (subst (λ w. 0 < length w) (sym front) some) ∙ ap (λ w. w ∷ words_of (behind_first_word line)) front ∙ ap (λ l. word ∷ words_of l) (sym b)
-
-other_words : (w : List ℕ) (ws : List (List ℕ)) → (w ≡ codes "tick" → ⊥) → (w ≡ codes "work" → ⊥) → (w ≡ codes "lines" → ⊥) → operator_line_of (w ∷ ws) ≡ None
-other_words w ws no_tick no_work no_lines = by (same_name w (codes "tick")) refl (same_name w (codes "work")) refl (same_name w (codes "lines")) refl ws
-  where
-    by : (a : Bool) → same_name w (codes "tick") ≡ a → (b : Bool) → same_name w (codes "work") ≡ b → (d : Bool) → same_name w (codes "lines") ≡ d → (vs : List (List ℕ)) → operator_line_of (w ∷ vs) ≡ None
-    by true e b f d g vs = absurd (no_tick (same_text w (codes "tick") (sym e)))
-    by false e true f d g vs = absurd (no_work (same_text w (codes "work") (sym f)))
-    by false e false f true g vs = absurd (no_lines (same_text w (codes "lines") (sym g)))
-    by false e false f false g vs = rw (e, f, g) refl
-
-pub other_line : (line first : List ℕ) → first ≡ first_word_of line → (first ≡ codes "tick" → ⊥) → (first ≡ codes "work" → ⊥) → (first ≡ codes "lines" → ⊥) → operator_line_of (words_of line) ≡ None
-other_line line first f no_tick no_work no_lines = by (first_word_of line) refl
-  where
-    by : (w : List ℕ) → first_word_of line ≡ w → operator_line_of (words_of line) ≡ None
-    by [] is = ap operator_line_of (words_none line (ap (λ (l : List ℕ). length l) is))
-    by (c ∷ cs) is =
-        let some : 0 < length (first_word_of line) = subst (λ (w : List ℕ). 0 < length w) (sym is) (omega arith) in
-        ap operator_line_of (words_first line some)
-        ∙ other_words (first_word_of line) (words_of (behind_first_word line)) (λ e. no_tick (f ∙ e)) (λ e. no_work (f ∙ e)) (λ e. no_lines (f ∙ e))
-
--- `lines` with a word behind it
-pub lines_with_more : (line : List ℕ) → 0 < length (first_word_of line) → operator_line_of (codes "lines" ∷ words_of line) ≡ None
-lines_with_more line more = ap (λ ws. operator_line_of (codes "lines" ∷ ws)) (words_first line more)
-
--- `work` with a tenant's name behind it
-pub work_with_name : (line : List ℕ) → 0 < length (first_word_of line) → is_name (first_word_of line) ≡ true → length (first_word_of (behind_first_word line)) ≡ 0
-    → operator_line_of (codes "work" ∷ words_of line) ≡ Some (work_of (first_word_of line))
-work_with_name line some name short =
-    ap (λ ws. operator_line_of (codes "work" ∷ ws)) (words_first line some ∙ ap (λ ws. first_word_of line ∷ ws) (words_none (behind_first_word line) short)) ∙ by (is_name (first_word_of line)) name
-  where
-    by : (b : Bool) → b ≡ true → (if b then Some (work_of (first_word_of line)) else None) ≡ Some (work_of (first_word_of line))
-    by true e = refl
-    by false e = absurd (cc)
-
--- `work` with a word of another shape behind it
-pub work_with_no_name : (line : List ℕ) → 0 < length (first_word_of line) → is_name (first_word_of line) ≡ false → operator_line_of (codes "work" ∷ words_of line) ≡ None
-work_with_no_name line some name = ap (λ ws. operator_line_of (codes "work" ∷ ws)) (words_first line some) ∙ by (words_of (behind_first_word line))
-  where
-    by : (ws : List (List ℕ)) → operator_line_of (codes "work" ∷ first_word_of line ∷ ws) ≡ None
-    by [] = rw name refl
-    by (x ∷ xs) = refl
-
--- `work` with two words behind it
-pub work_with_more : (line : List ℕ) → 0 < length (first_word_of line) → 0 < length (first_word_of (behind_first_word line)) → operator_line_of (codes "work" ∷ words_of line) ≡ None
-work_with_more line some more =
-    ap (λ ws. operator_line_of (codes "work" ∷ ws)) (words_first line some ∙ ap (λ ws. first_word_of line ∷ ws) (words_first (behind_first_word line) more))
 
 module _ (setting : Setting) (past : List Event) (host later : HostStanding) (h : IsHostAfter setting host past) (r : Result (Unit {0}) AllocError) (Before After : List Event → Type 0) (Said : List ℕ → Type 0) where
   -- a command was carried out

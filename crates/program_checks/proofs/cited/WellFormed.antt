@@ -6,7 +6,6 @@ use Rattle.giotto_text.specs.Program.{GiottoProgram}
 use Rattle.giotto_text.specs.declared.faults.ReadFault.{ReadFault}
 use Rattle.giotto_reports.specs.Reports.{IsWellFormed}
 use Rattle.rig_model.specs.Admission.{program_of, refusal_of_text}
-use Rattle.tenant_lines.specs.declared.replies.Refusal.{Refusal}
 use Rattle.tenant_lines.specs.declared.replies.Refusal.TheVariants.{Rule}
 
 -- a well-formed program of a text is let in

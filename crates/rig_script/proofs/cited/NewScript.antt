@@ -1,9 +1,8 @@
 -- A script begins with a new host.
-use Rattle.std.proofs.Common.{◌≡◌, ◌≤◌, ◌+◌, ℕ, List, [], ◌∷◌, ◌++◌, length, All, Option, Some, None, refl, sym, ap, subst, inr, arith}
-use Rattle.std.specs.Prelude.{Result, Ok, Err, IfSome, IfErr, OnOk}
+use Rattle.std.proofs.Common.{◌≡◌, ℕ, List, [], Option, Some, None, refl, sym, subst, inr}
+use Rattle.std.specs.Prelude.{Result, Ok, Err, IfErr, OnOk}
 use Rattle.rig_model.specs.Base.{IsBase, new_base, Setting}
 use Rattle.host_core.specs.HostStanding.{HostStanding, Stands}
-use Rattle.rig_model.specs.declared.events.Event.{Event}
 use Rattle.rig_model.specs.Plays.{IsSettingOf}
 use Rattle.rig_laws.proofs.cited.LaterBase.{new_is_base}
 use Rattle.rig_script.specs.cited.HostAnswers.{IsHostAfter}

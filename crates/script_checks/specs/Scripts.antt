@@ -1,0 +1,98 @@
+-- What is wrong with the lines of a script, by the text of each alone.
+use Rattle.std.specs.Prelude.{◌≡◌, ℕ, ◌+◌, ◌==◌, Bool, true, false, nat_le, if◌then◌else◌, List, [], ◌∷◌, length, Option, Some, None, is_some, is_none, map, option_map, Result, Ok, Err}
+use Rattle.giotto_text.specs.Program.{GiottoProgram}
+use Rattle.rig_config.specs.Roster.{Rig, budgets_at, place_of}
+use Rattle.rig_config.specs.declared.Budgets.{Budgets}
+use Rattle.tenant_lines.specs.CommandLine.{command_of_line}
+use Rattle.tenant_lines.specs.Words.{behind_first_word, words_of}
+use Rattle.tenant_lines.specs.declared.commands.Command.{Command}
+use Rattle.tenant_lines.specs.declared.commands.Command.TheVariants.{Load, Replace, Start, Stop, ShowMode, ShowPort, ShowAll, Trace, Grants}
+use Rattle.tenant_lines.specs.declared.replies.Refusal.{Refusal}
+use Rattle.rig_model.specs.Admission.{broken_budget, program_of}
+use Rattle.rig_model.specs.Script.{OperatorLine, tick, work, work_of, line_values, operator_line_of, speaker_of}
+use Rattle.rig_model.specs.TextLines.{cut, text_of_line}
+use Rattle.rig_model.specs.declared.limits.TheConstants.{MAX_LINE}
+use Rattle.rig_model.specs.declared.speakers.Speaker.{Speaker}
+use Rattle.rig_model.specs.declared.speakers.Speaker.TheVariants.{Nobody, Operator, Tenant, Unknown}
+use Rattle.script_checks.specs.declared.scripts.FaultyLine.{FaultyLine}
+use Rattle.script_checks.specs.declared.scripts.Found.{Found}
+use Rattle.script_checks.specs.declared.scripts.LineFault.{LineFault}
+use Rattle.script_checks.specs.declared.scripts.LineFault.TheVariants.{TooLong, NotText, UnknownSpeaker, BadCommand, BadFrame, UnknownTenant, Program}
+
+-- whether the text spells a program that a tenant with these budgets may load
+abbrev pub is_let_in : Budgets → List ℕ → Bool
+is_let_in budgets text = by (program_of text)
+  where
+    by : Result GiottoProgram Refusal → Bool
+    by (Err refusal) = false
+    by (Ok p) = is_none (broken_budget budgets (length text) p)
+
+-- what is wrong with the program of a text, if anything is
+abbrev pub fault_of_program : Budgets → List ℕ → Option LineFault
+fault_of_program budgets text = if is_let_in budgets text then None else Some Program
+
+-- what is wrong with a tenant's command, whatever the tenant is doing
+abbrev pub fault_of_command : Budgets → Option Command → Option LineFault
+fault_of_command budgets None = Some BadCommand
+fault_of_command budgets (Some (Load text)) = fault_of_program budgets text
+fault_of_command budgets (Some (Replace text)) = fault_of_program budgets text
+fault_of_command budgets (Some Start) = None
+fault_of_command budgets (Some Stop) = None
+fault_of_command budgets (Some ShowMode) = None
+fault_of_command budgets (Some (ShowPort port)) = None
+fault_of_command budgets (Some ShowAll) = None
+fault_of_command budgets (Some Trace) = None
+fault_of_command budgets (Some (Grants command)) = None
+
+-- what is wrong with an operator's line: a tick has a value for each line of the rig
+abbrev pub fault_of_operator : Rig → Option OperatorLine → Option LineFault
+fault_of_operator config None = Some BadCommand
+fault_of_operator config (Some (tick values)) = if length values == config.lines then None else Some BadFrame
+fault_of_operator config (Some work) = None
+fault_of_operator config (Some (work_of name)) = if is_some (place_of config name) then None else Some UnknownTenant
+fault_of_operator config (Some line_values) = None
+
+-- what is wrong with the text of a line, by who speaks in it
+abbrev pub fault_of_speech : Rig → List ℕ → Speaker → Option LineFault
+fault_of_speech config text Nobody = None
+fault_of_speech config text Operator = fault_of_operator config (operator_line_of (words_of (behind_first_word text)))
+fault_of_speech config text (Tenant t) = fault_of_command (budgets_at config t) (command_of_line (behind_first_word text))
+fault_of_speech config text Unknown = Some UnknownSpeaker
+
+-- what is wrong with a line, if anything is
+abbrev pub fault_of_line : Rig → List ℕ → Option LineFault
+fault_of_line config line = by (text_of_line line)
+  where
+    by : Option (List ℕ) → Option LineFault
+    by None = Some (if nat_le (length line) MAX_LINE then NotText else TooLong)
+    by (Some text) = fault_of_speech config text (speaker_of config text)
+
+-- the lines at fault among these, the first of which has this number: the number of each, and what is wrong with it
+abbrev pub faults_from : Rig → ℕ → List (List ℕ) → List (ℕ × LineFault)
+faults_from config n [] = []
+faults_from config n (line ∷ lines) = by (fault_of_line config line) (faults_from config (n + 1) lines)
+  where
+    by : Option LineFault → List (ℕ × LineFault) → List (ℕ × LineFault)
+    by None later = later
+    by (Some fault) later = (n, fault) ∷ later
+
+-- the lines at fault of a script, whose lines are counted from 1
+abbrev pub faults_of : Rig → List ℕ → List (ℕ × LineFault)
+faults_of config bytes = faults_from config 1 (cut bytes)
+
+-- what was found at a line is this fault, if there is one
+abbrev pub IsFound : Option Found → Option LineFault → Type 0
+IsFound found fault = option_map (λ (f : Found). f.fault) found ≡ fault
+
+-- the number of a line at fault, and what is wrong with it
+abbrev pub told_of : FaultyLine → ℕ × LineFault
+told_of line = (line.number, line.found.fault)
+
+-- just these are told
+abbrev pub AreTold : List FaultyLine → List (ℕ × LineFault) → Type 0
+AreTold lines faults = map told_of lines ≡ faults
+
+-- no line is at fault
+abbrev pub is_good : List (ℕ × LineFault) → Bool
+is_good [] = true
+is_good (fault ∷ faults) = false

@@ -1,0 +1,85 @@
+//! What is wrong with an operator's line.
+
+ghost use Rattle.std.specs.Prelude.{◌≡◌, ◌∷◌, Some, codes, IfOk};
+ghost use Rattle.rig_model.specs.Script.{operator_line_of, work_of};
+ghost use Rattle.tenant_lines.specs.Words.{words_of};
+ghost use Rattle.script_checks.specs.Scripts.{fault_of_operator};
+
+use crate::scripts::LineFault;
+use giotto_text::name_bytes::is_name;
+use rig_config::Config;
+use std::alloc::{AllocError, Global};
+use tenant_lines::words;
+
+/// What is wrong with the operator's line that stands behind `op`, if anything is.
+///
+/// # Errors
+/// Want of memory.
+pub(crate) fn fault_of_operator(
+    alloc: Global,
+    config: &Config,
+    line: &str,
+) -> Result<Option<LineFault>, AllocError>
+    ensures { IfOk result (λ fault. fault ≡ fault_of_operator config.now (operator_line_of (words_of line.now))) }
+{
+    let rest = words::behind_first_word(line);
+    match words::first_word(line) {
+        "tick" => fault_of_tick(alloc, config, rest),
+        "work" => Ok(fault_of_work(config, rest)),
+        "lines" => Ok(fault_of_lines(config, rest)),
+        _ => Ok(Some(LineFault::BadCommand)),
+    }
+}
+
+// `rest` stands behind `tick`.
+fn fault_of_tick(
+    alloc: Global,
+    config: &Config,
+    rest: &str,
+) -> Result<Option<LineFault>, AllocError>
+    ensures { IfOk result (λ fault. fault ≡ fault_of_operator config.now (operator_line_of (codes "tick" ∷ words_of rest.now))) }
+{
+    let Some(values) = words::values_of_words(alloc, rest)? else {
+        return Ok(Some(LineFault::BadCommand));
+    };
+    if values.len() == config.lines() {
+        Ok(None)
+    } else {
+        Ok(Some(LineFault::BadFrame))
+    }
+}
+
+// `rest` stands behind `work`.
+fn fault_of_work(config: &Config, rest: &str) -> Option<LineFault>
+    ensures { result ≡ fault_of_operator config.now (operator_line_of (codes "work" ∷ words_of rest.now)) }
+{
+    let name = words::first_word(rest);
+    if name.is_empty() {
+        return None;
+    }
+    if is_name(name.as_bytes()) && words::first_word(words::behind_first_word(rest)).is_empty() {
+        return fault_of_name(config, name);
+    }
+    Some(LineFault::BadCommand)
+}
+
+// The jobs of the tenant of this name are to be run.
+fn fault_of_name(config: &Config, name: &str) -> Option<LineFault>
+    ensures { result ≡ fault_of_operator config.now (Some (work_of name.now)) }
+{
+    match config.place_of(name) {
+        Some(_) => None,
+        None => Some(LineFault::UnknownTenant),
+    }
+}
+
+// `rest` stands behind `lines`.
+fn fault_of_lines(config: &Config, rest: &str) -> Option<LineFault>
+    ensures { result ≡ fault_of_operator config.now (operator_line_of (codes "lines" ∷ words_of rest.now)) }
+{
+    if words::first_word(rest).is_empty() {
+        None
+    } else {
+        Some(LineFault::BadCommand)
+    }
+}
