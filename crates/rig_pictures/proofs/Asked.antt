@@ -19,7 +19,7 @@ use Rattle.rig_model.specs.Row.{Row, empty_row}
 use Rattle.rig_model.specs.Commands.{show_all}
 use Rattle.giotto_text.specs.Program.{GiottoProgram}
 use Rattle.std.specs.Prelude.{Option, Some, None}
-use Rattle.rig_pictures.specs.inner.Questions.{IsQuestion}
+use Rattle.rig_pictures.specs.cited.Questions.{IsQuestion}
 
 pub mode_is_asked : IsQuestion ShowMode
 mode_is_asked tenancy row = refl

@@ -10,7 +10,7 @@
 #![tactic(auto)]
 
 mod dumps;
-mod questions;
+pub mod questions;
 mod runs;
 mod tasks;
 mod timelines;

@@ -1,7 +1,10 @@
 //! What tenants are asked between two lines of a script: questions, which change nothing.
 
-ghost use Rattle.std.specs.Prelude.{◌≡◌, ◌<◌, length};
-ghost use Rattle.rig_pictures.specs.inner.Questions.{IsQuestion, StaysBehind};
+ghost use Rattle.std.specs.Prelude.{◌≡◌, ◌<◌, length, IfOk};
+ghost use Rattle.host_core.specs.HostStanding.{ForEachState};
+ghost use Rattle.rig_model.specs.HostState.{row_at};
+ghost use Rattle.rig_model.specs.Views.{after_command};
+ghost use Rattle.rig_pictures.specs.cited.Questions.{IsQuestion, StaysBehind};
 
 use giotto_tasks::lists::List;
 use host_core::hosts::Host;
@@ -16,7 +19,7 @@ use tenant_lines::replies::Reply;
 ///
 /// # Errors
 /// Want of memory.
-pub fn views_of(alloc: Global, host: &mut Host) -> Result<Vec<View>, AllocError>
+pub(crate) fn views_of(alloc: Global, host: &mut Host) -> Result<Vec<View>, AllocError>
     ensures { StaysBehind host.old host.new }
 {
     let mut views = Vec::new(alloc);
@@ -48,12 +51,16 @@ fn ports_of(alloc: Global, reply: Reply) -> List<PortValue> {
     }
 }
 
-// The reply to a question.
-fn ask(host: &mut Host, tenant: TenantId, question: Command) -> Result<Reply, AllocError>
+/// The reply of the tenant at this place to a question: a command that changes nothing, as `show mode`.
+///
+/// # Errors
+/// Want of memory.
+pub fn ask(host: &mut Host, tenant: TenantId, question: Command) -> Result<Reply, AllocError>
     requires tenant { tenant < length host.old.config.tenants }
     requires question { IsQuestion question }
     ensures stays { StaysBehind host.old host.new }
     ensures config { host.new.config ≡ host.old.config }
+    ensures reply { IfOk result (λ reply. ForEachState host.old (λ setting state. reply ≡ (after_command setting tenant question (row_at state tenant)).reply)) }
 {
     let reply = host.command(tenant, question);
     if reply.is_memory() {

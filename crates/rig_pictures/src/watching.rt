@@ -2,7 +2,7 @@
 
 ghost use Rattle.std.specs.Prelude.{OnOk};
 ghost use Rattle.std.specs.Io.KnownBytes.{Appends};
-ghost use Rattle.rig_pictures.specs.inner.Questions.{StaysBehind};
+ghost use Rattle.rig_pictures.specs.cited.Questions.{StaysBehind};
 ghost use Rattle.rig_script.specs.BrokenOff.{ForNewHostReading};
 ghost use Rattle.rig_model.specs.Script.{script_text_of};
 

@@ -2,7 +2,7 @@
 use Rattle.std.proofs.Common.{◌≡◌, ◌+◌, ◌-◌, ◌<◌, ◌≤◌, ℕ, true, false, List, [], ◌∷◌, ◌++◌, length, drop, get_or, refl, sym, ap, ◌∙◌, append_assoc, append-nil, ◌==◌, Result, IfOk, String, Global, string_bytes, codes}
 use Rattle.std.proofs.lemmas.List.{drop_more, drop_all}
 use Rattle.giotto_tasks.specs.Names.{same_name}
-use Rattle.script_reports.specs.inner.Runs.{RunEntry}
+use Rattle.script_reports.specs.cited.Runs.{RunEntry}
 use Rattle.script_reports.specs.inner.Differences.{hunk, hunks_from, lines_in, plus, text_of_differences}
 
 module _ (replies : List (List ℕ)) (lines : List RunEntry) (place came wanted : ℕ) (line : RunEntry) (there : place < length lines) (item : line ≡ get_or lines place line) where

@@ -3,7 +3,7 @@ use Rattle.std.proofs.Common.{◌≡◌, ◌+◌, ◌<◌, ◌≤◌, ◌==◌, 
 use Rattle.std.proofs.lemmas.Bool.{eqb-true}
 use Rattle.std.proofs.lemmas.List.{drop_more, get_or-drop, map-append}
 use Rattle.std.specs.List.{after_first, before_first, position_or_len}
-use Rattle.script_reports.specs.inner.Runs.{RunEntry, is_reply, is_remark, reply_in, parts_of, entries_from, with_entry}
+use Rattle.script_reports.specs.cited.Runs.{RunEntry, is_reply, is_remark, reply_in, parts_of, entries_from, with_entry}
 
 -- these entries in front, where there is no fault behind
 abbrev pub with_entries : List RunEntry → Result (List RunEntry) ℕ → Result (List RunEntry) ℕ

@@ -4,8 +4,8 @@ use Rattle.std.proofs.lemmas.Bool.Decides.{nat_tests}
 use Rattle.std.proofs.lemmas.List.{flat_map_more, take_more}
 use Rattle.std.specs.List.{flat_map}
 use Rattle.std.specs.Str.{IsCharBoundary}
-use Rattle.script_reports.specs.inner.Heard.{HeardLine, IsHeard}
-use Rattle.script_reports.specs.inner.Told.{told_of_line, told_of_lines, is_boundary, last_boundary}
+use Rattle.script_reports.specs.cited.Heard.{HeardLine, IsHeard}
+use Rattle.script_reports.specs.cited.Told.{told_of_line, told_of_lines, is_boundary, last_boundary}
 
 pub heard_more : {T E : Type 0} (r : Result T E) (before after told : List ℕ) (line : HeardLine) → told ≡ told_of_line line → OnOk r (after ≡ before ++ told)
     → OnOk r (IsHeard (λ lines. before ≡ told_of_lines lines) (λ lines. after ≡ told_of_lines lines) line)

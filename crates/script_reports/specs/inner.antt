@@ -1,5 +1,2 @@
 pub mod Differences
-pub mod Heard
-pub mod Runs
 pub mod Suites
-pub mod Told

@@ -1,7 +1,7 @@
 //! Who is told the lines of a script, as they are answered.
 
 ghost use Rattle.std.specs.Prelude.{◌∷◌, [], List, OnOk};
-ghost use Rattle.script_reports.specs.inner.Heard.{HeardLine, IsHeard};
+ghost use Rattle.script_reports.specs.cited.Heard.{HeardLine, IsHeard};
 
 use giotto_tasks::names::Name;
 use std::alloc::{AllocError, Global};

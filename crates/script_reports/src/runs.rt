@@ -2,7 +2,7 @@
 
 ghost use Rattle.std.specs.Prelude.{◌≡◌, ◌++◌, ◌∷◌, [], ◌<◌, ◌==◌, IfOk, IsTrue, OnOk, false, get_or, length, map, string_bytes};
 ghost use Rattle.std.specs.List.{after_first, before_first, position_or_len};
-ghost use Rattle.script_reports.specs.inner.Runs.{IsReadAs, entries_from, entries_of, is_remark, is_reply, line_in, parts_of, reply_in, script_of};
+ghost use Rattle.script_reports.specs.cited.Runs.{IsReadAs, entries_from, entries_of, is_remark, is_reply, line_in, parts_of, reply_in, script_of};
 
 use crate::listeners::{Listener, Overrun};
 use std::alloc::{AllocError, Global};
@@ -41,7 +41,7 @@ pub struct RunLine {
 
 impl Model for RunLine {
     ghost use Rattle.std.specs.Prelude.{string_bytes};
-    ghost use Rattle.script_reports.specs.inner.Runs.{RunEntry};
+    ghost use Rattle.script_reports.specs.cited.Runs.{RunEntry};
 
     ghost Value = { RunEntry };
 
@@ -289,8 +289,8 @@ fn line_in(reply: &str) -> &str
 
 impl Listener for Replies {
     ghost use Rattle.std.specs.Prelude.{◌≡◌, map};
-    ghost use Rattle.script_reports.specs.inner.Heard.{HeardLine};
-    ghost use Rattle.script_reports.specs.inner.Runs.{line_in};
+    ghost use Rattle.script_reports.specs.cited.Heard.{HeardLine};
+    ghost use Rattle.script_reports.specs.cited.Runs.{line_in};
 
     ghost heard = { λ replies lines. replies ≡ map (λ (l : HeardLine). line_in l.reply) lines };
 

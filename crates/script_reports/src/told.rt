@@ -3,7 +3,7 @@
 ghost use Rattle.std.specs.Prelude.{◌≡◌, ◌++◌, ◌==◌, [], ℕ, IfOk, OnOk, List, string_bytes};
 ghost use Rattle.std.specs.List.{flat_map};
 ghost use Rattle.std.specs.Str.{IsCharBoundary};
-ghost use Rattle.script_reports.specs.inner.Told.{answer_in, first_words, is_refusal, last_boundary, told_of, told_of_end, told_of_overrun, told_of_reply, text_of_overrun};
+ghost use Rattle.script_reports.specs.cited.Told.{answer_in, first_words, is_refusal, last_boundary, told_of, told_of_end, told_of_overrun, told_of_reply, text_of_overrun};
 
 use crate::listeners::{Listener, Overrun};
 use std::alloc::{AllocError, Global};
@@ -67,7 +67,7 @@ impl Report {
 
 impl Listener for Report {
     ghost use Rattle.std.specs.Prelude.{◌≡◌};
-    ghost use Rattle.script_reports.specs.inner.Told.{told_of_lines};
+    ghost use Rattle.script_reports.specs.cited.Told.{told_of_lines};
 
     ghost heard = { λ report lines. report ≡ told_of_lines lines };
 

@@ -2,8 +2,8 @@
 use Rattle.std.specs.Prelude.{ℕ, ◌+◌, ◌-◌, ◌^◌, min, if◌then◌else◌, List, [], ◌∷◌, ◌++◌, get_or, codes}
 use Rattle.std.specs.Fmt.{decimal}
 use Rattle.giotto_tasks.specs.Names.{same_name}
-use Rattle.script_reports.specs.inner.Runs.{RunEntry}
-use Rattle.script_reports.specs.inner.Told.{first_words}
+use Rattle.script_reports.specs.cited.Runs.{RunEntry}
+use Rattle.script_reports.specs.cited.Told.{first_words}
 
 -- a sum that stays at the greatest number of 64 bits
 abbrev pub plus : ℕ → ℕ → ℕ

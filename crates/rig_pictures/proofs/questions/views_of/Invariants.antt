@@ -1,5 +1,5 @@
 use Rattle.std.proofs.Common.{◌≡◌}
-use Rattle.rig_pictures.specs.inner.Questions.{StaysBehind}
+use Rattle.rig_pictures.specs.cited.Questions.{StaysBehind}
 use Rattle.rig_pictures.proofs.questions.views_of.Given as goal
 
 abbrev pub invariant-loop-tenant : goal.invariant-loop-tenant

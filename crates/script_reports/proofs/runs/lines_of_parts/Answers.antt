@@ -1,6 +1,6 @@
 use Rattle.std.proofs.Common.{ℕ, List, Bor, [], ◌≡◌, ◌<◌, ◌∙◌, true, map, get_or, length, sym, ap, arith}
 use Rattle.std.proofs.Math.ListN.{get_or-map, length-map}
-use Rattle.script_reports.specs.inner.Runs.{is_reply, is_remark}
+use Rattle.script_reports.specs.cited.Runs.{is_reply, is_remark}
 use Rattle.script_reports.proofs.Reading.{with_entries, unawaited, same_behind, reply_further, remark_further, entry_further, one_more}
 use Rattle.script_reports.proofs.runs.lines_of_parts.Goals as goal
 use Rattle.script_reports.proofs.runs.lines_of_parts.Goals.{then-is_reply+else-not-is_awaited, else-is_reply+then-is_remark, else-is_reply+else-is_remark+in_ok-add_line}

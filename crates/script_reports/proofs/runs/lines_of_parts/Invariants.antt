@@ -1,5 +1,5 @@
 use Rattle.std.proofs.Common.{◌≡◌, false, map, drop}
-use Rattle.script_reports.specs.inner.Runs.{entries_from}
+use Rattle.script_reports.specs.cited.Runs.{entries_from}
 use Rattle.script_reports.proofs.Reading.{with_entries}
 use Rattle.script_reports.proofs.runs.lines_of_parts.Given as goal
 

@@ -1,5 +1,5 @@
 use Rattle.std.proofs.Common.{ℕ, List, Bor, ◌++◌, ◌∙◌, map, refl, ap}
-use Rattle.script_reports.specs.inner.Runs.{parts_of}
+use Rattle.script_reports.specs.cited.Runs.{parts_of}
 use Rattle.script_reports.proofs.Reading.{parts_further, parts_at_end, pushed}
 use Rattle.script_reports.proofs.runs.parts_of.Goals as goal
 

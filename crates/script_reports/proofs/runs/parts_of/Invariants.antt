@@ -1,7 +1,7 @@
 use Rattle.std.proofs.Common.{◌≡◌, ◌++◌, length, map}
 use denote.Shadow.{shadow}
 use denote.Text.{Utf8}
-use Rattle.script_reports.specs.inner.Runs.{parts_of}
+use Rattle.script_reports.specs.cited.Runs.{parts_of}
 use Rattle.script_reports.proofs.runs.parts_of.Given as goal
 
 abbrev pub invariant-loop-parts : goal.invariant-loop-parts

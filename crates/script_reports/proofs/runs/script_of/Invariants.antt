@@ -1,5 +1,5 @@
 use Rattle.std.proofs.Common.{◌≡◌, string_bytes, take}
-use Rattle.script_reports.specs.inner.Runs.{script_of}
+use Rattle.script_reports.specs.cited.Runs.{script_of}
 use Rattle.script_reports.proofs.runs.script_of.Given as goal
 
 abbrev pub invariant-loop-line : goal.invariant-loop-line

@@ -1,5 +1,5 @@
 use Rattle.std.proofs.Common.{◌≡◌}
-use Rattle.script_reports.specs.inner.Told.{last_boundary}
+use Rattle.script_reports.specs.cited.Told.{last_boundary}
 use Rattle.script_reports.proofs.told.last_boundary.Given as goal
 
 abbrev pub invariant-loop-end : goal.invariant-loop-end

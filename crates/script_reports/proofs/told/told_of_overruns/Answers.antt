@@ -1,4 +1,4 @@
-use Rattle.script_reports.specs.inner.Told.{told_of_overrun}
+use Rattle.script_reports.specs.cited.Told.{told_of_overrun}
 use Rattle.script_reports.proofs.Telling.{written_more}
 use Rattle.script_reports.proofs.told.told_of_overruns.Goals as goal
 

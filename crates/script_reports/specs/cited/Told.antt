@@ -4,7 +4,7 @@ use Rattle.std.specs.Fmt.{decimal}
 use Rattle.std.specs.List.{after_first, flat_map, starts_with}
 use Rattle.script_reports.specs.declared.listeners.Overrun.{Overrun}
 use Rattle.script_reports.specs.declared.told.TheConstants.{SHOWN}
-use Rattle.script_reports.specs.inner.Heard.{HeardLine}
+use Rattle.script_reports.specs.cited.Heard.{HeardLine}
 
 -- whether a character begins at this place of a text, or the text ends there
 abbrev pub is_boundary : List ℕ → ℕ → Bool

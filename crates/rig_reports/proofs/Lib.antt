@@ -1,0 +1,4 @@
+pub mod Further
+pub mod Reporting
+pub mod Standing
+pub mod Starting

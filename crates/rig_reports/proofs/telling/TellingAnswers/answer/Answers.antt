@@ -1,0 +1,19 @@
+use Rattle.std.proofs.Common.{sym, subst, ◌∙◌}
+use Rattle.host_core.specs.HostStanding.{HostStanding}
+use Rattle.rig_model.specs.Script.{past_behind}
+use Rattle.rig_script.specs.cited.HostAnswers.{IsHostAfter}
+use Rattle.rig_reports.proofs.Further.{one_more}
+use Rattle.rig_reports.proofs.telling.TellingAnswers.answer.Goals as goal
+
+pub returns : goal.returns
+returns g c = λ setting past w.
+    let later = past_behind setting past c.args.line.now in
+    let done = c.in_ok-reply.ensures setting past (c.in_ok-before.ensures.stays setting past w.0) in
+    let stays = c.in_ok-overruns.ensures.stays setting later done.1 in
+    let stands = subst (λ (h : HostStanding). IsHostAfter setting h later) (sym c.tell.ensures.host) stays in
+    let stops = c.in_ok-overruns.ensures.each past setting later done.1 (c.in_ok-before.ensures.before setting past w.0) in (
+      done.0,
+      one_more setting past c.args.self.now.host c.tell.new.self.host c.args.self.now.answered c.tell.new.self.answered
+      (g.L.Listener.heard c.args.self.now.listener) (g.L.Listener.heard c.tell.new.self.listener) c.args.line.now c.as_str.result.now c.as_slice.result.now w
+      (c.as_str.ensures.value ∙ done.0) (c.as_slice.ensures.value ∙ stops) c.tell.ensures.answered c.in_ok-tell.ensures.heard stands,
+    )

@@ -1,0 +1,35 @@
+-- A host that answers a script, and who was told its lines.
+use Rattle.std.specs.Prelude.{◌≡◌, ℕ, zero, suc, ◌-◌, ◌^◌, min, Bool, List, [], ◌∷◌, ◌++◌, length, Option, Some, None}
+use Rattle.host_core.specs.HostStanding.{HostStanding}
+use Rattle.rig_model.specs.Base.{Setting}
+use Rattle.rig_model.specs.Legal.{next_tick}
+use Rattle.rig_model.specs.Row.{is_running}
+use Rattle.rig_model.specs.declared.events.Event.{Event}
+use Rattle.rig_reports.specs.inner.Reported.{AreReported, number_behind, row_behind}
+use Rattle.rig_script.specs.cited.HostAnswers.{IsHostAfter}
+use Rattle.rig_script.specs.declared.answers.Ending.{Ending}
+use Rattle.rig_script.specs.declared.answers.Ending.TheVariants.{Input, BadLine}
+use Rattle.script_reports.specs.cited.Heard.{HeardLine}
+
+-- The host stands behind these events, and the lines that were told are those behind which they stand: they are so many.
+abbrev pub IsTelling : Setting → HostStanding → ℕ → (List HeardLine → Type 0) → List Event → Type 0
+IsTelling setting host answered Heard past =
+    IsHostAfter setting host past × ((lines : List HeardLine) × Heard lines × (answered ≡ min (length lines) (2 ^ 64 - 1)) × AreReported setting [] 0 lines past)
+
+-- which of the first n tenants run behind these events
+abbrev pub running_up_to : Setting → List Event → ℕ → List Bool
+running_up_to setting past zero = []
+running_up_to setting past (suc t) = running_up_to setting past t ++ is_running (row_behind setting past t) ∷ []
+
+-- `Holds` in each setting of all events behind which this host stands
+abbrev pub ForEachPastOf : HostStanding → (Setting → List Event → Type 0) → Type 0
+ForEachPastOf host Holds = (setting : Setting) (past : List Event) → IsHostAfter setting host past → Holds setting past
+
+-- what stood before a line behind these events: the number of the next instant, and which tenants run
+abbrev pub IsBefore : Setting → List Event → ℕ → List Bool → Type 0
+IsBefore setting past clock ran = (clock ≡ next_tick setting past) × (ran ≡ running_up_to setting past (length setting.config.tenants))
+
+-- the number of the line that ended a script which ended so behind so many lines
+abbrev pub bad_line : Ending → ℕ → Option ℕ
+bad_line Input answered = None
+bad_line BadLine answered = Some (number_behind answered)

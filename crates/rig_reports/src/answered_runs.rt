@@ -1,0 +1,57 @@
+//! The replies that come to the lines of a run.
+
+ghost use Rattle.std.specs.Prelude.{◌≡◌, ℕ, [], ◌++◌, List, Option, IfOk, IfSome, length, map};
+ghost use Rattle.rig_model.specs.Base.{Setting};
+ghost use Rattle.rig_model.specs.Plays.{IsSettingOf};
+ghost use Rattle.rig_model.specs.Script.{past_after};
+ghost use Rattle.rig_model.specs.TextLines.{cut};
+ghost use Rattle.rig_reports.specs.inner.Reported.{AreReported, number_behind, reply_to_bad_line};
+ghost use Rattle.script_reports.specs.cited.Heard.{HeardLine};
+ghost use Rattle.script_reports.specs.cited.Runs.{line_in, script_of};
+
+use crate::telling::{Told, told_script};
+use rig_config::Config;
+use rig_script::faults::ScriptFault;
+use script_reports::runs::{Replies, RunLine, script_of};
+use std::alloc::{AllocError, Global};
+use std::io;
+
+/// What the lines of a run are answered, each as `rig_script::script` answers it from a new host on. A line that is too long is answered
+/// `host bye bad-line`, and no line behind it is answered.
+///
+/// # Errors
+/// `Memory`, where there is want of it.
+pub fn answered_run(
+    alloc: Global,
+    config: &Config,
+    lines: &[RunLine],
+) -> Result<Replies, ScriptFault>
+    ensures { IfOk result (λ replies. (setting : Setting) → IsSettingOf config.now setting
+        → (told : List HeardLine) × AreReported setting [] 0 told (past_after setting [] (cut (script_of lines.now)))
+        × ((end : Option ℕ) × IfSome end (λ number. number ≡ number_behind (length told)) × (replies ≡ map (λ (l : HeardLine). line_in l.reply) told ++ reply_to_bad_line end))) }
+{
+    let script = script_of(alloc, lines)?;
+    let mut reader = script.as_str().as_bytes();
+    let told = told_script(
+        alloc,
+        &mut reader,
+        &mut io::sink(),
+        config,
+        Replies::new(alloc),
+    )?;
+    Ok(with_end(alloc, told)?)
+}
+
+// The replies, with that to the line that ended the script.
+fn with_end(alloc: Global, told: Told<Replies>) -> Result<Replies, AllocError>
+    ensures { IfOk result (λ replies. replies ≡ told.listener ++ reply_to_bad_line told.bad_line) }
+{
+    let Told {
+        mut listener,
+        bad_line,
+    } = told;
+    if bad_line.is_some() {
+        listener.add(alloc, "host bye bad-line")?;
+    }
+    Ok(listener)
+}

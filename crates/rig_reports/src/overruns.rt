@@ -1,0 +1,123 @@
+//! Which tenants an instant stopped by an overrun: those that ran before it, and are stopped behind it since a task missed its deadline.
+
+ghost use Rattle.std.specs.Prelude.{◌≡◌, ◌<◌, ◌++◌, List, IfOk, OnOk, false, get_or, length};
+ghost use Rattle.rig_config.specs.Roster.{name_at};
+ghost use Rattle.rig_model.specs.Commands.{status_of};
+ghost use Rattle.rig_model.specs.Row.{Row, is_running};
+ghost use Rattle.rig_model.specs.declared.events.Event.{Event};
+ghost use Rattle.rig_pictures.specs.cited.Questions.{StaysBehind};
+ghost use Rattle.rig_reports.specs.inner.Reported.{listed, missed_task, overrun_of, overruns_up_to, row_behind};
+ghost use Rattle.rig_reports.specs.inner.Telling.{ForEachPastOf, running_up_to};
+ghost use Rattle.tenant_lines.specs.declared.replies.Reply.TheVariants.{Mode};
+
+use giotto_tasks::names::Name;
+use host_core::hosts::Host;
+use rig_config::{Config, TenantId};
+use rig_pictures::questions::ask;
+use script_reports::listeners::Overrun;
+use std::alloc::{AllocError, Global};
+use tenant_lines::commands::Command;
+use tenant_lines::replies::{Reply, Status};
+
+/// Which tenants run, by their places in the roster.
+///
+/// # Errors
+/// Want of memory.
+pub fn running(alloc: Global, host: &mut Host) -> Result<Vec<bool>, AllocError>
+    ensures stays { StaysBehind host.old host.new }
+    ensures config { host.new.config ≡ host.old.config }
+    ensures each { IfOk result (λ ran. ForEachPastOf host.old (λ setting past. ran.items ≡ running_up_to setting past (length setting.config.tenants))) }
+{
+    let mut running = Vec::new(alloc);
+    for tenant in 0..host.config().tenants().len() {
+        let status = ask(host, tenant, Command::ShowMode)?;
+        running.push(tells_running(&status))?;
+    }
+    Ok(running)
+}
+
+/// The overruns at an instant, in the order of the roster. `ran` tells who ran before it, by the places of the roster.
+///
+/// # Errors
+/// Want of memory.
+pub fn overruns(alloc: Global, host: &mut Host, ran: &[bool]) -> Result<Vec<Overrun>, AllocError>
+    ensures stays { StaysBehind host.old host.new }
+    ensures each { IfOk result (λ stops. (before : List Event) → ForEachPastOf host.old (λ setting past. ran.now ≡ running_up_to setting before (length setting.config.tenants)
+        → stops.items ≡ overruns_up_to setting before past (length setting.config.tenants))) }
+{
+    let mut overruns = Vec::new(alloc);
+    for tenant in 0..host.config().tenants().len() {
+        let overrun = overrun_of(host, tenant, ran_at(ran, tenant))?;
+        add(&mut overruns, overrun)?;
+    }
+    Ok(overruns)
+}
+
+// Adds an overrun, if there is one.
+fn add(overruns: &mut Vec<Overrun>, overrun: Option<Overrun>) -> Result<(), AllocError>
+    ensures { OnOk result (overruns.new.items ≡ overruns.old.items ++ listed overrun) }
+{
+    if let Some(overrun) = overrun {
+        overruns.push(overrun)?;
+    }
+    Ok(())
+}
+
+// Whether the tenant at this place ran.
+fn ran_at(ran: &[bool], tenant: TenantId) -> bool
+    ensures { result ≡ get_or ran.now tenant false }
+{
+    match ran.get(tenant) {
+        Some(ran) => *ran,
+        None => false,
+    }
+}
+
+// The overrun of the tenant at this place, which ran before an instant or not.
+fn overrun_of(host: &mut Host, tenant: TenantId, ran: bool) -> Result<Option<Overrun>, AllocError>
+    requires { tenant < length host.old.config.tenants }
+    ensures stays { StaysBehind host.old host.new }
+    ensures config { host.new.config ≡ host.old.config }
+    ensures overrun { IfOk result (λ stop. (before : Row) → ran ≡ is_running before
+        → ForEachPastOf host.old (λ setting past. stop ≡ overrun_of (name_at setting.config tenant) before (row_behind setting past tenant))) }
+{
+    if !ran {
+        return Ok(None);
+    }
+    let status = ask(host, tenant, Command::ShowMode)?;
+    match missed_task(&status) {
+        Some(task) => Ok(Some(Overrun {
+            tenant: name_of(host.config(), tenant),
+            task,
+        })),
+        None => Ok(None),
+    }
+}
+
+// The name of the tenant at this place.
+fn name_of(config: &Config, tenant: TenantId) -> Name
+    requires { tenant < length config.now.tenants }
+    ensures { result ≡ name_at config.now tenant }
+{
+    config.tenants()[tenant].name.copy()
+}
+
+// Whether a reply to `show mode` tells that the tenant runs.
+fn tells_running(reply: &Reply) -> bool
+    ensures { (row : Row) → reply.now ≡ Mode (status_of row) → result ≡ is_running row }
+{
+    match reply {
+        Reply::Mode(Status::Running(_, _)) => true,
+        _ => false,
+    }
+}
+
+// The task for whose overrun the tenant is stopped, as a reply to `show mode` tells it.
+fn missed_task(reply: &Reply) -> Option<Name>
+    ensures { (row : Row) → reply.now ≡ Mode (status_of row) → result ≡ missed_task row }
+{
+    match reply {
+        Reply::Mode(Status::StoppedOverrun(task)) => Some(task.copy()),
+        _ => None,
+    }
+}

@@ -1,0 +1,52 @@
+//! A script with a report of what went wrong in it.
+
+ghost use Rattle.std.specs.Prelude.{◌≡◌, ℕ, [], ◌++◌, List, Option, IfOk, OnOk};
+ghost use Rattle.std.specs.Io.KnownBytes.{Appends};
+ghost use Rattle.rig_model.specs.Script.{past_after, script_text_of};
+ghost use Rattle.rig_model.specs.TextLines.{cut};
+ghost use Rattle.rig_reports.specs.inner.Reported.{AreReported, IsEndOf, told_of_bad_line};
+ghost use Rattle.rig_script.specs.BrokenOff.{ForNewHostReading};
+ghost use Rattle.script_reports.specs.cited.Heard.{HeardLine};
+ghost use Rattle.script_reports.specs.cited.Told.{told_of_lines};
+
+use crate::telling::{Told, told_script};
+use rig_config::Config;
+use rig_script::faults::ScriptFault;
+use script_reports::told::Report;
+use std::alloc::{AllocError, Global};
+use std::io::{Read, Write};
+
+/// Answers the lines of a reader as `rig_script::script` does. A line of text for each reply that was an `err`, for each overrun, and for
+/// the line that ended the script since it was too long or no text.
+///
+/// # Errors
+/// As `script`; `Memory` also where there was want of memory for what is told.
+pub fn strict_script<R: Read, W: Write>(
+    alloc: Global,
+    reader: &mut R,
+    writer: &mut W,
+    config: &Config,
+) -> Result<Report, ScriptFault>
+    ensures written { OnOk result (ForNewHostReading config.now (R.remaining reader.old) (λ setting bytes.
+        Appends (W.contents writer.old) (W.contents writer.new) (script_text_of setting bytes))) }
+    ensures told { IfOk result (λ report. ForNewHostReading config.now (R.remaining reader.old) (λ setting bytes.
+        (lines : List HeardLine) × AreReported setting [] 0 lines (past_after setting [] (cut bytes))
+        × ((end : Option ℕ) × IsEndOf lines bytes (R.remaining reader.new) end × (report ≡ told_of_lines lines ++ told_of_bad_line end)))) }
+{
+    let told = told_script(alloc, reader, writer, config, Report::new(alloc))?;
+    Ok(with_end(alloc, told)?)
+}
+
+// The report, with the line that ended the script.
+fn with_end(alloc: Global, told: Told<Report>) -> Result<Report, AllocError>
+    ensures { IfOk result (λ report. report ≡ told.listener ++ told_of_bad_line told.bad_line) }
+{
+    let Told {
+        mut listener,
+        bad_line,
+    } = told;
+    if let Some(number) = bad_line {
+        listener.tell_end(alloc, number)?;
+    }
+    Ok(listener)
+}

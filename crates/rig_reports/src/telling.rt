@@ -1,0 +1,157 @@
+//! A script that is told: a host answers it, and who listens is told each line as it is answered.
+
+ghost use Rattle.std.specs.Prelude.{◌≡◌, [], ◌+◌, ◌-◌, ◌^◌, min, List, IfOk, OnOk};
+ghost use Rattle.std.specs.Io.KnownBytes.{Appends};
+ghost use Rattle.rig_model.specs.Script.{past_after, script_text_of};
+ghost use Rattle.rig_model.specs.TextLines.{cut};
+ghost use Rattle.rig_pictures.specs.cited.Questions.{StaysBehind};
+ghost use Rattle.rig_model.specs.declared.events.Event.{Event};
+ghost use Rattle.rig_reports.specs.inner.Reported.{AreReported, IsEndOf, overruns_between};
+ghost use Rattle.rig_reports.specs.inner.Telling.{ForEachPastOf, IsBefore, bad_line};
+ghost use Rattle.rig_script.specs.BrokenOff.{ForNewHostReading};
+ghost use Rattle.script_reports.specs.cited.Heard.{HeardLine, IsHeard};
+
+use crate::overruns::{overruns, running};
+use host_core::hosts::Host;
+use rig_config::Config;
+use rig_script::answers::{Answers, Ending, answer_lines};
+use rig_script::faults::ScriptFault;
+use rig_script::speakers::Speaker;
+use script_reports::listeners::{Listener, Overrun};
+use std::alloc::{AllocError, Global};
+use std::io::{Read, Write};
+
+/// Who was told a script, and how it ended.
+#[derive(Drop)]
+pub struct Told<L> {
+    pub listener: L,
+    /// The number of the line that ended the script, since it was too long or no text.
+    pub bad_line: Option<u64>,
+}
+
+/// Answers the lines of a reader as `rig_script::script` does, and tells the listener each line, blank ones too, once it is answered. A
+/// line that is too long or no text isn't told: it has no text. The listener was told nothing so far.
+///
+/// # Errors
+/// As `script`; `Memory` also where there was want of memory for what is told.
+pub fn told_script<R: Read, W: Write, L: Listener + Drop>(
+    alloc: Global,
+    reader: &mut R,
+    writer: &mut W,
+    config: &Config,
+    listener: L,
+) -> Result<Told<L>, ScriptFault>
+    requires { L.heard listener [] }
+    ensures written { OnOk result (ForNewHostReading config.now (R.remaining reader.old) (λ setting bytes.
+        Appends (W.contents writer.old) (W.contents writer.new) (script_text_of setting bytes))) }
+    ensures heard { IfOk result (λ told. ForNewHostReading config.now (R.remaining reader.old) (λ setting bytes.
+        (lines : List HeardLine) × L.heard told.listener lines × AreReported setting [] 0 lines (past_after setting [] (cut bytes)) × IsEndOf lines bytes (R.remaining reader.new) told.bad_line)) }
+{
+    let host = Host::new(alloc, config, 0)?;
+    let mut telling = Telling {
+        host,
+        listener,
+        answered: 0,
+    };
+    let ending = answer_lines(alloc, reader, writer, &mut telling)?;
+    let Telling {
+        host: _,
+        listener,
+        answered,
+    } = telling;
+    Ok(Told {
+        listener,
+        bad_line: bad_line(ending, answered),
+    })
+}
+
+// A host that answers, and who is told its lines.
+#[derive(Drop)]
+struct Telling<L> {
+    host: Host,
+    listener: L,
+    // How many lines were answered, blank ones too.
+    answered: u64,
+}
+
+// What stands before a line.
+#[derive(Drop)]
+struct Before {
+    clock: u64,
+    // Which tenants run, by their places.
+    ran: Vec<bool>,
+}
+
+impl<L: Listener> Answers for Telling<L> {
+    ghost use Rattle.rig_reports.specs.inner.Telling.{IsTelling};
+
+    ghost stands = { λ t setting past. IsTelling setting t.host t.answered (L.heard t.listener) past };
+
+    fn speaker(&self, line: &str) -> Speaker {
+        self.host.speaker(line)
+    }
+
+    fn answer(&mut self, alloc: Global, line: &str) -> Result<String, AllocError> {
+        let before = before_line(alloc, &mut self.host)?;
+        let reply = self.host.answer(alloc, line)?;
+        let overruns = overruns_since(alloc, &mut self.host, &before)?;
+        self.tell(alloc, line, reply.as_str(), overruns.as_slice())?;
+        Ok(reply)
+    }
+}
+
+impl<L: Listener> Telling<L> {
+    // Tells a line that was answered.
+    fn tell(
+        &mut self,
+        alloc: Global,
+        line: &str,
+        reply: &str,
+        overruns: &[Overrun],
+    ) -> Result<(), AllocError>
+        ensures host { self.new.host ≡ self.old.host }
+        ensures answered { self.new.answered ≡ min (self.old.answered + 1) (2 ^ 64 - 1) }
+        ensures heard { OnOk result (IsHeard (L.heard self.old.listener) (L.heard self.new.listener)
+            (record { number = min (self.old.answered + 1) (2 ^ 64 - 1); text = line.now; reply = reply.now; overruns = overruns.now })) }
+    {
+        self.answered = self.answered.saturating_add(1);
+        self.listener
+            .hear(alloc, self.answered, line, reply, overruns)
+    }
+}
+
+// What stands before a line.
+fn before_line(alloc: Global, host: &mut Host) -> Result<Before, AllocError>
+    ensures stays { StaysBehind host.old host.new }
+    ensures before { IfOk result (λ before. ForEachPastOf host.old (λ setting past. IsBefore setting past before.clock before.ran.items)) }
+{
+    let clock = host.clock();
+    let ran = running(alloc, host)?;
+    Ok(Before { clock, ran })
+}
+
+// The overruns at the instant that a line gave; none where it gave no instant.
+fn overruns_since(
+    alloc: Global,
+    host: &mut Host,
+    before: &Before,
+) -> Result<Vec<Overrun>, AllocError>
+    ensures stays { StaysBehind host.old host.new }
+    ensures each { IfOk result (λ stops. (earlier : List Event) → ForEachPastOf host.old (λ setting past. IsBefore setting earlier before.now.clock before.now.ran.items
+        → stops.items ≡ overruns_between setting earlier past)) }
+{
+    if host.clock() == before.clock {
+        return Ok(Vec::new(alloc));
+    }
+    overruns(alloc, host, before.ran.as_slice())
+}
+
+// The number of the line that ended a script which ended so behind so many lines.
+fn bad_line(ending: Ending, answered: u64) -> Option<u64>
+    ensures { result ≡ bad_line ending answered }
+{
+    match ending {
+        Ending::Input => None,
+        Ending::BadLine => Some(answered.saturating_add(1)),
+    }
+}
