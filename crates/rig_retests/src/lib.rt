@@ -10,11 +10,17 @@
 //!
 //! [`trials`] shows the same of one tenant: [`recordings`] has the events of a script, which are run in whole and without what can't
 //! reach the tenant, and its answers of both runs stand side by side.
+//!
+//! Both have the [`courses::Course`] of the script: where it was cut off, or no line is a tenant's, what is told says less than it seems to.
 #![tactic(auto)]
 
 mod columns;
+pub mod courses;
 mod graphs;
+mod notes;
 mod recordings;
+mod shared_lines;
+mod summaries;
 mod sums;
 pub mod tables;
 mod texts;
@@ -22,4 +28,4 @@ mod trials;
 
 pub use graphs::graph_of_retests;
 pub use texts::text_of_retests;
-pub use trials::text_of_trial;
+pub use trials::{TrialForm, TrialText, text_of_trial};

@@ -1,10 +1,14 @@
 //! A script that is recorded: its lines with their replies, and the events that they are.
 
 ghost use Rattle.std.specs.Prelude.{◌≡◌, [], reverse, IfOk};
+ghost use Rattle.std.specs.List.{list_any};
 ghost use Rattle.rig_model.specs.Script.{past_after};
+ghost use Rattle.rig_retests.specs.inner.Speaking.{is_tenants};
+ghost use Rattle.rig_retests.specs.declared.recordings.RecordedLine.{RecordedLine as Line};
 ghost use Rattle.rig_model.specs.TextLines.{cut};
 ghost use Rattle.rig_script.specs.BrokenOff.{ForNewHostReading};
 
+use crate::courses::{Course, course_of, is_tenants};
 use host_core::events::Event;
 use host_core::hosts::Host;
 use rig_config::Config;
@@ -36,8 +40,7 @@ pub struct Recording {
     pub lines: Vec<RecordedLine>,
     /// The events of all lines, the oldest first.
     pub events: Vec<Event>,
-    /// The number of the line that ended the script, since it was too long or no text.
-    pub bad_line: Option<usize>,
+    pub course: Course,
 }
 
 /// Answers the lines of a reader as `rig_script::script` does, and records them.
@@ -61,15 +64,19 @@ pub fn recorded<R: Read>(
         recording,
     } = recorder;
     let Recording { lines, events, .. } = recording;
-    let bad_line = match ending {
-        Ending::Input => None,
-        Ending::BadLine => Some(answered.saturating_add(1)),
-    };
+    let has_tenant = has_tenant(lines.as_slice());
     Ok(Recording {
         lines,
         events,
-        bad_line,
+        course: course_of(ending, answered, has_tenant),
     })
+}
+
+// Whether one of these lines is a tenant's.
+fn has_tenant(lines: &[RecordedLine]) -> bool
+    ensures { result ≡ list_any (λ (l : Line). is_tenants l.speaker) lines.now }
+{
+    lines.iter().any(|line| is_tenants(line.speaker))
 }
 
 // A host that answers, and what was recorded of it.
@@ -93,7 +100,7 @@ impl Recorder {
             recording: Recording {
                 lines: Vec::new(alloc),
                 events: Vec::new(alloc),
-                bad_line: None,
+                course: course_of(Ending::Input, 0, false),
             },
         }
     }

@@ -13,6 +13,9 @@ ghost use Rattle.rig_model.specs.TextLines.{cut};
 ghost use Rattle.rig_script.specs.BrokenOff.{ForNewHostReading};
 ghost use Rattle.rig_model.specs.Script.{past_after};
 
+use crate::courses::{Course, course_of};
+use crate::notes::Notes;
+use crate::shared_lines::SharedLines;
 use host_core::hosts::Host;
 use rig_config::{Config, TenantId};
 use rig_script::answers::{Answers, answer_lines};
@@ -30,6 +33,8 @@ pub struct Retests {
     table: SourceTable,
     // The line that gave each tick, from tick 0 on.
     lines: Vec<usize>,
+    shared: SharedLines,
+    course: Course,
 }
 
 impl Model for Retests {
@@ -81,6 +86,16 @@ impl Retests {
         };
         self.lines.get(tick).copied()
     }
+
+    /// The rig lines that the programs of the script use.
+    pub fn shared_lines(&self) -> &SharedLines {
+        &self.shared
+    }
+
+    /// How the script went.
+    pub fn course(&self) -> Course {
+        self.course
+    }
 }
 
 // A host that answers, and the sources behind its lines.
@@ -89,8 +104,7 @@ struct Watched {
     host: Host,
     table: SourceTable,
     lines: Vec<usize>,
-    // How many lines were answered.
-    answered: usize,
+    notes: Notes,
     // Whether all could be kept so far.
     is_whole: bool,
 }
@@ -107,7 +121,7 @@ impl Watched {
             return;
         };
         self.table.add(added.as_slice());
-        let Ok(()) = self.lines.push(self.answered) else {
+        let Ok(()) = self.lines.push(self.notes.answered) else {
             self.is_whole = false;
             return;
         };
@@ -126,8 +140,9 @@ impl Answers for Watched {
     fn answer(&mut self, alloc: Global, line: &str) -> Result<String, AllocError> {
         let clock = self.host.clock();
         let added = self.table.additions(alloc, &self.host);
+        let speaker = self.host.speaker(line);
         let reply = self.host.answer(alloc, line)?;
-        self.answered = self.answered.saturating_add(1);
+        self.notes.note(alloc, speaker, line, reply.as_str());
         if self.host.clock() == clock {
             return Ok(reply);
         }
@@ -153,19 +168,24 @@ pub fn retests_of<R: Read>(
         host,
         table,
         lines: Vec::new(alloc),
-        answered: 0,
+        notes: Notes::new(alloc),
         is_whole: true,
     };
-    answer_lines(alloc, reader, &mut io::sink(), &mut watched)?;
+    let ending = answer_lines(alloc, reader, &mut io::sink(), &mut watched)?;
     let Watched {
         host: _,
         table,
         lines,
-        answered: _,
+        notes,
         is_whole,
     } = watched;
-    if !is_whole {
+    if !is_whole || !notes.is_whole {
         return Err(ScriptFault::Memory);
     }
-    Ok(Retests { table, lines })
+    Ok(Retests {
+        table,
+        lines,
+        shared: notes.lines,
+        course: course_of(ending, notes.answered, notes.has_tenant),
+    })
 }

@@ -36,6 +36,11 @@ pub fn text_of_retests(
     let changes = text_of_changes(alloc, config, retests)?;
     text.push_str(changes.as_str())?;
     text.push_str(REMARKS)?;
+    let shared = retests.shared_lines().text(alloc, config)?;
+    writeln!(
+        text,
+        "What comes back through the plant isn't seen. Lines that one tenant drives here and another reads: {shared}."
+    )?;
     Ok(text)
 }
 

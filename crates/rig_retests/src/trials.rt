@@ -4,7 +4,9 @@ ghost use Rattle.std.specs.Prelude.{◌≡◌, IfOk, string_bytes};
 ghost use Rattle.rig_retests.specs.inner.Texts.{text_of_fate, text_of_part};
 
 use crate::columns::Columns;
+use crate::courses::Course;
 use crate::recordings::{RecordedLine, Recording, recorded};
+use crate::summaries::text_of_summary;
 use crate::sums::{Sum, write_sum};
 use crate::texts::{cells, name_of, shortened};
 use host_core::events::Event;
@@ -25,8 +27,24 @@ const TASKS_WIDTH: usize = 60;
 // How long the two answers to a line are at most where they stand side by side.
 const ANSWER_WIDTH: usize = 28;
 
-/// Runs the script of a reader and what is kept of it for a tenant: a row for each line, with the tenant's answers in both runs, and
-/// below them how many lines were left out.
+/// How a trial is told.
+#[derive(Clone, Copy, Debug, PartialEq, Eq)]
+pub enum TrialForm {
+    /// A row for each line, with the answers in both runs.
+    Listing,
+    /// Who was left out, and how many replies were compared.
+    Summary,
+}
+
+/// What is told of a trial, and how its script went.
+#[derive(Drop)]
+pub struct TrialText {
+    pub text: String,
+    pub course: Course,
+}
+
+/// Runs the script of a reader and what is kept of it for a tenant: a row for each line, with the tenant's answers in both runs, or a
+/// summary; and below them how many lines were left out, and whether the answers are the same.
 ///
 /// # Errors
 /// As `rig_script::script`.
@@ -35,32 +53,41 @@ pub fn text_of_trial<R: Read>(
     reader: &mut R,
     config: &Config,
     tenant: TenantId,
-) -> Result<String, ScriptFault> {
+    form: TrialForm,
+) -> Result<TrialText, ScriptFault> {
     let recording = recorded(alloc, reader, config)?;
     // What happened is legal, and the tenant is in the roster: it is refused for want of memory alone.
     let Ok(trial) = trial(alloc, config, recording.events.as_slice(), tenant) else {
         return Err(ScriptFault::Memory);
     };
-    Ok(text_of_both(alloc, config, tenant, &recording, &trial)?)
+    let text = text_of_both(alloc, config, tenant, &recording, &trial, form)?;
+    Ok(TrialText {
+        text,
+        course: recording.course,
+    })
 }
 
-// The rows, and what stands below them.
+// The rows or a summary, and what stands below them.
 fn text_of_both(
     alloc: Global,
     config: &Config,
     tenant: TenantId,
     recording: &Recording,
     trial: &TrialOutcome,
+    form: TrialForm,
 ) -> Result<String, AllocError> {
     let mut sheet = Sheet::new(alloc, tenant, recording, trial)?;
     for line in &recording.lines {
         sheet.add_line(alloc, config, line)?;
     }
-    let mut text = sheet.columns.text(alloc)?;
+    let mut text = match form {
+        TrialForm::Listing => sheet.columns.text(alloc)?,
+        TrialForm::Summary => text_of_summary(alloc, config, recording, trial)?,
+    };
     let name = name_of(config, tenant);
     let is_same = trial.whole.as_str() == trial.kept.as_str();
     write_sum(&mut text, name, &sheet.sum, is_same)?;
-    if let Some(number) = recording.bad_line {
+    if let Some(number) = recording.course.bad_line {
         writeln!(
             text,
             "Line {number} is longer than 16384 bytes or no text, and ends the script."

@@ -1,0 +1,81 @@
+//! How a script went, by which it is known whether what is told of it says less than it seems to.
+
+ghost use Rattle.std.specs.Prelude.{◌≡◌, ◌↔◌, ◌+◌, ◌-◌, ◌^◌, min, None, IfSome};
+ghost use Rattle.rig_retests.specs.inner.Courses.{shortfall_of};
+ghost use Rattle.rig_retests.specs.inner.Speaking.{is_tenants};
+
+use rig_script::answers::Ending;
+use rig_script::speakers::Speaker;
+use std::fmt;
+
+/// How a script went.
+#[derive(Clone, Copy, Debug, PartialEq, Eq)]
+pub struct Course {
+    /// The number of the line that ended the script for all, since it was too long or no text.
+    pub bad_line: Option<usize>,
+    /// Whether a line was a tenant's of the configuration.
+    pub has_tenant: bool,
+}
+
+/// Why what is told of a script says less than it seems to. Its `Display` is a line for standard error.
+#[derive(Clone, Copy, Debug, PartialEq, Eq)]
+pub enum Shortfall {
+    /// The line of this number was too long or no text, and ended the script for all.
+    CutOff(usize),
+    /// No line was a tenant's of the configuration.
+    NoTenant,
+}
+
+impl fmt::Display for Shortfall {
+    fn fmt<W: fmt::Write>(&self, f: &mut fmt::Formatter<W>) -> fmt::Result {
+        match self {
+            Shortfall::CutOff(number) => write!(
+                f,
+                "{number}: longer than 16384 bytes or no text: it ends the script"
+            ),
+            Shortfall::NoTenant => write!(
+                f,
+                "no line of the script is a tenant's of the configuration"
+            ),
+        }
+    }
+}
+
+impl Course {
+    /// Why what is told of the script says less than it seems to, if it does: it was cut off, or else no line was a tenant's.
+    pub fn shortfall(self) -> Option<Shortfall>
+        ensures { result ≡ shortfall_of self }
+    {
+        if let Some(number) = self.bad_line {
+            return Some(Shortfall::CutOff(number));
+        }
+        if self.has_tenant {
+            None
+        } else {
+            Some(Shortfall::NoTenant)
+        }
+    }
+}
+
+/// How a script went that ended so behind so many lines that were answered, of which one was a tenant's or none.
+pub(crate) fn course_of(ending: Ending, answered: usize, has_tenant: bool) -> Course
+    ensures tenant { result.has_tenant ≡ has_tenant }
+    ensures whole { result.bad_line ≡ None ↔ ending ≡ Ending.Input }
+    ensures line { IfSome result.bad_line (λ number. number ≡ min (answered + 1) (2 ^ 64 - 1)) }
+{
+    let bad_line = match ending {
+        Ending::Input => None,
+        Ending::BadLine => Some(answered.saturating_add(1)),
+    };
+    Course {
+        bad_line,
+        has_tenant,
+    }
+}
+
+/// Whether a line of this speaker is a tenant's of the configuration.
+pub(crate) fn is_tenants(speaker: Speaker) -> bool
+    ensures { result ≡ is_tenants speaker }
+{
+    matches!(speaker, Speaker::Tenant(_))
+}
