@@ -69,8 +69,33 @@ pub fn arguments<'a>(alloc: Global) -> Result<Command<'a>, AllocError> {
         .subcommand(trial_arguments(alloc)?)
 }
 
-// The words of `script`.
-fn script_arguments<'a>(alloc: Global) -> Result<Command<'a>, AllocError> {
+/// The words of `script`.
+///
+/// # Errors
+/// Want of memory.
+pub fn script_arguments<'a>(alloc: Global) -> Result<Command<'a>, AllocError> {
+    let strict = Arg::new(alloc, "strict")
+        .long("strict")
+        .action(ArgAction::SetTrue)
+        .conflicts_with("vcd")?
+        .help(
+            "Tells each refusal, each overrun and a script that was cut off on standard error, with status 4",
+        );
+    let expect = Arg::new(alloc, "expect")
+        .long("expect")
+        .value_name("FILE")
+        .action(ArgAction::Set)
+        .conflicts_with("strict")?
+        .conflicts_with("vcd")?
+        .help(
+            "Answers the lines of FILE in place of standard input, and prints what differs from the replies that stand below them, with status 4",
+        );
+    let junit = Arg::new(alloc, "junit")
+        .long("junit")
+        .value_name("FILE")
+        .action(ArgAction::Set)
+        .requires_arg("expect")?
+        .help("Writes what was compared into FILE as well, as a suite of tests in JUnit's form");
     let dump = Arg::new(alloc, "vcd")
         .long("vcd")
         .value_name("FILE")
@@ -82,6 +107,9 @@ fn script_arguments<'a>(alloc: Global) -> Result<Command<'a>, AllocError> {
         )
         .after_help(SCRIPT_EXAMPLES)
         .arg(config_argument(alloc))?
+        .arg(strict)?
+        .arg(expect)?
+        .arg(junit)?
         .arg(dump)
 }
 
@@ -183,8 +211,11 @@ pub fn timeline_arguments<'a>(alloc: Global) -> Result<Command<'a>, AllocError> 
         .arg(output)
 }
 
-// The words of `retest`.
-fn retest_arguments<'a>(alloc: Global) -> Result<Command<'a>, AllocError> {
+/// The words of `retest`.
+///
+/// # Errors
+/// Want of memory.
+pub fn retest_arguments<'a>(alloc: Global) -> Result<Command<'a>, AllocError> {
     let graph = Arg::new(alloc, "dot")
         .long("dot")
         .value_name("FILE")
@@ -209,12 +240,17 @@ pub fn trial_arguments<'a>(alloc: Global) -> Result<Command<'a>, AllocError> {
         .required(true)
         .action(ArgAction::Set)
         .help("Whose answers are compared");
+    let summary = Arg::new(alloc, "summary")
+        .long("summary")
+        .action(ArgAction::SetTrue)
+        .help("Prints who was left out and how many replies were compared, in place of the lines");
     Command::new(alloc, "trial")
         .about(
             "Reads a script from standard input, runs it twice, in whole and without what can't reach one tenant, and prints that tenant's answers of both runs side by side",
         )
         .after_help(TRIAL_EXAMPLE)
         .arg(config_argument(alloc))?
+        .arg(summary)?
         .arg(tenant)
 }
 

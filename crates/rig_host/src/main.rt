@@ -1,12 +1,14 @@
 //! The program `rig_host`: what its arguments ask for, and the statuses with which it ends.
 #![tactic(auto)]
 
-ghost use Rattle.std.specs.Prelude.{◌≡◌};
+ghost use Rattle.std.specs.Prelude.{◌≡◌, ℕ, List};
 ghost use Rattle.std.specs.Process.{exit_status};
 ghost use Rattle.clap.specs.declared.error.Error.{Error as ArgumentError};
 ghost use Rattle.rig_host.specs.declared.Failure.TheVariants.{Client, Configuration, Fault, Picture, Server};
-ghost use Rattle.rig_host.specs.declared.configuration.ConfigurationFault.{ConfigurationFault as AnyConfigurationFault};
+ghost use Rattle.rig_host.specs.declared.configuration.FileFault.{FileFault as AnyFileFault};
 ghost use Rattle.rig_host.specs.declared.pictures.PictureFault.{PictureFault as AnyPictureFault};
+ghost use Rattle.rig_host.specs.declared.scripts.RunFileFault.{RunFileFault as AnyRunFileFault};
+ghost use Rattle.rig_retests.specs.declared.courses.Shortfall.{Shortfall as AnyShortfall};
 ghost use Rattle.rig_client.specs.declared.faults.ClientFault.{ClientFault as AnyClientFault};
 ghost use Rattle.rig_script.specs.declared.faults.ScriptFault.{ScriptFault as AnyFault};
 ghost use Rattle.rig_server.specs.declared.faults.ServeFault.{ServeFault as AnyServeFault};
@@ -15,25 +17,28 @@ ghost use Rattle.rig_script.specs.declared.faults.ScriptFault.TheVariants.{Memor
 mod client;
 mod command_line;
 mod configuration;
+mod outputs;
 mod pictures;
 mod retests;
+mod scripts;
 mod server;
+mod tenants;
 
 use clap::ArgMatches;
 use clap::error::ErrorKind;
 use client::{ConnectRequest, run_client};
-use command_line::{arguments, timeline_arguments, trial_arguments};
-use configuration::{ConfigurationFault, read_configuration};
-use pictures::{PictureFault, write_dump, write_timeline};
-use retests::{print_retests, print_trial};
+use command_line::arguments;
+use configuration::{FileFault, read_configuration};
+use pictures::{PictureFault, TimelineRequest, run_timeline};
+use retests::{RetestRequest, TrialRequest, run_retest, run_trial};
 use rig_client::faults::ClientFault;
-use rig_config::{Config, TenantId};
+use rig_retests::courses::Shortfall;
 use rig_script::faults::ScriptFault;
-use rig_script::script;
 use rig_server::faults::ServeFault;
+use script_reports::told::Report;
+use scripts::{RunFileFault, ScriptRequest, run_script, script_of};
 use server::{ServeRequest, run_server};
 use std::alloc::{AllocError, Global};
-use std::io::BufWriter;
 use std::process::ExitCode;
 use std::sync::Wait;
 use std::thread::Threads;
@@ -56,13 +61,8 @@ fn main(rt: HostRuntime) -> ExitCode {
 enum Request<'a> {
     /// A text for standard output, as of `--help`.
     Text(clap::Error),
-    /// The script on standard input.
-    Script {
-        /// The path of the configuration; `None` for the built-in one.
-        config: Option<&'a str>,
-        /// The path of the value change dump, where one is wanted.
-        dump: Option<&'a str>,
-    },
+    /// A script, on standard input or of a run.
+    Script(ScriptRequest<'a>),
     /// The server of a rig.
     Serve(ServeRequest<'a>),
     /// A session of a server.
@@ -70,32 +70,9 @@ enum Request<'a> {
     /// The timeline of one tenant in a script of a file.
     Timeline(TimelineRequest<'a>),
     /// Whose change calls for whose retest in the script on standard input.
-    Retest {
-        /// The path of the configuration; `None` for the built-in one.
-        config: Option<&'a str>,
-        /// The path of the graph, where one is wanted.
-        graph: Option<&'a str>,
-    },
+    Retest(RetestRequest<'a>),
     /// The trial of one tenant in the script on standard input.
-    Trial {
-        /// The path of the configuration; `None` for the built-in one.
-        config: Option<&'a str>,
-        /// The name of the tenant.
-        tenant: &'a str,
-    },
-}
-
-/// Which timeline is drawn, and where.
-#[derive(Clone, Copy)]
-pub struct TimelineRequest<'a> {
-    /// The path of the configuration; `None` for the built-in one.
-    pub config: Option<&'a str>,
-    /// The path of the script.
-    pub script: &'a str,
-    /// The name of the tenant; `None` for the first that loads a program.
-    pub tenant: Option<&'a str>,
-    /// The path of the picture.
-    pub picture: &'a str,
+    Trial(TrialRequest<'a>),
 }
 
 /// Why the program ends with another status than 0. Its `Display` is for standard error.
@@ -104,7 +81,7 @@ enum Failure {
     /// The arguments are wrong, in the way that the text says.
     Arguments(clap::Error),
     /// There is no configuration.
-    Configuration(ConfigurationFault),
+    Configuration(FileFault),
     /// Reading, writing or want of memory, of the script or before it.
     Fault(ScriptFault),
     /// What ended the server otherwise than by a halt.
@@ -113,23 +90,40 @@ enum Failure {
     Client(ClientFault),
     /// A file of a picture.
     Picture(PictureFault),
+    /// A file of a run.
+    Run(RunFileFault),
+    /// Files that are at fault, as was told.
+    Faulty,
+    /// What went wrong in a script.
+    Told(Report),
+    /// What is told of a script says less than it seems to.
+    Short(Shortfall),
 }
 
 impl Failure {
     // The status of the program that ends so.
     fn status(&self) -> ExitCode
         ensures arguments { (error : ArgumentError) → self.now ≡ Failure.Arguments error → exit_status result ≡ 2 }
-        ensures configuration { (fault : AnyConfigurationFault) → self.now ≡ Failure.Configuration fault → exit_status result ≡ 1 }
+        ensures configuration { (fault : AnyFileFault) → self.now ≡ Failure.Configuration fault → exit_status result ≡ 1 }
         ensures fault { (fault : AnyFault) → self.now ≡ Failure.Fault fault → exit_status result ≡ 3 }
         ensures server { (fault : AnyServeFault) → self.now ≡ Failure.Server fault → exit_status result ≡ 3 }
         ensures client { (fault : AnyClientFault) → self.now ≡ Failure.Client fault → exit_status result ≡ 3 }
         ensures picture { (fault : AnyPictureFault) → self.now ≡ Failure.Picture fault → exit_status result ≡ 3 }
+        ensures run { (fault : AnyRunFileFault) → self.now ≡ Failure.Run fault → exit_status result ≡ 3 }
+        ensures faulty { self.now ≡ Failure.Faulty → exit_status result ≡ 4 }
+        ensures told { (report : List ℕ) → self.now ≡ Failure.Told report → exit_status result ≡ 4 }
+        ensures short { (shortfall : AnyShortfall) → self.now ≡ Failure.Short shortfall → exit_status result ≡ 4 }
     {
         match self {
             Failure::Arguments(_) => ExitCode::from(2),
             Failure::Configuration(_) => ExitCode::from(1),
-            Failure::Fault(_) | Failure::Server(_) | Failure::Client(_) | Failure::Picture(_) =>
-                ExitCode::from(3),
+            Failure::Faulty => ExitCode::from(4),
+            Failure::Told(_) | Failure::Short(_) => ExitCode::from(4),
+            Failure::Fault(_)
+            | Failure::Server(_)
+            | Failure::Client(_)
+            | Failure::Picture(_)
+            | Failure::Run(_) => ExitCode::from(3),
         }
     }
 }
@@ -143,14 +137,18 @@ impl fmt::Display for Failure {
             Failure::Server(fault) => writeln!(f, "{}", fault.as_str()),
             Failure::Client(fault) => writeln!(f, "{}", fault.as_str()),
             Failure::Picture(fault) => writeln!(f, "{}", fault.as_str()),
+            Failure::Faulty => Ok(()),
+            Failure::Run(fault) => writeln!(f, "{fault}"),
+            Failure::Told(report) => write!(f, "{}", report.as_str()),
+            Failure::Short(shortfall) => writeln!(f, "{shortfall}"),
         }
     }
 }
 
-impl From<ConfigurationFault> for Failure {
+impl From<FileFault> for Failure {
     ghost from_gives = { λ fault failure. failure ≡ Configuration fault };
 
-    fn from(fault: ConfigurationFault) -> Failure {
+    fn from(fault: FileFault) -> Failure {
         Failure::Configuration(fault)
     }
 }
@@ -203,61 +201,15 @@ fn run<T: Threads + Wait + Clock + Sync>(rt: &HostRuntime, threads: &T) -> Resul
             Ok(()) => Ok(()),
             Err(_) => Err(Failure::Fault(ScriptFault::Write)),
         },
-        Request::Script { config, dump } => {
-            let config = read_configuration(rt, config)?;
-            match dump {
-                Some(path) => write_dump(rt, &config, path),
-                None => Ok(run_script(rt, &config)?),
-            }
-        }
+        Request::Script(request) => run_script(rt, &request),
         Request::Serve(request) => {
             let config = read_configuration(rt, request.config)?;
             run_server(rt, threads, &config, &request)
         }
         Request::Connect(request) => run_client(rt, &request),
-        Request::Timeline(request) => {
-            let config = read_configuration(rt, request.config)?;
-            let tenant = tenant_of(rt.alloc(), &config, request.tenant)?;
-            write_timeline(rt, &config, request.script, tenant, request.picture)
-        }
-        Request::Retest { config, graph } => {
-            let config = read_configuration(rt, config)?;
-            print_retests(rt, &config, graph)
-        }
-        Request::Trial { config, tenant } => {
-            let config = read_configuration(rt, config)?;
-            let tenant = tenant_of_trial(rt.alloc(), &config, tenant)?;
-            print_trial(rt, &config, tenant)
-        }
-    }
-}
-
-// The place of the tenant that is asked for, if one is.
-fn tenant_of(
-    alloc: Global,
-    config: &Config,
-    name: Option<&str>,
-) -> Result<Option<TenantId>, Failure> {
-    let Some(name) = name else {
-        return Ok(None);
-    };
-    match config.place_of(name) {
-        Some(tenant) => Ok(Some(tenant)),
-        None => Err(Failure::Arguments(timeline_arguments(alloc)?.error(
-            ErrorKind::ValueValidation,
-            "the configuration has no tenant of the name behind '--tenant'",
-        )?)),
-    }
-}
-
-// The place of the tenant of a trial.
-fn tenant_of_trial(alloc: Global, config: &Config, name: &str) -> Result<TenantId, Failure> {
-    match config.place_of(name) {
-        Some(tenant) => Ok(tenant),
-        None => Err(Failure::Arguments(trial_arguments(alloc)?.error(
-            ErrorKind::ValueValidation,
-            "the configuration has no tenant of the name TENANT",
-        )?)),
+        Request::Timeline(request) => run_timeline(rt, &request),
+        Request::Retest(request) => run_retest(rt, &request),
+        Request::Trial(request) => run_trial(rt, &request),
     }
 }
 
@@ -288,24 +240,13 @@ fn request_of<'a>(matches: &ArgMatches<'a>) -> Request<'a> {
     if let Some(request) = client_of(matches) {
         return Request::Connect(request);
     }
-    if let Some(words) = matches.subcommand_matches("retest") {
-        return Request::Retest {
-            config: words.get_str("config"),
-            graph: words.get_str("dot"),
-        };
+    if let Some(request) = retest_of(matches) {
+        return Request::Retest(request);
     }
     if let Some(request) = trial_of(matches) {
-        return request;
+        return Request::Trial(request);
     }
-    Request::Script {
-        config: word_of_script(matches, "config"),
-        dump: word_of_script(matches, "vcd"),
-    }
-}
-
-// The word behind this argument of `script`, where it is given.
-fn word_of_script<'a>(matches: &ArgMatches<'a>, argument: &str) -> Option<&'a str> {
-    matches.subcommand_matches("script")?.get_str(argument)
+    Request::Script(script_of(matches))
 }
 
 // Which server is asked for, if one is.
@@ -329,12 +270,22 @@ fn client_of<'a>(matches: &ArgMatches<'a>) -> Option<ConnectRequest<'a>> {
     })
 }
 
+// Which table of retests is asked for, if one is.
+fn retest_of<'a>(matches: &ArgMatches<'a>) -> Option<RetestRequest<'a>> {
+    let words = matches.subcommand_matches("retest")?;
+    Some(RetestRequest {
+        config: words.get_str("config"),
+        graph: words.get_str("dot"),
+    })
+}
+
 // Which trial is asked for, if one is.
-fn trial_of<'a>(matches: &ArgMatches<'a>) -> Option<Request<'a>> {
+fn trial_of<'a>(matches: &ArgMatches<'a>) -> Option<TrialRequest<'a>> {
     let words = matches.subcommand_matches("trial")?;
-    Some(Request::Trial {
+    Some(TrialRequest {
         config: words.get_str("config"),
         tenant: words.get_str("tenant")?,
+        is_summary: words.get_flag("summary"),
     })
 }
 
@@ -367,12 +318,4 @@ fn without_matches<'a>(error: clap::Error) -> Result<Request<'a>, Failure> {
         ErrorKind::OutOfMemory => Err(Failure::Fault(ScriptFault::Memory)),
         _ => Err(Failure::Arguments(error)),
     }
-}
-
-// Answers the script on standard input.
-fn run_script(rt: &HostRuntime, config: &Config) -> Result<(), ScriptFault> {
-    let Ok(mut writer) = BufWriter::new(rt.alloc(), io::writer(rt)) else {
-        return Err(ScriptFault::Memory);
-    };
-    script(rt.alloc(), &mut rt.reader(), &mut writer, config)
 }

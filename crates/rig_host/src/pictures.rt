@@ -4,6 +4,10 @@ ghost use Rattle.std.specs.Prelude.{◌≡◌};
 ghost use Rattle.rig_host.specs.inner.Faults.{text_of_fault};
 
 use crate::Failure;
+use crate::command_line::timeline_arguments;
+use crate::configuration::read_configuration;
+use crate::outputs::{check_output, is_standard, write_to};
+use crate::tenants::place_of;
 use rig_config::{Config, TenantId};
 use rig_pictures::{script_with_dump, timeline};
 use rig_script::faults::ScriptFault;
@@ -37,38 +41,75 @@ impl PictureFault {
     }
 }
 
-/// Answers the script on standard input, and writes its value change dump to this path.
+/// Answers the script on standard input, and writes its value change dump to this path; where that is standard output, the dump stands
+/// there in place of the replies.
 ///
 /// # Errors
 /// As the script, and `Dump` where the file can't be written. Nothing was written to it where the script ended by a fault.
 pub fn write_dump(rt: &HostRuntime, config: &Config, path: &str) -> Result<(), Failure> {
-    let Ok(mut writer) = BufWriter::new(rt.alloc(), io::writer(rt)) else {
-        return Err(Failure::Fault(ScriptFault::Memory));
+    let dump = if is_standard(path) {
+        script_with_dump(rt.alloc(), &mut rt.reader(), &mut io::sink(), config)?
+    } else {
+        let Ok(mut writer) = BufWriter::new(rt.alloc(), io::writer(rt)) else {
+            return Err(Failure::Fault(ScriptFault::Memory));
+        };
+        script_with_dump(rt.alloc(), &mut rt.reader(), &mut writer, config)?
     };
-    let dump = script_with_dump(rt.alloc(), &mut rt.reader(), &mut writer, config)?;
-    match fs::write(rt, path, dump) {
-        Ok(()) => Ok(()),
-        Err(_) => Err(Failure::Picture(PictureFault::Dump)),
-    }
+    write_to(
+        rt,
+        path,
+        dump.as_str(),
+        Failure::Picture(PictureFault::Dump),
+    )
 }
 
-/// Draws the run of a tenant in the script of this path, or that of the first tenant that loads a program.
+/// Which timeline is drawn, and where.
+#[derive(Clone, Copy)]
+pub struct TimelineRequest<'a> {
+    /// The path of the configuration; `None` for the built-in one.
+    pub config: Option<&'a str>,
+    /// The path of the script.
+    pub script: &'a str,
+    /// The name of the tenant; `None` for the first that loads a program.
+    pub tenant: Option<&'a str>,
+    /// The path of the picture.
+    pub picture: &'a str,
+}
+
+/// Draws the run of a tenant in a script, or that of the first tenant that loads a program.
 ///
 /// # Errors
-/// `Script` and `Timeline` where a file can't be read or written, and want of memory.
-pub fn write_timeline(
+/// Faults of arguments, of the configuration and of the script; `Script` and `Timeline` where a file can't be read or written.
+pub fn run_timeline(rt: &HostRuntime, request: &TimelineRequest<'_>) -> Result<(), Failure> {
+    let words = timeline_arguments(rt.alloc())?;
+    let inputs = [request.config, Some(request.script)];
+    check_output(rt, words, &inputs, Some(request.picture))?;
+    let config = read_configuration(rt, request.config)?;
+    let tenant = match request.tenant {
+        Some(name) => {
+            let words = timeline_arguments(rt.alloc())?;
+            Some(place_of(rt.alloc(), words, &config, name)?)
+        }
+        None => None,
+    };
+    write_timeline(rt, &config, request, tenant)
+}
+
+// Draws the run of this tenant, or that of the first tenant that loads a program.
+fn write_timeline(
     rt: &HostRuntime,
     config: &Config,
-    script: &str,
+    request: &TimelineRequest<'_>,
     tenant: Option<TenantId>,
-    path: &str,
 ) -> Result<(), Failure> {
-    let Ok(bytes) = fs::read(rt, script) else {
+    let Ok(bytes) = fs::read(rt, request.script) else {
         return Err(Failure::Picture(PictureFault::Script));
     };
     let picture = timeline(rt.alloc(), &mut bytes.as_slice(), config, tenant)?;
-    match fs::write(rt, path, picture) {
-        Ok(()) => Ok(()),
-        Err(_) => Err(Failure::Picture(PictureFault::Timeline)),
-    }
+    write_to(
+        rt,
+        request.picture,
+        picture.as_str(),
+        Failure::Picture(PictureFault::Timeline),
+    )
 }

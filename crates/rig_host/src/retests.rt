@@ -1,64 +1,100 @@
 //! Whose tests have to be run again: the table of a script, its graph, and the trial of one tenant.
 
-use crate::Failure;
-use crate::pictures::PictureFault;
-use rig_config::{Config, TenantId};
-use rig_retests::tables::{Retests, retests_of};
-use rig_retests::{graph_of_retests, text_of_retests, text_of_trial};
-use rig_script::faults::ScriptFault;
-use std::io::Write;
-use std::{fs, io};
+ghost use Rattle.std.specs.Prelude.{◌≡◌, ◌↔◌, true, IsOk, None};
 
-/// Prints whose change calls for whose retest in the script on standard input, and writes it as a graph to this path, if there is one.
-///
-/// # Errors
-/// As the script, and `Graph` where the file can't be written. Nothing was written to it where the script ended by a fault.
-pub fn print_retests(
-    rt: &HostRuntime,
-    config: &Config,
-    graph: Option<&str>,
-) -> Result<(), Failure> {
-    let retests = retests_of(rt.alloc(), &mut rt.reader(), config)?;
-    let text = text_of_retests(rt.alloc(), config, &retests)?;
-    print(rt, text.as_str())?;
-    match graph {
-        Some(path) => write_graph(rt, config, &retests, path),
-        None => Ok(()),
-    }
+use crate::Failure;
+use crate::command_line::{retest_arguments, trial_arguments};
+use crate::configuration::read_configuration;
+use crate::outputs::{check_output, is_standard, print, write_to};
+use crate::pictures::PictureFault;
+use crate::tenants::place_of;
+use rig_config::Config;
+use rig_retests::courses::Course;
+use rig_retests::tables::{Retests, retests_of};
+use rig_retests::{TrialForm, graph_of_retests, text_of_retests, text_of_trial};
+
+/// Which table of retests is printed.
+#[derive(Clone, Copy)]
+pub struct RetestRequest<'a> {
+    /// The path of the configuration; `None` for the built-in one.
+    pub config: Option<&'a str>,
+    /// The path of the graph, where one is wanted.
+    pub graph: Option<&'a str>,
 }
 
-// Writes the graph to this path.
-fn write_graph(
+/// Which trial is printed.
+#[derive(Clone, Copy)]
+pub struct TrialRequest<'a> {
+    /// The path of the configuration; `None` for the built-in one.
+    pub config: Option<&'a str>,
+    /// The name of the tenant.
+    pub tenant: &'a str,
+    /// Whether a summary is printed in place of the lines.
+    pub is_summary: bool,
+}
+
+/// Prints whose change calls for whose retest in the script on standard input, and writes it as a graph, if that is asked for; where the
+/// graph goes to standard output, it stands there in place of the table.
+///
+/// # Errors
+/// Faults of arguments and of the configuration; as the script, and `Graph` where the file can't be written. Nothing was written to it where
+/// the script ended by a fault. `Short` where the script was cut off, or no line was a tenant's.
+pub fn run_retest(rt: &HostRuntime, request: &RetestRequest<'_>) -> Result<(), Failure> {
+    let words = retest_arguments(rt.alloc())?;
+    check_output(rt, words, &[request.config], request.graph)?;
+    let config = read_configuration(rt, request.config)?;
+    let retests = retests_of(rt.alloc(), &mut rt.reader(), &config)?;
+    print_retests(rt, &config, &retests, request.graph)?;
+    verdict(retests.course())
+}
+
+// Prints the table, and writes the graph.
+fn print_retests(
     rt: &HostRuntime,
     config: &Config,
     retests: &Retests,
-    path: &str,
+    graph: Option<&str>,
 ) -> Result<(), Failure> {
-    let graph = graph_of_retests(rt.alloc(), config, retests)?;
-    match fs::write(rt, path, graph) {
-        Ok(()) => Ok(()),
-        Err(_) => Err(Failure::Picture(PictureFault::Graph)),
+    if !graph.is_some_and(is_standard) {
+        let text = text_of_retests(rt.alloc(), config, retests)?;
+        print(rt, text.as_str())?;
     }
+    let Some(path) = graph else {
+        return Ok(());
+    };
+    let graph = graph_of_retests(rt.alloc(), config, retests)?;
+    write_to(
+        rt,
+        path,
+        graph.as_str(),
+        Failure::Picture(PictureFault::Graph),
+    )
 }
 
-/// Prints the trial of the script on standard input for this tenant.
+/// Prints the trial of the script on standard input for a tenant.
 ///
 /// # Errors
-/// As the script.
-pub fn print_trial(rt: &HostRuntime, config: &Config, tenant: TenantId) -> Result<(), Failure> {
-    let text = text_of_trial(rt.alloc(), &mut rt.reader(), config, tenant)?;
-    print(rt, text.as_str())?;
-    Ok(())
+/// Faults of arguments and of the configuration; as the script. `Short` where the script was cut off, or no line was a tenant's.
+pub fn run_trial(rt: &HostRuntime, request: &TrialRequest<'_>) -> Result<(), Failure> {
+    let config = read_configuration(rt, request.config)?;
+    let words = trial_arguments(rt.alloc())?;
+    let tenant = place_of(rt.alloc(), words, &config, request.tenant)?;
+    let form = if request.is_summary {
+        TrialForm::Summary
+    } else {
+        TrialForm::Listing
+    };
+    let trial = text_of_trial(rt.alloc(), &mut rt.reader(), &config, tenant, form)?;
+    print(rt, trial.text.as_str())?;
+    verdict(trial.course)
 }
 
-// Writes a text to standard output.
-fn print(rt: &HostRuntime, text: &str) -> Result<(), ScriptFault> {
-    let mut writer = io::writer(rt);
-    let Ok(()) = writer.write_all(text.as_bytes()) else {
-        return Err(ScriptFault::Write);
-    };
-    match writer.flush() {
-        Ok(()) => Ok(()),
-        Err(_) => Err(ScriptFault::Write),
+// Whether what was told of a script says all that it seems to.
+fn verdict(course: Course) -> Result<(), Failure>
+    ensures { IsOk result ↔ ((course.bad_line ≡ None) × (course.has_tenant ≡ true)) }
+{
+    match course.shortfall() {
+        Some(shortfall) => Err(Failure::Short(shortfall)),
+        None => Ok(()),
     }
 }

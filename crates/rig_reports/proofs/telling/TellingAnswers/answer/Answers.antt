@@ -14,6 +14,6 @@ returns g c = λ setting past w.
     let stops = c.in_ok-overruns.ensures.each past setting later done.1 (c.in_ok-before.ensures.before setting past w.0) in (
       done.0,
       one_more setting past c.args.self.now.host c.tell.new.self.host c.args.self.now.answered c.tell.new.self.answered
-      (g.L.Listener.heard c.args.self.now.listener) (g.L.Listener.heard c.tell.new.self.listener) c.args.line.now c.as_str.result.now c.as_slice.result.now w
-      (c.as_str.ensures.value ∙ done.0) (c.as_slice.ensures.value ∙ stops) c.tell.ensures.answered c.in_ok-tell.ensures.heard stands,
+          (g.L.Listener.heard c.args.self.now.listener) (g.L.Listener.heard c.tell.new.self.listener) c.args.line.now c.as_str.result.now c.as_slice.result.now w
+          (c.as_str.ensures.value ∙ done.0) (c.as_slice.ensures.value ∙ stops) c.tell.ensures.answered c.in_ok-tell.ensures.heard stands,
     )

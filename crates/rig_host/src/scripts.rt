@@ -1,0 +1,204 @@
+//! The scripts on standard input, and those of runs: what is asked for, and what is told of them.
+
+ghost use Rattle.std.specs.Prelude.{◌≡◌, ◌↔◌, [], IsOk, IsErr};
+
+use crate::Failure;
+use crate::command_line::script_arguments;
+use crate::configuration::read_configuration;
+use crate::outputs::{check_output, is_standard, print, write_to};
+use crate::pictures::write_dump;
+use clap::ArgMatches;
+use rig_config::Config;
+use rig_reports::{answered_run, strict_script};
+use rig_script::faults::ScriptFault;
+use rig_script::script;
+use script_reports::differences::text_of_differences;
+use script_reports::runs::{RunFault, RunLine, configuration_of, read_run};
+use script_reports::suites::text_of_suite;
+use script_reports::told::Report;
+use std::io::BufWriter;
+use std::{fmt, fs, io};
+
+/// Which script is answered, and how.
+#[derive(Clone, Copy)]
+pub struct ScriptRequest<'a> {
+    /// The path of the configuration; `None` for the built-in one, or that which a run names.
+    pub config: Option<&'a str>,
+    pub way: Way<'a>,
+}
+
+/// How a script is answered.
+#[derive(Clone, Copy)]
+pub enum Way<'a> {
+    /// With nothing beside it.
+    Plain,
+    /// With a report of what went wrong in it.
+    Strict,
+    /// With a value change dump in the file of this path.
+    Dump(&'a str),
+    /// The lines of a run, whose replies are compared.
+    Expect(ExpectRequest<'a>),
+}
+
+/// Which run is compared.
+#[derive(Clone, Copy)]
+pub struct ExpectRequest<'a> {
+    /// The path of the run.
+    pub run: &'a str,
+    /// The path of the suite, where one is wanted.
+    pub suite: Option<&'a str>,
+}
+
+/// What is wrong with the files of a run. Its `Display` is the line of standard error.
+#[derive(Clone, Copy, Debug, PartialEq, Eq)]
+pub enum RunFileFault {
+    /// The run isn't there, can't be read, or isn't UTF-8.
+    Unreadable,
+    /// The line of this number is a reply, and no line of the script stands right above it.
+    NoLine(usize),
+    /// The suite can't be written.
+    Suite,
+}
+
+impl fmt::Display for RunFileFault {
+    fn fmt<W: fmt::Write>(&self, f: &mut fmt::Formatter<W>) -> fmt::Result {
+        match self {
+            RunFileFault::Unreadable => write!(f, "expect: unreadable"),
+            RunFileFault::NoLine(number) => write!(
+                f,
+                "expect: line {number}: a reply stands below no line of the script"
+            ),
+            RunFileFault::Suite => write!(f, "junit: unwritable"),
+        }
+    }
+}
+
+/// What `script` is asked for.
+pub fn script_of<'a>(matches: &ArgMatches<'a>) -> ScriptRequest<'a> {
+    match matches.subcommand_matches("script") {
+        Some(words) => ScriptRequest {
+            config: words.get_str("config"),
+            way: way_of(words),
+        },
+        None => ScriptRequest {
+            config: None,
+            way: Way::Plain,
+        },
+    }
+}
+
+// How a script is answered, by the words of `script`.
+fn way_of<'a>(words: &ArgMatches<'a>) -> Way<'a> {
+    if let Some(run) = words.get_str("expect") {
+        return Way::Expect(ExpectRequest {
+            run,
+            suite: words.get_str("junit"),
+        });
+    }
+    if let Some(path) = words.get_str("vcd") {
+        return Way::Dump(path);
+    }
+    if words.get_flag("strict") {
+        Way::Strict
+    } else {
+        Way::Plain
+    }
+}
+
+/// Answers a script as it is asked for.
+///
+/// # Errors
+/// Faults of arguments, where a file would be overwritten that is read; those of the configuration and of the script; `Told` and `Faulty`
+/// where something went wrong in the script.
+pub fn run_script(rt: &HostRuntime, request: &ScriptRequest<'_>) -> Result<(), Failure> {
+    refuse_overwriting(rt, request)?;
+    match request.way {
+        Way::Plain => Ok(run_plain(rt, &read_configuration(rt, request.config)?)?),
+        Way::Strict => run_strict(rt, &read_configuration(rt, request.config)?),
+        Way::Dump(path) => write_dump(rt, &read_configuration(rt, request.config)?, path),
+        Way::Expect(expected) => run_expected(rt, request.config, &expected),
+    }
+}
+
+// Looks that no file is written that is read.
+fn refuse_overwriting(rt: &HostRuntime, request: &ScriptRequest<'_>) -> Result<(), Failure> {
+    let (run, output) = match request.way {
+        Way::Plain | Way::Strict => return Ok(()),
+        Way::Dump(path) => (None, Some(path)),
+        Way::Expect(expected) => (Some(expected.run), expected.suite),
+    };
+    let words = script_arguments(rt.alloc())?;
+    check_output(rt, words, &[request.config, run], output)
+}
+
+// Answers the script on standard input.
+fn run_plain(rt: &HostRuntime, config: &Config) -> Result<(), ScriptFault> {
+    let Ok(mut writer) = BufWriter::new(rt.alloc(), io::writer(rt)) else {
+        return Err(ScriptFault::Memory);
+    };
+    script(rt.alloc(), &mut rt.reader(), &mut writer, config)
+}
+
+// Answers the script on standard input, and tells what went wrong in it.
+fn run_strict(rt: &HostRuntime, config: &Config) -> Result<(), Failure> {
+    let Ok(mut writer) = BufWriter::new(rt.alloc(), io::writer(rt)) else {
+        return Err(Failure::Fault(ScriptFault::Memory));
+    };
+    let report = strict_script(rt.alloc(), &mut rt.reader(), &mut writer, config)?;
+    verdict(report)
+}
+
+// What is told where a report has a line.
+fn verdict(report: Report) -> Result<(), Failure>
+    ensures { IsOk result ↔ report ≡ [] }
+{
+    if report.as_str().is_empty() {
+        Ok(())
+    } else {
+        Err(Failure::Told(report))
+    }
+}
+
+// Answers the lines of a run, and prints what differs.
+fn run_expected(
+    rt: &HostRuntime,
+    config: Option<&str>,
+    expected: &ExpectRequest<'_>,
+) -> Result<(), Failure> {
+    let Ok(text) = fs::read_to_string(rt, expected.run) else {
+        return Err(Failure::Run(RunFileFault::Unreadable));
+    };
+    let lines = match read_run(rt.alloc(), text.as_str()) {
+        Ok(lines) => lines,
+        Err(RunFault::NoLine(number)) => return Err(Failure::Run(RunFileFault::NoLine(number))),
+        Err(RunFault::Memory) => return Err(Failure::Fault(ScriptFault::Memory)),
+    };
+    let config = config.or(configuration_of(text.as_str()));
+    check_output(rt, script_arguments(rt.alloc())?, &[config], expected.suite)?;
+    let config = read_configuration(rt, config)?;
+    compare(rt, &config, expected, lines.as_slice())
+}
+
+// Prints what differs in the replies to these lines, and writes the suite.
+fn compare(
+    rt: &HostRuntime,
+    config: &Config,
+    expected: &ExpectRequest<'_>,
+    lines: &[RunLine],
+) -> Result<(), Failure> {
+    let replies = answered_run(rt.alloc(), config, lines)?;
+    let replies = replies.as_slice();
+    let differences = text_of_differences(rt.alloc(), expected.run, lines, replies)?;
+    if !expected.suite.is_some_and(is_standard) {
+        print(rt, differences.as_str())?;
+    }
+    if let Some(path) = expected.suite {
+        let suite = text_of_suite(rt.alloc(), expected.run, lines, replies)?;
+        write_to(rt, path, suite.as_str(), Failure::Run(RunFileFault::Suite))?;
+    }
+    if differences.is_empty() {
+        Ok(())
+    } else {
+        Err(Failure::Faulty)
+    }
+}

@@ -1,0 +1,37 @@
+//! The tenant that the arguments name.
+
+use crate::Failure;
+use clap::Command;
+use clap::error::ErrorKind;
+use rig_config::{Config, TenantId};
+use std::alloc::{AllocError, Global};
+
+/// The place of the tenant of this name. The words are those of the subcommand.
+///
+/// # Errors
+/// `Arguments` where the configuration has no such tenant; want of memory.
+pub fn place_of(
+    alloc: Global,
+    mut words: Command<'_>,
+    config: &Config,
+    name: &str,
+) -> Result<TenantId, Failure> {
+    match config.place_of(name) {
+        Some(tenant) => Ok(tenant),
+        None => {
+            let text = text_of_none(alloc, config, name)?;
+            Err(Failure::Arguments(words.error(ErrorKind::ValueValidation, text.as_str())?))
+        }
+    }
+}
+
+// That the configuration has no tenant of this name, and which it has.
+fn text_of_none(alloc: Global, config: &Config, name: &str) -> Result<String, AllocError> {
+    let mut text = format!(in alloc; "the configuration has no tenant `{name}`; it has")?;
+    for (place, tenant) in config.tenants().iter().enumerate() {
+        let comma = if place == 0 { "" } else { "," };
+        let name = tenant.name.as_str();
+        write!(text, "{comma} {name}")?;
+    }
+    Ok(text)
+}
