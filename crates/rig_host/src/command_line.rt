@@ -85,7 +85,8 @@ pub fn script_arguments<'a>(alloc: Global) -> Result<Command<'a>, AllocError> {
         .long("expect")
         .value_name("FILE")
         .action(ArgAction::Set)
-        .conflicts_with_all(&["strict", "vcd"])?
+        .conflicts_with("strict")?
+        .conflicts_with("vcd")?
         .help(
             "Answers the lines of FILE in place of standard input, and prints what differs from the replies that stand below them, with status 4",
         );

@@ -1,6 +1,6 @@
 //! Whose tests have to be run again: the table of a script, its graph, and the trial of one tenant.
 
-ghost use Rattle.std.specs.Prelude.{◌≡◌, ◌×◌, ◌↔◌, true, IsOk, None};
+ghost use Rattle.std.specs.Prelude.{◌≡◌, ◌↔◌, true, IsOk, None};
 
 use crate::Failure;
 use crate::command_line::{retest_arguments, trial_arguments};

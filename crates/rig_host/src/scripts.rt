@@ -111,20 +111,17 @@ fn way_of<'a>(words: &ArgMatches<'a>) -> Way<'a> {
 /// Faults of arguments, where a file would be overwritten that is read; those of the configuration and of the script; `Told` and `Faulty`
 /// where something went wrong in the script.
 pub fn run_script(rt: &HostRuntime, request: &ScriptRequest<'_>) -> Result<(), Failure> {
-    check_files(rt, request)?;
-    if let Way::Expect(expected) = &request.way {
-        return run_expected(rt, request.config, expected);
-    }
-    let config = read_configuration(rt, request.config)?;
+    refuse_overwriting(rt, request)?;
     match request.way {
-        Way::Dump(path) => write_dump(rt, &config, path),
-        Way::Strict => run_strict(rt, &config),
-        _ => Ok(run_plain(rt, &config)?),
+        Way::Plain => Ok(run_plain(rt, &read_configuration(rt, request.config)?)?),
+        Way::Strict => run_strict(rt, &read_configuration(rt, request.config)?),
+        Way::Dump(path) => write_dump(rt, &read_configuration(rt, request.config)?, path),
+        Way::Expect(expected) => run_expected(rt, request.config, &expected),
     }
 }
 
 // Looks that no file is written that is read.
-fn check_files(rt: &HostRuntime, request: &ScriptRequest<'_>) -> Result<(), Failure> {
+fn refuse_overwriting(rt: &HostRuntime, request: &ScriptRequest<'_>) -> Result<(), Failure> {
     let (run, output) = match request.way {
         Way::Plain | Way::Strict => return Ok(()),
         Way::Dump(path) => (None, Some(path)),
@@ -177,6 +174,7 @@ fn run_expected(
         Err(RunFault::Memory) => return Err(Failure::Fault(ScriptFault::Memory)),
     };
     let config = config.or(configuration_of(text.as_str()));
+    check_output(rt, script_arguments(rt.alloc())?, &[config], expected.suite)?;
     let config = read_configuration(rt, config)?;
     compare(rt, &config, expected, lines.as_slice())
 }
