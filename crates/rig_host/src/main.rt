@@ -12,6 +12,7 @@ ghost use Rattle.rig_script.specs.declared.faults.ScriptFault.{ScriptFault as An
 ghost use Rattle.rig_server.specs.declared.faults.ServeFault.{ServeFault as AnyServeFault};
 ghost use Rattle.rig_script.specs.declared.faults.ScriptFault.TheVariants.{Memory};
 
+mod checks;
 mod client;
 mod command_line;
 mod configuration;
@@ -19,6 +20,7 @@ mod pictures;
 mod retests;
 mod server;
 
+use checks::{CheckRequest, check_files, check_of};
 use clap::ArgMatches;
 use clap::error::ErrorKind;
 use client::{ConnectRequest, run_client};
@@ -56,6 +58,8 @@ fn main(rt: HostRuntime) -> ExitCode {
 enum Request<'a> {
     /// A text for standard output, as of `--help`.
     Text(clap::Error),
+    /// What is wrong with files.
+    Check(CheckRequest<'a>),
     /// The script on standard input.
     Script {
         /// The path of the configuration; `None` for the built-in one.
@@ -113,6 +117,10 @@ enum Failure {
     Client(ClientFault),
     /// A file of a picture.
     Picture(PictureFault),
+    /// Something is wrong with a file, as was told.
+    Faulty,
+    /// A file can't be read, as was told.
+    Unread,
 }
 
 impl Failure {
@@ -123,13 +131,19 @@ impl Failure {
         ensures fault { (fault : AnyFault) → self.now ≡ Failure.Fault fault → exit_status result ≡ 3 }
         ensures server { (fault : AnyServeFault) → self.now ≡ Failure.Server fault → exit_status result ≡ 3 }
         ensures client { (fault : AnyClientFault) → self.now ≡ Failure.Client fault → exit_status result ≡ 3 }
+        ensures faulty { self.now ≡ Failure.Faulty → exit_status result ≡ 4 }
+        ensures unread { self.now ≡ Failure.Unread → exit_status result ≡ 3 }
         ensures picture { (fault : AnyPictureFault) → self.now ≡ Failure.Picture fault → exit_status result ≡ 3 }
     {
         match self {
             Failure::Arguments(_) => ExitCode::from(2),
             Failure::Configuration(_) => ExitCode::from(1),
-            Failure::Fault(_) | Failure::Server(_) | Failure::Client(_) | Failure::Picture(_) =>
-                ExitCode::from(3),
+            Failure::Faulty => ExitCode::from(4),
+            Failure::Fault(_)
+            | Failure::Server(_)
+            | Failure::Client(_)
+            | Failure::Picture(_)
+            | Failure::Unread => ExitCode::from(3),
         }
     }
 }
@@ -143,6 +157,7 @@ impl fmt::Display for Failure {
             Failure::Server(fault) => writeln!(f, "{}", fault.as_str()),
             Failure::Client(fault) => writeln!(f, "{}", fault.as_str()),
             Failure::Picture(fault) => writeln!(f, "{}", fault.as_str()),
+            Failure::Faulty | Failure::Unread => Ok(()),
         }
     }
 }
@@ -203,6 +218,7 @@ fn run<T: Threads + Wait + Clock + Sync>(rt: &HostRuntime, threads: &T) -> Resul
             Ok(()) => Ok(()),
             Err(_) => Err(Failure::Fault(ScriptFault::Write)),
         },
+        Request::Check(request) => check_files(rt, &request),
         Request::Script { config, dump } => {
             let config = read_configuration(rt, config)?;
             match dump {
@@ -272,7 +288,10 @@ fn read_words(rt: &HostRuntime) -> Result<Vec<String>, Failure> {
 // What the words ask for.
 fn read_arguments<'a>(alloc: Global, words: &'a [String]) -> Result<Request<'a>, Failure> {
     match arguments(alloc)?.try_get_matches_from(words) {
-        Ok(matches) => Ok(request_of(&matches)),
+        Ok(matches) => match check_of(alloc, &matches)? {
+            Some(request) => Ok(Request::Check(request)),
+            None => Ok(request_of(&matches)),
+        },
         Err(error) => without_matches(error),
     }
 }
