@@ -93,7 +93,8 @@ pub fn check_arguments<'a>(alloc: Global) -> Result<Command<'a>, AllocError> {
         .long("load")
         .value_name("NAME")
         .action(ArgAction::Set)
-        .conflicts_with_all(&["print", "pretty"])?
+        .conflicts_with("print")?
+        .conflicts_with("pretty")?
         .help("Writes the line of a script by which the tenant NAME loads the program");
     let print = Arg::new(alloc, "print")
         .long("print")
