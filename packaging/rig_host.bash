@@ -14,7 +14,7 @@ _rig_host() {
         case $before,$told in
             --*,*" $before <FILE>"*) words=FILES ;;
             --*,*" $before <"*) words= ;;
-            *"<SCRIPT>"*) [[ $word == -* ]] || words=FILES ;;
+            *"<SCRIPT>"*|*"] <FILE>..."*) [[ $word == -* ]] || words=FILES ;;
         esac
     fi
     if [ "$words" = FILES ]; then

@@ -6,6 +6,15 @@ use std::alloc::{AllocError, Global};
 // The version of the program, and the logic in which it is proved, as `rt version` tells it behind the name of the kit.
 const VERSION: &str = "0.1.0 (logic dac8208d650f15bf)";
 
+// What stands below the help of `check`.
+const CHECK_EXAMPLES: &str = "\
+A file whose name ends with .toml is a configuration, one with .script a script, and each other one a program, over lines and with // comments.
+
+Example: rig_host check examples/first/adder.giotto
+         rig_host check --config rig.toml --tenant pump pump.giotto
+         (rig_host check --load alpha examples/first/adder.giotto; cat rest.script) | rig_host script
+What is wrong is told as compilers do, `FILE:LINE:COLUMN: error: ..`, and the status is 4.";
+
 // What stands below the help of `script`.
 const SCRIPT_EXAMPLES: &str = "\
 Example: echo 'op tick 5' | rig_host script
@@ -61,12 +70,58 @@ pub fn arguments<'a>(alloc: Global) -> Result<Command<'a>, AllocError> {
         .after_help("Example: rig_host script < examples/first/first.script")
         .version(VERSION)
         .subcommand_required(true)
+        .subcommand(check_arguments(alloc)?)?
         .subcommand(script_arguments(alloc)?)?
         .subcommand(serve_arguments(alloc)?)?
         .subcommand(connect_arguments(alloc)?)?
         .subcommand(timeline_arguments(alloc)?)?
         .subcommand(retest_arguments(alloc)?)?
         .subcommand(trial_arguments(alloc)?)
+}
+
+/// The words of `check`.
+///
+/// # Errors
+/// Want of memory.
+pub fn check_arguments<'a>(alloc: Global) -> Result<Command<'a>, AllocError> {
+    let tenant = Arg::new(alloc, "tenant")
+        .long("tenant")
+        .value_name("NAME")
+        .action(ArgAction::Set)
+        .help("Holds programs against the budgets of the tenant NAME");
+    let load = Arg::new(alloc, "load")
+        .long("load")
+        .value_name("NAME")
+        .action(ArgAction::Set)
+        .conflicts_with("print")?
+        .conflicts_with("pretty")?
+        .help("Writes the line of a script by which the tenant NAME loads the program");
+    let print = Arg::new(alloc, "print")
+        .long("print")
+        .action(ArgAction::SetTrue)
+        .conflicts_with("pretty")?
+        .help("Writes the program's canonical text, in one line");
+    let pretty = Arg::new(alloc, "pretty")
+        .long("pretty")
+        .action(ArgAction::SetTrue)
+        .help("Writes the program over many lines, indented");
+    let files = Arg::new(alloc, "files")
+        .value_name("FILE")
+        .required(true)
+        .num_args(1..)
+        .action(ArgAction::Append)
+        .help("Programs, configurations and scripts");
+    Command::new(alloc, "check")
+        .about(
+            "Tells what is wrong with files of programs, configurations and scripts, and where, or what they have",
+        )
+        .after_help(CHECK_EXAMPLES)
+        .arg(config_argument(alloc))?
+        .arg(tenant)?
+        .arg(load)?
+        .arg(print)?
+        .arg(pretty)?
+        .arg(files)
 }
 
 /// The words of `script`.

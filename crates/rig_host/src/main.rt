@@ -14,6 +14,7 @@ ghost use Rattle.rig_script.specs.declared.faults.ScriptFault.{ScriptFault as An
 ghost use Rattle.rig_server.specs.declared.faults.ServeFault.{ServeFault as AnyServeFault};
 ghost use Rattle.rig_script.specs.declared.faults.ScriptFault.TheVariants.{Memory};
 
+mod checks;
 mod client;
 mod command_line;
 mod configuration;
@@ -24,6 +25,7 @@ mod scripts;
 mod server;
 mod tenants;
 
+use checks::{CheckRequest, check_files, check_of};
 use clap::ArgMatches;
 use clap::error::ErrorKind;
 use client::{ConnectRequest, run_client};
@@ -61,6 +63,8 @@ fn main(rt: HostRuntime) -> ExitCode {
 enum Request<'a> {
     /// A text for standard output, as of `--help`.
     Text(clap::Error),
+    /// What is wrong with files.
+    Check(CheckRequest<'a>),
     /// A script, on standard input or of a run.
     Script(ScriptRequest<'a>),
     /// The server of a rig.
@@ -92,8 +96,10 @@ enum Failure {
     Picture(PictureFault),
     /// A file of a run.
     Run(RunFileFault),
-    /// Files that are at fault, as was told.
+    /// Something is wrong with files, as was told.
     Faulty,
+    /// A file can't be read, as was told.
+    Unread,
     /// What went wrong in a script.
     Told(Report),
     /// What is told of a script says less than it seems to.
@@ -108,6 +114,7 @@ impl Failure {
         ensures fault { (fault : AnyFault) → self.now ≡ Failure.Fault fault → exit_status result ≡ 3 }
         ensures server { (fault : AnyServeFault) → self.now ≡ Failure.Server fault → exit_status result ≡ 3 }
         ensures client { (fault : AnyClientFault) → self.now ≡ Failure.Client fault → exit_status result ≡ 3 }
+        ensures unread { self.now ≡ Failure.Unread → exit_status result ≡ 3 }
         ensures picture { (fault : AnyPictureFault) → self.now ≡ Failure.Picture fault → exit_status result ≡ 3 }
         ensures run { (fault : AnyRunFileFault) → self.now ≡ Failure.Run fault → exit_status result ≡ 3 }
         ensures faulty { self.now ≡ Failure.Faulty → exit_status result ≡ 4 }
@@ -117,13 +124,13 @@ impl Failure {
         match self {
             Failure::Arguments(_) => ExitCode::from(2),
             Failure::Configuration(_) => ExitCode::from(1),
-            Failure::Faulty => ExitCode::from(4),
-            Failure::Told(_) | Failure::Short(_) => ExitCode::from(4),
+            Failure::Faulty | Failure::Told(_) | Failure::Short(_) => ExitCode::from(4),
             Failure::Fault(_)
             | Failure::Server(_)
             | Failure::Client(_)
             | Failure::Picture(_)
-            | Failure::Run(_) => ExitCode::from(3),
+            | Failure::Run(_)
+            | Failure::Unread => ExitCode::from(3),
         }
     }
 }
@@ -137,7 +144,7 @@ impl fmt::Display for Failure {
             Failure::Server(fault) => writeln!(f, "{}", fault.as_str()),
             Failure::Client(fault) => writeln!(f, "{}", fault.as_str()),
             Failure::Picture(fault) => writeln!(f, "{}", fault.as_str()),
-            Failure::Faulty => Ok(()),
+            Failure::Faulty | Failure::Unread => Ok(()),
             Failure::Run(fault) => writeln!(f, "{fault}"),
             Failure::Told(report) => write!(f, "{}", report.as_str()),
             Failure::Short(shortfall) => writeln!(f, "{shortfall}"),
@@ -201,6 +208,7 @@ fn run<T: Threads + Wait + Clock + Sync>(rt: &HostRuntime, threads: &T) -> Resul
             Ok(()) => Ok(()),
             Err(_) => Err(Failure::Fault(ScriptFault::Write)),
         },
+        Request::Check(request) => check_files(rt, &request),
         Request::Script(request) => run_script(rt, &request),
         Request::Serve(request) => {
             let config = read_configuration(rt, request.config)?;
@@ -224,7 +232,10 @@ fn read_words(rt: &HostRuntime) -> Result<Vec<String>, Failure> {
 // What the words ask for.
 fn read_arguments<'a>(alloc: Global, words: &'a [String]) -> Result<Request<'a>, Failure> {
     match arguments(alloc)?.try_get_matches_from(words) {
-        Ok(matches) => Ok(request_of(&matches)),
+        Ok(matches) => match check_of(alloc, &matches)? {
+            Some(request) => Ok(Request::Check(request)),
+            None => Ok(request_of(&matches)),
+        },
         Err(error) => without_matches(error),
     }
 }

@@ -1,0 +1,230 @@
+//! What is wrong with files of programs, configurations and scripts.
+
+ghost use Rattle.std.specs.Prelude.{◌≡◌, true, false, IsOk, Err};
+
+use crate::Failure;
+use crate::command_line::check_arguments;
+use crate::configuration::read_configuration;
+use clap::ArgMatches;
+use clap::error::ErrorKind;
+use config_checks::check_configuration;
+use giotto_reports::{Report, Wish, report_on};
+use program_checks::programs::check_program;
+use rig_config::{Config, TenantConfig};
+use rig_script::faults::ScriptFault;
+use script_checks::scripts::check_script;
+use std::alloc::{AllocError, Global};
+use std::io::Write;
+use std::{fs, io};
+
+/// What is checked, and what is wanted of it.
+#[derive(Drop)]
+pub struct CheckRequest<'a> {
+    /// The path of the configuration; `None` for the built-in one.
+    pub config: Option<&'a str>,
+    /// The name of the tenant against whose budgets programs are held; `None` where they aren't.
+    pub tenant: Option<&'a str>,
+    pub wish: Wish<'a>,
+    /// The paths of the files.
+    pub files: Vec<&'a str>,
+}
+
+/// Which files are to be checked, if any.
+///
+/// # Errors
+/// Want of memory.
+pub fn check_of<'a>(
+    alloc: Global,
+    matches: &ArgMatches<'a>,
+) -> Result<Option<CheckRequest<'a>>, AllocError> {
+    let Some(words) = matches.subcommand_matches("check") else {
+        return Ok(None);
+    };
+    let wish = match words.get_str("load") {
+        Some(name) => Wish::Load(name),
+        None if words.get_flag("print") => Wish::Print,
+        None if words.get_flag("pretty") => Wish::Pretty,
+        None => Wish::Summary,
+    };
+    let files = words.get_strs("files").unwrap_or(&[]);
+    Ok(Some(CheckRequest {
+        config: words.get_str("config"),
+        tenant: words.get_str("tenant"),
+        wish,
+        files: Vec::from_slice(alloc, files)?,
+    }))
+}
+
+/// Checks the files, in their order. What is wrong stands on standard output, and so does what they have; where the text of programs is
+/// wanted, what is wrong stands on standard error, and nothing else is written unless all are good. What can't be read is told on standard
+/// error.
+///
+/// # Errors
+/// The arguments, where a name is no tenant's, or the text of what is no program is wanted; the faults of the configuration; `Unread` where a
+/// file can't be read or isn't UTF-8, and else `Faulty` where something is wrong with one.
+pub fn check_files(rt: &HostRuntime, request: &CheckRequest<'_>) -> Result<(), Failure> {
+    let config = read_configuration(rt, request.config)?;
+    let tenant = tenant_of(rt.alloc(), &config, request)?;
+    if request.wish != Wish::Summary
+        && !request
+            .files
+            .iter()
+            .all(|path| kind_of(path) == Kind::Program)
+    {
+        return Err(wrong(
+            rt.alloc(),
+            "'--load', '--print' and '--pretty' are for files of programs",
+        )?);
+    }
+    let mut texts = String::new(rt.alloc());
+    let (mut all_read, mut all_good) = (true, true);
+    for path in &request.files {
+        match check_file(rt, &config, tenant, path, request.wish)? {
+            Some(report) => {
+                all_good = all_good && report.is_good;
+                tell(rt, &mut texts, &report, request.wish)?;
+            }
+            None => all_read = false,
+        }
+    }
+    if all_read && all_good {
+        print(rt, texts.as_str())?;
+    }
+    outcome(all_read, all_good)
+}
+
+// How the check of files ends of which all were read, and all are good.
+fn outcome(all_read: bool, all_good: bool) -> Result<(), Failure>
+    ensures good { IsOk result → (all_read ≡ true) × (all_good ≡ true) }
+    ensures unread { result ≡ Err Failure.Unread → all_read ≡ false }
+    ensures faulty { result ≡ Err Failure.Faulty → (all_read ≡ true) × (all_good ≡ false) }
+{
+    if !all_read {
+        return Err(Failure::Unread);
+    }
+    if !all_good {
+        return Err(Failure::Faulty);
+    }
+    Ok(())
+}
+
+// Tells a report: what was wanted of a program is kept until all are known.
+fn tell(rt: &HostRuntime, texts: &mut String, report: &Report, wish: Wish) -> Result<(), Failure> {
+    let text = report.text.as_str();
+    if wish == Wish::Summary {
+        return Ok(print(rt, text)?);
+    }
+    if report.is_good {
+        texts.push_str(text)?;
+    } else {
+        // where standard error is closed, the status alone tells
+        let _ = eprint!(rt; "{text}");
+    }
+    Ok(())
+}
+
+// What a file is, by its name.
+#[derive(Clone, Copy, Debug, PartialEq, Eq)]
+enum Kind {
+    Program,
+    Configuration,
+    Script,
+}
+
+fn kind_of(path: &str) -> Kind {
+    if path.ends_with(".toml") {
+        Kind::Configuration
+    } else if path.ends_with(".script") {
+        Kind::Script
+    } else {
+        Kind::Program
+    }
+}
+
+// What is told of a file; nothing where it can't be read, which was told then.
+fn check_file(
+    rt: &HostRuntime,
+    config: &Config,
+    tenant: Option<&TenantConfig>,
+    path: &str,
+    wish: Wish,
+) -> Result<Option<Report>, Failure> {
+    let alloc = rt.alloc();
+    if kind_of(path) == Kind::Script {
+        let bytes = match fs::read(rt, path) {
+            Ok(bytes) => bytes,
+            Err(error) => return unread(rt, path, &error),
+        };
+        return Ok(Some(check_script(alloc, path, bytes.as_slice(), config)?));
+    }
+    let text = match fs::read_to_string(rt, path) {
+        Ok(text) => text,
+        Err(error) => return unread(rt, path, &error),
+    };
+    if kind_of(path) == Kind::Configuration {
+        return Ok(Some(check_configuration(alloc, path, text.as_str())?));
+    }
+    Ok(Some(match tenant {
+        Some(tenant) => check_program(alloc, path, text.as_str(), wish, tenant)?,
+        None => report_on(alloc, path, text.as_str(), wish)?,
+    }))
+}
+
+// Tells that a file can't be read.
+fn unread(rt: &HostRuntime, path: &str, error: &io::Error) -> Result<Option<Report>, Failure> {
+    let why = match error.kind() {
+        io::ErrorKind::OutOfMemory => return Err(Failure::Fault(ScriptFault::Memory)),
+        io::ErrorKind::InvalidData => "isn't UTF-8",
+        _ => "can't be read",
+    };
+    // where standard error is closed, the status alone tells
+    let _ = eprintln!(rt; "{path}: {why}");
+    Ok(None)
+}
+
+// The tenant against whose budgets programs are held: the one that is named, or the one that is to load them.
+fn tenant_of<'a>(
+    alloc: Global,
+    config: &'a Config,
+    request: &CheckRequest<'_>,
+) -> Result<Option<&'a TenantConfig>, Failure> {
+    let name = match (request.wish, request.tenant) {
+        (Wish::Load(loader), Some(name)) => {
+            if loader != name {
+                return Err(wrong(alloc, "'--load' and '--tenant' name two tenants")?);
+            }
+            name
+        }
+        (Wish::Load(loader), None) => loader,
+        (_, Some(name)) => name,
+        (_, None) => return Ok(None),
+    };
+    let found = config
+        .tenants()
+        .iter()
+        .find(|tenant| tenant.name.as_str() == name);
+    match found {
+        Some(tenant) => Ok(Some(tenant)),
+        None => {
+            let text = format!(in alloc; "the configuration has no tenant of the name '{name}'")?;
+            Err(wrong(alloc, text.as_str())?)
+        }
+    }
+}
+
+// Arguments that are wrong in this way.
+fn wrong(alloc: Global, text: &str) -> Result<Failure, Failure> {
+    Ok(Failure::Arguments(check_arguments(alloc)?.error(ErrorKind::ValueValidation, text)?))
+}
+
+// Writes a text to standard output.
+fn print(rt: &HostRuntime, text: &str) -> Result<(), ScriptFault> {
+    let mut writer = io::writer(rt);
+    let Ok(()) = writer.write_all(text.as_bytes()) else {
+        return Err(ScriptFault::Write);
+    };
+    match writer.flush() {
+        Ok(()) => Ok(()),
+        Err(_) => Err(ScriptFault::Write),
+    }
+}
