@@ -6,7 +6,6 @@ ghost use Rattle.rig_host.specs.declared.configuration.ConfigurationFault.TheVar
 
 use rig_config::faults::ConfigFault;
 use rig_config::{Config, built_in, read_config};
-use std::alloc::Global;
 use std::{fmt, fs, io};
 
 /// Why there is no configuration. Its `Display` is the line of standard error.
@@ -56,49 +55,14 @@ impl From<io::Error> for ConfigurationFault {
     }
 }
 
-/// Why there is no configuration, and the file that should give one. Its `Display` has a line for each.
-#[derive(Drop)]
-pub struct FileFault {
-    pub why: ConfigurationFault,
-    /// The file's path as given; `None` for the built-in configuration.
-    pub file: Option<String>,
-}
-
-impl fmt::Display for FileFault {
-    fn fmt<W: fmt::Write>(&self, f: &mut fmt::Formatter<W>) -> fmt::Result {
-        match &self.file {
-            Some(file) => write!(f, "{}\nfile: {file}", self.why),
-            None => write!(f, "{}", self.why),
-        }
-    }
-}
-
 /// The configuration in the file of this path, or the built-in one where there is no path.
 ///
 /// # Errors
-/// Each fault of the file or of its text, and want of memory, with the path.
-pub fn read_configuration(rt: &HostRuntime, path: Option<&str>) -> Result<Config, FileFault>
-    ensures built_in { path.entry ≡ None → IfOk result (λ config. config ≡ built_in_config) }
-{
-    match configuration_at(rt, path) {
-        Ok(config) => Ok(config),
-        Err(why) => Err(FileFault {
-            why,
-            file: copy_of(rt.alloc(), path),
-        }),
-    }
-}
-
-// A copy of a path, where there is one and memory for it.
-fn copy_of(alloc: Global, path: Option<&str>) -> Option<String> {
-    match path {
-        Some(path) => String::from_str(alloc, path).ok(),
-        None => None,
-    }
-}
-
-// The configuration in the file of this path, or the built-in one where there is no path.
-fn configuration_at(rt: &HostRuntime, path: Option<&str>) -> Result<Config, ConfigurationFault>
+/// Each fault of the file or of its text, and want of memory.
+pub fn read_configuration(
+    rt: &HostRuntime,
+    path: Option<&str>,
+) -> Result<Config, ConfigurationFault>
     ensures built_in { path.entry ≡ None → IfOk result (λ config. config ≡ built_in_config) }
 {
     let Some(path) = path else {

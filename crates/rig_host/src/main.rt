@@ -5,7 +5,7 @@ ghost use Rattle.std.specs.Prelude.{◌≡◌, ℕ, List};
 ghost use Rattle.std.specs.Process.{exit_status};
 ghost use Rattle.clap.specs.declared.error.Error.{Error as ArgumentError};
 ghost use Rattle.rig_host.specs.declared.Failure.TheVariants.{Client, Configuration, Fault, Picture, Server};
-ghost use Rattle.rig_host.specs.declared.configuration.FileFault.{FileFault as AnyFileFault};
+ghost use Rattle.rig_host.specs.declared.configuration.ConfigurationFault.{ConfigurationFault as AnyConfigurationFault};
 ghost use Rattle.rig_host.specs.declared.pictures.PictureFault.{PictureFault as AnyPictureFault};
 ghost use Rattle.rig_host.specs.declared.scripts.RunFileFault.{RunFileFault as AnyRunFileFault};
 ghost use Rattle.rig_retests.specs.declared.courses.Shortfall.{Shortfall as AnyShortfall};
@@ -30,7 +30,7 @@ use clap::ArgMatches;
 use clap::error::ErrorKind;
 use client::{ConnectRequest, run_client};
 use command_line::arguments;
-use configuration::{FileFault, read_configuration};
+use configuration::{ConfigurationFault, read_configuration};
 use pictures::{PictureFault, TimelineRequest, run_timeline};
 use retests::{RetestRequest, TrialRequest, run_retest, run_trial};
 use rig_client::faults::ClientFault;
@@ -85,7 +85,7 @@ enum Failure {
     /// The arguments are wrong, in the way that the text says.
     Arguments(clap::Error),
     /// There is no configuration.
-    Configuration(FileFault),
+    Configuration(ConfigurationFault),
     /// Reading, writing or want of memory, of the script or before it.
     Fault(ScriptFault),
     /// What ended the server otherwise than by a halt.
@@ -110,7 +110,7 @@ impl Failure {
     // The status of the program that ends so.
     fn status(&self) -> ExitCode
         ensures arguments { (error : ArgumentError) → self.now ≡ Failure.Arguments error → exit_status result ≡ 2 }
-        ensures configuration { (fault : AnyFileFault) → self.now ≡ Failure.Configuration fault → exit_status result ≡ 1 }
+        ensures configuration { (fault : AnyConfigurationFault) → self.now ≡ Failure.Configuration fault → exit_status result ≡ 1 }
         ensures fault { (fault : AnyFault) → self.now ≡ Failure.Fault fault → exit_status result ≡ 3 }
         ensures server { (fault : AnyServeFault) → self.now ≡ Failure.Server fault → exit_status result ≡ 3 }
         ensures client { (fault : AnyClientFault) → self.now ≡ Failure.Client fault → exit_status result ≡ 3 }
@@ -152,10 +152,10 @@ impl fmt::Display for Failure {
     }
 }
 
-impl From<FileFault> for Failure {
+impl From<ConfigurationFault> for Failure {
     ghost from_gives = { λ fault failure. failure ≡ Configuration fault };
 
-    fn from(fault: FileFault) -> Failure {
+    fn from(fault: ConfigurationFault) -> Failure {
         Failure::Configuration(fault)
     }
 }
