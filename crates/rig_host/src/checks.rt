@@ -5,6 +5,7 @@ ghost use Rattle.std.specs.Prelude.{◌≡◌, true, false, IsOk, Err};
 use crate::Failure;
 use crate::command_line::check_arguments;
 use crate::configuration::read_configuration;
+use crate::outputs::print;
 use clap::ArgMatches;
 use clap::error::ErrorKind;
 use config_checks::check_configuration;
@@ -14,7 +15,6 @@ use rig_config::{Config, TenantConfig};
 use rig_script::faults::ScriptFault;
 use script_checks::scripts::check_script;
 use std::alloc::{AllocError, Global};
-use std::io::Write;
 use std::{fs, io};
 
 /// What is checked, and what is wanted of it.
@@ -215,16 +215,4 @@ fn tenant_of<'a>(
 // Arguments that are wrong in this way.
 fn wrong(alloc: Global, text: &str) -> Result<Failure, Failure> {
     Ok(Failure::Arguments(check_arguments(alloc)?.error(ErrorKind::ValueValidation, text)?))
-}
-
-// Writes a text to standard output.
-fn print(rt: &HostRuntime, text: &str) -> Result<(), ScriptFault> {
-    let mut writer = io::writer(rt);
-    let Ok(()) = writer.write_all(text.as_bytes()) else {
-        return Err(ScriptFault::Write);
-    };
-    match writer.flush() {
-        Ok(()) => Ok(()),
-        Err(_) => Err(ScriptFault::Write),
-    }
 }
