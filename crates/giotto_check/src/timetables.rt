@@ -79,6 +79,7 @@ pub(crate) struct Timetable {
 }
 
 /// The value of an expression where these are the values of all ports by their slots. Takes no memory.
+#[inline(always)]
 pub fn slot_value(e: &SlotExpr, values: &[i64]) -> i64
     ensures { result ≡ value_over e.now values.now }
 {

@@ -64,7 +64,7 @@ impl BinaryOperator {
     /// they don't fit. `x / y` is rounded towards zero, and `x % y` is what it leaves, with the sign
     /// of x; both are 0 where y is 0, and `i64::MIN / -1` is `i64::MAX`. Comparisons, `&&` and `||`
     /// are 1 for true and 0 for false, and any value but 0 counts as true.
-    #[inline]
+    #[inline(always)]
     pub fn apply(self, x: i64, y: i64) -> i64
         ensures { result ≡ binary self x y }
     {
@@ -107,7 +107,10 @@ fn saturating_difference(x: i64, y: i64) -> i64
 fn saturating_product(x: i64, y: i64) -> i64
     ensures { result ≡ saturated (x *ℤ y) }
 {
-    saturate(i128::from(x) * i128::from(y))
+    match x.checked_mul(y) {
+        Some(product) => product,
+        None => saturate(i128::from(x) * i128::from(y)),
+    }
 }
 
 #[inline]

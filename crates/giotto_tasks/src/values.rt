@@ -58,8 +58,10 @@ impl Values {
         ensures { self.new ≡ values.now }
     {
         let len = values.len();
-        if len != 0 {
-            self.items[..len].copy_from_slice(values);
+        match values {
+            [] => {}
+            [value] => self.items[0] = *value,
+            _ => self.items[..len].copy_from_slice(values),
         }
         self.len = len;
     }
@@ -91,9 +93,10 @@ impl Values {
     pub fn copy(&self) -> Values
         ensures { result ≡ self.now }
     {
-        let mut copy = Values::new();
-        copy.set(self.as_slice());
-        copy
+        Values {
+            items: self.items,
+            len: self.len,
+        }
     }
 
     /// Whether the values are the same, in the same order.
