@@ -22,7 +22,7 @@ pub fn tokens(alloc: Global, text: &[u8]) -> Result<Vec<PlacedToken>, ReadFault>
     ensures ok { IfOk result (λ ts. tokens_of text.now ≡ Ok ts.items) }
     ensures fault { IfErr result (IsLexicalFault text.now) }
 {
-    let mut found = Vec::new(alloc);
+    let mut found = list_for(alloc, text);
     let mut start = 0;
     while start < text.len() {
         if is_blank(text[start]) {
@@ -42,6 +42,25 @@ pub fn tokens(alloc: Global, text: &[u8]) -> Result<Vec<PlacedToken>, ReadFault>
         }
     }
     Ok(found)
+}
+
+// An empty list for the tokens of a text: with room for half as many as it has bytes behind its first blanks, or with
+// none where memory has no such room.
+fn list_for(alloc: Global, text: &[u8]) -> Vec<PlacedToken>
+    ensures { result.items ≡ [] }
+{
+    let bytes = text.len() - blanks_len(text);
+    match Vec::with_capacity(alloc, bytes / 2) {
+        Ok(found) => found,
+        Err(_) => Vec::new(alloc),
+    }
+}
+
+// How many blanks the text begins with.
+fn blanks_len(text: &[u8]) -> usize
+    ensures { result ≡ prefix_len is_blank_of_text text.now }
+{
+    text.iter().take_while(|c| is_blank(**c)).count()
 }
 
 // The token that begins the text, and its length.
@@ -74,11 +93,11 @@ fn word(run: &[u8]) -> Option<(Token, usize)>
     Some((Token::Name(name), run.len()))
 }
 
-// The keyword that is written so: only those with its first letter are compared.
+// The keyword that is written so: only those with its first letter are compared. None has one letter.
 fn keyword_of(run: &[u8]) -> Option<Keyword>
     ensures { result ≡ keyword_of run.now }
 {
-    let [first, ..] = run else {
+    let [first, _, ..] = run else {
         return None;
     };
     match first {
@@ -180,10 +199,7 @@ fn as_text(run: &[u8]) -> &str
     requires { AllPass is_name_byte run.now }
     ensures { result.now ≡ run.now }
 {
-    let Ok(text) = std::str::from_utf8(run) else {
-        unreachable!()
-    };
-    text
+    unsafe { std::str::from_utf8_unchecked(run) }
 }
 
 // How many name bytes the text begins with.
