@@ -98,6 +98,15 @@ impl Index {
         if self.names.len() <= FEW {
             return position_in(&self.names, name);
         }
+        self.place_by_map(name)
+    }
+
+    // The place where there are more than a few names.
+    #[inline(never)]
+    fn place_by_map(&self, name: &Name) -> Option<usize>
+        requires { 16 < length self.now }
+        ensures { result ≡ place_from 0 self.now name.now }
+    {
         self.places.get(name).copied()
     }
 
