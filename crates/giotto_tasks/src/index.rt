@@ -1,11 +1,12 @@
 //! Names by their places in a list.
 
-ghost use Rattle.std.specs.Prelude.{◌≡◌, ◌<◌, ◌^◌, IfOk, length};
+ghost use Rattle.std.specs.Prelude.{◌≡◌, ◌<◌, ◌≤◌, ◌^◌, IfOk, length};
 ghost use Rattle.giotto_tasks.specs.cited.Places.{place_from};
 ghost use Rattle.giotto_tasks.specs.Names as tasks;
 ghost use Rattle.giotto_tasks.specs.Sound as sound;
 
 use crate::names::Name;
+use crate::places::{position_in, stands_in};
 use std::alloc::{AllocError, Global};
 use std::collections::BTreeMap;
 use std::marker::Model;
@@ -15,14 +16,14 @@ use std::marker::Model;
 #[derive(Drop)]
 pub struct Index {
     names: Vec<Name>,
-    // The first place of each name.
+    // The first place of each name, where there are more than a few.
     places: BTreeMap<Name, usize>,
     // Whether no name stands twice.
     different: bool,
 }
 
 impl Model for Index {
-    ghost use Rattle.std.specs.Prelude.{◌≡◌, List};
+    ghost use Rattle.std.specs.Prelude.{◌≡◌, ◌<◌, List, length};
     ghost use Rattle.giotto_tasks.specs.declared.names.Name.{Name};
     ghost use Rattle.giotto_tasks.specs.Sound as sound;
     ghost use Rattle.giotto_tasks.specs.cited.Places.{HasPlaces};
@@ -31,8 +32,11 @@ impl Model for Index {
 
     ghost view = { λ i. i.names.items };
 
-    ghost invariant = { λ i. HasPlaces 0 i.names.items i.places × (i.different ≡ sound.all_different i.names.items) };
+    ghost invariant = { λ i. (16 < length i.names.items → HasPlaces 0 i.names.items i.places) × (i.different ≡ sound.all_different i.names.items) };
 }
+
+// So many names are found sooner as they lie than by a map.
+const FEW: usize = 16;
 
 impl Index {
     /// The index of these names, in which a name may stand more than once.
@@ -40,6 +44,27 @@ impl Index {
     /// # Errors
     /// Want of memory.
     pub fn new(alloc: Global, names: Vec<Name>) -> Result<Index, AllocError>
+        ensures { IfOk result (λ index. index ≡ names.items) }
+    {
+        if names.len() <= FEW {
+            return Ok(Index::of_few(alloc, names));
+        }
+        Index::of_many(alloc, names)
+    }
+
+    fn of_few(alloc: Global, names: Vec<Name>) -> Index
+        requires { length names.items ≤ 16 }
+        ensures { result ≡ names.items }
+    {
+        let different = are_different(&names);
+        Index {
+            names,
+            places: BTreeMap::new(alloc),
+            different,
+        }
+    }
+
+    fn of_many(alloc: Global, names: Vec<Name>) -> Result<Index, AllocError>
         ensures { IfOk result (λ index. index ≡ names.items) }
     {
         let mut places = BTreeMap::new(alloc);
@@ -70,6 +95,18 @@ impl Index {
     pub fn place(&self, name: &Name) -> Option<usize>
         ensures { result ≡ place_from 0 self.now name.now }
     {
+        if self.names.len() <= FEW {
+            return position_in(&self.names, name);
+        }
+        self.place_by_map(name)
+    }
+
+    // The place where there are more than a few names.
+    #[inline(never)]
+    fn place_by_map(&self, name: &Name) -> Option<usize>
+        requires { 16 < length self.now }
+        ensures { result ≡ place_from 0 self.now name.now }
+    {
         self.places.get(name).copied()
     }
 
@@ -86,4 +123,15 @@ impl Index {
     {
         self.different
     }
+}
+
+fn are_different(names: &[Name]) -> bool
+    ensures { result ≡ sound.all_different names.now }
+{
+    for place in 0..names.len() {
+        if stands_in(&names[place + 1..], &names[place]) {
+            return false;
+        }
+    }
+    true
 }

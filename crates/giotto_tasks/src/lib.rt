@@ -26,6 +26,7 @@ pub mod index;
 pub mod lists;
 pub mod names;
 pub mod operators;
+mod places;
 pub mod steps;
 pub mod values;
 

@@ -72,6 +72,15 @@ impl Name {
         self.text.is_empty()
     }
 
+    /// Whether the name is this one, of at most 8 bytes.
+    #[inline(always)]
+    pub(crate) fn is_short(&self, short: &Name) -> bool
+        requires { length short.now ≤ 8 }
+        ensures { result ≡ pointwise nat_eq self.now short.now }
+    {
+        self.word == short.word && self.text.len() == short.text.len()
+    }
+
     /// The name as text: at most 32 bytes.
     pub fn as_str(&self) -> &str
         ensures { result.now ≡ self.now }

@@ -1,5 +1,5 @@
 -- Runs of bytes, and one more token.
-use Rattle.std.proofs.Common.{◌≡◌, ℕ, zero, suc, ◌+◌, ◌-◌, ◌<◌, ◌≤◌, Bool, true, false, List, [], ◌∷◌, ◌++◌, length, get_or, take, drop, ◌^◌, Some, None, Result, Ok, Err, refl, ap, ◌∙◌, arith, add-one}
+use Rattle.std.proofs.Common.{◌≡◌, ◌≢◌, ℕ, zero, suc, ◌+◌, ◌-◌, ◌<◌, ◌≤◌, Bool, true, false, List, [], ◌∷◌, ◌++◌, length, get_or, take, drop, ◌^◌, Some, None, Result, Ok, Err, refl, sym, ap, ◌∙◌, arith, add-one}
 use Rattle.std.proofs.Common.{drop-cons, length-drop}
 use Rattle.std.proofs.lemmas.Bool.Decides.{nat_tests}
 use Rattle.std.proofs.lemmas.List.{get_or-take, drop-drop, take_all}
@@ -13,7 +13,11 @@ use Rattle.std.specs.Str.Parse.{digits_value, ParsesUnsigned}
 use Rattle.giotto_text.specs.declared.tokens.Token.{Token}
 use Rattle.giotto_text.specs.declared.tokens.PlacedToken.{PlacedToken}
 use Rattle.giotto_text.specs.Bytes.{is_name_byte, is_digit, is_blank_of_text}
-use Rattle.giotto_text.specs.Tokens.{Tokens, first_token, after_token, tokens_from}
+use Rattle.giotto_text.specs.declared.faults.ReadFault.{ReadFault}
+use Rattle.giotto_text.specs.declared.faults.ReadFault.TheVariants.{Syntax, TooDeep, TooMany, Memory}
+use Rattle.giotto_text.specs.cited.Reading.{IsLexicalFault}
+use Rattle.giotto_text.specs.inner.Adding.{placed, with_found}
+use Rattle.giotto_text.specs.Tokens.{FoundToken, Tokens, first_token, after_token, tokens_from, tokens_of}
 
 -- each byte of a run passes
 pub run_passes : (p : ℕ → Bool) (xs : List ℕ) → AllPass p (take (prefix_len p xs) xs)
@@ -83,6 +87,23 @@ tokens_from-token text i len t lt e is positive within =
 pub tokens_from-end : (text : List ℕ) (i : ℕ) → length text ≤ i → tokens_from 0 i (drop i text) ≡ Ok []
 tokens_from-end text i le = rw (drop_of_length-le text le) refl
 
+-- what is found at an offset and added
+pub found_there : (ts us : List PlacedToken) (offset len : ℕ) (f : FoundToken) → with_found ts offset f ≡ Ok (us, len)
+    → (t : Token) × ((f ≡ Some (t, len)) × (us ≡ ts ++ placed t offset ∷ []))
+found_there ts us offset len (Some f) e =
+    let both : (ts ++ placed f.0 offset ∷ [], f.1) ≡ (us, len) = cc in
+    (f.0, (ap (λ (p : List PlacedToken × ℕ). Some (f.0, p.1)) both, sym (ap (λ p. p.0) both)))
+found_there ts us offset len None e = absurd (cc)
+
+pub none_there : (ts : List PlacedToken) (offset n : ℕ) (f : FoundToken) → with_found ts offset f ≡ Err (Syntax n) → (f ≡ None) × (n ≡ offset)
+none_there ts offset n (Some f) e = absurd (cc)
+none_there ts offset n None e = (refl, cc)
+
+-- no other fault comes of it
+not_found : (ts : List PlacedToken) (offset : ℕ) (f : FoundToken) (fault : ReadFault) → ((n : ℕ) → Syntax n ≢ fault) → with_found ts offset f ≢ Err fault
+not_found ts offset (Some f) fault other e = absurd (cc)
+not_found ts offset None fault other e = let same : Syntax offset ≡ fault = cc in other offset same
+
 -- what parses a run of digits
 pub digits_read : IsNumeralModel (λ ds. (i : ℕ) → i < length ds → IsInRange 48 57 (get_or ds i 0)) (digits_value 10)
 digits_read = numerals_by_value _ tells_by_index
@@ -98,3 +119,13 @@ digits_parsed run r begun digits short h =
 -- the rest of a text, cut by its length
 pub rest_whole : (text : List ℕ) (i : ℕ) → take (length text - i) (drop i text) ≡ drop i text
 rest_whole text i = take_all (length text - i) (drop i text) (omega (arith, length-drop i text))
+
+-- a fault where nothing is found is the text's
+pub lexical_fault : (text : List ℕ) (ts : List PlacedToken) (i : ℕ) (fault : ReadFault) → tokens_of text ≡ behind ts (tokens_from 0 i (drop i text)) → i < length text
+    → is_blank_of_text (get_or text i 0) ≡ false → (fault ≢ Memory → with_found ts i (first_token (drop i text)) ≡ Err fault) → IsLexicalFault text fault
+lexical_fault text ts i Memory so_far lt e h = tt
+lexical_fault text ts i (Syntax n) so_far lt e h =
+    let none = none_there ts i n (first_token (drop i text)) (h (λ x. absurd (cc))) in
+    so_far ∙ ap (behind ts) (tokens_from-fault text i lt e none.0) ∙ behind-Err ts i ∙ ap Err (sym none.1)
+lexical_fault text ts i TooDeep so_far lt e h = absurd (not_found ts i (first_token (drop i text)) TooDeep (λ n x. absurd (cc)) (h (λ x. absurd (cc))))
+lexical_fault text ts i TooMany so_far lt e h = absurd (not_found ts i (first_token (drop i text)) TooMany (λ n x. absurd (cc)) (h (λ x. absurd (cc))))

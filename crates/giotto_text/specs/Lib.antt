@@ -12,3 +12,4 @@ pub mod Sound
 pub mod Spelling
 pub mod Tokens
 pub mod cited
+pub mod inner

@@ -1,11 +1,14 @@
 //! Cuts a program text into tokens.
 
-ghost use Rattle.std.specs.Prelude.{◌≡◌, [], ◌∷◌, ◌<◌, ◌≤◌, IfOk, IfErr, IfSome, Ok, length};
+ghost use Rattle.std.specs.Prelude.{◌≡◌, ◌≢◌, [], ◌∷◌, ◌++◌, ◌<◌, ◌≤◌, IfOk, IfErr, IfSome, Ok, Err, length};
 ghost use Rattle.std.specs.List.{find, prefix_len, AllPass};
 ghost use Rattle.giotto_tasks.specs.Names.{same_name};
 ghost use Rattle.giotto_text.specs.Bytes.{is_digit, is_name_byte, is_blank_of_text};
 ghost use Rattle.giotto_text.specs.Tokens.{first_token, text_of_keyword, word, number, mark, tokens_of, keyword_of, symbol_at};
 ghost use Rattle.giotto_text.specs.cited.Reading.{IsLexicalFault};
+ghost use Rattle.giotto_text.specs.declared.faults.ReadFault.{ReadFault};
+ghost use Rattle.giotto_text.specs.declared.faults.ReadFault.TheVariants.{Memory};
+ghost use Rattle.giotto_text.specs.inner.Adding.{placed, with_found};
 
 use crate::faults::ReadFault;
 use crate::name_bytes::{is_digit, is_letter, is_name_byte};
@@ -22,63 +25,120 @@ pub fn tokens(alloc: Global, text: &[u8]) -> Result<Vec<PlacedToken>, ReadFault>
     ensures ok { IfOk result (λ ts. tokens_of text.now ≡ Ok ts.items) }
     ensures fault { IfErr result (IsLexicalFault text.now) }
 {
-    let mut found = Vec::new(alloc);
+    let mut found = list_for(alloc, text);
     let mut start = 0;
     while start < text.len() {
         if is_blank(text[start]) {
             start += 1;
         } else {
-            let Some((token, len)) = first_token(&text[start..]) else {
-                return Err(ReadFault::Syntax(start));
-            };
-            let placed = PlacedToken {
-                token,
-                offset: start,
-            };
-            let Ok(()) = found.push(placed) else {
-                return Err(ReadFault::Memory);
-            };
+            let len = push_first(&mut found, &text[start..], start)?;
             start += len;
         }
     }
     Ok(found)
 }
 
-// The token that begins the text, and its length.
-fn first_token(text: &[u8]) -> Option<(Token, usize)>
-    ensures token { result ≡ first_token text.now }
-    ensures within { IfSome result (λ r. (0 < r.1) × (r.1 ≤ length text.now)) }
+// An empty list for the tokens of a text: with room for half as many as it has bytes behind its first blanks, or with
+// none where memory has no such room.
+fn list_for(alloc: Global, text: &[u8]) -> Vec<PlacedToken>
+    ensures { result.items ≡ [] }
+{
+    let bytes = text.len() - blanks_len(text);
+    match Vec::with_capacity(alloc, bytes / 2) {
+        Ok(found) => found,
+        Err(_) => Vec::new(alloc),
+    }
+}
+
+// How many blanks the text begins with.
+fn blanks_len(text: &[u8]) -> usize
+    ensures { result ≡ prefix_len is_blank_of_text text.now }
+{
+    text.iter().take_while(|c| is_blank(**c)).count()
+}
+
+// Adds the token that begins the text, which stands at this offset, and gives its length in bytes. Each kind of token is
+// put in its place where it is found: one that is handed on would be copied.
+fn push_first(found: &mut Vec<PlacedToken>, text: &[u8], offset: usize) -> Result<usize, ReadFault>
+    ensures added { IfOk result (λ len. with_found found.old.items offset (first_token text.now) ≡ Ok (found.new.items, len)) }
+    ensures within { IfOk result (λ len. (0 < len) × (len ≤ length text.now)) }
+    ensures fault { (f : ReadFault) → result ≡ Err f → f ≢ Memory → with_found found.old.items offset (first_token text.now) ≡ Err f }
 {
     let [first, ..] = text else {
-        return None;
+        return Err(ReadFault::Syntax(offset));
     };
     if is_letter(*first) {
-        word(&text[..name_len(text)])
+        push_word(found, &text[..name_len(text)], offset)
     } else if is_digit(*first) {
-        number(&text[..digits_len(text)])
+        push_number(found, &text[..digits_len(text)], offset)
     } else {
-        mark(text)
+        push_mark(found, text, offset)
     }
 }
 
 // A run of name bytes: a keyword, or a name of at most 32 bytes.
-fn word(run: &[u8]) -> Option<(Token, usize)>
+fn push_word(found: &mut Vec<PlacedToken>, run: &[u8], offset: usize) -> Result<usize, ReadFault>
     requires { AllPass is_name_byte run.now }
-    ensures token { result ≡ word run.now }
-    ensures whole { IfSome result (λ r. r.1 ≡ length run.now) }
+    ensures added { IfOk result (λ len. with_found found.old.items offset (word run.now) ≡ Ok (found.new.items, len)) }
+    ensures whole { IfOk result (λ len. len ≡ length run.now) }
+    ensures fault { (f : ReadFault) → result ≡ Err f → f ≢ Memory → with_found found.old.items offset (word run.now) ≡ Err f }
 {
     if let Some(keyword) = keyword_of(run) {
-        return Some((Token::Keyword(keyword), run.len()));
+        push(found, Token::Keyword(keyword), offset)?;
+        return Ok(run.len());
     }
-    let name = Name::new(as_text(run))?;
-    Some((Token::Name(name), run.len()))
+    let Some(name) = Name::new(as_text(run)) else {
+        return Err(ReadFault::Syntax(offset));
+    };
+    push(found, Token::Name(name), offset)?;
+    Ok(run.len())
 }
 
-// The keyword that is written so: only those with its first letter are compared.
+// A run of digits.
+fn push_number(found: &mut Vec<PlacedToken>, run: &[u8], offset: usize) -> Result<usize, ReadFault>
+    requires begun { 0 < length run.now }
+    requires digits { AllPass is_digit run.now }
+    ensures added { IfOk result (λ len. with_found found.old.items offset (number run.now) ≡ Ok (found.new.items, len)) }
+    ensures whole { IfOk result (λ len. len ≡ length run.now) }
+    ensures fault { (f : ReadFault) → result ≡ Err f → f ≢ Memory → with_found found.old.items offset (number run.now) ≡ Err f }
+{
+    let Some((token, len)) = number(run) else {
+        return Err(ReadFault::Syntax(offset));
+    };
+    push(found, token, offset)?;
+    Ok(len)
+}
+
+// The longest mark that begins the text.
+fn push_mark(found: &mut Vec<PlacedToken>, text: &[u8], offset: usize) -> Result<usize, ReadFault>
+    ensures added { IfOk result (λ len. with_found found.old.items offset (mark text.now) ≡ Ok (found.new.items, len)) }
+    ensures within { IfOk result (λ len. (0 < len) × (len ≤ length text.now)) }
+    ensures fault { (f : ReadFault) → result ≡ Err f → f ≢ Memory → with_found found.old.items offset (mark text.now) ≡ Err f }
+{
+    let Some(symbol) = symbol_at(text) else {
+        return Err(ReadFault::Syntax(offset));
+    };
+    push(found, Token::Symbol(symbol), offset)?;
+    Ok(symbol.as_str().len())
+}
+
+#[inline(always)]
+fn push(found: &mut Vec<PlacedToken>, token: Token, offset: usize) -> Result<(), ReadFault>
+    ensures added { IfOk result (λ _. found.new.items ≡ found.old.items ++ placed token offset ∷ []) }
+    ensures fault { IfErr result (λ f. f ≡ Memory) }
+{
+    let placed = PlacedToken { token, offset };
+    match found.push(placed) {
+        Ok(()) => Ok(()),
+        Err(_) => Err(ReadFault::Memory),
+    }
+}
+
+// The keyword that is written so: only those with its first letter are compared. None has one letter.
 fn keyword_of(run: &[u8]) -> Option<Keyword>
     ensures { result ≡ keyword_of run.now }
 {
-    let [first, ..] = run else {
+    let [first, _, ..] = run else {
         return None;
     };
     match first {
@@ -127,15 +187,6 @@ fn number(run: &[u8]) -> Option<(Token, usize)>
     Some((Token::Number(value), run.len()))
 }
 
-// The longest mark that begins the text.
-fn mark(text: &[u8]) -> Option<(Token, usize)>
-    ensures token { result ≡ mark text.now }
-    ensures within { IfSome result (λ r. (0 < r.1) × (r.1 ≤ length text.now)) }
-{
-    let symbol = symbol_at(text)?;
-    Some((Token::Symbol(symbol), symbol.as_str().len()))
-}
-
 fn symbol_at(text: &[u8]) -> Option<Symbol>
     ensures { result ≡ symbol_at text.now }
 {
@@ -180,10 +231,7 @@ fn as_text(run: &[u8]) -> &str
     requires { AllPass is_name_byte run.now }
     ensures { result.now ≡ run.now }
 {
-    let Ok(text) = std::str::from_utf8(run) else {
-        unreachable!()
-    };
-    text
+    unsafe { std::str::from_utf8_unchecked(run) }
 }
 
 // How many name bytes the text begins with.

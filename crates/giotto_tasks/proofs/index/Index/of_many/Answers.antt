@@ -2,7 +2,7 @@ use Rattle.std.proofs.Common.{rules, ◌≡◌, ◌+◌, ◌-◌, ◌<◌, lengt
 use Rattle.giotto_tasks.specs.Sound.{all_different}
 use Rattle.giotto_tasks.specs.cited.Places.{HasPlaces}
 use Rattle.giotto_tasks.proofs.cited.IndexLemmas.{places_before, different_before}
-use Rattle.giotto_tasks.proofs.index.Index.new.Goals as goal
+use Rattle.giotto_tasks.proofs.index.Index.of_many.Goals as goal
 
 pub loop-behind-preserved : goal.loop-behind-preserved
 loop-behind-preserved c =

@@ -1,7 +1,7 @@
 use Rattle.std.proofs.Common.{◌≡◌, ◌-◌, length, drop}
 use Rattle.giotto_tasks.specs.Sound.{all_different}
 use Rattle.giotto_tasks.specs.cited.Places.{HasPlaces}
-use Rattle.giotto_tasks.proofs.index.Index.new.Given as goal
+use Rattle.giotto_tasks.proofs.index.Index.of_many.Given as goal
 
 -- the names from the last on
 abbrev pub invariant-loop-behind : goal.invariant-loop-behind
