@@ -24,7 +24,7 @@ use rig_config::{Config, TenantId};
 use std::alloc::{AllocError, Global};
 use std::io::{Read, Write};
 use tenant_lines::command_lines::{LineFault, command_of};
-use tenant_lines::replies::Reply;
+use tenant_lines::replies::{Reply, add_reply};
 use tenant_lines::words;
 use tenant_programs::prepared::prepare;
 
@@ -272,7 +272,10 @@ fn work_reply(text: &mut String, number: u128) -> Result<(), AllocError>
 fn tell(text: &mut String, name: &str, reply: &Reply) -> Result<(), AllocError>
     ensures { OnOk result (string_bytes text.new ≡ string_bytes text.old ++ reply_line name.now (text_of_reply reply.now)) }
 {
-    write!(text, "{name} {reply}\n")
+    text.push_str(name)?;
+    text.push_str(" ")?;
+    add_reply(text, reply)?;
+    text.push_str("\n")
 }
 
 // A reply as it is written: who is answered, a space, the reply, and LF.
