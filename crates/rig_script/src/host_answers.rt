@@ -141,13 +141,17 @@ fn operator_line<R: Record>(
 ) -> Result<(), AllocError>
     ensures { CarriesOut (λ setting past. operator_step setting past (words_of line.now)) (R.tells events.old) (R.tells events.new) host.old host.new result (Adds text.old text.new) }
 {
-    let rest = words::behind_first_word(line);
-    match words::first_word(line) {
-        "tick" => tick(alloc, host, events, rest, text),
-        "work" => work(host, events, rest, text),
-        "lines" => lines(host, rest, text),
-        _ => reply_line(text, "op", "err bad-command"),
+    let (word, rest) = words::cut(line);
+    if words::is_word(word, "tick") {
+        return tick(alloc, host, events, rest, text);
     }
+    if words::is_word(word, "work") {
+        return work(host, events, rest, text);
+    }
+    if words::is_word(word, "lines") {
+        return lines(host, rest, text);
+    }
+    reply_line(text, "op", "err bad-command")
 }
 
 // The step of `tick` with these words behind it.
