@@ -24,7 +24,7 @@ use rig_config::{Config, TenantId};
 use std::alloc::{AllocError, Global};
 use std::io::{Read, Write};
 use tenant_lines::command_lines::{LineFault, command_of};
-use tenant_lines::replies::Reply;
+use tenant_lines::replies::{Reply, add_reply};
 use tenant_lines::words;
 use tenant_programs::prepared::prepare;
 
@@ -141,13 +141,17 @@ fn operator_line<R: Record>(
 ) -> Result<(), AllocError>
     ensures { CarriesOut (λ setting past. operator_step setting past (words_of line.now)) (R.tells events.old) (R.tells events.new) host.old host.new result (Adds text.old text.new) }
 {
-    let rest = words::behind_first_word(line);
-    match words::first_word(line) {
-        "tick" => tick(alloc, host, events, rest, text),
-        "work" => work(host, events, rest, text),
-        "lines" => lines(host, rest, text),
-        _ => reply_line(text, "op", "err bad-command"),
+    let (word, rest) = words::cut(line);
+    if words::is_word(word, "tick") {
+        return tick(alloc, host, events, rest, text);
     }
+    if words::is_word(word, "work") {
+        return work(host, events, rest, text);
+    }
+    if words::is_word(word, "lines") {
+        return lines(host, rest, text);
+    }
+    reply_line(text, "op", "err bad-command")
 }
 
 // The step of `tick` with these words behind it.
@@ -272,7 +276,10 @@ fn work_reply(text: &mut String, number: u128) -> Result<(), AllocError>
 fn tell(text: &mut String, name: &str, reply: &Reply) -> Result<(), AllocError>
     ensures { OnOk result (string_bytes text.new ≡ string_bytes text.old ++ reply_line name.now (text_of_reply reply.now)) }
 {
-    write!(text, "{name} {reply}\n")
+    text.push_str(name)?;
+    text.push_str(" ")?;
+    add_reply(text, reply)?;
+    text.push_str("\n")
 }
 
 // A reply as it is written: who is answered, a space, the reply, and LF.

@@ -21,6 +21,14 @@ differs x y other = by (same_name x y) refl
     by true e = absurd (other (same_name_is x y e))
     by false e = e
 
+pub no_byte : (w : List ℕ) → length w ≡ 0 → w ≡ []
+no_byte [] none = refl
+no_byte (c ∷ cs) none = absurd (omega (arith, none))
+
+pub some_word : (w : List ℕ) → 0 < length w → w ≡ [] → ⊥
+some_word [] some is = omega (arith, some)
+some_word (c ∷ cs) some is = cc
+
 some_byte : (w : List ℕ) → (w ≡ [] → ⊥) → 0 < length w
 some_byte [] other = absurd (other refl)
 some_byte (c ∷ cs) other = omega arith

@@ -73,13 +73,17 @@ impl<'a> Session<'a> {
         ensures refused { OnErr result (self.new ≡ self.old) }
         ensures memory { IsErr result → IsCallWithText (text_step self.old.config self.old.state line.now) self.old.state }
     {
-        let rest = words::behind_first_word(line);
-        match words::first_word(line) {
-            "" => Ok(Step::Quiet),
-            "hello" => Ok(self.hello(rest)),
-            "quit" => Ok(self.quit(rest)),
-            _ => self.command(alloc, line),
+        let (word, rest) = words::cut(line);
+        if word.is_empty() {
+            return Ok(Step::Quiet);
         }
+        if words::is_word(word, "hello") {
+            return Ok(self.hello(rest));
+        }
+        if words::is_word(word, "quit") {
+            return Ok(self.quit(rest));
+        }
+        self.command(alloc, line)
     }
 
     /// Whether it has ended.

@@ -19,7 +19,7 @@ use std::alloc::{AllocError, Global};
 use std::io::{Read, Write};
 use std::sync::Wait;
 use tenant_lines::commands::Command;
-use tenant_lines::replies::Reply;
+use tenant_lines::replies::{Reply, add_reply};
 use text_lines::lines::{Line, Lines};
 
 /// Answers the lines of a client, in their order, until its input or the session ends: by itself, or by a call of the pass, which comes
@@ -153,7 +153,8 @@ fn reply_line(text: &mut String, reply: &Reply) -> Result<(), AllocError>
     ensures { OnOk result (string_bytes text.new ≡ written (text_of_reply reply.now)) }
 {
     text.clear();
-    write!(text, "{reply}\n")
+    add_reply(text, reply)?;
+    text.push_str("\n")
 }
 
 // Tells why a call was refused, also where that can't be written.

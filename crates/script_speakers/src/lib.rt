@@ -23,7 +23,7 @@ pub fn who_is(config: &Config, word: &str) -> Speaker
     if word.is_empty() {
         return Speaker::Nobody;
     }
-    if word == "op" {
+    if words::is_word(word, "op") {
         return Speaker::Operator;
     }
     match config.place_of(word) {

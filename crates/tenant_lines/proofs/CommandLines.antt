@@ -1,10 +1,11 @@
 -- The command of a line, by its first word and what stands behind it.
-use Rattle.std.proofs.Common.{◌≡◌, ℕ, zero, suc, ◌<◌, ◌==◌, Bool, true, false, List, [], ◌∷◌, length, Some, None, codes, refl, ap, ◌∙◌, arith}
+use Rattle.std.proofs.Common.{◌≡◌, ℕ, zero, suc, ◌<◌, ◌==◌, Bool, true, false, List, [], ◌∷◌, length, Some, None, codes, refl, ap, sym, ◌∙◌, arith}
+use Rattle.std.proofs.lemmas.Bool.{false≢true}
 use Rattle.std.proofs.lemmas.Bool.Decides.{nat_tests}
 use Rattle.std.specs.Bool.{then_some}
 use Rattle.std.specs.Option.{option_map}
 use Rattle.giotto_tasks.specs.Names.{same_name}
-use Rattle.giotto_tasks.proofs.cited.NameLemmas.{same_name_is}
+use Rattle.giotto_tasks.proofs.cited.NameLemmas.{same_name_is, same_name_self}
 use Rattle.tenant_lines.specs.declared.commands.Command.{Command}
 use Rattle.tenant_lines.specs.declared.commands.Command.TheVariants.{ShowPort, Grants}
 use Rattle.tenant_lines.specs.declared.ports.PortName.{PortName}
@@ -55,6 +56,10 @@ not_same x y differ = by (same_name x y) refl
     by : (b : Bool) → same_name x y ≡ b → same_name x y ≡ false
     by true e = absurd (differ (same_name_is x y e))
     by false e = e
+
+-- two words that the test tells apart
+pub differ : (x y : List ℕ) → false ≡ same_name x y → x ≡ y → ⊥
+differ x y other is = false≢true (other ∙ ap (same_name x) (sym is) ∙ same_name_self x)
 
 -- nothing else can be shown
 pub others_shown : (rest : List ℕ) → (first_word_of rest ≡ codes "mode" → ⊥) → (first_word_of rest ≡ codes "all" → ⊥) → (first_word_of rest ≡ codes "port" → ⊥)

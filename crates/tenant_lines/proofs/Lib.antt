@@ -4,6 +4,8 @@ pub mod GrantLines
 pub mod GrantRows
 pub mod PortWords
 pub mod ReplyRows
+pub mod SameBytes
+pub mod SingleBlanks
 pub mod ValueLemmas
 pub mod WordRows
 pub mod cited

@@ -1,6 +1,6 @@
 //! From the text of a line to a command.
 
-ghost use Rattle.std.specs.Prelude.{◌≡◌, ◌<◌, true, IfOk, IfErr, IsErr, if◌then◌else◌, Some, None, length};
+ghost use Rattle.std.specs.Prelude.{◌≡◌, ◌<◌, true, IfOk, IfErr, IfSome, IsErr, if◌then◌else◌, Some, None, length};
 ghost use Rattle.std.specs.Option.{option_map};
 ghost use Rattle.giotto_text.specs.Bytes.{is_name};
 ghost use Rattle.tenant_lines.specs.CommandLine.{alone, command_of_words, command_of_line, own_port_of, port_of_word, port_shown_by, shown_by, text_behind};
@@ -12,7 +12,7 @@ use crate::commands::Command;
 use crate::grant_lines::grant_command_of;
 use crate::ports::PortName;
 use crate::texts::Text;
-use crate::words::{behind_first_word, cut, first_word};
+use crate::words::{behind_first_word, cut, first_word, is_word, skip_blanks};
 use giotto_tasks::names::Name;
 use giotto_text::name_bytes::is_name;
 use std::alloc::Global;
@@ -39,17 +39,46 @@ pub enum LineFault {
 /// # Errors
 /// `BadCommand` for every other line, and `Memory` where there is want of memory for the text of a `load` or a `replace`
 /// that has one.
+#[inline(never)]
 pub fn command_of(alloc: Global, line: &str) -> Result<Command, LineFault>
     ensures command { IfOk result (λ c. command_of_line line.now ≡ Some c) }
     ensures none { result ≡ Err LineFault.BadCommand → command_of_line line.now ≡ None }
     ensures memory { result ≡ Err LineFault.Memory → option_map has_text (command_of_line line.now) ≡ Some true }
 {
-    let (word, rest) = cut(line);
-    match word {
-        "load" => Ok(Command::Load(text_of(alloc, line)?)),
-        "replace" => Ok(Command::Replace(text_of(alloc, line)?)),
-        _ => command_of_words(word, rest).ok_or(LineFault::BadCommand),
+    match name_shown(line) {
+        Some(name) => Ok(Command::ShowPort(PortName { task: None, name })),
+        None => command_by_words(alloc, line),
     }
+}
+
+// The name in `show port NAME`, where one blank stands between the words and nothing behind them. This is asked most, so such a
+// line isn't cut into words.
+#[inline(always)]
+fn name_shown(line: &str) -> Option<Name>
+    ensures { IfSome result (λ name. command_of_line line.now ≡ Some (Command.ShowPort (record { task = None; name = name }))) }
+{
+    let (words, name) = skip_blanks(line).split_at_checked(10)?;
+    if !is_word(words, "show port ") {
+        return None;
+    }
+    name_of_word(name)
+}
+
+// The command of a line, word by word.
+#[inline(never)]
+fn command_by_words(alloc: Global, line: &str) -> Result<Command, LineFault>
+    ensures command { IfOk result (λ c. command_of_line line.now ≡ Some c) }
+    ensures none { result ≡ Err LineFault.BadCommand → command_of_line line.now ≡ None }
+    ensures memory { result ≡ Err LineFault.Memory → option_map has_text (command_of_line line.now) ≡ Some true }
+{
+    let (word, rest) = cut(line);
+    if is_word(word, "load") {
+        return Ok(Command::Load(text_of(alloc, line)?));
+    }
+    if is_word(word, "replace") {
+        return Ok(Command::Replace(text_of(alloc, line)?));
+    }
+    command_of_words(word, rest).ok_or(LineFault::BadCommand)
 }
 
 // The text behind the first word. Takes no memory where nothing stands there.
@@ -73,13 +102,19 @@ fn text_behind(line: &str) -> &str
 fn command_of_words(word: &str, rest: &str) -> Option<Command>
     ensures { result ≡ command_of_words (words_from word.now rest.now) }
 {
-    match word {
-        "show" => show(rest),
-        "trace" => alone(Command::Trace, rest),
-        "start" => alone(Command::Start, rest),
-        "stop" => alone(Command::Stop, rest),
-        _ => Some(Command::Grants(grant_command_of(word, rest)?)),
+    if is_word(word, "show") {
+        return show(rest);
     }
+    if is_word(word, "trace") {
+        return alone(Command::Trace, rest);
+    }
+    if is_word(word, "start") {
+        return alone(Command::Start, rest);
+    }
+    if is_word(word, "stop") {
+        return alone(Command::Stop, rest);
+    }
+    Some(Command::Grants(grant_command_of(word, rest)?))
 }
 
 // The command, where no word stands behind it.
@@ -94,12 +129,16 @@ fn show(rest: &str) -> Option<Command>
     ensures { result ≡ shown_by (words_of rest.now) }
 {
     let (word, behind) = cut(rest);
-    match word {
-        "port" => show_port(behind),
-        "mode" => alone(Command::ShowMode, behind),
-        "all" => alone(Command::ShowAll, behind),
-        _ => None,
+    if is_word(word, "port") {
+        return show_port(behind);
     }
+    if is_word(word, "mode") {
+        return alone(Command::ShowMode, behind);
+    }
+    if is_word(word, "all") {
+        return alone(Command::ShowAll, behind);
+    }
+    None
 }
 
 // What stands behind `show port`.

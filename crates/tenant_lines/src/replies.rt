@@ -1,12 +1,12 @@
 //! The replies to a tenant's commands.
 
-ghost use Rattle.std.specs.Prelude.{◌≡◌, ◌↔◌, ◌<◌, ◌++◌, codes, IfOk, IsErr, IsTrue, length, string_bytes};
-ghost use Rattle.std.specs.Fmt.{WritesOnOk};
+ghost use Rattle.std.specs.Prelude.{◌≡◌, ◌↔◌, ◌<◌, ◌++◌, codes, IfOk, IsErr, IsTrue, OnOk, length, string_bytes};
+ghost use Rattle.std.specs.Fmt.{WritesOnOk, signed_decimal};
 ghost use Rattle.std.specs.List.{flat_map};
 ghost use Rattle.tenant_lines.specs.Replies.{word_of_budget, text_of_happening, text_of_port, text_of_record, text_of_refusal, text_of_reply, text_of_bounds, text_of_row, text_of_status, text_of_value};
 ghost use Rattle.tenant_lines.specs.cited.Copies.{has_list};
 
-use crate::ports::PortValue;
+use crate::ports::{PortName, PortValue};
 use giotto_tasks::lists::List;
 use giotto_tasks::names::Name;
 use rig_config::intervals::Bounds;
@@ -234,6 +234,40 @@ pub fn print_reply(alloc: Global, reply: &Reply) -> Result<String, AllocError>
     ensures { IfOk result (λ text. string_bytes text ≡ text_of_reply reply.now) }
 {
     reply.to_string(alloc)
+}
+
+/// Adds the text of a reply, without the name of the tenant and without LF.
+///
+/// # Errors
+/// Want of memory. Nothing is said of the text then.
+pub fn add_reply(text: &mut String, reply: &Reply) -> Result<(), AllocError>
+    ensures { OnOk result (string_bytes text.new ≡ string_bytes text.old ++ text_of_reply reply.now) }
+{
+    match reply {
+        Reply::Port(shown) => add_shown(text, shown),
+        _ => write!(text, "{reply}"),
+    }
+}
+
+// Adds the reply to `show port`, part by part, which is the shorter way.
+fn add_shown(text: &mut String, shown: &PortValue) -> Result<(), AllocError>
+    ensures { OnOk result (string_bytes text.new ≡ string_bytes text.old ++ (codes "ok port " ++ (text_of_port shown.now.port ++ (codes " " ++ signed_decimal shown.now.value)))) }
+{
+    text.push_str("ok port ")?;
+    add_port(text, &shown.port)?;
+    text.push_str(" ")?;
+    write!(text, "{}", shown.value)
+}
+
+// Adds the name of a port.
+fn add_port(text: &mut String, port: &PortName) -> Result<(), AllocError>
+    ensures { OnOk result (string_bytes text.new ≡ string_bytes text.old ++ text_of_port port.now) }
+{
+    if let Some(task) = &port.task {
+        text.push_str(task.as_str())?;
+        text.push_str(".")?;
+    }
+    text.push_str(port.name.as_str())
 }
 
 /// The text of a reply, without the name of the tenant and without LF.

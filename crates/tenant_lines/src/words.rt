@@ -1,6 +1,8 @@
 //! Lines as words: one or more blanks separate words, and mean nothing at the ends.
 
-ghost use Rattle.std.specs.Prelude.{◌≡◌, ◌≤◌, ◌<◌, IfOk, IsErr, IsSomeAnd, is_some, length};
+ghost use Rattle.std.specs.Prelude.{◌≡◌, ◌≤◌, ◌<◌, IfOk, IsErr, IsSomeAnd, is_some, length, nat_eq};
+ghost use Rattle.std.specs.Cmp.Lexicographic.{pointwise};
+ghost use Rattle.giotto_tasks.specs.Names.{same_name};
 ghost use Rattle.std.specs.List.{prefix_len};
 ghost use Rattle.std.specs.Option.{option_map};
 ghost use Rattle.tenant_lines.specs.Words.{is_blank_of_line, is_word_byte, words_of, from_first_word, first_word_of, behind_first_word, value_of_word, values_of_words};
@@ -29,6 +31,31 @@ pub fn behind_first_word(line: &str) -> &str
     ensures { result.now ≡ behind_first_word line.now }
 {
     cut(line).1
+}
+
+/// Whether a word is this one.
+#[inline(always)]
+pub fn is_word(word: &str, other: &str) -> bool
+    ensures { result ≡ same_name word.now other.now }
+{
+    are_same(word.as_bytes(), other.as_bytes())
+}
+
+// Whether these bytes are the same.
+#[inline(always)]
+#[tactic(auto, using(crate::proofs::SameBytes::same_at, crate::proofs::SameBytes::none_left, crate::proofs::SameBytes::other_lengths))]
+fn are_same(bytes: &[u8], others: &[u8]) -> bool
+    ensures { result ≡ pointwise nat_eq bytes.now others.now }
+{
+    if bytes.len() != others.len() {
+        return false;
+    }
+    for i in 0..others.len() {
+        if bytes[i] != others[i] {
+            return false;
+        }
+    }
+    true
 }
 
 // Whether a byte of a line is a blank: space, tab or CR. A line has no LF.
@@ -102,7 +129,7 @@ fn are_values(line: &str) -> bool
 }
 
 // The line from its first word on.
-fn skip_blanks(line: &str) -> &str
+pub(crate) fn skip_blanks(line: &str) -> &str
     ensures { result.now ≡ from_first_word line.now }
 {
     &line[blank_len(line.as_bytes())..]

@@ -34,6 +34,8 @@ pub struct Lines {
     alloc: Global,
     codec: LinesCodec,
     buffer: BytesMut,
+    // What a read gave. It stands here so that none is made for each read.
+    page: [u8; PAGE],
     reads: u32,
     at_end: bool,
 }
@@ -49,6 +51,7 @@ impl Lines {
             alloc,
             codec: LinesCodec::new_with_max_length(MAX_LINE),
             buffer: BytesMut::new(alloc),
+            page: [0; PAGE],
             reads: 0,
             at_end: false,
         }
@@ -141,8 +144,7 @@ impl Lines {
         if self.reads() >= MAX_READS {
             return Err(LinesFault::Turns);
         }
-        let mut page = [0u8; PAGE];
-        match reader.read(&mut page) {
+        match reader.read(&mut self.page) {
             Err(_) => Err(LinesFault::Read),
             Ok(0) => {
                 self.at_end = true;
@@ -150,7 +152,7 @@ impl Lines {
             }
             Ok(len) => {
                 self.reads += 1;
-                let Ok(()) = self.buffer.extend_from_slice(&page[..len]) else {
+                let Ok(()) = self.buffer.extend_from_slice(&self.page[..len]) else {
                     return Err(LinesFault::Memory);
                 };
                 Ok(())

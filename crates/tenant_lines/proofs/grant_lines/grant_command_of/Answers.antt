@@ -2,7 +2,7 @@ use Rattle.std.proofs.Common.{◌≡◌, ◌<◌, List, ℕ, length, codes, sym,
 use Rattle.std.proofs.lemmas.Bool.{eqb-true}
 use Rattle.std.proofs.lemmas.Bool.Decides.{nat_tests}
 use Rattle.tenant_lines.specs.GrantLines.{grant_command_of_words}
-use Rattle.tenant_lines.specs.Words.{first_word_of, behind_first_word, words_of}
+use Rattle.tenant_lines.specs.Words.{first_word_of, behind_first_word}
 use Rattle.tenant_lines.specs.inner.CutLines.{words_from}
 use Rattle.tenant_lines.proofs.GrantLines.{offered, unoffered, bound, unbound, unbind_more, rows_by, other_grants}
 use Rattle.tenant_lines.proofs.grant_lines.grant_command_of.Goals as goal

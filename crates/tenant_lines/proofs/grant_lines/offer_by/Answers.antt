@@ -1,10 +1,10 @@
-use Rattle.std.proofs.Common.{◌≡◌, ◌<◌, ◌&&◌, Bool, true, false, if◌then◌else◌, None, codes, length, refl, sym, ap, ◌∙◌, arith}
+use Rattle.std.proofs.Common.{◌≡◌, ◌<◌, ◌&&◌, true, false, None, codes, length, refl, sym, ap, ◌∙◌, arith}
 use Rattle.std.proofs.lemmas.Bool.{eqb-true}
 use Rattle.std.proofs.lemmas.Bool.Decides.{nat_tests}
 use Rattle.giotto_tasks.specs.Names.{same_name}
 use Rattle.tenant_lines.specs.GrantLines.{offer_command}
 use Rattle.tenant_lines.specs.Words.{words_of, first_word_of, behind_first_word}
-use Rattle.tenant_lines.specs.inner.GrantWords.{offer_within, word_behind}
+use Rattle.tenant_lines.specs.inner.GrantWords.{offer_within}
 use Rattle.tenant_lines.proofs.GrantLines.{offer_short, offer_long}
 use Rattle.tenant_lines.proofs.grant_lines.offer_by.Goals as goal
 
