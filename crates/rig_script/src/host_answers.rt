@@ -273,6 +273,7 @@ fn work_reply(text: &mut String, number: u128) -> Result<(), AllocError>
 }
 
 // The reply to a tenant's command, as it is written: the tenant's name, a space, the reply, and LF.
+#[inline(always)]
 fn tell(text: &mut String, name: &str, reply: &Reply) -> Result<(), AllocError>
     ensures { OnOk result (string_bytes text.new ≡ string_bytes text.old ++ reply_line name.now (text_of_reply reply.now)) }
 {
