@@ -16,6 +16,7 @@ ghost use Rattle.tenant_state.specs.Standing.{Standing, at_rest};
 ghost use Rattle.tenant_state.specs.cited.Standing.{HasItsEntries, HasItsResults, without_ended};
 
 use crate::grants::grant;
+use tenant_grants::granted::Granted;
 use tenant_jobs::finished::Finished;
 use tenant_jobs::jobs::Jobs;
 use tenant_state::tenants::Tenant;
@@ -43,7 +44,7 @@ pub fn ready(tenants: &mut [Tenant]) -> Option<usize>
 pub fn instant(
     tenants: &mut [Tenant],
     frame: &[i64],
-    granted: &mut [Option<i64>],
+    granted: &mut [Granted],
     finished: &mut Finished,
     jobs: &mut Jobs,
 )
@@ -74,7 +75,7 @@ pub fn instant(
 pub fn advance(
     tenants: &mut [Tenant],
     frame: &[i64],
-    granted: &mut [Option<i64>],
+    granted: &mut [Granted],
     finished: &mut Finished,
 )
     requires placed { ArePlaced tenants.old }
@@ -145,7 +146,7 @@ fn first_halves(tenants: &mut [Tenant], finished: &Finished)
 fn second_halves(
     tenants: &mut [Tenant],
     frame: &[i64],
-    granted: &[Option<i64>],
+    granted: &mut [Granted],
     finished: &mut Finished,
 )
     requires rest { All (λ (s : Standing). s.ready.ended ≡ []) tenants.old }
@@ -165,7 +166,7 @@ fn second_halves(
         let tenant = &mut tenants[i];
         let before = tenant.active();
         let behind = first + tenant.bind_count();
-        tenant.second_half(frame, &granted[first..behind]);
+        tenant.second_half(frame, &mut granted[first..behind]);
         tenant.enter(before, finished);
         tenant.known();
         first = behind;

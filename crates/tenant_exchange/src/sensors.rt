@@ -9,6 +9,7 @@ ghost use Rattle.tenant_slots.specs.cited.Readings.{with_readings};
 
 use giotto_check::Checked;
 use rig_config::Budgets;
+use tenant_grants::granted::Granted;
 use tenant_grants::grants::Grants;
 use tenant_slots::sensors::{sense, take_granted};
 
@@ -19,7 +20,7 @@ pub fn read_sensors(
     budgets: &Budgets,
     frame: &[i64],
     grants: &Grants,
-    granted: &[Option<i64>],
+    granted: &mut [Granted],
     values: &mut [i64],
 )
     requires { length values.old ≡ slots_of checked.now }
@@ -31,10 +32,11 @@ pub fn read_sensors(
     checked.known();
     grants.known();
     for i in 0..granted.len() {
-        let Some(value) = granted[i] else { continue };
+        let granted = &mut granted[i];
+        let Some(value) = granted.value() else { continue };
         let Some((sensor, _, _)) = grants.bind_at(i) else {
             return
         };
-        take_granted(checked, &sensor, value, values);
+        take_granted(checked, sensor, value, granted.sensor_hint(), values);
     }
 }

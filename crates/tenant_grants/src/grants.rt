@@ -179,13 +179,40 @@ impl Grants {
 
     /// The least and the greatest value that the offer of the actuator to the tenant at a place grants, where it is offered. Takes no
     /// memory.
-    pub fn bounds(&self, actuator: &Name, tenant: TenantId) -> Option<(i64, i64)>
-        ensures bounds { result ≡ bounds_of_offer self.now.offers actuator.now (name_of_place self.now.owner.roster tenant) }
-        ensures offered { is_some result ≡ offers self.now.offers actuator.now (name_of_place self.now.owner.roster tenant) }
+    #[inline(always)]
+    pub fn bounds(&self, actuator: &Name, tenant: &Name, hint: &mut usize) -> Option<(i64, i64)>
+        ensures bounds { result ≡ bounds_of_offer self.now.offers actuator.now tenant.now }
+        ensures offered { is_some result ≡ offers self.now.offers actuator.now tenant.now }
     {
-        let tenant = name_in(self.roster.as_slice(), tenant);
-        let offer = self.offers.get(&offer_of(actuator.copy(), tenant))?;
+        let offer = self.offer_to(actuator, tenant, hint)?;
         Some((offer.bounds.low(), offer.bounds.high()))
+    }
+
+    #[inline(always)]
+    fn offer_to(&self, actuator: &Name, tenant: &Name, hint: &mut usize) -> Option<&Offer>
+    {
+        if let Some(offer) = self.offers.get_index(*hint) {
+            if offer.actuator == *actuator && offer.tenant == *tenant {
+                return Some(offer);
+            }
+        }
+        self.found_offer(actuator, tenant, hint)
+    }
+
+    #[inline(never)]
+    fn found_offer(&self, actuator: &Name, tenant: &Name, hint: &mut usize) -> Option<&Offer>
+    {
+        let (place, offer) = self.offers.get_full(&offer_of(actuator.copy(), tenant.copy()))?;
+        *hint = place;
+        Some(offer)
+    }
+
+    /// The names of all tenants, by their places.
+    #[inline(always)]
+    pub fn roster(&self) -> &[Name]
+        ensures { result.now ≡ self.now.owner.roster }
+    {
+        self.roster.as_slice()
     }
 
     /// Binds a sensor to an actuator of the tenant of this name, behind the other binds.
@@ -241,8 +268,9 @@ impl Grants {
 
     /// The bind at a place of its list, counted from 0: its sensor, the place of the tenant that it is bound to, and that tenant's
     /// actuator. Takes no memory.
-    pub fn bind_at(&self, i: usize) -> Option<(Name, TenantId, Name)>
-        ensures bind { result ≡ bind_at self.now.owner.roster self.now.binds i }
+    #[inline(always)]
+    pub fn bind_at(&self, i: usize) -> Option<(&Name, TenantId, &Name)>
+        ensures bind { option_map lent result ≡ bind_at self.now.owner.roster self.now.binds i }
         ensures found { IsSome result ↔ (i < length self.now.binds) }
     {
         entry_at(&self.binds, i)

@@ -77,11 +77,12 @@ pub(crate) fn take_out(binds: &mut BindTable, sensor: &Name) -> bool
 }
 
 /// The sensor of the bind at a place, the supplier's place and the supplier's actuator.
-pub(crate) fn entry_at(binds: &BindTable, i: usize) -> Option<(Name, TenantId, Name)>
-    ensures { result ≡ option_map placed (slice_get binds.now.entries i) }
+#[inline(always)]
+pub(crate) fn entry_at(binds: &BindTable, i: usize) -> Option<(&Name, TenantId, &Name)>
+    ensures { option_map lent result ≡ option_map placed (slice_get binds.now.entries i) }
 {
     let (sensor, supplier) = binds.get_index(i)?;
-    Some((sensor.name.copy(), supplier.place, supplier.actuator.copy()))
+    Some((&sensor.name, supplier.place, &supplier.actuator))
 }
 
 /// The bind that an entry stands for.

@@ -76,12 +76,24 @@ fn note_update(actuator: &Actuator, value: i64, tick: u64, trace: &mut Trace)
 }
 
 /// The place of the actuator of this name among these, counted from 0; `None` where none has it.
-pub fn actuator_place(actuators: &[Actuator], name: &str) -> Option<usize>
+#[inline(always)]
+pub fn actuator_place(actuators: &[Actuator], name: &Name, hint: &mut usize) -> Option<usize>
+{
+    if let Some(actuator) = actuators.get(*hint) {
+        if actuator.name == *name {
+            return Some(*hint);
+        }
+    }
+    let place = found_place(actuators, name)?;
+    *hint = place;
+    Some(place)
+}
+
+#[inline(never)]
+fn found_place(actuators: &[Actuator], name: &Name) -> Option<usize>
     ensures { result ≡ position_from (λ (a : Actuator). same_name a.name name.now) 0 actuators.now }
 {
-    actuators
-        .iter()
-        .position(|actuator| actuator.name.as_str() == name)
+    actuators.iter().position(|actuator| actuator.name == *name)
 }
 
 /// The name of the first of these actuators that drives this line; `None` where none does.

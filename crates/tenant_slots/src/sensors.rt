@@ -30,21 +30,49 @@ pub fn sense(checked: &Checked, budgets: &Budgets, frame: &[i64], values: &mut [
 /// Takes a value that is granted to a sensor of this name: the `grant` sensor of the name has it, and where there is none the
 /// values stay as they are. Takes no memory. Behind [`sense`], values granted to different names give what the law
 /// [`granted_behind_readings`](crate::laws::granted_behind_readings) says.
-pub fn take_granted(checked: &Checked, sensor: &Name, value: i64, values: &mut [i64])
+#[inline(always)]
+pub fn take_granted(
+    checked: &Checked,
+    sensor: &Name,
+    value: i64,
+    hint: &mut usize,
+    values: &mut [i64],
+)
     requires { length values.old ≡ slots_of checked.now }
     ensures { valuation_of checked.now values.new ≡ with_granted checked.now sensor.now value (valuation_of checked.now values.old) }
 {
     let sensors = checked.program().sensors();
-    if let Some(place) = granted_place(sensors, sensor) {
+    if let Some(place) = granted_place(sensors, sensor, hint) {
         values[place] = value;
     }
 }
 
 // The place of the first of these sensors that takes what is granted to this name; `None` where none does.
-fn granted_place(sensors: &[Sensor], name: &Name) -> Option<usize>
+#[inline(always)]
+fn granted_place(sensors: &[Sensor], name: &Name, hint: &mut usize) -> Option<usize>
+{
+    if let Some(sensor) = sensors.get(*hint) {
+        if takes_granted(sensor, name) {
+            return Some(*hint);
+        }
+    }
+    let place = found_place(sensors, name)?;
+    *hint = place;
+    Some(place)
+}
+
+#[inline(never)]
+fn found_place(sensors: &[Sensor], name: &Name) -> Option<usize>
     ensures { result ≡ position_from (λ (s : Sensor). takes_granted name.now (sensor_of s)) 0 sensors.now }
 {
-    sensors.iter().position(|sensor| matches!(sensor.source, Source::Grant) && sensor.name == *name)
+    sensors.iter().position(|sensor| takes_granted(sensor, name))
+}
+
+#[inline(always)]
+fn takes_granted(sensor: &Sensor, name: &Name) -> bool
+    ensures { result ≡ takes_granted name.now (sensor_of sensor.now) }
+{
+    matches!(sensor.source, Source::Grant) && sensor.name == *name
 }
 
 // A sensor's reading where nothing is granted: its line's value, if the tenant may read the line, or else its initial value.

@@ -63,14 +63,15 @@ impl Tenant {
     }
 
     /// The value of the actuator of this name, or `None` where the tenant's program has no such actuator. Takes no memory.
-    pub fn actuator(&self, name: &str) -> Option<i64>
+    #[inline(always)]
+    pub fn actuator(&self, name: &Name, hint: &mut usize) -> Option<i64>
         ensures { result ≡ actuator_value self.now.row name.now }
     {
         let Some(checked) = &self.program else {
             return None;
         };
         let program = checked.program();
-        let place = actuator_place(program.actuators(), name)?;
+        let place = actuator_place(program.actuators(), name, hint)?;
         let slot = program.sensors().len() + place;
         self.values.get(slot).copied()
     }
@@ -83,7 +84,7 @@ impl Tenant {
             return None;
         };
         let name = driver_name(checked.program().actuators(), line as u64)?;
-        self.actuator(name.as_str())
+        self.actuator(&name, &mut 0)
     }
 }
 
