@@ -56,7 +56,7 @@ pub(crate) fn places(alloc: Global, config: &Config) -> Result<Vec<Granted>, All
     let mut places = Vec::new(alloc);
     for tenant in config.tenants() {
         for _bind in 0..tenant.budgets.binds {
-            places.push(Granted::none())?;
+            places.push(Granted::nothing())?;
         }
     }
     Ok(places)

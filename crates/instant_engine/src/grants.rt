@@ -41,10 +41,9 @@ fn grant_to(tenants: &[Tenant], place: TenantId, first: usize, granted: &mut [Gr
 {
     let binds = tenants[place].bind_count();
     for i in 0..binds {
-        let through = &mut granted[first + i];
-        let mut hints = through.hints();
+        let mut hints = granted[first + i].hints();
         let value = granted_by(tenants, place, i, &mut hints);
-        through.note(value, hints);
+        granted[first + i].note(value, hints);
     }
     first + binds
 }
@@ -61,12 +60,15 @@ fn granted_by(tenants: &[Tenant], place: TenantId, i: usize, hints: &mut Hints) 
     granted_from(&tenants[supplier], actuator, &tenant.roster()[place], hints)
 }
 
-// What a supplier grants of this actuator to the tenant of this name: its value, within the bounds of the supplier's offer.
+// What a supplier grants of this actuator to the tenant of this name: its value, within the bounds of the supplier's offer. The hints are
+// left at the places where both were found.
 #[inline(always)]
 fn granted_from(supplier: &Tenant, actuator: &Name, tenant: &Name, hints: &mut Hints) -> Option<i64>
-    ensures { result ≡ granted_within (bounds_of_offer supplier.now.row.offers actuator.now tenant.now) (actuator_value supplier.now.row actuator.now) }
+    ensures { result ≡ option_and_then (λ o. option_map (granted_value o) (actuator_value supplier.now.row actuator.now)) (offer_of supplier.now.row.offers actuator.now tenant.now) }
 {
-    let (low, high) = supplier.bounds(actuator, tenant, &mut hints.offer)?;
-    let value = supplier.actuator(actuator, &mut hints.actuator)?;
-    Some(clamped(value, low, high))
+    let (place, offer) = supplier.offer_of(actuator, tenant, hints.offer)?;
+    hints.offer = place;
+    let (place, value) = supplier.actuator(actuator, hints.actuator)?;
+    hints.actuator = place;
+    Some(clamped(value, offer.bounds.low(), offer.bounds.high()))
 }

@@ -4,12 +4,12 @@ ghost use Rattle.std.specs.Prelude.{◌≡◌, None};
 
 use std::marker::Model;
 
-/// What was granted through a bind last, if something was, and where the names of that bind were found then. Contracts see it as the
-/// value.
+/// What is granted through a bind, if something is, and where the names of the bind were found last. Contracts see it as the value.
 #[derive(Drop)]
 pub struct Granted {
     value: Option<i64>,
     hints: Hints,
+    sensor: usize,
 }
 
 impl Model for Granted {
@@ -20,41 +20,33 @@ impl Model for Granted {
     ghost view = { λ g. g.value };
 }
 
-/// Where the names of a bind were found last. Contracts see nothing of it: whoever looks at a place compares the name that stands there,
-/// and looks for it where it is another.
+/// Where the supplier's side of a bind was found last, each place counted from 0. Whoever takes a hint compares the name that stands
+/// there, and looks for the name where it is another one: so contracts say nothing of hints.
 #[derive(Clone, Copy)]
 pub struct Hints {
     /// The supplier's offer, among its offers.
     pub offer: usize,
-    /// The supplier's actuator, in its program's text.
+    /// The supplier's actuator, among those of its program.
     pub actuator: usize,
-    /// The sensor that is bound, in its program's text.
-    pub sensor: usize,
-}
-
-impl Hints {
-    /// The first place of each.
-    pub fn first() -> Hints {
-        Hints {
-            offer: 0,
-            actuator: 0,
-            sensor: 0,
-        }
-    }
 }
 
 impl Granted {
-    /// Nothing.
-    pub fn none() -> Granted
+    /// Nothing is granted, and no name was found yet.
+    pub fn nothing() -> Granted
         ensures { result ≡ None }
     {
+        let hints = Hints {
+            offer: 0,
+            actuator: 0,
+        };
         Granted {
             value: None,
-            hints: Hints::first(),
+            hints,
+            sensor: 0,
         }
     }
 
-    /// The value, if something is granted.
+    /// What is granted.
     #[inline(always)]
     pub fn value(&self) -> Option<i64>
         ensures { result ≡ self.now }
@@ -62,14 +54,13 @@ impl Granted {
         self.value
     }
 
-    /// Where the names of its bind were found last.
+    /// Where the supplier's side was found last.
     #[inline(always)]
-    pub fn hints(&self) -> Hints
-    {
+    pub fn hints(&self) -> Hints {
         self.hints
     }
 
-    /// Notes what is granted, and where the names were found.
+    /// Notes what is granted, and where the supplier's side was found.
     #[inline(always)]
     pub fn note(&mut self, value: Option<i64>, hints: Hints)
         ensures { self.new ≡ value }
@@ -78,10 +69,17 @@ impl Granted {
         self.hints = hints;
     }
 
-    /// Where the bind's sensor was found last.
+    /// Where the bound sensor was found last, among those of its program: a hint too.
     #[inline(always)]
-    pub fn sensor_hint(&mut self) -> &mut usize
+    pub fn sensor_hint(&self) -> usize {
+        self.sensor
+    }
+
+    /// Notes where the sensor was found.
+    #[inline(always)]
+    pub fn note_sensor(&mut self, place: usize)
+        ensures { self.new ≡ self.old }
     {
-        &mut self.hints.sensor
+        self.sensor = place;
     }
 }

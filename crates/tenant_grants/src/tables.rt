@@ -1,6 +1,6 @@
 //! The table of binds: an entry for each, by its sensor.
 
-ghost use Rattle.std.specs.Prelude.{◌≡◌, ◌++◌, [], ◌∷◌, IfErr, OnErr, OnOk, false, map, option_map, slice_get};
+ghost use Rattle.std.specs.Prelude.{◌≡◌, ◌↔◌, ◌<◌, ◌++◌, [], ◌∷◌, IfErr, IsSome, OnErr, OnOk, false, length, map, option_map, slice_get};
 ghost use Rattle.std.specs.Bool.{OnFalse};
 ghost use Rattle.std.specs.List.{IsDistinct, list_any};
 ghost use Rattle.std.specs.Map.{keys_of, remove_entry};
@@ -79,7 +79,8 @@ pub(crate) fn take_out(binds: &mut BindTable, sensor: &Name) -> bool
 /// The sensor of the bind at a place, the supplier's place and the supplier's actuator.
 #[inline(always)]
 pub(crate) fn entry_at(binds: &BindTable, i: usize) -> Option<(&Name, TenantId, &Name)>
-    ensures { option_map lent result ≡ option_map placed (slice_get binds.now.entries i) }
+    ensures entry { option_map (λ b. (b.0.now, b.1, b.2.now)) result ≡ option_map placed (slice_get binds.now.entries i) }
+    ensures found { IsSome result ↔ (i < length binds.now.entries) }
 {
     let (sensor, supplier) = binds.get_index(i)?;
     Some((&sensor.name, supplier.place, &supplier.actuator))

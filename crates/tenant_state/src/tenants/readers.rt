@@ -62,18 +62,18 @@ impl Tenant {
         self.active.len()
     }
 
-    /// The value of the actuator of this name, or `None` where the tenant's program has no such actuator. Takes no memory.
+    /// The value of the actuator of this name, and its place in the program's text, counted from 0; `None` where the tenant's program has
+    /// no such actuator. It is looked for at `hint` first, where it may have been found before. Takes no memory.
     #[inline(always)]
-    pub fn actuator(&self, name: &Name, hint: &mut usize) -> Option<i64>
-        ensures { result ≡ actuator_value self.now.row name.now }
+    pub fn actuator(&self, name: &Name, hint: usize) -> Option<(usize, i64)>
+        ensures { option_map (λ a. a.1) result ≡ actuator_value self.now.row name.now }
     {
         let Some(checked) = &self.program else {
             return None;
         };
-        let program = checked.program();
-        let place = actuator_place(program.actuators(), name, hint)?;
-        let slot = program.sensors().len() + place;
-        self.values.get(slot).copied()
+        let place = actuator_place(checked, name, hint)?;
+        let slot = checked.program().sensors().len() + place;
+        Some((place, self.values[slot]))
     }
 
     /// The value of the actuator that drives this line, or `None` where the tenant's program has no such actuator. Takes no memory.
@@ -84,7 +84,8 @@ impl Tenant {
             return None;
         };
         let name = driver_name(checked.program().actuators(), line as u64)?;
-        self.actuator(&name, &mut 0)
+        let (_, value) = self.actuator(&name, 0)?;
+        Some(value)
     }
 }
 
