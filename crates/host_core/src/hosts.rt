@@ -1,6 +1,6 @@
 //! The host of a rig: all its tenants, on one clock.
 
-ghost use Rattle.std.specs.Prelude.{◌≡◌, ◌≢◌, ◌<◌, ◌≤◌, ◌+◌, ◌-◌, ◌^◌, ◌↔◌, ◌||◌, length, map, is_some, if◌then◌else◌, IsOk, IsErr, IsTrue, IsSome, IfOk, IfSome, OnOk, OnErr, OnSome, Ok, Err, None, true, false};
+ghost use Rattle.std.specs.Prelude.{◌≡◌, ◌≢◌, ◌<◌, ◌≤◌, ◌+◌, ◌-◌, ◌^◌, ◌↔◌, ◌||◌, length, map, is_some, option_map, if◌then◌else◌, IsOk, IsErr, IsTrue, IsSome, IfOk, IfSome, OnOk, OnErr, OnSome, Ok, Err, None, true, false};
 ghost use Rattle.std.specs.List.{All};
 ghost use Rattle.instant_engine.specs.cited.Tables.{IsTaskTable};
 ghost use Rattle.instant_engine.specs.Tenants.{ArePlaced, most_of, released_from, tenant_at};
@@ -357,9 +357,9 @@ impl Host {
     /// bound to, and that tenant's actuator. None where the tenant has fewer binds. Takes no memory.
     pub fn bind_at(&self, tenant: TenantId, i: usize) -> Option<(&Name, TenantId, &Name)>
         requires { tenant < length self.now.config.tenants }
-        ensures bind { result ≡ bind_at (roster_of self.now.config) (tenant_at self.now.tenants tenant).row.binds i }
+        ensures bind { option_map (λ b. (b.0.now, b.1, b.2.now)) result ≡ bind_at (roster_of self.now.config) (tenant_at self.now.tenants tenant).row.binds i }
         ensures found { IsSome result ↔ (i < length (tenant_at self.now.tenants tenant).row.binds) }
-        ensures rows { ForEachState self.now (λ setting state. result ≡ bind_at (roster_of setting.config) (row_at state tenant).binds i) }
+        ensures rows { ForEachState self.now (λ setting state. option_map (λ b. (b.0.now, b.1, b.2.now)) result ≡ bind_at (roster_of setting.config) (row_at state tenant).binds i) }
     {
         self.tenants[tenant].bind_at(i)
     }

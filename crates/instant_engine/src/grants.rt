@@ -1,13 +1,12 @@
 //! The values that tenants grant each other, taken between the halves of an instant.
 
 ghost use Rattle.std.specs.Prelude.{◌≡◌, ◌<◌, ◌≤◌, ◌+◌, drop, length, map, slice_get, take};
-ghost use Rattle.std.specs.Option.{option_and_then};
+ghost use Rattle.std.specs.Option.{option_and_then, option_map};
 ghost use Rattle.rig_model.specs.Granted.{granted_by};
 ghost use Rattle.instant_engine.specs.cited.Tenants.{HaveRoster, binds_of, roster_among, rows_of};
 ghost use Rattle.instant_engine.specs.cited.Halves.{AreGranted};
-ghost use Rattle.instant_engine.specs.inner.Within.{granted_within};
 ghost use Rattle.rig_model.specs.Row.{actuator_value};
-ghost use Rattle.tenant_grants.specs.Grants.{bounds_of_offer, name_of_place};
+ghost use Rattle.tenant_grants.specs.Grants.{granted_value, offer_of};
 
 use giotto_tasks::names::Name;
 use rig_config::TenantId;

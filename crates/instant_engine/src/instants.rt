@@ -152,12 +152,12 @@ fn second_halves(
     requires rest { All (λ (s : Standing). s.ready.ended ≡ []) tenants.old }
     requires ended_due { All (λ (s : Standing). due_tasks s.row ≡ []) tenants.old }
     requires counts { All (λ (s : Standing). s.row.next_tick < 2 ^ 64 - 1) tenants.old }
-    requires places { binds_of tenants.old ≤ length granted.now }
+    requires places { binds_of tenants.old ≤ length granted.old }
     requires placed { ArePlaced tenants.old }
     requires ready { All IsReady tenants.old }
     requires room { most_of tenants.old ≤ finished.old.room }
     requires new { (t : ℕ) (j : JobId) → t < length tenants.old → j.tenant ≡ t → (tenant_at tenants.old t).row.next_tick ≡ j.tick → is_entered finished.old.entries j ≡ false }
-    ensures halves { AreSecondHalves frame.now granted.now tenants.old tenants.new }
+    ensures halves { AreSecondHalves frame.now granted.old tenants.old tenants.new }
     ensures entries { (j : JobId) → entry_in finished.new.entries j
         ≡ entry_put (is_released_among tenants.old tenants.new j) j None finished.old.entries }
 {

@@ -34,7 +34,9 @@ pub fn read_sensors(
     checked.known();
     grants.known();
     for i in 0..granted.len() {
-        let Some(value) = granted[i].value() else { continue };
+        let Some(value) = granted[i].value() else {
+            continue
+        };
         let Some((sensor, _, _)) = grants.bind_at(i) else {
             return
         };

@@ -49,6 +49,7 @@ impl Tenant {
         ensures released { AreReleased self.old.row self.new.row }
         ensures jobs { jobs.new.jobs ≡ jobs.old.jobs ++ released_at self.old.tenancy.owner.place self.old.row.next_tick self.new.row }
         ensures room { jobs.old.room ≤ jobs.new.room + most_released self.old.row }
+        ensures granted { granted.new ≡ granted.old }
     {
         let tick = self.next_tick();
         self.second_half(frame, granted);
@@ -57,7 +58,8 @@ impl Tenant {
 
     /// The second half of an instant whose number is below the greatest: sensors are read, tasks are released, and the mode time moves on.
     /// Each due task ended in the first half. `frame` has the input value of each line, and `granted` what is granted through each bind,
-    /// if something is, by the bind's place. It releases no more tasks than `ready` told. Takes no memory.
+    /// if something is, by the bind's place; where a bind's sensor was found is noted there. It releases no more tasks than `ready` told.
+    /// Takes no memory.
     // Inlined, so that a tenant that isn't running costs its host no call.
     #[inline(always)]
     pub fn second_half(&mut self, frame: &[i64], granted: &mut [Granted])
@@ -69,6 +71,7 @@ impl Tenant {
         ensures released { AreReleased self.old.row self.new.row }
         ensures few { length (released_at self.old.tenancy.owner.place self.old.row.next_tick self.new.row) ≤ most_released self.old.row }
         ensures shared { self.old.ready.shared ≡ true → self.new.ready.shared ≡ true }
+        ensures granted { granted.new ≡ granted.old }
     {
         if self.mode_time == 0 && self.is_running() {
             self.install_waiting();
@@ -105,6 +108,7 @@ impl Tenant {
         ensures program { self.new.row.program ≡ self.old.row.program }
         ensures released { AreReleased self.old.row self.new.row }
         ensures shared { self.new.ready.shared ≡ self.old.ready.shared }
+        ensures granted { granted.new ≡ granted.old }
     {
         let release = self.next_tick;
         self.next_tick += 1;

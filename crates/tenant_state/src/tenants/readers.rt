@@ -73,7 +73,8 @@ impl Tenant {
         };
         let place = actuator_place(checked, name, hint)?;
         let slot = checked.program().sensors().len() + place;
-        Some((place, self.values[slot]))
+        let values = self.values.as_slice();
+        Some((place, values[slot]))
     }
 
     /// The value of the actuator that drives this line, or `None` where the tenant's program has no such actuator. Takes no memory.
