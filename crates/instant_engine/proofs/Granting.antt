@@ -1,5 +1,5 @@
 -- What is granted through the binds of a tenant, and how it is written place by place.
-use Rattle.std.proofs.Common.{◌≡◌, ℕ, ◌+◌, ◌<◌, ◌≤◌, ℤ, List, [], ◌∷◌, ◌++◌, length, map, take, drop, set, get_or, slice_get, Option, Some, None, option_map, refl, sym, ap, ◌∙◌, arith, length-drop}
+use Rattle.std.proofs.Common.{◌≡◌, ℕ, ◌+◌, ◌<◌, ◌≤◌, ℤ, List, [], ◌∷◌, ◌++◌, length, map, take, drop, set, get_or, slice_get, Option, Some, None, option_map, unwrap_or, refl, sym, ap, ◌∙◌, arith, length-drop}
 use Rattle.std.specs.Option.{option_and_then}
 use Rattle.std.proofs.lemmas.List.{drop-set-add, drop-take, take-take, get_or-map, length-map, take-set-le, take_more, take_more_set}
 use Rattle.std.proofs.lemmas.List.Quantifiers.{position-Some}
@@ -29,6 +29,10 @@ bound_within roster bs i u sensor actuator = by (slice_get bs i)
     by : (o : Option Bind) → option_and_then (with_place roster) o ≡ Some (sensor, u, actuator) → u < length roster
     by None e = absurd (cc)
     by (Some b) e = placed b (place_in roster b.tenant) refl e
+
+-- the name of a tenant is the one that stands at its place
+pub name_there : (roster : List Name) (place : ℕ) (d : Name) → place < length roster → get_or roster place d ≡ name_of_place roster place
+name_there roster place d lt = ap (λ o. unwrap_or o []) (sym (slice_get-get_or roster place d lt))
 
 -- what is granted through a bind, by its supplier's place and actuator
 through_bind : (roster : List Name) (bs : List Bind) (i : ℕ) (from : Name → ℕ → Option ℤ)

@@ -1,4 +1,4 @@
-use Rattle.std.proofs.Common.{Bor, ℕ, ◌≡◌, ◌<◌, length, Some, sym, ap, ◌∙◌, arith}
+use Rattle.std.proofs.Common.{Bor, ℕ, ◌≡◌, ◌<◌, length, get_or, Some, sym, ap, ◌∙◌, arith}
 use Rattle.std.specs.Prelude.{option_map}
 use Rattle.std.proofs.lemmas.List.{get_or_default}
 use Rattle.giotto_tasks.specs.declared.names.Name.{Name}
@@ -28,4 +28,16 @@ module _ (c : In_ok-supplier) where
       )
 
 pub returns : goal.returns
-returns c = ?
+returns c =
+    let earlier = (goal.at.returns c).In_ok-supplier in
+    let tenants = c.args.tenants.now in
+    let it = c.in_ok-supplier in
+    let x = c.index-tenants-place.result in
+    let s = c.index-tenants-supplier.result in
+    let name = c.index-roster-place.result in
+    let supplier = c.index-tenants-supplier.is ∙ get_or_default tenants it.supplier s no_tenant (below earlier) in
+    let within : c.args.place < length x.tenancy.owner.roster = omega (arith, many earlier, c.requires.tenant) in
+    let named : name ≡ name_of_place x.tenancy.owner.roster c.args.place =
+    c.index-roster-place.is ∙ ap (λ names. get_or names c.args.place name) c.roster.ensures ∙ name_there x.tenancy.owner.roster c.args.place name within in
+    c.granted_from.ensures
+    ∙ sym (granted_there tenants c.args.place c.args.i it.supplier it.field-0-0.now it.actuator.now name x s c.requires.rosters c.requires.tenant (own earlier) supplier (bound earlier) named)

@@ -1,4 +1,5 @@
 use Rattle.std.proofs.Common.{◌≡◌, ◌+◌, ◌-◌, ◌<◌, ◌≤◌, take, false, cond, length, length-drop, drop, get_or, Some, None, refl, ap, sym, subst, ◌∙◌, arith}
+use borrow.Rule.Slice.PartMut.{put_mid, put_same}
 use Rattle.std.specs.List.{AllByRecursion}
 use Rattle.tenant_jobs.specs.Finished.{entry_in}
 use Rattle.tenant_jobs.specs.cited.Finished.{is_entered}
@@ -77,7 +78,8 @@ loop-i-preserved c =
     λ k. take (many k) (drop (c.loop-i.invariant.first k) (c.loop-i.invariant.same k)) in
     record {
       first = omega (arith, c.loop-i.invariant.first, c.bind_count.ensures, binds_more _ c.loop-i.i c.args.tenants.now c.loop-i.tenants d inside c.loop-i.invariant.halves);
-      same = ?;
+      same = ap (put_mid c.loop-i.first (c.loop-i.first + c.bind_count.result - c.loop-i.first) c.loop-i.granted) c.second_half.ensures.granted
+          ∙ put_same c.loop-i.first (c.loop-i.first + c.bind_count.result - c.loop-i.first) c.loop-i.granted ∙ c.loop-i.invariant.same;
       halves = rw (c.enter.ensures.same)
           (stepped_more _ c.loop-i.i c.args.tenants.now c.loop-i.tenants d s inside c.loop-i.invariant.halves
           (record { half = subst (λ zs. IsSecondHalf c.args.frame.now zs (get_or c.loop-i.tenants c.loop-i.i d) c.second_half.new.self) its_grants c.second_half.ensures.half; released = c.second_half.ensures.released; few = c.second_half.ensures.few; shared = c.second_half.ensures.shared; known = known; binds = subst (λ (y : Standing). length y.row.binds ≤ y.tenancy.owner.most_binds) c.enter.ensures.same c.known.ensures.binds }));
