@@ -20,7 +20,7 @@ returns-then-is_source-2 c = λ setting state stands.
     let passes : has_source c.args.self.now c.in-Some.supplier c.args.source ≡ true = sym c.is_source-in-loop-i.ensures.links ∙ c.if-is_source-2.true in
     let found = found_before (roster_of setting.config) (λ v. has_source c.args.self.now v c.args.source) binds (c.loop-i.i + 1) x (next ∙ ap (λ b. cond b (Some x) None) passes) in
     let new : has_source c.args.self.now c.args.tenant c.args.source ≡ false = sym c.is_source.ensures.links ∙ c.if-is_source.false in
-    rw (new, found, c.clock.ensures, stands.same_clock) refl
+    rw (new, found, c.clock.ensures, stands.same_clock, c.copy.ensures, c.copy-then-is_source-2.ensures) refl
 
 pub loop-i-preserved : goal.loop-i-preserved
 loop-i-preserved c = λ setting state stands.
