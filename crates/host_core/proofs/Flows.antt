@@ -1,5 +1,5 @@
 -- The flows of a host: its tenants' binds, which lead from the sources behind an instant to those before it.
-use Rattle.std.proofs.Common.{◌≡◌, ℕ, ◌+◌, ◌<◌, ◌≤◌, ◌⊎◌, inl, inr, ⊎_elim, Bool, true, false, ◌||◌, ◌&&◌, eqb, ℤ, List, [], ◌∷◌, ◌++◌, length, take, get_or, add-one, ◌≢◌, Option, Some, None, refl, sym, ap, ◌∙◌, arith}
+use Rattle.std.proofs.Common.{Bor, ◌≡◌, ℕ, ◌+◌, ◌<◌, ◌≤◌, ◌⊎◌, inl, inr, ⊎_elim, Bool, true, false, ◌||◌, ◌&&◌, eqb, ℤ, List, [], ◌∷◌, ◌++◌, length, take, get_or, add-one, ◌≢◌, Option, Some, None, refl, sym, ap, ◌∙◌, arith}
 use Rattle.std.specs.Prelude.{nat_lt}
 use Rattle.std.specs.List.{cons_option, list_any, filter_map}
 use Rattle.std.proofs.Math.Seq.{take-suc}
@@ -54,6 +54,10 @@ named_end roster (x ∷ bs) b u = by (place_in roster x.tenant) (named_end roste
 
 abbrev no_bind : Bind
 no_bind = record { sensor = []; tenant = []; actuator = [] }
+
+-- a bind that is lent
+abbrev pub lent : Bor Name × ℕ × Bor Name → Name × ℕ × Name
+lent b = (b.0.now, b.1, b.2.now)
 
 -- one bind more
 pub one_bind_more : (roster : List Name) (bs : List Bind) (i u : ℕ) (o : Option (Name × ℕ × Name)) → i < length bs → o ≡ bind_at roster bs i

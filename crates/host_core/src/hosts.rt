@@ -1,6 +1,6 @@
 //! The host of a rig: all its tenants, on one clock.
 
-ghost use Rattle.std.specs.Prelude.{◌≡◌, ◌≢◌, ◌<◌, ◌≤◌, ◌+◌, ◌-◌, ◌^◌, ◌↔◌, ◌||◌, length, map, is_some, if◌then◌else◌, IsOk, IsErr, IsTrue, IsSome, IfOk, IfSome, OnOk, OnErr, OnSome, Ok, Err, None, true, false};
+ghost use Rattle.std.specs.Prelude.{◌≡◌, ◌≢◌, ◌<◌, ◌≤◌, ◌+◌, ◌-◌, ◌^◌, ◌↔◌, ◌||◌, length, map, is_some, option_map, if◌then◌else◌, IsOk, IsErr, IsTrue, IsSome, IfOk, IfSome, OnOk, OnErr, OnSome, Ok, Err, None, true, false};
 ghost use Rattle.std.specs.List.{All};
 ghost use Rattle.instant_engine.specs.cited.Tables.{IsTaskTable};
 ghost use Rattle.instant_engine.specs.Tenants.{ArePlaced, most_of, released_from, tenant_at};
@@ -33,6 +33,7 @@ use instant_engine::{Done, Finished, Job, JobId, Jobs, run_job};
 use rig_config::{Config, TenantId};
 use std::alloc::{AllocError, Global};
 use std::marker::Model;
+use tenant_grants::granted::Granted;
 use tenant_lines::commands::Command;
 use tenant_lines::replies::Reply;
 use tenant_programs::prepared::{Prepared, prepare};
@@ -80,7 +81,7 @@ pub struct Host {
     config: Config,
     tenants: Vec<Tenant>,
     /// What is granted through each bind at an instant, so that none takes memory for it.
-    granted: Vec<Option<i64>>,
+    granted: Vec<Granted>,
     finished: Finished,
     clock: u64,
 }
@@ -354,11 +355,11 @@ impl Host {
 
     /// A bind of the tenant at this place, by its place among the tenant's binds, from 0: its sensor, the place of the tenant that it is
     /// bound to, and that tenant's actuator. None where the tenant has fewer binds. Takes no memory.
-    pub fn bind_at(&self, tenant: TenantId, i: usize) -> Option<(Name, TenantId, Name)>
+    pub fn bind_at(&self, tenant: TenantId, i: usize) -> Option<(&Name, TenantId, &Name)>
         requires { tenant < length self.now.config.tenants }
-        ensures bind { result ≡ bind_at (roster_of self.now.config) (tenant_at self.now.tenants tenant).row.binds i }
+        ensures bind { option_map (λ b. (b.0.now, b.1, b.2.now)) result ≡ bind_at (roster_of self.now.config) (tenant_at self.now.tenants tenant).row.binds i }
         ensures found { IsSome result ↔ (i < length (tenant_at self.now.tenants tenant).row.binds) }
-        ensures rows { ForEachState self.now (λ setting state. result ≡ bind_at (roster_of setting.config) (row_at state tenant).binds i) }
+        ensures rows { ForEachState self.now (λ setting state. option_map (λ b. (b.0.now, b.1, b.2.now)) result ≡ bind_at (roster_of setting.config) (row_at state tenant).binds i) }
     {
         self.tenants[tenant].bind_at(i)
     }

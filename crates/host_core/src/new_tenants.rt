@@ -11,6 +11,7 @@ use arrayvec::ArrayVec;
 use giotto_tasks::names::Name;
 use rig_config::{Config, TenantId};
 use std::alloc::{AllocError, Global};
+use tenant_grants::granted::Granted;
 use tenant_grants::grants::Grants;
 use tenant_state::tenants::Tenant;
 
@@ -49,13 +50,13 @@ fn roster(config: &Config) -> ArrayVec<Name, 16>
 ///
 /// # Errors
 /// Want of memory.
-pub(crate) fn places(alloc: Global, config: &Config) -> Result<Vec<Option<i64>>, AllocError>
+pub(crate) fn places(alloc: Global, config: &Config) -> Result<Vec<Granted>, AllocError>
     ensures { IfOk result (λ places. length places.items ≡ most_binds config.now) }
 {
     let mut places = Vec::new(alloc);
     for tenant in config.tenants() {
         for _bind in 0..tenant.budgets.binds {
-            places.push(None)?;
+            places.push(Granted::nothing())?;
         }
     }
     Ok(places)

@@ -1,5 +1,5 @@
 -- What is granted through the binds of a tenant, and how it is written place by place.
-use Rattle.std.proofs.Common.{◌≡◌, ℕ, ◌+◌, ◌<◌, ◌≤◌, ℤ, List, [], ◌∷◌, ◌++◌, length, map, take, drop, set, get_or, slice_get, Option, Some, None, option_map, refl, sym, ap, ◌∙◌, arith, length-drop}
+use Rattle.std.proofs.Common.{◌≡◌, ℕ, ◌+◌, ◌<◌, ◌≤◌, ℤ, List, [], ◌∷◌, ◌++◌, length, map, take, drop, set, get_or, slice_get, Option, Some, None, option_map, unwrap_or, refl, sym, ap, ◌∙◌, arith, length-drop}
 use Rattle.std.specs.Option.{option_and_then}
 use Rattle.std.proofs.lemmas.List.{drop-set-add, drop-take, take-take, get_or-map, length-map, take-set-le, take_more, take_more_set}
 use Rattle.std.proofs.lemmas.List.Quantifiers.{position-Some}
@@ -10,8 +10,7 @@ use Rattle.giotto_tasks.proofs.cited.ListLemmas.{some_same}
 use Rattle.rig_model.specs.Granted.{granted_by, granted_from}
 use Rattle.instant_engine.specs.Tenants.{tenant_at}
 use Rattle.instant_engine.specs.cited.Tenants.{HaveRoster, roster_among, rows_of}
-use Rattle.instant_engine.specs.inner.Within.{granted_within}
-use Rattle.tenant_grants.specs.Grants.{bind_at, bounds_of_offer, granted_value, name_of_place, offer_of, place_in, with_place}
+use Rattle.tenant_grants.specs.Grants.{bind_at, granted_value, name_of_place, offer_of, place_in, with_place}
 use Rattle.tenant_grants.specs.declared.rows.Bind.{Bind}
 use Rattle.tenant_grants.specs.declared.rows.Offer.{Offer}
 use Rattle.rig_model.specs.Row.{actuator_value}
@@ -31,6 +30,10 @@ bound_within roster bs i u sensor actuator = by (slice_get bs i)
     by None e = absurd (cc)
     by (Some b) e = placed b (place_in roster b.tenant) refl e
 
+-- the name of a tenant is the one that stands at its place
+pub name_there : (roster : List Name) (place : ℕ) (d : Name) → place < length roster → get_or roster place d ≡ name_of_place roster place
+name_there roster place d lt = ap (λ o. unwrap_or o []) (sym (slice_get-get_or roster place d lt))
+
 -- what is granted through a bind, by its supplier's place and actuator
 through_bind : (roster : List Name) (bs : List Bind) (i : ℕ) (from : Name → ℕ → Option ℤ)
     → option_and_then (λ (b : Bind). option_and_then (from b.actuator) (place_in roster b.tenant)) (slice_get bs i) ≡ option_and_then (λ (x : Name × ℕ × Name). from x.2 x.1) (bind_at roster bs i)
@@ -45,25 +48,18 @@ through_bind roster bs i from = by (slice_get bs i)
     by None = refl
     by (Some b) = placed b (place_in roster b.tenant)
 
--- an offer grants the value within its ends
-by_offer : (o : Option Offer) (v : Option ℤ) → option_and_then (λ o. option_map (granted_value o) v) o ≡ granted_within (option_map (λ (o : Offer). (o.bounds.low, o.bounds.high)) o) v
-by_offer None v = refl
-by_offer (Some o) None = refl
-by_offer (Some o) (Some z) = refl
-
 -- what is granted through the bind at a place: its supplier is the tenant at place u
-pub granted_there : (tenants : List Standing) (place i u : ℕ) (sensor actuator : Name) (x s : Standing) → HaveRoster tenants → place < length tenants → x ≡ tenant_at tenants place → s ≡ tenant_at tenants u → u < length tenants
-    → bind_at x.tenancy.owner.roster x.row.binds i ≡ Some (sensor, u, actuator)
+pub granted_there : (tenants : List Standing) (place i u : ℕ) (sensor actuator tenant : Name) (x s : Standing) → HaveRoster tenants → place < length tenants → x ≡ tenant_at tenants place → s ≡ tenant_at tenants u
+    → bind_at x.tenancy.owner.roster x.row.binds i ≡ Some (sensor, u, actuator) → tenant ≡ name_of_place x.tenancy.owner.roster place
     → option_and_then (granted_by (roster_among tenants) (rows_of tenants) (rows_of tenants) place) (slice_get (rows_of tenants place).binds i)
-    ≡ granted_within (bounds_of_offer s.row.offers actuator (name_of_place s.tenancy.owner.roster place)) (actuator_value s.row actuator)
-granted_there tenants place i u sensor actuator x s shared lt own supplier below bound =
+    ≡ option_and_then (λ (o : Offer). option_map (granted_value o) (actuator_value s.row actuator)) (offer_of s.row.offers actuator tenant)
+granted_there tenants place i u sensor actuator tenant x s shared lt own supplier bound named =
     let roster : x.tenancy.owner.roster ≡ roster_among tenants = ap (λ (y : Standing). y.tenancy.owner.roster) own ∙ shared.same place lt in
-    let its : s.tenancy.owner.roster ≡ roster_among tenants = ap (λ (y : Standing). y.tenancy.owner.roster) supplier ∙ shared.same u below in
+    let name : name_of_place (roster_among tenants) place ≡ tenant = ap (λ names. name_of_place names place) (sym roster) ∙ sym named in
     let at : bind_at (roster_among tenants) (rows_of tenants place).binds i ≡ Some (sensor, u, actuator) = (λ k. bind_at (sym roster k) (sym own k).row.binds i) ∙ bound in
     through_bind (roster_among tenants) (rows_of tenants place).binds i (granted_from (roster_among tenants) (rows_of tenants) (rows_of tenants) place)
     ∙ ap (option_and_then (λ (y : Name × ℕ × Name). granted_from (roster_among tenants) (rows_of tenants) (rows_of tenants) place y.2 y.1)) at
-    ∙ by_offer (offer_of (rows_of tenants u).offers actuator (name_of_place (roster_among tenants) place)) (actuator_value (rows_of tenants u) actuator)
-    ∙ (λ k. granted_within (bounds_of_offer (sym supplier k).row.offers actuator (name_of_place (sym its k) place)) (actuator_value (sym supplier k).row actuator))
+    ∙ (λ k. option_and_then (λ (o : Offer). option_map (granted_value o) (actuator_value (sym supplier k).row actuator)) (offer_of (sym supplier k).row.offers actuator (name k)))
 
 -- what stands before the places that are written
 pub written_others : (old new : List (Option ℤ)) (first n from : ℕ) → from + n ≤ first → take first new ≡ take first old → take n (drop from new) ≡ take n (drop from old)

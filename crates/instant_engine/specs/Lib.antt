@@ -1,3 +1,2 @@
 pub mod Tenants
 pub mod cited
-pub mod inner

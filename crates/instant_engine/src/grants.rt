@@ -1,23 +1,23 @@
 //! The values that tenants grant each other, taken between the halves of an instant.
 
 ghost use Rattle.std.specs.Prelude.{◌≡◌, ◌<◌, ◌≤◌, ◌+◌, drop, length, map, slice_get, take};
-ghost use Rattle.std.specs.Option.{option_and_then};
+ghost use Rattle.std.specs.Option.{option_and_then, option_map};
 ghost use Rattle.rig_model.specs.Granted.{granted_by};
 ghost use Rattle.instant_engine.specs.cited.Tenants.{HaveRoster, binds_of, roster_among, rows_of};
 ghost use Rattle.instant_engine.specs.cited.Halves.{AreGranted};
-ghost use Rattle.instant_engine.specs.inner.Within.{granted_within};
 ghost use Rattle.rig_model.specs.Row.{actuator_value};
-ghost use Rattle.tenant_grants.specs.Grants.{bounds_of_offer, name_of_place};
+ghost use Rattle.tenant_grants.specs.Grants.{granted_value, offer_of};
 
 use giotto_tasks::names::Name;
 use rig_config::TenantId;
 use rig_config::intervals::clamped;
+use tenant_grants::granted::{Granted, Hints};
 use tenant_state::tenants::Tenant;
 
 /// Writes what is granted through each bind, tenant by tenant, where all tenants are behind the first half of an instant: the value of
 /// the actuator that it is bound to, within the bounds of the offer, where the other tenant offers it to this one and its program has it.
 /// Takes no memory.
-pub fn grant(tenants: &[Tenant], granted: &mut [Option<i64>])
+pub fn grant(tenants: &[Tenant], granted: &mut [Granted])
     requires rosters { HaveRoster tenants.now }
     requires places { binds_of tenants.now ≤ length granted.old }
     ensures granted { AreGranted tenants.now granted.new }
@@ -29,7 +29,7 @@ pub fn grant(tenants: &[Tenant], granted: &mut [Option<i64>])
 }
 
 // Writes what is granted through each bind of the tenant at this place, from the place `first` on. The place behind them.
-fn grant_to(tenants: &[Tenant], place: TenantId, first: usize, granted: &mut [Option<i64>]) -> usize
+fn grant_to(tenants: &[Tenant], place: TenantId, first: usize, granted: &mut [Granted]) -> usize
     requires rosters { HaveRoster tenants.now }
     requires tenant { place < length tenants.now }
     requires places { first + length (rows_of tenants.now place).binds ≤ length granted.old }
@@ -40,26 +40,34 @@ fn grant_to(tenants: &[Tenant], place: TenantId, first: usize, granted: &mut [Op
 {
     let binds = tenants[place].bind_count();
     for i in 0..binds {
-        granted[first + i] = granted_by(tenants, place, i);
+        let mut hints = granted[first + i].hints();
+        let value = granted_by(tenants, place, i, &mut hints);
+        granted[first + i].note(value, hints);
     }
     first + binds
 }
 
 // What is granted through the bind at place `i` of those of the tenant at this place.
-fn granted_by(tenants: &[Tenant], place: TenantId, i: usize) -> Option<i64>
+#[inline(always)]
+fn granted_by(tenants: &[Tenant], place: TenantId, i: usize, hints: &mut Hints) -> Option<i64>
     requires rosters { HaveRoster tenants.now }
     requires tenant { place < length tenants.now }
     ensures { result ≡ option_and_then (granted_by (roster_among tenants.now) (rows_of tenants.now) (rows_of tenants.now) place) (slice_get (rows_of tenants.now place).binds i) }
 {
-    let (_, supplier, actuator) = tenants[place].bind_at(i)?;
-    granted_from(&tenants[supplier], &actuator, place)
+    let tenant = &tenants[place];
+    let (_, supplier, actuator) = tenant.bind_at(i)?;
+    granted_from(&tenants[supplier], actuator, &tenant.roster()[place], hints)
 }
 
-// What a supplier grants of this actuator to the tenant at a place: its value, within the bounds of the supplier's offer.
-fn granted_from(supplier: &Tenant, actuator: &Name, place: TenantId) -> Option<i64>
-    ensures { result ≡ granted_within (bounds_of_offer supplier.now.row.offers actuator.now (name_of_place supplier.now.tenancy.owner.roster place)) (actuator_value supplier.now.row actuator.now) }
+// What a supplier grants of this actuator to the tenant of this name: its value, within the bounds of the supplier's offer. The hints are
+// left at the places where both were found.
+#[inline(always)]
+fn granted_from(supplier: &Tenant, actuator: &Name, tenant: &Name, hints: &mut Hints) -> Option<i64>
+    ensures { result ≡ option_and_then (λ o. option_map (granted_value o) (actuator_value supplier.now.row actuator.now)) (offer_of supplier.now.row.offers actuator.now tenant.now) }
 {
-    let (low, high) = supplier.bounds(actuator, place)?;
-    let value = supplier.actuator(actuator.as_str())?;
-    Some(clamped(value, low, high))
+    let (place, offer) = supplier.offer_of(actuator, tenant, hints.offer)?;
+    hints.offer = place;
+    let (place, value) = supplier.actuator(actuator, hints.actuator)?;
+    hints.actuator = place;
+    Some(clamped(value, offer.bounds.low(), offer.bounds.high()))
 }

@@ -16,6 +16,7 @@ ghost use Rattle.tenant_state.specs.Standing.{Standing, at_rest};
 ghost use Rattle.tenant_state.specs.cited.Standing.{HasItsEntries, HasItsResults, without_ended};
 
 use crate::grants::grant;
+use tenant_grants::granted::Granted;
 use tenant_jobs::finished::Finished;
 use tenant_jobs::jobs::Jobs;
 use tenant_state::tenants::Tenant;
@@ -43,7 +44,7 @@ pub fn ready(tenants: &mut [Tenant]) -> Option<usize>
 pub fn instant(
     tenants: &mut [Tenant],
     frame: &[i64],
-    granted: &mut [Option<i64>],
+    granted: &mut [Granted],
     finished: &mut Finished,
     jobs: &mut Jobs,
 )
@@ -74,7 +75,7 @@ pub fn instant(
 pub fn advance(
     tenants: &mut [Tenant],
     frame: &[i64],
-    granted: &mut [Option<i64>],
+    granted: &mut [Granted],
     finished: &mut Finished,
 )
     requires placed { ArePlaced tenants.old }
@@ -145,18 +146,18 @@ fn first_halves(tenants: &mut [Tenant], finished: &Finished)
 fn second_halves(
     tenants: &mut [Tenant],
     frame: &[i64],
-    granted: &[Option<i64>],
+    granted: &mut [Granted],
     finished: &mut Finished,
 )
     requires rest { All (λ (s : Standing). s.ready.ended ≡ []) tenants.old }
     requires ended_due { All (λ (s : Standing). due_tasks s.row ≡ []) tenants.old }
     requires counts { All (λ (s : Standing). s.row.next_tick < 2 ^ 64 - 1) tenants.old }
-    requires places { binds_of tenants.old ≤ length granted.now }
+    requires places { binds_of tenants.old ≤ length granted.old }
     requires placed { ArePlaced tenants.old }
     requires ready { All IsReady tenants.old }
     requires room { most_of tenants.old ≤ finished.old.room }
     requires new { (t : ℕ) (j : JobId) → t < length tenants.old → j.tenant ≡ t → (tenant_at tenants.old t).row.next_tick ≡ j.tick → is_entered finished.old.entries j ≡ false }
-    ensures halves { AreSecondHalves frame.now granted.now tenants.old tenants.new }
+    ensures halves { AreSecondHalves frame.now granted.old tenants.old tenants.new }
     ensures entries { (j : JobId) → entry_in finished.new.entries j
         ≡ entry_put (is_released_among tenants.old tenants.new j) j None finished.old.entries }
 {
@@ -165,7 +166,7 @@ fn second_halves(
         let tenant = &mut tenants[i];
         let before = tenant.active();
         let behind = first + tenant.bind_count();
-        tenant.second_half(frame, &granted[first..behind]);
+        tenant.second_half(frame, &mut granted[first..behind]);
         tenant.enter(before, finished);
         tenant.known();
         first = behind;

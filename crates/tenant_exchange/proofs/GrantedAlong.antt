@@ -1,7 +1,8 @@
 -- Values that are granted along binds, taken one after the other.
-use Rattle.std.proofs.Common.{◌≡◌, ◌⊎◌, inl, inr, ℕ, zero, suc, ◌+◌, ◌<◌, ◌≤◌, Bool, true, false, ℤ, List, [], ◌∷◌, ◌++◌, length, take, get_or, Option, Some, None, IsSome, option_map, slice_get, refl, sym, ap, ◌∙◌, subst, arith}
+use Rattle.std.proofs.Common.{◌≡◌, ◌⊎◌, inl, inr, ℕ, zero, suc, ◌+◌, ◌<◌, ◌≤◌, Bool, true, false, ℤ, List, [], ◌∷◌, ◌++◌, length, take, get_or, set, Option, Some, None, IsSome, option_map, slice_get, refl, sym, ap, ◌∙◌, subst, arith}
 use Rattle.std.specs.List.{AllByRecursion, IsDistinct, filter_map, cons_option, zip}
 use Rattle.std.specs.Option.{option_and_then}
+use Rattle.std.proofs.lemmas.List.{get_or_default, set-get_or}
 use Rattle.giotto_tasks.specs.declared.names.Name.{Name}
 use Rattle.giotto_tasks.specs.cited.Sources.{names_in}
 use Rattle.giotto_tasks.specs.Names.{Valuation, is_among, same_name}
@@ -108,6 +109,14 @@ none_past {A} o zero (suc n) none found = absurd (no o none (found (omega arith)
     no : (o : Option A) → o ≡ None → IsSome o → ⊥
     no None none some = cc
     no (Some x) none some = cc
+
+-- what a place tells is what stands there
+pub what_stands : (values now : List (Option ℤ)) (i : ℕ) (d v w : Option ℤ) → now ≡ values → i < length now → v ≡ get_or now i d → v ≡ w → get_or values i None ≡ w
+what_stands values now i d v w same lt told found = ap (λ vs. get_or vs i None) (sym same) ∙ sym (told ∙ get_or_default now i d None lt) ∙ found
+
+-- and a place that is written as it stands changes nothing
+pub written_as_it_stands : (values now : List (Option ℤ)) (i : ℕ) (d v : Option ℤ) → now ≡ values → v ≡ get_or now i d → set now i v ≡ values
+written_as_it_stands values now i d v same told = ap (set now i) told ∙ set-get_or now i d ∙ same
 
 module _ (p : GiottoProgram) (readings : Readings) (ports : Valuation) (binds : List Bind) (values : List (Option ℤ)) (i : ℕ) where
   one_further : with_readings p readings (granted_before (suc i) binds values) ports ≡ with_readings p readings (granted_before (i + 1) binds values) ports

@@ -9,32 +9,38 @@ ghost use Rattle.tenant_slots.specs.cited.Readings.{with_readings};
 
 use giotto_check::Checked;
 use rig_config::Budgets;
+use tenant_grants::granted::Granted;
 use tenant_grants::grants::Grants;
 use tenant_slots::sensors::{sense, take_granted};
 
 /// Writes what each sensor takes. `frame` has the input value of each line, and `granted` by its place what is granted through each
-/// bind, if something is; a place without a bind, and a bind without a place, grant nothing. Takes no memory.
+/// bind, if something is; a place without a bind, and a bind without a place, grant nothing. Where a sensor that takes a value was found
+/// is noted there. Takes no memory.
 pub fn read_sensors(
     checked: &Checked,
     budgets: &Budgets,
     frame: &[i64],
     grants: &Grants,
-    granted: &[Option<i64>],
+    granted: &mut [Granted],
     values: &mut [i64],
 )
     requires { length values.old ≡ slots_of checked.now }
-    ensures { valuation_of checked.now values.new
-        ≡ with_readings checked.now (readings_within budgets.now.reads frame.now) (granted_along grants.now.binds granted.now) (valuation_of checked.now values.old) }
+    ensures ports { valuation_of checked.now values.new
+        ≡ with_readings checked.now (readings_within budgets.now.reads frame.now) (granted_along grants.now.binds granted.old) (valuation_of checked.now values.old) }
+    ensures granted { granted.new ≡ granted.old }
 {
     sense(checked, budgets, frame, values);
     // Its ports stand once, and the binds are of different sensors.
     checked.known();
     grants.known();
     for i in 0..granted.len() {
-        let Some(value) = granted[i] else { continue };
+        let Some(value) = granted[i].value() else {
+            continue
+        };
         let Some((sensor, _, _)) = grants.bind_at(i) else {
             return
         };
-        take_granted(checked, &sensor, value, values);
+        let place = take_granted(checked, sensor, granted[i].sensor_hint(), value, values);
+        granted[i].note_sensor(place);
     }
 }

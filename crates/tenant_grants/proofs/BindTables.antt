@@ -1,5 +1,5 @@
 -- The table of binds, seen as the list of binds.
-use Rattle.std.proofs.Common.{arith, length, ◌<◌, IsSome, ◌≡◌, ℕ, Bool, true, false, cond, ◌||◌, List, [], ◌∷◌, ◌++◌, map, Option, Some, None, option_map, slice_get, is_some, refl, ap, subst, ◌∙◌, zero, suc, nat_eq, if◌then◌else◌, Ok, Err}
+use Rattle.std.proofs.Common.{◌≡◌, ℕ, Bool, true, false, cond, ◌||◌, List, [], ◌∷◌, ◌++◌, map, Option, Some, None, option_map, slice_get, is_some, refl, ap, subst, ◌∙◌, zero, suc, nat_eq, if◌then◌else◌, Ok, Err}
 use Rattle.std.specs.List.{AllByRecursion, list_any}
 use Rattle.std.specs.Option.{option_and_then, ok_or}
 use Rattle.std.proofs.lemmas.List.{map-append}
@@ -86,9 +86,3 @@ bind_at_entries owner es all i = rw (slice_get-map bind_of es i) (by (slice_get 
         → option_map placed o ≡ option_and_then (with_place owner.roster) (option_map bind_of o)
     by None known = refl
     by (Some e) known = rw (known e refl) refl
-
--- and there is one below their number
-pub bind_at_found : (es : List (Sensor × Supplier)) (i : ℕ) → (IsSome (option_map placed (slice_get es i)) → i < length (map bind_of es)) × (i < length (map bind_of es) → IsSome (option_map placed (slice_get es i)))
-bind_at_found [] i = (λ h. cc, λ h. absurd (omega arith))
-bind_at_found (e ∷ es) zero = (λ h. omega arith, λ h. refl)
-bind_at_found (e ∷ es) (suc i) = let rest = bind_at_found es i in (λ h. let p : i < length (map bind_of es) = rest.0 h in omega arith, λ h. rest.1 (omega arith))

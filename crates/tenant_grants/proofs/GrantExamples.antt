@@ -1,6 +1,6 @@
 -- Rows of tenant alpha, of the roster alpha, beta, gamma.
 use Rattle.std.proofs.Common.{◌≡◌, true, false, [], ◌∷◌, Some, None, Ok, Err, refl, codes}
-use Rattle.rig_config.specs.Intervals.{Interval, whole}
+use Rattle.rig_config.specs.Intervals.{whole}
 use Rattle.tenant_grants.specs.Grants.{Owner, offered, unoffered, bound, unbound, offers, bind_at, rows_of}
 use Rattle.tenant_grants.specs.declared.rows.Row.TheVariants as row
 use Rattle.tenant_grants.specs.declared.faults.GrantFault.TheVariants.{NoTenant, Own, Twice, NotThere, Budget}

@@ -1,5 +1,6 @@
 pub mod BindTables
 pub mod GrantExamples
 pub mod KeptRows
+pub mod OfferPlaces
 pub mod Rosters
 pub mod RowLists

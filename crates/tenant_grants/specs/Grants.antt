@@ -54,10 +54,6 @@ offer_of offers actuator tenant = find (is_offer_of actuator tenant) offers
 abbrev pub granted_value : Offer → ℤ → ℤ
 granted_value o z = clamped o.bounds z
 
--- the least and the greatest value of the offer of this actuator to the tenant of this name, where there is one
-abbrev pub bounds_of_offer : List Offer → Name → Name → Option (ℤ × ℤ)
-bounds_of_offer offers actuator tenant = option_map (λ (o : Offer). (o.bounds.low, o.bounds.high)) (offer_of offers actuator tenant)
-
 -- the actuator is offered to the tenant of this name
 abbrev pub offers : List Offer → Name → Name → Bool
 offers os actuator tenant = list_any (is_offer_of actuator tenant) os

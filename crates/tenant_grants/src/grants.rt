@@ -1,8 +1,9 @@
 //! The rows of one owner.
 
-ghost use Rattle.std.specs.Prelude.{◌≡◌, ◌↔◌, ◌<◌, ◌+◌, [], ◌++◌, map, Err, Ok, IsErr, IsOk, IsSome, IsTrue, IfErr, IfOk, OnErr, OnOk, int_le, is_some, length};
+ghost use Rattle.std.specs.Prelude.{◌≡◌, ◌↔◌, ◌<◌, ◌+◌, [], ◌++◌, map, Err, Ok, IsErr, IsOk, IsSome, IsTrue, IfErr, IfOk, IfSome, OnErr, OnOk, Some, int_le, length, option_map, slice_get};
+ghost use Rattle.std.specs.List.{position};
 ghost use Rattle.rig_config.specs.Intervals.{whole};
-ghost use Rattle.tenant_grants.specs.Grants.{bind_at, bound, bounds_of_offer, name_of_place, no_rows, offered, offers, other_side, place_in, rows_of, unbound, unoffered};
+ghost use Rattle.tenant_grants.specs.Grants.{bind_at, bound, is_offer_of, no_rows, offer_of, offered, other_side, place_in, rows_of, unbound, unoffered};
 ghost use Rattle.tenant_grants.specs.Kept.{AreKept};
 ghost use Rattle.tenant_grants.specs.declared.rows.Row.TheVariants as row;
 ghost use Rattle.tenant_grants.specs.inner.Tables.{bind_of};
@@ -162,30 +163,32 @@ impl Grants {
         ensures same { OnErr result (self.new ≡ self.old) }
     {
         self.other_side(tenant)?;
-        let offer = offer_of(actuator.copy(), tenant.copy());
+        let offer = whole_offer(actuator.copy(), tenant.copy());
         if !self.offers.shift_remove(&offer) {
             return Err(GrantFault::NotThere);
         }
         Ok(())
     }
 
-    /// Whether the actuator is offered to the tenant at a place. Takes no memory.
-    pub fn offers(&self, actuator: &Name, tenant: TenantId) -> bool
-        ensures { result ≡ offers self.now.offers actuator.now (name_of_place self.now.owner.roster tenant) }
+    /// The offer of the actuator to the tenant of this name, where there is one, and its place among the offers, counted from 0. It is
+    /// looked for at `hint` first, where it may have been found before. Takes no memory.
+    #[inline(always)]
+    pub fn offer_of(&self, actuator: &Name, tenant: &Name, hint: usize) -> Option<(usize, &Offer)>
+        ensures offer { option_map (λ o. o.1.now) result ≡ offer_of self.now.offers actuator.now tenant.now }
+        ensures place { IfSome result (λ o. slice_get self.now.offers o.0 ≡ Some o.1.now) }
     {
-        let tenant = name_in(self.roster.as_slice(), tenant);
-        self.offers.contains(&offer_of(actuator.copy(), tenant))
+        match self.offers.get_index(hint) {
+            Some(offer) if is_offer_of(offer, actuator, tenant) => Some((hint, offer)),
+            _ => found_offer(&self.offers, actuator, tenant),
+        }
     }
 
-    /// The least and the greatest value that the offer of the actuator to the tenant at a place grants, where it is offered. Takes no
-    /// memory.
-    pub fn bounds(&self, actuator: &Name, tenant: TenantId) -> Option<(i64, i64)>
-        ensures bounds { result ≡ bounds_of_offer self.now.offers actuator.now (name_of_place self.now.owner.roster tenant) }
-        ensures offered { is_some result ≡ offers self.now.offers actuator.now (name_of_place self.now.owner.roster tenant) }
+    /// The names of all tenants, by their places.
+    #[inline(always)]
+    pub fn roster(&self) -> &[Name]
+        ensures { result.now ≡ self.now.owner.roster }
     {
-        let tenant = name_in(self.roster.as_slice(), tenant);
-        let offer = self.offers.get(&offer_of(actuator.copy(), tenant))?;
-        Some((offer.bounds.low(), offer.bounds.high()))
+        self.roster.as_slice()
     }
 
     /// Binds a sensor to an actuator of the tenant of this name, behind the other binds.
@@ -241,8 +244,9 @@ impl Grants {
 
     /// The bind at a place of its list, counted from 0: its sensor, the place of the tenant that it is bound to, and that tenant's
     /// actuator. Takes no memory.
-    pub fn bind_at(&self, i: usize) -> Option<(Name, TenantId, Name)>
-        ensures bind { result ≡ bind_at self.now.owner.roster self.now.binds i }
+    #[inline(always)]
+    pub fn bind_at(&self, i: usize) -> Option<(&Name, TenantId, &Name)>
+        ensures bind { option_map (λ b. (b.0.now, b.1, b.2.now)) result ≡ bind_at self.now.owner.roster self.now.binds i }
         ensures found { IsSome result ↔ (i < length self.now.binds) }
     {
         entry_at(&self.binds, i)
@@ -264,7 +268,7 @@ impl Grants {
 }
 
 // An offer of this actuator to the tenant of this name, to be looked for: with which bounds doesn't matter.
-fn offer_of(actuator: Name, tenant: Name) -> Offer
+fn whole_offer(actuator: Name, tenant: Name) -> Offer
     ensures { result ≡ record { actuator = actuator; tenant = tenant; bounds = whole } }
 {
     Offer {
@@ -274,21 +278,41 @@ fn offer_of(actuator: Name, tenant: Name) -> Offer
     }
 }
 
+// Whether an offer is of this actuator to the tenant of this name.
+#[inline(always)]
+fn is_offer_of(offer: &Offer, actuator: &Name, tenant: &Name) -> bool
+    ensures { result ≡ is_offer_of actuator.now tenant.now offer.now }
+{
+    offer.actuator == *actuator && offer.tenant == *tenant
+}
+
+// The offer of this actuator to the tenant of this name, and its place.
+#[inline(always)]
+fn found_offer<'a>(
+    offers: &'a IndexSet<Offer>,
+    actuator: &Name,
+    tenant: &Name,
+) -> Option<(usize, &'a Offer)>
+    ensures offer { option_map (λ o. o.1.now) result ≡ offer_of offers.now.keys actuator.now tenant.now }
+    ensures place { IfSome result (λ o. slice_get offers.now.keys o.0 ≡ Some o.1.now) }
+{
+    let place = place_of(offers, actuator, tenant)?;
+    Some((place, offers.get_index(place)?))
+}
+
+// The place of the offer of this actuator to the tenant of this name.
+#[inline(never)]
+fn place_of(offers: &IndexSet<Offer>, actuator: &Name, tenant: &Name) -> Option<usize>
+    ensures { result ≡ position (is_offer_of actuator.now tenant.now) offers.now.keys }
+{
+    offers.get_index_of(&whole_offer(actuator.copy(), tenant.copy()))
+}
+
 // The place of the tenant with this name.
 fn place_in(roster: &[Name], tenant: &Name) -> Option<TenantId>
     ensures { result ≡ place_in roster.now tenant.now }
 {
     roster.iter().position(|name| *name == *tenant)
-}
-
-// The name of the tenant at a place; no name where the roster has no such place.
-fn name_in(roster: &[Name], place: TenantId) -> Name
-    ensures { result ≡ name_of_place roster.now place }
-{
-    match roster.get(place) {
-        Some(name) => name.copy(),
-        None => Name::default(),
-    }
 }
 
 // The offers as rows, behind these.

@@ -7,6 +7,7 @@
 #![tactic(auto)]
 
 pub mod faults;
+pub mod granted;
 pub mod grants;
 pub mod laws;
 pub mod rows;

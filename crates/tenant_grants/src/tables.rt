@@ -1,6 +1,6 @@
 //! The table of binds: an entry for each, by its sensor.
 
-ghost use Rattle.std.specs.Prelude.{◌≡◌, ◌++◌, [], ◌∷◌, IfErr, OnErr, OnOk, false, map, option_map, slice_get};
+ghost use Rattle.std.specs.Prelude.{◌≡◌, ◌↔◌, ◌<◌, ◌++◌, [], ◌∷◌, IfErr, IsSome, OnErr, OnOk, false, length, map, option_map, slice_get};
 ghost use Rattle.std.specs.Bool.{OnFalse};
 ghost use Rattle.std.specs.List.{IsDistinct, list_any};
 ghost use Rattle.std.specs.Map.{keys_of, remove_entry};
@@ -77,11 +77,13 @@ pub(crate) fn take_out(binds: &mut BindTable, sensor: &Name) -> bool
 }
 
 /// The sensor of the bind at a place, the supplier's place and the supplier's actuator.
-pub(crate) fn entry_at(binds: &BindTable, i: usize) -> Option<(Name, TenantId, Name)>
-    ensures { result ≡ option_map placed (slice_get binds.now.entries i) }
+#[inline(always)]
+pub(crate) fn entry_at(binds: &BindTable, i: usize) -> Option<(&Name, TenantId, &Name)>
+    ensures entry { option_map (λ b. (b.0.now, b.1, b.2.now)) result ≡ option_map placed (slice_get binds.now.entries i) }
+    ensures found { IsSome result ↔ (i < length binds.now.entries) }
 {
     let (sensor, supplier) = binds.get_index(i)?;
-    Some((sensor.name.copy(), supplier.place, supplier.actuator.copy()))
+    Some((&sensor.name, supplier.place, &supplier.actuator))
 }
 
 /// The bind that an entry stands for.

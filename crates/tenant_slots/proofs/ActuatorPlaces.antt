@@ -10,7 +10,7 @@ use Rattle.giotto_tasks.specs.declared.names.Name.{Name}
 use Rattle.giotto_tasks.specs.Names.{same_name, is_among}
 use Rattle.giotto_tasks.specs.Sound.{all_different}
 use Rattle.giotto_tasks.proofs.cited.ListLemmas.{some_same}
-use Rattle.giotto_tasks.proofs.cited.NameLemmas.{same_name_is, all_different-append, among_first, among_passes}
+use Rattle.giotto_tasks.proofs.cited.NameLemmas.{same_name_is, all_different-append, among_first, among_passes, different_first}
 use Rattle.giotto_text.specs.declared.programs.Actuator.{Actuator}
 use Rattle.giotto_text.specs.ProgramTrees.{actuator_of}
 use Rattle.giotto_text.specs.Program.{ActuatorDeclaration, ActuatorUpdate, ModeDeclaration, GiottoProgram}
@@ -19,7 +19,9 @@ use Rattle.giotto_rules.specs.Ports.{slot_of}
 use Rattle.giotto_check.specs.cited.Facts.{ProgramFits, UpdateFits}
 use Rattle.giotto_check.specs.cited.Timetables.{AreEach, IsUpdate}
 use Rattle.giotto_check.specs.declared.timetables.SlotUpdate.{SlotUpdate}
+use Rattle.giotto_check.proofs.cited.PlaceLemmas.{place-map}
 use Rattle.giotto_check.proofs.cited.SlotLemmas.{slot_shared}
+use Rattle.tenant_slots.proofs.PlacedOnce.{placed_first}
 use Rattle.tenant_slots.proofs.cited.Numbered.{mode_fits_at}
 use Rattle.tenant_slots.proofs.cited.Updates.{each_item}
 
@@ -93,3 +95,19 @@ name_at p items i j x d all at same =
     ap (λ as'. slice_get (map (λ (a : ActuatorDeclaration). a.name) as') i) (sym all) ∙ slice_get-map (λ (a : ActuatorDeclaration). a.name) (map actuator_of items) i
     ∙ ap (option_map (λ (a : ActuatorDeclaration). a.name)) (slice_get-map actuator_of items i ∙ ap (option_map actuator_of) (slice_get-get_or items i d lt)) in
     some_same (get_or items i d).name x (sym here ∙ ap (slice_get (actuator_names p)) same ∙ at)
+
+-- the actuators of the code have the names that the program declares
+module _ (p : GiottoProgram) (fits : ProgramFits p) (x : Name) (items : List Actuator) (all : map actuator_of items ≡ p.actuators) where
+  abbrev has_name : ActuatorDeclaration → Bool
+  has_name d = same_name d.name x
+
+  pub actuator_first : position_from (λ (a : Actuator). same_name a.name x) 0 items ≡ position_from has_name 0 p.actuators
+  actuator_first = sym (place-map has_name actuator_of 0 items) ∙ ap (position_from has_name 0) all
+
+  -- one of this name is the first
+  pub actuator_once : (k : ℕ) (a : Actuator) → slice_get items k ≡ Some a → same_name a.name x ≡ true → Some k ≡ position_from has_name 0 p.actuators
+  actuator_once k a at named =
+      let there : slice_get p.actuators k ≡ Some (actuator_of a) = ap (λ as'. slice_get as' k) (sym all) ∙ slice_get-map actuator_of items k ∙ ap (option_map actuator_of) at in
+      let others = output_names p ++ (task_names p ++ mode_names p) in
+      let behind = (and_parts (all_different (actuator_names p ++ others)) _ (and_parts (all_different (sensor_names p)) _ (sym (all_different-append (sensor_names p) (actuator_names p ++ others)) ∙ fits.declared_once)).1).0 in
+      sym (placed_first (λ (d : ActuatorDeclaration). d.name) has_name x (λ d e. same_name_is d.name x e) p.actuators k (actuator_of a) (different_first (actuator_names p) others behind) there named)

@@ -4,6 +4,8 @@ pub mod CarriedValues
 pub mod CarryTables
 pub mod GrantRows
 pub mod InitialValues
+pub mod PlacedOnce
+pub mod ReadLines
 pub mod Recorded
 pub mod SensedSlots
 pub mod TakenSwitches

@@ -3,5 +3,4 @@ pub mod Granted
 pub mod InvokedPeriods
 pub mod Numbered
 pub mod Quiet
-pub mod Readings
 pub mod Updates

@@ -5,7 +5,7 @@ ghost use Rattle.std.specs.List.{find, position_from};
 ghost use Rattle.std.specs.Option.{option_map};
 ghost use Rattle.giotto_tasks.specs.Names.{same_name};
 ghost use Rattle.giotto_text.specs.declared.programs.Actuator.{Actuator};
-ghost use Rattle.giotto_text.specs.Program.{ModeDeclaration};
+ghost use Rattle.giotto_text.specs.Program.{ActuatorDeclaration, ModeDeclaration};
 ghost use Rattle.giotto_check.specs.cited.Slots.{slots_of};
 ghost use Rattle.giotto_check.specs.Slots.{valuation_of};
 ghost use Rattle.tenant_slots.specs.cited.Places.{IsModeAt};
@@ -75,13 +75,25 @@ fn note_update(actuator: &Actuator, value: i64, tick: u64, trace: &mut Trace)
     trace.note(tick, Happening::Act(actuator.name.copy(), value));
 }
 
-/// The place of the actuator of this name among these, counted from 0; `None` where none has it.
-pub fn actuator_place(actuators: &[Actuator], name: &str) -> Option<usize>
+/// The place of the actuator of this name, counted from 0; `None` where the program has none. It is looked for at `hint` first, where it
+/// may have been found before.
+#[inline(always)]
+pub fn actuator_place(checked: &Checked, name: &Name, hint: usize) -> Option<usize>
+    ensures { result ≡ position_from (λ (a : ActuatorDeclaration). same_name a.name name.now) 0 checked.now.actuators }
+{
+    let actuators = checked.program().actuators();
+    match actuators.get(hint) {
+        Some(actuator) if actuator.name == *name => Some(hint),
+        _ => first_place(actuators, name),
+    }
+}
+
+// The place of the first actuator of this name among these; `None` where none has it.
+#[inline(never)]
+fn first_place(actuators: &[Actuator], name: &Name) -> Option<usize>
     ensures { result ≡ position_from (λ (a : Actuator). same_name a.name name.now) 0 actuators.now }
 {
-    actuators
-        .iter()
-        .position(|actuator| actuator.name.as_str() == name)
+    actuators.iter().position(|actuator| actuator.name == *name)
 }
 
 /// The name of the first of these actuators that drives this line; `None` where none does.

@@ -28,23 +28,57 @@ pub fn sense(checked: &Checked, budgets: &Budgets, frame: &[i64], values: &mut [
 }
 
 /// Takes a value that is granted to a sensor of this name: the `grant` sensor of the name has it, and where there is none the
-/// values stay as they are. Takes no memory. Behind [`sense`], values granted to different names give what the law
+/// values stay as they are. The sensor is looked for at `hint` first, where it may have been found before; where it is found is told, or
+/// `hint` where it isn't. Takes no memory. Behind [`sense`], values granted to different names give what the law
 /// [`granted_behind_readings`](crate::laws::granted_behind_readings) says.
-pub fn take_granted(checked: &Checked, sensor: &Name, value: i64, values: &mut [i64])
+#[inline(always)]
+pub fn take_granted(
+    checked: &Checked,
+    sensor: &Name,
+    hint: usize,
+    value: i64,
+    values: &mut [i64],
+) -> usize
     requires { length values.old ≡ slots_of checked.now }
     ensures { valuation_of checked.now values.new ≡ with_granted checked.now sensor.now value (valuation_of checked.now values.old) }
 {
+    // Its ports stand once.
+    checked.known();
+    let Some(place) = granted_place(checked, sensor, hint) else {
+        return hint;
+    };
+    values[place] = value;
+    place
+}
+
+// The place of the sensor that takes what is granted to this name; `None` where none does.
+#[inline(always)]
+fn granted_place(checked: &Checked, name: &Name, hint: usize) -> Option<usize>
+    ensures { result ≡ position_from (takes_granted name.now) 0 checked.now.sensors }
+{
     let sensors = checked.program().sensors();
-    if let Some(place) = granted_place(sensors, sensor) {
-        values[place] = value;
+    match sensors.get(hint) {
+        Some(sensor) if takes_granted(sensor, name) => Some(hint),
+        _ => first_granted(sensors, name),
     }
 }
 
 // The place of the first of these sensors that takes what is granted to this name; `None` where none does.
-fn granted_place(sensors: &[Sensor], name: &Name) -> Option<usize>
+#[inline(never)]
+fn first_granted(sensors: &[Sensor], name: &Name) -> Option<usize>
     ensures { result ≡ position_from (λ (s : Sensor). takes_granted name.now (sensor_of s)) 0 sensors.now }
 {
-    sensors.iter().position(|sensor| matches!(sensor.source, Source::Grant) && sensor.name == *name)
+    sensors
+        .iter()
+        .position(|sensor| takes_granted(sensor, name))
+}
+
+// Whether a sensor takes what is granted to this name.
+#[inline(always)]
+fn takes_granted(sensor: &Sensor, name: &Name) -> bool
+    ensures { result ≡ takes_granted name.now (sensor_of sensor.now) }
+{
+    matches!(sensor.source, Source::Grant) && sensor.name == *name
 }
 
 // A sensor's reading where nothing is granted: its line's value, if the tenant may read the line, or else its initial value.

@@ -148,9 +148,9 @@ impl SourceTable {
             if self.is_source(supplier, source) {
                 return Some(Link {
                     tick: host.clock(),
-                    sensor,
+                    sensor: sensor.copy(),
                     supplier,
-                    actuator,
+                    actuator: actuator.copy(),
                 });
             }
         }

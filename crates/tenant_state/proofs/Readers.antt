@@ -52,15 +52,13 @@ job_active p t j own (a ∷ items) =
     let rest = job_active p t j own items in
     rw (here, rest) refl
 
--- an actuator of the program, by its place among these
-module _ (p : GiottoProgram) (x : Name) (as' : List Actuator) (are : map actuator_of as' ≡ p.actuators) where
+-- an actuator of the program, by its place
+module _ (p : GiottoProgram) (x : Name) where
   abbrev place : Option ℕ
-  place = position_from (λ (a : Actuator). same_name a.name x) 0 as'
+  place = position_from (λ (d : ActuatorDeclaration). same_name d.name x) 0 p.actuators
 
   is_placed : position_from (λ n. same_name n x) 0 (actuator_names p) ≡ place
-  is_placed =
-      place-map (λ n. same_name n x) (λ (d : ActuatorDeclaration). d.name) 0 p.actuators ∙ ap (position_from (λ (d : ActuatorDeclaration). same_name d.name x) 0) (sym are)
-      ∙ place-map (λ (d : ActuatorDeclaration). same_name d.name x) actuator_of 0 as'
+  is_placed = place-map (λ n. same_name n x) (λ (d : ActuatorDeclaration). d.name) 0 p.actuators
 
   is_declared : is_among (actuator_names p) x ≡ is_some place
   is_declared =

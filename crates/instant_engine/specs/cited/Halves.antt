@@ -1,5 +1,5 @@
 -- All tenants of a host, before and behind a step of each.
-use Rattle.std.specs.Prelude.{◌≡◌, ◌<◌, ◌≤◌, ◌-◌, ◌&&◌, not, ℕ, ℤ, Bool, true, List, Option, [], length, map, drop}
+use Rattle.std.specs.Prelude.{◌≡◌, ◌<◌, ◌≤◌, ◌-◌, ◌&&◌, not, ℕ, ℤ, Bool, true, List, Option, length, map, drop}
 use Rattle.rig_model.specs.declared.jobs.JobId.{JobId}
 use Rattle.tenant_jobs.specs.Finished.{TableEntry}
 use Rattle.tenant_jobs.specs.cited.Finished.{is_entered}

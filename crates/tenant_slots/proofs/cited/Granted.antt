@@ -2,10 +2,11 @@
 use Rattle.std.proofs.Common.{◌≡◌, ℕ, ◌+◌, ◌<◌, Bool, true, false, not, cond, ◌&&◌, ◌||◌, ℤ, List, [], ◌∷◌, ◌++◌, length, map, Some, None, unwrap_or, refl, sym, ap, ◌∙◌, append_assoc, arith}
 use Rattle.std.specs.Prelude.{slice_get, slice_set}
 use Rattle.std.specs.List.{list_any, position_from}
+use Rattle.std.specs.Option.{option_map}
 use Rattle.std.specs.Cmp.Lexicographic.{nat_list_eq_equiv}
 use Rattle.std.proofs.lemmas.Bool.{and_parts, or_left, or_right, false≢true}
 use Rattle.std.proofs.lemmas.List.{append-nil, length-map}
-use Rattle.std.proofs.lemmas.Option.{slice_get_within}
+use Rattle.std.proofs.lemmas.Option.{slice_get-map, slice_get_within}
 use Rattle.giotto_tasks.specs.declared.names.Name.{Name}
 use Rattle.giotto_tasks.specs.cited.Sources.{names_in}
 use Rattle.giotto_tasks.specs.Names.{Valuation, same_name, is_among, value_at, with_value}
@@ -26,6 +27,7 @@ use Rattle.giotto_check.proofs.cited.Valuations.{with_value_at_place}
 use Rattle.rig_model.specs.Readings.{Readings, reading_from, reading_taken}
 use Rattle.tenant_slots.specs.cited.Grants.{is_grant, takes_granted, with_granted, with_each_granted}
 use Rattle.tenant_slots.specs.cited.Readings.{with_readings}
+use Rattle.tenant_slots.proofs.PlacedOnce.{placed_first}
 use Rattle.tenant_slots.proofs.SensedSlots.{sensor_there}
 
 -- maps in which names get values
@@ -227,28 +229,35 @@ none_takes test (s ∷ ss) i e = by (test s) e (none_takes test ss (i + 1))
     by true e rest = absurd (cc)
     by false e rest = rest e
 
-module _ (p : GiottoProgram) (values : List ℤ) (items : List Sensor) (x : Name) (different : PortNamesDiffer p) (long : length values ≡ slots_of p) (all : map sensor_of items ≡ p.sensors) where
-  among_declared : position_from (λ (s : Sensor). takes_granted x (sensor_of s)) 0 items ≡ position_from (takes_granted x) 0 p.sensors
-  among_declared = sym (place-map (takes_granted x) sensor_of 0 items) ∙ ap (position_from (takes_granted x) 0) all
+module _ (p : GiottoProgram) (x : Name) (different : PortNamesDiffer p) (items : List Sensor) (all : map sensor_of items ≡ p.sensors) where
+  pub granted_first : position_from (λ (s : Sensor). takes_granted x (sensor_of s)) 0 items ≡ position_from (takes_granted x) 0 p.sensors
+  granted_first = sym (place-map (takes_granted x) sensor_of 0 items) ∙ ap (position_from (takes_granted x) 0) all
 
-  there : (k : ℕ) → position_from (λ (s : Sensor). takes_granted x (sensor_of s)) 0 items ≡ Some k → slice_get (port_names p) k ≡ Some x
+  -- one that takes it is the first that does
+  pub granted_once : (k : ℕ) (s : Sensor) → slice_get items k ≡ Some s → takes_granted x (sensor_of s) ≡ true → Some k ≡ position_from (takes_granted x) 0 p.sensors
+  granted_once k s at takes =
+      let there : slice_get p.sensors k ≡ Some (sensor_of s) = ap (λ ss. slice_get ss k) (sym all) ∙ slice_get-map sensor_of items k ∙ ap (option_map sensor_of) at in
+      sym (placed_first (λ (d : SensorDeclaration). d.name) (takes_granted x) x (λ d e. same_name_is d.name x (and_parts (is_grant d.source) (same_name d.name x) e).1) p.sensors k (sensor_of s)
+      (sensors_differ p different) there takes)
+
+module _ (p : GiottoProgram) (values : List ℤ) (x : Name) (different : PortNamesDiffer p) (long : length values ≡ slots_of p) where
+  there : (k : ℕ) → position_from (takes_granted x) 0 p.sensors ≡ Some k → slice_get (port_names p) k ≡ Some x
   there k e =
-      let found = passes_there (takes_granted x) 0 p.sensors k (sym among_declared ∙ e) in
+      let found = passes_there (takes_granted x) 0 p.sensors k e in
       let s = found.1 in
       let same : k ≡ found.0 = omega (arith, found.2) in
       ap (slice_get (port_names p)) same ∙ sensor_there p found.0 s found.3 ∙ ap Some (same_name_is s.name x (and_parts (is_grant s.source) (same_name s.name x) found.4).1)
 
-  pub granted_within : (k : ℕ) → position_from (λ (s : Sensor). takes_granted x (sensor_of s)) 0 items ≡ Some k → k < length values
+  pub granted_within : (k : ℕ) → position_from (takes_granted x) 0 p.sensors ≡ Some k → k < length values
   granted_within k e = omega (arith, slice_get_within (port_names p) k x (there k e), length-map (ports_of p) shown_name, long)
 
   -- the first that takes it is given the value
-  pub granted_at : (k : ℕ) (z : ℤ) → position_from (λ (s : Sensor). takes_granted x (sensor_of s)) 0 items ≡ Some k
-      → valuation_of p (slice_set values k z) ≡ with_granted p x z (valuation_of p values)
+  pub granted_at : (k : ℕ) (z : ℤ) → position_from (takes_granted x) 0 p.sensors ≡ Some k → valuation_of p (slice_set values k z) ≡ with_granted p x z (valuation_of p values)
   granted_at k z e =
       sym (with_value_at_place (port_names p) values k x z different (there k e) (length-map (ports_of p) shown_name ∙ sym long))
-      ∙ sym (ap (λ b. cond b (with_value (valuation_of p values) x z) (valuation_of p values)) (first_takes (takes_granted x) p.sensors 0 k (sym among_declared ∙ e)))
+      ∙ sym (ap (λ b. cond b (with_value (valuation_of p values) x z) (valuation_of p values)) (first_takes (takes_granted x) p.sensors 0 k e))
 
   -- where none does, nothing changes
-  pub granted_nowhere : (z : ℤ) → position_from (λ (s : Sensor). takes_granted x (sensor_of s)) 0 items ≡ None → valuation_of p values ≡ with_granted p x z (valuation_of p values)
+  pub granted_nowhere : (z : ℤ) → position_from (takes_granted x) 0 p.sensors ≡ None → valuation_of p values ≡ with_granted p x z (valuation_of p values)
   granted_nowhere z e =
-      sym (ap (λ b. cond b (with_value (valuation_of p values) x z) (valuation_of p values)) (none_takes (takes_granted x) p.sensors 0 (sym among_declared ∙ e)))
+      sym (ap (λ b. cond b (with_value (valuation_of p values) x z) (valuation_of p values)) (none_takes (takes_granted x) p.sensors 0 e))

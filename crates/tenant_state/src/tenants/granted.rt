@@ -1,27 +1,29 @@
 //! What a tenant tells of its offers and binds.
 
-ghost use Rattle.std.specs.Prelude.{◌≡◌, ◌↔◌, ◌<◌, IsSome, is_some, length};
-ghost use Rattle.tenant_grants.specs.Grants.{bind_at, bounds_of_offer, name_of_place, offers};
+ghost use Rattle.std.specs.Prelude.{◌≡◌, ◌↔◌, ◌<◌, IsSome, length, option_map};
+ghost use Rattle.tenant_grants.specs.Grants.{bind_at, offer_of};
 
 use crate::tenants::Tenant;
 use giotto_tasks::names::Name;
 use rig_config::TenantId;
+use tenant_grants::rows::Offer;
 
 impl Tenant {
-    /// Whether the tenant offers this actuator to the tenant at a place of the roster. Takes no memory.
-    pub fn offers(&self, actuator: &Name, tenant: TenantId) -> bool
-        ensures { result ≡ offers self.now.row.offers actuator.now (name_of_place self.now.tenancy.owner.roster tenant) }
+    /// The tenant's offer of this actuator to the tenant of this name, where there is one, and its place among the offers, counted from 0.
+    /// It is looked for at `hint` first, where it may have been found before. Takes no memory.
+    #[inline(always)]
+    pub fn offer_of(&self, actuator: &Name, tenant: &Name, hint: usize) -> Option<(usize, &Offer)>
+        ensures { option_map (λ o. o.1.now) result ≡ offer_of self.now.row.offers actuator.now tenant.now }
     {
-        self.grants.offers(actuator, tenant)
+        self.grants.offer_of(actuator, tenant, hint)
     }
 
-    /// The least and the greatest value that the tenant's offer of this actuator to the tenant at a place of the roster grants, where it
-    /// offers it. Takes no memory.
-    pub fn bounds(&self, actuator: &Name, tenant: TenantId) -> Option<(i64, i64)>
-        ensures bounds { result ≡ bounds_of_offer self.now.row.offers actuator.now (name_of_place self.now.tenancy.owner.roster tenant) }
-        ensures offered { is_some result ≡ offers self.now.row.offers actuator.now (name_of_place self.now.tenancy.owner.roster tenant) }
+    /// The names of all tenants, by their places.
+    #[inline(always)]
+    pub fn roster(&self) -> &[Name]
+        ensures { result.now ≡ self.now.tenancy.owner.roster }
     {
-        self.grants.bounds(actuator, tenant)
+        self.grants.roster()
     }
 
     /// How many binds the tenant has.
@@ -34,8 +36,9 @@ impl Tenant {
 
     /// The tenant's bind at a place of their list, from 0: its sensor, the place of the tenant that it is bound to, and that tenant's
     /// actuator. Takes no memory.
-    pub fn bind_at(&self, i: usize) -> Option<(Name, TenantId, Name)>
-        ensures bind { result ≡ bind_at self.now.tenancy.owner.roster self.now.row.binds i }
+    #[inline(always)]
+    pub fn bind_at(&self, i: usize) -> Option<(&Name, TenantId, &Name)>
+        ensures bind { option_map (λ b. (b.0.now, b.1, b.2.now)) result ≡ bind_at self.now.tenancy.owner.roster self.now.row.binds i }
         ensures found { IsSome result ↔ (i < length self.now.row.binds) }
     {
         self.grants.bind_at(i)

@@ -30,6 +30,7 @@ use rig_config::TenantId;
 use std::alloc::Global;
 use std::sync::Arc;
 use tenant_exchange::sensors::read_sensors;
+use tenant_grants::granted::Granted;
 use tenant_jobs::jobs::{Job, JobId, Jobs};
 use tenant_slots::due::due_behind;
 
@@ -37,17 +38,18 @@ impl Tenant {
     /// The second half of an instant whose number is below the greatest, with the jobs of the tasks that it releases. Each due task ended
     /// in the first half. `frame` has the input value of each line, and `granted` what is granted through each bind, if something is, by
     /// the bind's place. The jobs are added to `jobs`, which has room for them. Takes no memory.
-    pub fn phase_two(&mut self, frame: &[i64], granted: &[Option<i64>], jobs: &mut Jobs)
+    pub fn phase_two(&mut self, frame: &[i64], granted: &mut [Granted], jobs: &mut Jobs)
         requires rest { self.old.ready.ended ≡ [] }
         requires ended_due { due_tasks self.old.row ≡ [] }
         requires next_tick { self.old.row.next_tick < 2 ^ 64 - 1 }
         requires room { HasRoom self.old }
         requires shares { HasShares self.old }
         requires jobs { most_released self.old.row ≤ jobs.old.room }
-        ensures half { IsSecondHalf frame.now granted.now self.old self.new }
+        ensures half { IsSecondHalf frame.now granted.old self.old self.new }
         ensures released { AreReleased self.old.row self.new.row }
         ensures jobs { jobs.new.jobs ≡ jobs.old.jobs ++ released_at self.old.tenancy.owner.place self.old.row.next_tick self.new.row }
         ensures room { jobs.old.room ≤ jobs.new.room + most_released self.old.row }
+        ensures granted { granted.new ≡ granted.old }
     {
         let tick = self.next_tick();
         self.second_half(frame, granted);
@@ -56,18 +58,20 @@ impl Tenant {
 
     /// The second half of an instant whose number is below the greatest: sensors are read, tasks are released, and the mode time moves on.
     /// Each due task ended in the first half. `frame` has the input value of each line, and `granted` what is granted through each bind,
-    /// if something is, by the bind's place. It releases no more tasks than `ready` told. Takes no memory.
+    /// if something is, by the bind's place; where a bind's sensor was found is noted there. It releases no more tasks than `ready` told.
+    /// Takes no memory.
     // Inlined, so that a tenant that isn't running costs its host no call.
     #[inline(always)]
-    pub fn second_half(&mut self, frame: &[i64], granted: &[Option<i64>])
+    pub fn second_half(&mut self, frame: &[i64], granted: &mut [Granted])
         requires rest { self.old.ready.ended ≡ [] }
         requires next_tick { self.old.row.next_tick < 2 ^ 64 - 1 }
         requires room { HasRoom self.old }
         requires ended_due { due_tasks self.old.row ≡ [] }
-        ensures half { IsSecondHalf frame.now granted.now self.old self.new }
+        ensures half { IsSecondHalf frame.now granted.old self.old self.new }
         ensures released { AreReleased self.old.row self.new.row }
         ensures few { length (released_at self.old.tenancy.owner.place self.old.row.next_tick self.new.row) ≤ most_released self.old.row }
         ensures shared { self.old.ready.shared ≡ true → self.new.ready.shared ≡ true }
+        ensures granted { granted.new ≡ granted.old }
     {
         if self.mode_time == 0 && self.is_running() {
             self.install_waiting();
@@ -94,16 +98,17 @@ impl Tenant {
 
     // The second half where no program is installed.
     #[inline(always)]
-    fn go_on(&mut self, frame: &[i64], granted: &[Option<i64>])
+    fn go_on(&mut self, frame: &[i64], granted: &mut [Granted])
         requires rest { self.old.ready.ended ≡ [] }
         requires next_tick { self.old.row.next_tick < 2 ^ 64 - 1 }
         requires room { HasRoom self.old }
         requires ended_due { due_tasks self.old.row ≡ [] }
         requires settled { is_running self.old.row ≡ true → IsSettled self.old.row }
-        ensures half { IsSecondHalf frame.now granted.now self.old self.new }
+        ensures half { IsSecondHalf frame.now granted.old self.old self.new }
         ensures program { self.new.row.program ≡ self.old.row.program }
         ensures released { AreReleased self.old.row self.new.row }
         ensures shared { self.new.ready.shared ≡ self.old.ready.shared }
+        ensures granted { granted.new ≡ granted.old }
     {
         let release = self.next_tick;
         self.next_tick += 1;

@@ -62,17 +62,19 @@ impl Tenant {
         self.active.len()
     }
 
-    /// The value of the actuator of this name, or `None` where the tenant's program has no such actuator. Takes no memory.
-    pub fn actuator(&self, name: &str) -> Option<i64>
-        ensures { result ≡ actuator_value self.now.row name.now }
+    /// The value of the actuator of this name, and its place in the program's text, counted from 0; `None` where the tenant's program has
+    /// no such actuator. It is looked for at `hint` first, where it may have been found before. Takes no memory.
+    #[inline(always)]
+    pub fn actuator(&self, name: &Name, hint: usize) -> Option<(usize, i64)>
+        ensures { option_map (λ a. a.1) result ≡ actuator_value self.now.row name.now }
     {
         let Some(checked) = &self.program else {
             return None;
         };
-        let program = checked.program();
-        let place = actuator_place(program.actuators(), name)?;
-        let slot = program.sensors().len() + place;
-        self.values.get(slot).copied()
+        let place = actuator_place(checked, name, hint)?;
+        let slot = checked.program().sensors().len() + place;
+        let values = self.values.as_slice();
+        Some((place, values[slot]))
     }
 
     /// The value of the actuator that drives this line, or `None` where the tenant's program has no such actuator. Takes no memory.
@@ -83,7 +85,8 @@ impl Tenant {
             return None;
         };
         let name = driver_name(checked.program().actuators(), line as u64)?;
-        self.actuator(name.as_str())
+        let (_, value) = self.actuator(&name, 0)?;
+        Some(value)
     }
 }
 

@@ -1,10 +1,11 @@
 use Rattle.std.proofs.Common.{◌∙◌, ◌≡◌, ◌<◌, ◌&&◌, ◌||◌, eqb, length, ap, take, arith}
 use Rattle.std.proofs.Math.Seq.{take-length}
+use Rattle.std.specs.Option.{option_map}
 use Rattle.rig_model.specs.HostState.{row_at}
 use Rattle.rig_model.specs.Sources.{is_source}
 use Rattle.rig_model.specs.Tenancies.{roster_of}
 use Rattle.host_core.specs.inner.Trials.{has_flow}
-use Rattle.host_core.proofs.Flows.{flow_of_bind, named, no_flow_of_bind}
+use Rattle.host_core.proofs.Flows.{flow_of_bind, lent, named, no_flow_of_bind}
 use Rattle.host_core.proofs.trials.add_flows.Goals as goal
 use Rattle.host_core.proofs.trials.add_flows.Goals.{in-Some+in_ok-push, in_default}
 
@@ -15,12 +16,12 @@ loop-i-preserved c = λ setting state stands t u.
     elim c.match-bind_at.branch [
       | in-Some+in_ok-push w ↦
           ap (λ fs. has_flow fs t u) (ap (λ v. v.items) w.flows-is ∙ w.in_ok-push.ensures.items)
-          ∙ flow_of_bind c.loop-i.flows.items c.args.flows.now.items c.args.consumer _ (roster_of setting.config) binds c.loop-i.i c.bind_at.result _ _ within
-          (c.bind_at.ensures.rows setting state stands) w.in-Some.is (c.loop-i.invariant setting state stands) t u
+          ∙ flow_of_bind c.loop-i.flows.items c.args.flows.now.items c.args.consumer _ (roster_of setting.config) binds c.loop-i.i (option_map lent c.bind_at.result) _ _ within
+          (c.bind_at.ensures.rows setting state stands) (ap (option_map lent) w.in-Some.is) (c.loop-i.invariant setting state stands) t u
       | in_default w ↦
           ap (λ fs. has_flow fs t u) (ap (λ v. v.items) w.flows-is)
-          ∙ no_flow_of_bind c.loop-i.flows.items c.args.flows.now.items c.args.consumer (roster_of setting.config) binds c.loop-i.i c.bind_at.result within
-          (c.bind_at.ensures.rows setting state stands) w.in_default.is (c.loop-i.invariant setting state stands) t u
+          ∙ no_flow_of_bind c.loop-i.flows.items c.args.flows.now.items c.args.consumer (roster_of setting.config) binds c.loop-i.i (option_map lent c.bind_at.result) within
+          (c.bind_at.ensures.rows setting state stands) (ap (option_map lent) w.in_default.is) (c.loop-i.invariant setting state stands) t u
     ]
 
 pub returns : goal.returns

@@ -19,11 +19,11 @@ loop-i-preserved c =
     let now = c.loop-i.invariant in
     let bs = (rows_of c.args.tenants.now c.args.place).binds in
     record {
-      long = length-set c.loop-i.granted (c.args.first + c.loop-i.i) c.granted_by.result ∙ now.long;
+      long = length-set c.loop-i.granted (c.args.first + c.loop-i.i) c.note.new.self ∙ now.long;
       many = now.many;
-      before = others_before c.loop-i.granted c.args.first c.loop-i.i c.granted_by.result ∙ now.before;
-      here = written_more c.loop-i.granted c.args.first c.loop-i.i c.granted_by.result (granted_by (roster_among c.args.tenants.now) (rows_of c.args.tenants.now) (rows_of c.args.tenants.now) c.args.place) bs
-          (omega (arith, now.long, c.requires.places)) (omega (arith, now.many, c.loop-i-test.true)) c.granted_by.ensures now.here;
+      before = others_before c.loop-i.granted c.args.first c.loop-i.i c.note.new.self ∙ now.before;
+      here = written_more c.loop-i.granted c.args.first c.loop-i.i c.note.new.self (granted_by (roster_among c.args.tenants.now) (rows_of c.args.tenants.now) (rows_of c.args.tenants.now) c.args.place) bs
+          (omega (arith, now.long, c.requires.places)) (omega (arith, now.many, c.loop-i-test.true)) (c.note.ensures ∙ c.granted_by-value.ensures) now.here;
     }
 
 pub returns-clause-before : goal.returns-clause-before

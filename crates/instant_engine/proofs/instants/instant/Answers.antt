@@ -1,7 +1,7 @@
-use Rattle.std.proofs.Common.{◌≡◌, ℕ, ◌+◌, ◌<◌, ◌++◌, cond, length, Some, None, sym, ap, ◌∙◌, arith}
+use Rattle.std.proofs.Common.{◌+◌, ◌<◌, ◌++◌, cond, length, Some, None, sym, ap, ◌∙◌, arith}
 use Rattle.std.specs.List.{flat_map}
 use Rattle.tenant_jobs.specs.Finished.{result_in}
-use Rattle.tenant_state.specs.Standing.{Standing, no_tenant}
+use Rattle.tenant_state.specs.Standing.{no_tenant}
 use Rattle.rig_model.specs.Tenancies.{Tenancy}
 use Rattle.instant_engine.specs.cited.Halves.{last_jobs}
 use Rattle.instant_engine.specs.cited.Instants.{AreInstants}

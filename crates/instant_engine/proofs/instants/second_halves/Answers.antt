@@ -1,4 +1,5 @@
 use Rattle.std.proofs.Common.{◌≡◌, ◌+◌, ◌-◌, ◌<◌, ◌≤◌, take, false, cond, length, length-drop, drop, get_or, Some, None, refl, ap, sym, subst, ◌∙◌, arith}
+use borrow.Rule.Slice.PartMut.{put_mid, put_same}
 use Rattle.std.specs.List.{AllByRecursion}
 use Rattle.tenant_jobs.specs.Finished.{entry_in}
 use Rattle.tenant_jobs.specs.cited.Finished.{is_entered}
@@ -16,7 +17,7 @@ use Rattle.instant_engine.proofs.cited.Loops.{binds_more, binds_within, stepped_
 use Rattle.instant_engine.proofs.instants.second_halves.Goals as goal
 
 pub loop-i-init : goal.loop-i-init
-loop-i-init c = record { first = refl; halves = stepped_none _ c.args.tenants.now; space = c.requires.room; entered = entered_none c.args.tenants.now c.args.finished.now.entries }
+loop-i-init c = record { first = refl; same = refl; halves = stepped_none _ c.args.tenants.now; space = c.requires.room; entered = entered_none c.args.tenants.now c.args.finished.now.entries }
 
 pub second_half-requires : goal.second_half-requires
 second_half-requires c =
@@ -59,6 +60,7 @@ slice_bounds-second_half-end c =
       c.bind_count.ensures,
       binds_more _ c.loop-i.i c.args.tenants.now c.loop-i.tenants c.index-tenants-i.result inside c.loop-i.invariant.halves,
       binds_within (c.loop-i.i + 1) c.args.tenants.now,
+      ap length c.loop-i.invariant.same,
       c.requires.places,
     )
 
@@ -71,11 +73,13 @@ loop-i-preserved c =
     let within : c.loop-i.i < length c.loop-i.tenants = omega (arith, inside, c.loop-i.invariant.halves.as_many) in
     let here : x ≡ tenant_at c.args.tenants.now c.loop-i.i = unstepped _ c.loop-i.i c.args.tenants.now c.loop-i.tenants d inside c.loop-i.invariant.halves in
     let known : IsKnown s.tenancy s.row = subst (λ (y : Standing). IsKnown y.tenancy y.row) c.enter.ensures.same c.known.ensures.row in
-    let its_grants : take (c.loop-i.first + c.bind_count.result - c.loop-i.first) (drop c.loop-i.first c.args.granted.now) ≡ granted_at c.args.tenants.now c.loop-i.i c.args.granted.now =
+    let its_grants : take (c.loop-i.first + c.bind_count.result - c.loop-i.first) (drop c.loop-i.first c.loop-i.granted) ≡ granted_at c.args.tenants.now c.loop-i.i c.args.granted.now =
     let many : c.loop-i.first + c.bind_count.result - c.loop-i.first ≡ length (tenant_at c.args.tenants.now c.loop-i.i).row.binds = omega (arith, c.bind_count.ensures, ap (λ (y : Standing). length y.row.binds) here) in
-    λ k. take (many k) (drop (c.loop-i.invariant.first k) c.args.granted.now) in
+    λ k. take (many k) (drop (c.loop-i.invariant.first k) (c.loop-i.invariant.same k)) in
     record {
       first = omega (arith, c.loop-i.invariant.first, c.bind_count.ensures, binds_more _ c.loop-i.i c.args.tenants.now c.loop-i.tenants d inside c.loop-i.invariant.halves);
+      same = ap (put_mid c.loop-i.first (c.loop-i.first + c.bind_count.result - c.loop-i.first) c.loop-i.granted) c.second_half.ensures.granted
+          ∙ put_same c.loop-i.first (c.loop-i.first + c.bind_count.result - c.loop-i.first) c.loop-i.granted ∙ c.loop-i.invariant.same;
       halves = rw (c.enter.ensures.same)
           (stepped_more _ c.loop-i.i c.args.tenants.now c.loop-i.tenants d s inside c.loop-i.invariant.halves
           (record { half = subst (λ zs. IsSecondHalf c.args.frame.now zs (get_or c.loop-i.tenants c.loop-i.i d) c.second_half.new.self) its_grants c.second_half.ensures.half; released = c.second_half.ensures.released; few = c.second_half.ensures.few; shared = c.second_half.ensures.shared; known = known; binds = subst (λ (y : Standing). length y.row.binds ≤ y.tenancy.owner.most_binds) c.enter.ensures.same c.known.ensures.binds }));

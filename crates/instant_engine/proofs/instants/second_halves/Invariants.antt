@@ -8,7 +8,8 @@ use Rattle.instant_engine.proofs.instants.second_halves.Given as goal
 abbrev pub invariant-loop-i : goal.invariant-loop-i
 invariant-loop-i l = record {
   first : l.first ≡ binds_of (take l.i l.initial.tenants);
-  halves : AreSecondHalvesTo l.frame l.granted l.i l.initial.tenants l.tenants;
+  same : l.granted ≡ l.initial.granted;
+  halves : AreSecondHalvesTo l.frame l.initial.granted l.i l.initial.tenants l.tenants;
   space : most_of (drop l.i l.initial.tenants) ≤ l.finished.room;
   entered : AreEnteredTo l.i l.initial.tenants l.tenants l.initial.finished.entries l.finished.entries;
 }

@@ -12,6 +12,7 @@ invariant-loop-i l =
     let readings = readings_within l.budgets.reads l.frame in
     record {
       long : length l.values ≡ slots_of l.checked;
+      same : l.granted ≡ l.initial.granted;
       taken : (ports : Valuation) → valuation_of l.checked l.initial.values ≡ with_readings l.checked readings [] ports
-          → valuation_of l.checked l.values ≡ with_readings l.checked readings (granted_before l.i l.grants.binds l.granted) ports;
+          → valuation_of l.checked l.values ≡ with_readings l.checked readings (granted_before l.i l.grants.binds l.initial.granted) ports;
     }

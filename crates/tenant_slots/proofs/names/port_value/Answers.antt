@@ -10,7 +10,7 @@ use Rattle.giotto_rules.specs.Ports.{shown_name, slot_of}
 use Rattle.giotto_check.proofs.cited.SlotLemmas.{name_at_slot}
 use Rattle.giotto_check.proofs.cited.Valuations.{value_at_place}
 use Rattle.rig_model.specs.Ports.{value_of_port}
-use Rattle.tenant_slots.proofs.cited.Readings.{copied_at}
+use Rattle.tenant_slots.proofs.ReadLines.{copied_at}
 use Rattle.tenant_slots.proofs.names.port_value.Goals as goal
 
 -- the value of a port that has a slot stands there

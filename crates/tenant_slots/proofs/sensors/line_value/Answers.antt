@@ -1,6 +1,6 @@
 use Rattle.std.proofs.Common.{ap, sym, ◌∙◌}
 use Rattle.rig_config.specs.Roster.{may_use}
-use Rattle.tenant_slots.proofs.cited.Readings.{reading_in_frame, no_reading, contained, copied_at}
+use Rattle.tenant_slots.proofs.ReadLines.{reading_in_frame, no_reading, contained, copied_at}
 use Rattle.tenant_slots.proofs.sensors.line_value.Goals as goal
 
 pub returns-then-not-contains : goal.returns-then-not-contains

@@ -1,11 +1,8 @@
-use Rattle.std.proofs.Common.{rules, ◌≡◌, ◌+◌, ◌<◌, ◌++◌, ◌∷◌, [], List, false, true, map, take, length, get_or, refl, ap, sym, subst, ◌∙◌, append_assoc, arith}
-use Rattle.std.proofs.lemmas.Bool.Decides.{nat_tests}
+use Rattle.std.proofs.Common.{rules, ◌≡◌, ◌+◌, ◌<◌, ◌++◌, ◌∷◌, [], false, true, map, take, length, get_or, ap, sym, ◌∙◌, append_assoc, arith}
 use Rattle.std.proofs.lemmas.List.{map-append, take_more, length-map, get_or-map}
 use Rattle.std.specs.Prelude.{OnErr, Result, Ok, Err}
 use Rattle.rig_model.specs.Jobs.{job_of}
-use Rattle.rig_model.specs.Row.{ActiveTask}
 use Rattle.tenant_jobs.specs.Finished.{has_result}
-use Rattle.tenant_state.specs.Standing.{outstanding_tasks}
 use Rattle.tenant_state.specs.Tenants.{active_of}
 use Rattle.tenant_state.proofs.Completing.{left_of, left_with, left_without, some_left}
 use Rattle.tenant_state.proofs.tenants.Tenant.add_outstanding.Goals as goal

@@ -60,7 +60,7 @@ module _ (c : After-modes) where
       let p = c.in-Some.checked in
       let s = c.self.inside in
       let is = rw c.in-Some.is at c.self.invariant.0 in
-      let sensed = c.read_sensors.ensures ∙ ap (λ zs. sensed_ports p zs readings granted) c.as_mut_slice-values.ensures.value in
+      let sensed = c.read_sensors.ensures.ports ∙ ap (λ zs. sensed_ports p zs readings granted) c.as_mut_slice-values.ensures.value in
       let active = subst (λ xs. IsSwitched p its.0 s.mode_time (map (active_of p) xs) (valuation_of p c.read_sensors.new.values) c.switch.result c.switch.new.values) c.as_slice-active.ensures (c.switch.ensures.switched its.0 its.1) in
       let switched = subst (λ ports. IsSwitched p its.0 s.mode_time (map (active_of p) s.active.items) ports c.switch.result c.switch.new.values) sensed active in
       elim c.match-switch.branch [

@@ -28,4 +28,5 @@ returns c =
       released = subst (AreReleased c.args.self.now.row) (sym row) c.second_half.ensures.released;
       jobs = c.add_jobs.ensures.jobs ∙ ap (λ js. c.args.jobs.now.jobs ++ js) (jobs ∙ ap (released_at c.args.self.now.tenancy.owner.place c.args.self.now.row.next_tick) (sym row));
       room = omega (arith, c.add_jobs.ensures.room, ap length jobs, c.second_half.ensures.few);
+      granted = c.second_half.ensures.granted;
     }

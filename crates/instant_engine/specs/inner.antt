@@ -1,2 +1,0 @@
--- What the proofs speak of, and no contract of a public call.
-pub mod Within

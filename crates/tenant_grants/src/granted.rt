@@ -1,0 +1,85 @@
+//! What is granted through a bind.
+
+ghost use Rattle.std.specs.Prelude.{◌≡◌, None};
+
+use std::marker::Model;
+
+/// What is granted through a bind, if something is, and where the names of the bind were found last. Contracts see it as the value.
+#[derive(Drop)]
+pub struct Granted {
+    value: Option<i64>,
+    hints: Hints,
+    sensor: usize,
+}
+
+impl Model for Granted {
+    ghost use Rattle.std.specs.Prelude.{Option, ℤ};
+
+    ghost Value = { Option ℤ };
+
+    ghost view = { λ g. g.value };
+}
+
+/// Where the supplier's side of a bind was found last, each place counted from 0. Whoever takes a hint compares the name that stands
+/// there, and looks for the name where it is another one: so contracts say nothing of hints.
+#[derive(Clone, Copy)]
+pub struct Hints {
+    /// The supplier's offer, among its offers.
+    pub offer: usize,
+    /// The supplier's actuator, among those of its program.
+    pub actuator: usize,
+}
+
+impl Granted {
+    /// Nothing is granted, and no name was found yet.
+    pub fn nothing() -> Granted
+        ensures { result ≡ None }
+    {
+        let hints = Hints {
+            offer: 0,
+            actuator: 0,
+        };
+        Granted {
+            value: None,
+            hints,
+            sensor: 0,
+        }
+    }
+
+    /// What is granted.
+    #[inline(always)]
+    pub fn value(&self) -> Option<i64>
+        ensures { result ≡ self.now }
+    {
+        self.value
+    }
+
+    /// Where the supplier's side was found last.
+    #[inline(always)]
+    pub fn hints(&self) -> Hints {
+        self.hints
+    }
+
+    /// Notes what is granted, and where the supplier's side was found.
+    #[inline(always)]
+    pub fn note(&mut self, value: Option<i64>, hints: Hints)
+        ensures { self.new ≡ value }
+    {
+        self.value = value;
+        self.hints = hints;
+    }
+
+    /// Where the bound sensor was found last, among those of its program: a hint too.
+    #[inline(always)]
+    pub fn sensor_hint(&self) -> usize {
+        self.sensor
+    }
+
+    /// Notes where the sensor was found.
+    #[inline(always)]
+    pub fn note_sensor(&mut self, place: usize)
+        ensures { self.new ≡ self.old }
+    {
+        self.sensor = place;
+    }
+}
