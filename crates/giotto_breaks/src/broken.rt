@@ -1,11 +1,12 @@
 //! The first rule that a program breaks, and what is told of it.
 
-ghost use Rattle.std.specs.Prelude.{◌≡◌, ◌↔◌, IfOk, IfSome, Some, None};
+ghost use Rattle.std.specs.Prelude.{◌≡◌, ◌↔◌, IfOk, IfSome, OnOk, Some, None};
+ghost use Rattle.giotto_faults.specs.Findings.{BeginWithError, IsErrorAt, TellFault};
 ghost use Rattle.giotto_rules.specs.Rules.{first_broken_rule};
 
 use crate::finders::{Break, Site, breaks_of};
 use crate::hints::hint;
-use crate::outlines::outline_of;
+use crate::outlines::{Outline, outline_of};
 use crate::words::words_of_rule;
 use giotto_faults::findings::{Finding, Severity};
 use giotto_read::{Program, ReadFault};
@@ -34,6 +35,7 @@ pub fn broken_rule(
 ) -> Result<Option<BrokenRule>, AllocError>
     ensures well_formed { IfOk result (λ broken. (broken ≡ None) ↔ (first_broken_rule program.now ≡ None)) }
     ensures rule { IfOk result (λ broken. IfSome broken (λ b. first_broken_rule program.now ≡ Some b.rule)) }
+    ensures told { IfOk result (λ broken. IfSome broken (λ b. TellFault b.findings.items)) }
 {
     match first_broken(alloc, program)? {
         None => Ok(None),
@@ -44,7 +46,11 @@ pub fn broken_rule(
     }
 }
 
-fn findings_of(alloc: Global, rule: usize, text: &str) -> Result<Vec<Finding>, AllocError> {
+// What is told of the places of this text that break the rule.
+#[tactic(auto, using(crate::proofs::Telling::error_pushed))]
+fn findings_of(alloc: Global, rule: usize, text: &str) -> Result<Vec<Finding>, AllocError>
+    ensures { IfOk result (λ findings. TellFault findings.items) }
+{
     let tokens = match lexer::tokens(alloc, text.as_bytes()) {
         Ok(tokens) => tokens,
         Err(ReadFault::Memory) => return Err(AllocError),
@@ -54,22 +60,39 @@ fn findings_of(alloc: Global, rule: usize, text: &str) -> Result<Vec<Finding>, A
     let breaks = breaks_of(alloc, rule, &outline)?;
     let mut findings = Vec::new(alloc);
     for found in &breaks {
-        findings.push(Finding {
-            severity: Severity::Error,
-            offset: found.site.offset,
-            len: found.site.len_in(text),
-            message: format!(in alloc; "{}", found.what)?,
-            rule: words_once(alloc, rule, findings.is_empty())?,
-            help: hint(alloc, &outline, &found.what)?,
-        })?;
-        if let Some((site, words)) = found.other {
-            findings.push(note(alloc, text, site, words)?)?;
-        }
+        let words = words_once(alloc, rule, findings.is_empty())?;
+        add_break(alloc, &mut findings, words, (&outline, text), found)?;
     }
     if findings.is_empty() {
         findings.push(without_place(alloc, rule)?)?;
     }
     Ok(findings)
+}
+
+// Adds what is told of a place that breaks the rule, with the words of the rule, and of the other place that belongs to it.
+#[tactic(auto, using(crate::proofs::Telling::error_pushed, crate::proofs::Telling::more_pushed))]
+fn add_break(
+    alloc: Global,
+    findings: &mut Vec<Finding>,
+    words: Option<String>,
+    program: (&Outline, &str),
+    found: &Break,
+) -> Result<(), AllocError>
+    ensures { OnOk result (BeginWithError findings.old.items → TellFault findings.new.items) }
+{
+    let (outline, text) = program;
+    findings.push(Finding {
+        severity: Severity::Error,
+        offset: found.site.offset,
+        len: found.site.len_in(text),
+        message: format!(in alloc; "{}", found.what)?,
+        rule: words,
+        help: hint(alloc, outline, &found.what)?,
+    })?;
+    if let Some((site, words)) = found.other {
+        findings.push(note(alloc, text, site, words)?)?;
+    }
+    Ok(())
 }
 
 // The rule is told with the first place alone.
@@ -97,7 +120,9 @@ fn note(alloc: Global, text: &str, site: Site, words: &str) -> Result<Finding, A
 }
 
 // What is told where no place is found.
-fn without_place(alloc: Global, rule: usize) -> Result<Finding, AllocError> {
+fn without_place(alloc: Global, rule: usize) -> Result<Finding, AllocError>
+    ensures { IfOk result (IsErrorAt 0) }
+{
     Ok(Finding {
         severity: Severity::Error,
         offset: 0,

@@ -41,6 +41,15 @@ pub(crate) struct Break<'a> {
     pub(crate) other: Option<(Site, &'static str)>,
 }
 
+/// A name that breaks a rule, with no other place.
+pub(crate) fn alone<'a>(what: RuleBreak<'a>, name: PlacedName<'a>) -> Break<'a> {
+    Break {
+        what,
+        site: site_of(name),
+        other: None,
+    }
+}
+
 /// Each place that breaks this rule, in text order.
 ///
 /// # Errors

@@ -71,6 +71,20 @@ pub(crate) struct Outline<'a> {
     pub(crate) start: Option<PlacedName<'a>>,
 }
 
+/// Adds more names to these.
+///
+/// # Errors
+/// Want of memory.
+pub(crate) fn push_names<'a>(
+    names: &mut Vec<PlacedName<'a>>,
+    more: &[PlacedName<'a>],
+) -> Result<(), AllocError> {
+    for name in more {
+        names.push(*name)?;
+    }
+    Ok(())
+}
+
 /// The outline of the program that these tokens spell.
 ///
 /// # Errors

@@ -4,3 +4,4 @@ mod DeepTokens
 mod ExpectedKinds
 mod FaultPlaces
 mod TokenPlaces
+pub mod cited

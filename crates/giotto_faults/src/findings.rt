@@ -1,5 +1,9 @@
 //! What is told of a text, in the form of a compiler's messages.
 
+ghost use Rattle.std.specs.Prelude.{◌≡◌, IfOk, length, min, string_bytes};
+ghost use Rattle.giotto_faults.specs.Findings.{BeginsWith, head_at, head_of};
+ghost use Rattle.giotto_faults.specs.Places.{place_of};
+
 use crate::places::Place;
 use std::alloc::{AllocError, Global};
 use std::fmt;
@@ -15,6 +19,11 @@ pub enum Severity {
 }
 
 impl fmt::Display for Severity {
+    ghost use Rattle.std.specs.Prelude.{Some};
+    ghost use Rattle.giotto_faults.specs.Findings.{word_of_severity};
+
+    ghost output = { λ severity. Some (word_of_severity severity) };
+
     fn fmt<W: fmt::Write>(&self, f: &mut fmt::Formatter<W>) -> fmt::Result {
         f.write_str(match self {
             Severity::Error => "error",
@@ -46,8 +55,26 @@ impl Finding {
     ///
     /// # Errors
     /// Want of memory.
-    pub fn shown(&self, alloc: Global, file: &str, text: &str) -> Result<String, AllocError> {
+    pub fn shown(&self, alloc: Global, file: &str, text: &str) -> Result<String, AllocError>
+        ensures { IfOk result (λ shown. BeginsWith (head_of self.now file.now text.now) (string_bytes shown)) }
+    {
         let place = Place::of(text, self.offset.min(text.len()));
+        let head = self.head(alloc, file, place)?;
+        let below = self.below(alloc, text, place)?;
+        format!(in alloc; "{head}{below}")
+    }
+
+    // The first line: the file, the place and what is found.
+    fn head(&self, alloc: Global, file: &str, place: Place) -> Result<String, AllocError>
+        ensures { IfOk result (λ head. string_bytes head ≡ head_at self.now file.now place) }
+    {
+        let (line, column, severity) = (place.line, place.column, self.severity);
+        let message = self.message.as_str();
+        format!(in alloc; "{file}:{line}:{column}: {severity}: {message}\n")
+    }
+
+    // What stands below it: the text's line with carets, the rule and the help.
+    fn below(&self, alloc: Global, text: &str, place: Place) -> Result<String, AllocError> {
         let line = line_of(text, place.line);
         let number = format!(in alloc; "{}", place.line)?;
         let margin = blanks(alloc, number.len())?;
@@ -55,11 +82,7 @@ impl Finding {
         let excerpt = excerpt_of(alloc, line, start)?;
         let indent = blanks(alloc, excerpt.indent)?;
         let carets = carets(alloc, line, start, self.len)?;
-        let mut shown = format!(in alloc;
-            "{file}:{}:{}: {}: {}\n",
-            place.line, place.column, self.severity, self.message
-        )?;
-        push_parts(&mut shown, &[margin.as_str(), " |\n"])?;
+        let mut shown = format!(in alloc; "{margin} |\n")?;
         push_parts(
             &mut shown,
             &[number.as_str(), " | ", excerpt.text.as_str(), "\n"],

@@ -12,9 +12,9 @@
 //! ```
 //!
 //! The definitions stand in `specs/`: `Places` has what the line and the column of an offset are, `Expected` what could stand behind a
-//! text, `Nesting` where parentheses and braces nest too deep, and `Faults` what a fault says. [`laws`] says that the kinds that are
-//! expected are just those with which the text begins some program. The words of the messages and the hints are in `messages` and
-//! `hints`, which promise nothing.
+//! text, `Nesting` where parentheses and braces nest too deep, `Faults` what a fault says, and `Findings` where it is shown and the first
+//! line of what is shown. [`laws`] says that the kinds that are expected are just those with which the text begins some program. Of the
+//! words of the messages and the hints, in `messages` and `hints`, nothing is promised.
 #![tactic(auto)]
 
 pub mod expected;

@@ -1,5 +1,9 @@
 //! What is told of a fault.
 
+ghost use Rattle.std.specs.Prelude.{◌≡◌, IfOk, IsErr};
+ghost use Rattle.giotto_faults.specs.Findings.{IsErrorAt, offset_told, shown_offset};
+ghost use Rattle.giotto_faults.specs.declared.faults.ProgramFault.TheVariants.{Memory, TooMany};
+
 use crate::faults::{ProgramFault, SyntaxFault};
 use crate::findings::{Finding, Severity};
 use crate::found::piece_at;
@@ -15,8 +19,11 @@ impl ProgramFault {
     /// same bytes in the same places but for line ends and comments.
     ///
     /// # Errors
-    /// Want of memory.
-    pub fn finding(&self, alloc: Global, text: &str, source: &str) -> Result<Finding, AllocError> {
+    /// Want of memory, and always where that is the fault.
+    pub fn finding(&self, alloc: Global, text: &str, source: &str) -> Result<Finding, AllocError>
+        ensures error { IfOk result (IsErrorAt (offset_told text.now self.now)) }
+        ensures memory { self.now ≡ Memory → IsErr result }
+    {
         match self {
             ProgramFault::Syntax(fault) => syntax_finding(alloc, text, source, fault),
             ProgramFault::TooDeep(offset) => too_deep_finding(alloc, *offset),
@@ -31,7 +38,9 @@ fn syntax_finding(
     text: &str,
     source: &str,
     fault: &SyntaxFault,
-) -> Result<Finding, AllocError> {
+) -> Result<Finding, AllocError>
+    ensures { IfOk result (IsErrorAt (shown_offset text.now fault.now.offset)) }
+{
     let offset = shown_offset(text, fault.offset);
     let found = piece_at(text, fault.offset);
     let expected = fault.expected.as_slice();
@@ -46,7 +55,9 @@ fn syntax_finding(
 }
 
 // The end of the text is shown behind its last word.
-fn shown_offset(text: &str, offset: usize) -> usize {
+fn shown_offset(text: &str, offset: usize) -> usize
+    ensures { result ≡ shown_offset text.now offset }
+{
     if offset < text.len() {
         offset
     } else {
@@ -154,7 +165,9 @@ fn words_of(alloc: Global, kinds: &[TokenKind]) -> Result<Vec<String>, AllocErro
     Ok(words)
 }
 
-fn too_deep_finding(alloc: Global, offset: usize) -> Result<Finding, AllocError> {
+fn too_deep_finding(alloc: Global, offset: usize) -> Result<Finding, AllocError>
+    ensures { IfOk result (IsErrorAt offset) }
+{
     Ok(Finding {
         severity: Severity::Error,
         offset,
@@ -169,7 +182,9 @@ fn too_many_finding(
     alloc: Global,
     text: &str,
     port: &Option<CrowdedPort>,
-) -> Result<Finding, AllocError> {
+) -> Result<Finding, AllocError>
+    ensures { IfOk result (IsErrorAt (offset_told text.now (TooMany port.now))) }
+{
     let Some(port) = port else {
         return Ok(Finding {
             severity: Severity::Error,

@@ -1,5 +1,8 @@
 //! Which task has too many ports.
 
+ghost use Rattle.std.specs.Prelude.{◌≡◌};
+ghost use Rattle.giotto_faults.specs.Ports.{word_of_group};
+
 use giotto_tasks::names::Name;
 use giotto_text::tokens::{Keyword, PlacedToken, Symbol, Token};
 
@@ -13,7 +16,9 @@ pub enum PortGroup {
 
 impl PortGroup {
     /// What the ports of the group are called.
-    pub fn as_str(self) -> &'static str {
+    pub fn as_str(self) -> &'static str
+        ensures { result.now ≡ word_of_group self }
+    {
         match self {
             PortGroup::Inputs => "inputs",
             PortGroup::Outputs => "outputs",

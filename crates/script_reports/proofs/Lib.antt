@@ -2,3 +2,4 @@ pub mod Comparing
 pub mod Escaping
 pub mod Reading
 pub mod Telling
+pub mod Testing

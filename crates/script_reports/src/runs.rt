@@ -1,8 +1,8 @@
 //! Runs: scripts with the reply that each line should get.
 
-ghost use Rattle.std.specs.Prelude.{◌≡◌, ◌++◌, ◌∷◌, [], ◌<◌, ◌==◌, IfOk, IsTrue, OnOk, false, get_or, length, map, string_bytes};
+ghost use Rattle.std.specs.Prelude.{◌≡◌, ◌++◌, ◌∷◌, [], ◌<◌, ◌==◌, IfOk, IsTrue, OnOk, false, get_or, length, map, option_map, string_bytes};
 ghost use Rattle.std.specs.List.{after_first, before_first, position_or_len};
-ghost use Rattle.script_reports.specs.cited.Runs.{IsReadAs, entries_from, entries_of, is_remark, is_reply, line_in, parts_of, reply_in, script_of};
+ghost use Rattle.script_reports.specs.cited.Runs.{IsReadAs, configuration_of, entries_from, entries_of, is_remark, is_reply, line_in, parts_of, reply_in, script_of};
 
 use crate::listeners::{Listener, Overrun};
 use std::alloc::{AllocError, Global};
@@ -227,9 +227,13 @@ pub fn script_of(alloc: Global, lines: &[RunLine]) -> Result<String, AllocError>
 }
 
 /// The path of the configuration that a run names in its first line, `# --config PATH`.
-pub fn configuration_of(text: &str) -> Option<&str> {
-    let (first, _rest) = text.split_once('\n')?;
-    let path = first.strip_prefix("# --config ")?;
+pub fn configuration_of(text: &str) -> Option<&str>
+    ensures { option_map (λ path. path.now) result ≡ configuration_of text.now }
+{
+    if !has_feed(text) {
+        return None;
+    }
+    let path = before_feed(text).strip_prefix("# --config ")?;
     Some(path.trim())
 }
 

@@ -2,7 +2,7 @@
 
 ghost use Rattle.std.specs.Prelude.{◌≡◌, ◌++◌, IfOk, OnOk, map, string_bytes};
 ghost use Rattle.script_reports.specs.inner.Differences.{failures_from};
-ghost use Rattle.script_reports.specs.inner.Suites.{IsEscaped, escaped_character};
+ghost use Rattle.script_reports.specs.inner.Suites.{AreTests, IsEscaped, IsSuite, IsTest, escaped_character};
 
 use crate::differences::{reply_at, text_of_changes};
 use crate::runs::RunLine;
@@ -19,18 +19,31 @@ pub fn text_of_suite(
     name: &str,
     lines: &[RunLine],
     replies: &[String],
-) -> Result<String, AllocError> {
+) -> Result<String, AllocError>
+    ensures { IfOk result (λ text. IsSuite name.now lines.now (map string_bytes replies.now) (string_bytes text)) }
+{
     let name = escaped(alloc, name)?;
-    let tests = lines.len();
-    let failures = failures(lines, replies);
-    let mut text = format!(in alloc;
-        "<?xml version=\"1.0\" encoding=\"UTF-8\"?>\n<testsuites>\n<testsuite name=\"{name}\" tests=\"{tests}\" failures=\"{failures}\">\n"
-    )?;
+    let tests = text_of_tests(alloc, name.as_str(), lines, replies)?;
+    let (count, failures) = (lines.len(), failures(lines, replies));
+    format!(in alloc;
+        "<?xml version=\"1.0\" encoding=\"UTF-8\"?>\n<testsuites>\n<testsuite name=\"{name}\" tests=\"{count}\" failures=\"{failures}\">\n{tests}</testsuite>\n</testsuites>\n"
+    )
+}
+
+// A test for each line.
+fn text_of_tests(
+    alloc: Global,
+    suite: &str,
+    lines: &[RunLine],
+    replies: &[String],
+) -> Result<String, AllocError>
+    ensures { IfOk result (λ text. AreTests suite.now (map string_bytes replies.now) 0 lines.now (string_bytes text)) }
+{
+    let mut text = String::new(alloc);
     for (place, line) in lines.iter().enumerate() {
-        let test = text_of_test(alloc, name.as_str(), line, reply_at(replies, place))?;
+        let test = text_of_test(alloc, suite, line, reply_at(replies, place))?;
         text.push_str(test.as_str())?;
     }
-    text.push_str("</testsuite>\n</testsuites>\n")?;
     Ok(text)
 }
 
@@ -53,7 +66,9 @@ fn text_of_test(
     suite: &str,
     line: &RunLine,
     came: &str,
-) -> Result<String, AllocError> {
+) -> Result<String, AllocError>
+    ensures { IfOk result (λ text. IsTest suite.now line.now came.now (string_bytes text)) }
+{
     let number = line.number();
     let words = first_words(alloc, line.text())?;
     let words = escaped(alloc, words.as_str())?;

@@ -1,6 +1,6 @@
 //! Rule 3: what bodies assign and read.
 
-use crate::finders::{Break, is_among, site_of};
+use crate::finders::{Break, alone, is_among};
 use crate::outlines::{Outline, TaskOutline};
 use crate::rule_breaks::RuleBreak;
 use std::alloc::AllocError;
@@ -22,14 +22,11 @@ fn assigned<'a>(task: &TaskOutline<'a>, breaks: &mut Vec<Break<'a>>) -> Result<(
         let own = is_among(task.outputs.as_slice(), name.name)
             || is_among(task.states.as_slice(), name.name);
         if !own {
-            breaks.push(Break {
-                what: RuleBreak::Assigned {
-                    name: name.name,
-                    task: task.name.name,
-                },
-                site: site_of(*name),
-                other: None,
-            })?;
+            let what = RuleBreak::Assigned {
+                name: name.name,
+                task: task.name.name,
+            };
+            breaks.push(alone(what, *name))?;
         }
     }
     Ok(())
@@ -41,14 +38,11 @@ fn read<'a>(task: &TaskOutline<'a>, breaks: &mut Vec<Break<'a>>) -> Result<(), A
             || is_among(task.states.as_slice(), name.name)
             || is_among(task.outputs.as_slice(), name.name);
         if !own {
-            breaks.push(Break {
-                what: RuleBreak::Read {
-                    name: name.name,
-                    task: task.name.name,
-                },
-                site: site_of(*name),
-                other: None,
-            })?;
+            let what = RuleBreak::Read {
+                name: name.name,
+                task: task.name.name,
+            };
+            breaks.push(alone(what, *name))?;
         }
     }
     Ok(())

@@ -1,7 +1,7 @@
 //! Rule 1: what is declared twice.
 
 use crate::finders::{Break, find_name, site_of, site_of_number};
-use crate::outlines::{Outline, PlacedName, TaskOutline};
+use crate::outlines::{Outline, PlacedName, TaskOutline, push_names};
 use crate::rule_breaks::RuleBreak;
 use std::alloc::{AllocError, Global};
 
@@ -44,16 +44,6 @@ fn declared_names<'a>(
         names.push(mode.name)?;
     }
     Ok(names)
-}
-
-fn push_names<'a>(
-    names: &mut Vec<PlacedName<'a>>,
-    more: &[PlacedName<'a>],
-) -> Result<(), AllocError> {
-    for name in more {
-        names.push(*name)?;
-    }
-    Ok(())
 }
 
 fn outputs_twice<'a>(

@@ -1,7 +1,7 @@
 //! Rule 9: what drivers read, and to what switches give values.
 
-use crate::finders::{Break, find_name, is_among, site_of};
-use crate::outlines::{DriverKind, DriverOutline, ModeOutline, Outline, PlacedName};
+use crate::finders::{Break, alone, find_name, is_among, site_of};
+use crate::outlines::{DriverKind, DriverOutline, ModeOutline, Outline, PlacedName, push_names};
 use crate::rule_breaks::RuleBreak;
 use giotto_tasks::names::Name;
 use std::alloc::{AllocError, Global};
@@ -32,14 +32,6 @@ pub(crate) fn wrong_reads<'a>(
     Ok(())
 }
 
-fn alone<'a>(what: RuleBreak<'a>, name: PlacedName<'a>) -> Break<'a> {
-    Break {
-        what,
-        site: site_of(name),
-        other: None,
-    }
-}
-
 // The outputs of the tasks that the mode invokes.
 fn mode_ports<'a>(
     alloc: Global,
@@ -49,9 +41,7 @@ fn mode_ports<'a>(
     let mut ports = Vec::new(alloc);
     for task in &outline.tasks {
         if invokes(mode, task.name.name) {
-            for output in &task.outputs {
-                ports.push(*output)?;
-            }
+            push_names(&mut ports, task.outputs.as_slice())?;
         }
     }
     Ok(ports)

@@ -1,7 +1,7 @@
 //! Rules 2 and 11: names that are used as what they aren't.
 
-use crate::finders::{Break, is_among, site_of};
-use crate::outlines::{DriverKind, DriverOutline, Outline, PlacedName};
+use crate::finders::{Break, alone, is_among};
+use crate::outlines::{DriverKind, DriverOutline, Outline};
 use crate::rule_breaks::RuleBreak;
 use giotto_tasks::names::Name;
 use std::alloc::AllocError;
@@ -41,14 +41,6 @@ pub(crate) fn no_start<'a>(
         breaks.push(alone(RuleBreak::NoStart { name: start.name }, start))?;
     }
     Ok(())
-}
-
-fn alone<'a>(what: RuleBreak<'a>, name: PlacedName<'a>) -> Break<'a> {
-    Break {
-        what,
-        site: site_of(name),
-        other: None,
-    }
 }
 
 fn wrong_in_driver<'a>(

@@ -1,7 +1,7 @@
 //! What bodies assign and read.
 
 use crate::hints::names::{kind_of, name_hint, similar_hint};
-use crate::outlines::{Outline, PlacedName, TaskOutline};
+use crate::outlines::{Outline, TaskOutline, push_names};
 use giotto_tasks::names::Name;
 use std::alloc::{AllocError, Global};
 
@@ -122,14 +122,4 @@ fn task_of<'o, 'a>(outline: &'o Outline<'a>, name: &Name) -> Option<&'o TaskOutl
         }
     }
     None
-}
-
-fn push_names<'a>(
-    names: &mut Vec<PlacedName<'a>>,
-    more: &[PlacedName<'a>],
-) -> Result<(), AllocError> {
-    for name in more {
-        names.push(*name)?;
-    }
-    Ok(())
 }

@@ -1,6 +1,7 @@
 -- Runs: scripts with the reply that each line should get.
-use Rattle.std.specs.Prelude.{◌≡◌, ℕ, ◌+◌, ◌==◌, Bool, true, false, if◌then◌else◌, List, [], ◌∷◌, ◌++◌, drop, get_or, Result, Ok, Err, Vec}
-use Rattle.std.specs.List.{before_first, flat_map, slice_split}
+use Rattle.std.specs.Prelude.{◌≡◌, ℕ, ◌+◌, ◌==◌, nat_eq, nat_lt, Bool, true, false, if◌then◌else◌, List, [], ◌∷◌, ◌++◌, drop, length, get_or, Option, Some, None, Result, Ok, Err, Vec, codes}
+use Rattle.std.specs.List.{before_first, flat_map, position_or_len, slice_split, starts_with}
+use Rattle.std.specs.Str.{trim}
 use Rattle.std.specs.declared.alloc.Global.{Global}
 use Rattle.script_reports.specs.declared.runs.RunFault.{RunFault}
 use Rattle.script_reports.specs.declared.runs.RunFault.TheVariants.{NoLine, Memory}
@@ -59,3 +60,11 @@ script_of lines = flat_map (λ (l : RunEntry). l.text ++ 10 ∷ []) lines
 -- a reply without its LF
 abbrev pub line_in : List ℕ → List ℕ
 line_in reply = before_first (λ c. c == 10) reply
+
+-- the path that a first line "# --config PATH" names, without the white space around it; a first line ends with LF
+abbrev pub path_in : List ℕ → Option (List ℕ)
+path_in line = if starts_with nat_eq line (codes "# --config ") then Some (trim (drop 11 line)) else None
+
+-- the configuration that a run names in its first line
+abbrev pub configuration_of : List ℕ → Option (List ℕ)
+configuration_of text = if nat_lt (position_or_len (λ c. c == 10) text) (length text) then path_in (before_first (λ c. c == 10) text) else None

@@ -1,8 +1,13 @@
 -- A suite of tests in the form of JUnit.
-use Rattle.std.specs.Prelude.{◌≡◌, ℕ, ◌==◌, nat_lt, if◌then◌else◌, List, [], ◌∷◌, codes}
+use Rattle.std.specs.Prelude.{◌≡◌, ℕ, ◌+◌, ◌==◌, nat_lt, if◌then◌else◌, Bool, true, false, List, [], ◌∷◌, ◌++◌, get_or, length, codes}
 use Rattle.std.specs.Char.{encode_utf8}
+use Rattle.std.specs.Fmt.{decimal}
 use Rattle.std.specs.List.{flat_map}
 use Rattle.std.specs.Str.{encode_utf8_all}
+use Rattle.giotto_tasks.specs.Names.{same_name}
+use Rattle.script_reports.specs.cited.Runs.{RunEntry}
+use Rattle.script_reports.specs.cited.Told.{first_words}
+use Rattle.script_reports.specs.inner.Differences.{failures_from, text_of_changes}
 
 -- a character as it may stand in XML: what has a meaning there by its entity, and a control character but LF by `?`
 abbrev pub escaped_character : ℕ → List ℕ
@@ -13,3 +18,37 @@ escaped_character c =
 -- a text as it may stand in XML: its characters, each as it may
 abbrev pub IsEscaped : List ℕ → List ℕ → Type 0
 IsEscaped text shown = (characters : List ℕ) × (encode_utf8_all characters ≡ text) × (shown ≡ flat_map escaped_character characters)
+
+-- the test of a line of this number with these first words, in a suite of this name: it passes, or it fails for what differs
+abbrev pub passed_test : List ℕ → ℕ → List ℕ → List ℕ
+passed_test suite number words = codes "<testcase classname=\"" ++ (suite ++ (codes "\" name=\"" ++ (decimal number ++ (codes ": " ++ (words ++ codes "\"/>\n")))))
+
+abbrev pub failed_test : List ℕ → ℕ → List ℕ → List ℕ → List ℕ
+failed_test suite number words changes =
+    codes "<testcase classname=\"" ++ (suite ++ (codes "\" name=\"" ++ (decimal number ++ (codes ": " ++ (words
+    ++ (codes "\">\n<failure message=\"another reply\">" ++ (changes ++ codes "</failure>\n</testcase>\n")))))))
+
+-- the test of a line to which this reply came: it fails where the line should get another one
+abbrev pub IsTest : List ℕ → RunEntry → List ℕ → List ℕ → Type 0
+IsTest suite line came text = (words : List ℕ) × IsEscaped (first_words line.text) words × by words (same_name line.reply came)
+  where
+    by : List ℕ → Bool → Type 0
+    by words true = text ≡ passed_test suite line.number words
+    by words false = (changes : List ℕ) × IsEscaped (text_of_changes line.reply came) changes × (text ≡ failed_test suite line.number words changes)
+
+-- a test for each line of a run from a place on, with the replies that came to all lines
+abbrev pub AreTests : List ℕ → List (List ℕ) → ℕ → List RunEntry → List ℕ → Type 0
+AreTests suite replies place [] text = text ≡ []
+AreTests suite replies place (line ∷ lines) text =
+    (first : List ℕ) × (later : List ℕ) × IsTest suite line (get_or replies place []) first × AreTests suite replies (place + 1) lines later × (text ≡ first ++ later)
+
+-- a suite of this name, with so many tests, of which so many fail
+abbrev pub suite_of : List ℕ → ℕ → ℕ → List ℕ → List ℕ
+suite_of suite count failed tests =
+    codes "<?xml version=\"1.0\" encoding=\"UTF-8\"?>\n<testsuites>\n<testsuite name=\"" ++ (suite ++ (codes "\" tests=\"" ++ (decimal count
+    ++ (codes "\" failures=\"" ++ (decimal failed ++ (codes "\">\n" ++ (tests ++ codes "</testsuite>\n</testsuites>\n")))))))
+
+-- the suite of a run: a test for each line, and how many lines have another reply than they should get
+abbrev pub IsSuite : List ℕ → List RunEntry → List (List ℕ) → List ℕ → Type 0
+IsSuite name lines replies text =
+    (suite : List ℕ) × (tests : List ℕ) × IsEscaped name suite × AreTests suite replies 0 lines tests × (text ≡ suite_of suite (length lines) (failures_from replies 0 lines) tests)
