@@ -25,10 +25,14 @@ use host_core::hosts::{Counted, TickFault};
 use instant_engine::{Done, Jobs};
 use rig_config::{Config, TenantId};
 use std::alloc::{AllocError, Global};
-use std::sync::{Condvar, Mutex, Wait};
+use std::hint::spin_loop;
+use std::sync::{Condvar, Mutex, MutexGuard, Wait};
 use tenant_lines::commands::Command;
 use tenant_lines::replies::Reply;
 use tenant_programs::prepared::prepare;
+
+// How often the lock is asked for before a thread sleeps until it is free. A call holds it for less time than falling asleep takes.
+const TRIES: u32 = 100;
 
 /// A book under a lock. What waits takes the runtime; nothing else does.
 #[derive(Drop)]
@@ -67,7 +71,7 @@ impl<N: Naming> Desk<N> {
     pub fn pass(&self, rt: &impl Wait) -> Result<Pass<N>, PassFault>
         ensures { IfOk result (λ p. (p.calls ≡ []) × (p.seen ≡ 0) × (p.seat < 65536)) }
     {
-        self.book.lock(rt).seat()
+        self.enter(rt).seat()
     }
 
     /// A call of a pass: a tenant's command, and its reply. The text of a `load` or a `replace` is read before the lock is taken,
@@ -98,7 +102,7 @@ impl<N: Naming> Desk<N> {
         let prepared = prepare(self.alloc, command);
         // Dropped behind the lock.
         let mut left = None;
-        let mut book = self.book.lock(rt);
+        let mut book = self.enter(rt);
         let reply = book.carry_out(pass, tenant, prepared, &mut left)?;
         let _ = book.log();
         if book.outstanding() == 0 {
@@ -119,7 +123,7 @@ impl<N: Naming> Desk<N> {
             × Stands (new_setting N.config N.first_tick) host (host_after (new_setting N.config N.first_tick) (events_of (Logged.Tick frame.now ∷ log)))
             × (r.0.jobs ≡ released_from (host_after (new_setting N.config N.first_tick) (events_of log)).clock 0 host.tenants)) }
     {
-        let mut book = self.book.lock(rt);
+        let mut book = self.enter(rt);
         let _ = book.log();
         let answer = book.tick(frame)?;
         let _ = book.log();
@@ -136,7 +140,7 @@ impl<N: Naming> Desk<N> {
             × IsLegalLog (new_setting N.config N.first_tick) (Logged.Done done.id ∷ log) × (result.1 ≡ length log) }
         ensures late { result.0 ≡ Counted.Late → result.1 ≡ 0 }
     {
-        let mut book = self.book.lock(rt);
+        let mut book = self.enter(rt);
         let answer = book.done(done);
         let _ = book.log();
         if book.outstanding() == 0 {
@@ -153,7 +157,7 @@ impl<N: Naming> Desk<N> {
         ensures { (log : List Logged) × IsLegalLog (new_setting N.config N.first_tick) log
             × IfOk result (λ values. values.items ≡ map (value_of_line N.config (row_at (host_after (new_setting N.config N.first_tick) (events_of log)))) (range_with_len 0 N.config.lines)) }
     {
-        let book = self.book.lock(rt);
+        let book = self.enter(rt);
         let _ = book.log();
         book.lines()
     }
@@ -164,6 +168,18 @@ impl<N: Naming> Desk<N> {
             .settled
             .wait_while(rt, self.book.lock(rt), |book| book.outstanding() != 0);
     }
+
+    // Takes the lock: after a few tries the thread sleeps until it is free.
+    fn enter(&self, rt: &impl Wait) -> MutexGuard<'_, Book<N>> {
+        for _try in 0..TRIES {
+            if let Some(book) = self.book.try_lock() {
+                return book;
+            }
+            spin_loop();
+        }
+        self.book.lock(rt)
+    }
+
     /// The book, closed with all passes: each pass is the log's of its seat, no seat is there twice, none has seen a longer log, and
     /// each call in the log is of one of their seats. So all that was answered stands in this one legal log, in which each tenant was
     /// answered what it is by the model over what is kept for it. Takes no memory, and doesn't wait.
