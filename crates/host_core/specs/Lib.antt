@@ -1,3 +1,4 @@
 pub mod HostStanding
 pub mod ListReplies
+pub mod Questions
 pub mod inner

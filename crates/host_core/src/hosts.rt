@@ -20,6 +20,7 @@ ghost use Rattle.tenant_jobs.specs.Finished.{has_result};
 ghost use Rattle.tenant_jobs.specs.cited.Finished.{is_entered};
 ghost use Rattle.rig_model.specs.declared.jobs.JobId.{JobId};
 ghost use Rattle.host_core.specs.ListReplies.{is_list};
+ghost use Rattle.host_core.specs.Questions.{is_question};
 ghost use Rattle.tenant_lines.specs.declared.replies.Refusal.{Refusal};
 ghost use Rattle.tenant_lines.specs.declared.replies.Reply.{Reply};
 ghost use Rattle.tenant_state.specs.Memory.{takes_memory};
@@ -136,6 +137,7 @@ impl Host {
         ensures room { takes_memory (tenant_at self.old.tenants tenant).tenancy.owner command (tenant_at self.old.tenants tenant).row ≡ false → result ≢ Reply.Refused Refusal.Memory }
         ensures config { self.new.config ≡ self.old.config }
         ensures listed { IsTrue (is_list result) → self.new ≡ self.old }
+        ensures asked { IsTrue (is_question command) → self.new ≡ self.old }
         ensures outstanding { outstanding_count self.new ≤ outstanding_count self.old }
         ensures reply { result ≢ Reply.Refused Refusal.Memory
             → ForEachState self.old (λ setting state. result ≡ (after_command setting tenant command (row_at state tenant)).reply) }
@@ -147,7 +149,7 @@ impl Host {
     }
 
     /// Carries out a tenant's command that is prepared. The program whose place is taken, or which isn't taken itself, is left in `left`. A refusal changes nothing, want of memory included, and no command changes another
-    /// tenant, nor makes more jobs outstanding; one that is answered by a list changes nothing. Only `load`, `replace`, `show all` of a program with a port, `trace` where there is a record, `offer` and `bind` where the row may be
+    /// tenant, nor makes more jobs outstanding; a question changes nothing, nor does what is answered by a list. Only `load`, `replace`, `show all` of a program with a port, `trace` where there is a record, `offer` and `bind` where the row may be
     /// made, and `rows` where there is one, are ever refused for want of memory.
     pub fn carry_out(
         &mut self,
@@ -160,6 +162,7 @@ impl Host {
         ensures room { takes_memory (tenant_at self.old.tenants tenant).tenancy.owner prepared (tenant_at self.old.tenants tenant).row ≡ false → result ≢ Reply.Refused Refusal.Memory }
         ensures config { self.new.config ≡ self.old.config }
         ensures listed { IsTrue (is_list result) → self.new ≡ self.old }
+        ensures asked { IsTrue (is_question prepared) → self.new ≡ self.old }
         ensures outstanding { outstanding_count self.new ≤ outstanding_count self.old }
         ensures reply { result ≢ Reply.Refused Refusal.Memory
             → ForEachState self.old (λ setting state. result ≡ (after_command setting tenant prepared (row_at state tenant)).reply) }

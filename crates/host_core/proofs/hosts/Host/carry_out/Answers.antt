@@ -13,7 +13,7 @@ use Rattle.tenant_state.specs.cited.Standing.{without_ended}
 use Rattle.host_core.proofs.AtRest.{here_at_rest, outstanding_at_rest, standing, stands_inside, stands_outside}
 use Rattle.host_core.proofs.cited.HostSteps.{own_outcome, stands_after_command}
 use Rattle.instant_engine.specs.cited.Instants.{IsBetween}
-use Rattle.host_core.proofs.Listed.{listed_at_rest, nothing_ended, same_set}
+use Rattle.host_core.proofs.Listed.{Leaves, asked_leaves, listed_leaves, nothing_ended, same_at_rest, same_set}
 use Rattle.host_core.proofs.HostTables.{command_still, outstanding_behind, whole_behind}
 use Rattle.host_core.proofs.hosts.Host.carry_out.Goals as goal
 use Rattle.host_core.proofs.hosts.Host.carry_out.Goals.{After-self-1}
@@ -29,6 +29,27 @@ module _ (c : After-self-1) where
 
   here : c.index_mut-tenant.result.now ≡ tenant_at c.self.inside.tenants.items c.args.tenant
   here = c.index_mut-tenant.ensures.value ∙ get_or_default c.self.inside.tenants.items c.args.tenant c.index_mut-tenant.result.now no_tenant among
+
+  abbrev old_of : Standing
+  old_of = c.index_mut-tenant.result.now
+
+  abbrev new_of : Standing
+  new_of = c.carry_out-reply.new.self
+
+  -- a command that leaves its tenant's row leaves the host
+  same_behind : Leaves old_of new_of c.args.prepared c.carry_out-reply.result
+      → record (standing c.self.inside) { tenants = map at_rest (set c.self.inside.tenants.items c.args.tenant c.leave.new.self); entries = c.leave.new.finished.entries } ≡ c.args.self.now
+  same_behind leaves =
+      let inside = standing c.self.inside in
+      let between : IsBetween old_of = subst IsBetween (sym c.index_mut-tenant.ensures.value) (c.self.invariant.whole.known c.args.tenant old_of among).1 in
+      let ended = nothing_ended old_of new_of c.args.prepared c.carry_out-reply.result leaves between c.carry_out-reply.ensures.tenancy c.carry_out-reply.ensures.step c.carry_out-reply.ensures.ended in
+      let rests : at_rest (without_ended new_of) ≡ at_rest (get_or c.self.inside.tenants.items c.args.tenant old_of) =
+      same_at_rest old_of new_of c.args.prepared c.carry_out-reply.result leaves between c.carry_out-reply.ensures.tenancy c.carry_out-reply.ensures.step c.carry_out-reply.ensures.ended
+      ∙ ap at_rest c.index_mut-tenant.ensures.value in
+      ap (λ (s : Standing). record inside { tenants = map at_rest (set c.self.inside.tenants.items c.args.tenant s); entries = c.leave.new.finished.entries }) c.leave.ensures.same
+      ∙ (ap (λ (ts : List Standing). record inside { tenants = ts; entries = c.leave.new.finished.entries }) (same_set c.self.inside.tenants.items c.args.tenant (without_ended new_of) old_of among rests)
+      ∙ (ap (λ (f : TaskTable). record inside { tenants = map at_rest c.self.inside.tenants.items; entries = f.entries }) (c.leave.ensures.none ended)
+      ∙ c.self.view_is))
 
 pub invariant_of-self : goal.invariant_of-self
 invariant_of-self c = record {
@@ -82,16 +103,7 @@ returns-clause-room c = λ none.
     (ap (λ (s : Standing). takes_memory s.tenancy.owner c.args.prepared s.row) (sym (here_at_rest (standing c.self.inside) c.args.self.now c.args.tenant c.index_mut-tenant.result.now c.self.view_is (among c) c.index_mut-tenant.ensures.value)) ∙ none)
 
 pub returns-clause-listed : goal.returns-clause-listed
-returns-clause-listed c = λ listed.
-    let inside = standing c.self.inside in
-    let old : Standing = c.index_mut-tenant.result.now in
-    let new : Standing = c.carry_out-reply.new.self in
-    let between : IsBetween old = subst IsBetween (sym c.index_mut-tenant.ensures.value) (c.self.invariant.whole.known c.args.tenant old (among c)).1 in
-    let ended = nothing_ended old new c.args.prepared c.carry_out-reply.result listed between c.carry_out-reply.ensures.tenancy c.carry_out-reply.ensures.step c.carry_out-reply.ensures.ended in
-    let rests : at_rest (without_ended new) ≡ at_rest (get_or c.self.inside.tenants.items c.args.tenant old) =
-    listed_at_rest old new c.args.prepared c.carry_out-reply.result listed between c.carry_out-reply.ensures.tenancy c.carry_out-reply.ensures.step c.carry_out-reply.ensures.ended
-    ∙ ap at_rest c.index_mut-tenant.ensures.value in
-    ap (λ (s : Standing). record inside { tenants = map at_rest (set c.self.inside.tenants.items c.args.tenant s); entries = c.leave.new.finished.entries }) c.leave.ensures.same
-    ∙ (ap (λ (ts : List Standing). record inside { tenants = ts; entries = c.leave.new.finished.entries }) (same_set c.self.inside.tenants.items c.args.tenant (without_ended new) old (among c) rests)
-    ∙ (ap (λ (f : TaskTable). record inside { tenants = map at_rest c.self.inside.tenants.items; entries = f.entries }) (c.leave.ensures.none ended)
-    ∙ c.self.view_is))
+returns-clause-listed c = λ listed. same_behind c (listed_leaves (old_of c) (new_of c) c.args.prepared c.carry_out-reply.result c.carry_out-reply.ensures.memory listed)
+
+pub returns-clause-asked : goal.returns-clause-asked
+returns-clause-asked c = λ question. same_behind c (asked_leaves (old_of c) (new_of c) c.args.prepared c.carry_out-reply.result c.carry_out-reply.ensures.memory question)
