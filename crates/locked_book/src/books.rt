@@ -1,6 +1,6 @@
 //! The book: a host with its log.
 
-ghost use Rattle.std.specs.Prelude.{◌≡◌, ◌≢◌, ℕ, ◌+◌, ◌-◌, ◌<◌, ◌≤◌, ◌^◌, ◌↔◌, [], ◌∷◌, ◌++◌, length, map, reverse, IfOk, OnOk, OnErr, Err, IfSome, IsTrue, None, Some, vec_len, vec_capacity};
+ghost use Rattle.std.specs.Prelude.{◌≡◌, ◌≢◌, ℕ, ◌+◌, ◌-◌, ◌<◌, ◌≤◌, ◌^◌, ◌↔◌, [], ◌∷◌, ◌++◌, length, map, reverse, IfOk, OnOk, OnErr, Err, IfSome, IsTrue, true, None, Some, vec_len, vec_capacity};
 ghost use Rattle.std.specs.List.{range_with_len};
 ghost use Rattle.host_core.specs.HostStanding.{ForEachState, Stands, TakesEvent, awaited_in, new_host, outstanding_count};
 ghost use Rattle.host_core.specs.declared.hosts.Counted.{Counted};
@@ -16,12 +16,14 @@ ghost use Rattle.tenant_lines.specs.declared.replies.Reply.{Reply};
 ghost use Rattle.locked_book.specs.Books.{AllStand, AreAll, IsAnswered, IsMismatch, IsMissing, Knows, beginning, length_of, new_setting};
 ghost use Rattle.rig_model.specs.Logs.{IsLegalLog, events_of};
 ghost use Rattle.locked_book.specs.inner.Books.{HasFirstCalls};
+ghost use Rattle.locked_book.specs.inner.Carried.{IsNoted};
 ghost use Rattle.locked_book.specs.declared.faults.CloseFault.{CloseFault};
 ghost use Rattle.locked_book.specs.declared.faults.DeskFault.{DeskFault};
 ghost use Rattle.locked_book.specs.declared.faults.PassFault.{PassFault};
 ghost use Rattle.rig_model.specs.declared.logged.Logged.{Logged};
 
 use crate::bases::Base;
+use crate::carried::{carry_out, tell};
 use crate::comparison::compare;
 use crate::faults::{CloseFault, DeskFault, PassFault};
 use crate::known::is_known;
@@ -36,7 +38,7 @@ use host_core::hosts::{Counted, Host, TickFault};
 use instant_engine::{Done, Jobs};
 use rig_config::{Config, TenantId};
 use rig_model::frames::copy_of_frame;
-use rig_model::logged::{Call, Logged};
+use rig_model::logged::{KeptCall, Logged};
 use std::alloc::{AllocError, Global};
 use std::marker::{Model, PhantomData};
 use std::mem;
@@ -54,6 +56,8 @@ pub struct Book<N: Naming> {
     base: Base,
     host: Host,
     log: Log<N>,
+    // No fewer than are outstanding: as many completions have room in the log.
+    awaited: usize,
     seats: Vec<Seat>,
     // A mark for each seat, for the comparison with all passes.
     marks: Vec<bool>,
@@ -74,7 +78,8 @@ impl<N: Naming> Model for Book<N> {
 
     ghost view = { λ b. record { base = b.base; host = b.host; log = b.log.items; seats = length b.seats.items } };
 
-    ghost invariant = { λ b. (length b.log.items + outstanding_count b.host ≤ b.log.capacity)
+    ghost invariant = { λ b. (length b.log.items + b.awaited ≤ b.log.capacity)
+        × (outstanding_count b.host ≤ b.awaited)
         × (length b.marks.items ≡ length b.seats.items)
         × IsBook N.config N.first_tick (record { base = b.base; host = b.host; log = b.log.items; seats = length b.seats.items }) b.seats.items };
 }
@@ -107,6 +112,7 @@ impl<N: Naming> Book<N> {
             base,
             host,
             log: Log::new(alloc, history),
+            awaited: 0,
             seats: Vec::new(alloc),
             marks: Vec::new(alloc),
             name: PhantomData,
@@ -135,6 +141,9 @@ impl<N: Naming> Book<N> {
     pub fn outstanding(&self) -> u128
         ensures { result ≡ outstanding_count self.now.host }
     {
+        if self.awaited == 0 {
+            return 0;
+        }
         self.host.outstanding()
     }
 
@@ -186,10 +195,18 @@ impl<N: Naming> Book<N> {
             return Err(TickFault::ClockEnded);
         }
         let place = self.length();
-        let Ok(entry) = room_for_instant(self.alloc, &mut self.host, &mut self.log, frame) else {
+        let Ok(entry) = room_for_instant(
+            self.alloc,
+            &mut self.host,
+            &mut self.log,
+            self.awaited,
+            frame,
+        ) else {
             return Err(TickFault::Memory);
         };
         let jobs = self.host.tick(frame)?;
+        self.log.known();
+        self.awaited = self.host.outstanding() as usize;
         self.log.push_reserved(entry);
         Ok((jobs, place))
     }
@@ -209,6 +226,7 @@ impl<N: Naming> Book<N> {
             Counted::Late => (Counted::Late, 0),
             Counted::Counted => {
                 self.log.push_reserved(completion);
+                self.awaited -= 1;
                 (Counted::Counted, place)
             }
         }
@@ -339,6 +357,56 @@ impl<N: Naming> Book<N> {
         ensures strange { (n : ℕ) → result ≡ Err (DeskFault.Strange n) ↔ ((length pass.old.calls < 4096) × (n ≡ length_of self.old)
             × (¬ ((tenant < length self.old.host.config.tenants) × Knows self.old pass.old))) }
     {
+        let mut told = Reply::Loaded;
+        self.answer(pass, tenant, prepared, left, true, &mut told)?;
+        Ok(told)
+    }
+
+    /// As `carry_out`, without a copy of the reply, which stands on the pass.
+    ///
+    /// # Errors
+    /// As `call`.
+    pub fn make(
+        &mut self,
+        pass: &mut Pass<N>,
+        tenant: TenantId,
+        prepared: Prepared,
+        left: &mut Option<Checked>,
+    ) -> Result<(), DeskFault>
+        ensures answered { OnOk result ((r : Reply) × IsAnswered self.old self.new pass.old pass.new (record { tenant = tenant; command = prepared; reply = r })
+            × (r ≢ Reply.Refused Refusal.Memory)) }
+        ensures known { OnOk result (Knows self.new pass.new) }
+        ensures seen { OnOk result (pass.old.seen < pass.new.seen) }
+        ensures refused { OnErr result ((self.new ≡ self.old) × (pass.new ≡ pass.old)) }
+        ensures full { result ≡ Err DeskFault.PassFull ↔ 4096 ≤ length pass.old.calls }
+        ensures strange { (n : ℕ) → result ≡ Err (DeskFault.Strange n) ↔ ((length pass.old.calls < 4096) × (n ≡ length_of self.old)
+            × (¬ ((tenant < length self.old.host.config.tenants) × Knows self.old pass.old))) }
+    {
+        let mut untold = Reply::Loaded;
+        self.answer(pass, tenant, prepared, left, false, &mut untold)
+    }
+}
+
+impl<N: Naming> Book<N> {
+    // As `make`, with a copy of the reply in `told` where one is asked for.
+    fn answer(
+        &mut self,
+        pass: &mut Pass<N>,
+        tenant: TenantId,
+        prepared: Prepared,
+        left: &mut Option<Checked>,
+        is_told: bool,
+        told: &mut Reply,
+    ) -> Result<(), DeskFault>
+        ensures answered { OnOk result ((r : Reply) × IsAnswered self.old self.new pass.old pass.new (record { tenant = tenant; command = prepared; reply = r })
+            × (r ≢ Reply.Refused Refusal.Memory) × (is_told ≡ true → told.new ≡ r)) }
+        ensures known { OnOk result (Knows self.new pass.new) }
+        ensures seen { OnOk result (pass.old.seen < pass.new.seen) }
+        ensures refused { OnErr result ((self.new ≡ self.old) × (pass.new ≡ pass.old)) }
+        ensures full { result ≡ Err DeskFault.PassFull ↔ 4096 ≤ length pass.old.calls }
+        ensures strange { (n : ℕ) → result ≡ Err (DeskFault.Strange n) ↔ ((length pass.old.calls < 4096) × (n ≡ length_of self.old)
+            × (¬ ((tenant < length self.old.host.config.tenants) × Knows self.old pass.old))) }
+    {
         if pass.is_full() {
             return Err(DeskFault::PassFull);
         }
@@ -349,79 +417,69 @@ impl<N: Naming> Book<N> {
         if !self.knows(pass) {
             return Err(DeskFault::Strange(length));
         }
-        let Ok(reply) = self.carry_out_known(pass, tenant, prepared, left) else {
+        let Ok(()) = self.answer_known(pass, tenant, prepared, left, is_told, told) else {
             return Err(DeskFault::Memory);
         };
         pass.seen = length + 1;
-        Ok(reply)
+        Ok(())
     }
-}
 
-impl<N: Naming> Book<N> {
-    // A call of a pass that the book knows.
-    fn carry_out_known(
+    // As `answer`, of a pass that the book knows. What the pass has seen stays.
+    fn answer_known(
         &mut self,
         pass: &mut Pass<N>,
         tenant: TenantId,
         prepared: Prepared,
         left: &mut Option<Checked>,
-    ) -> Result<Reply, AllocError>
+        is_told: bool,
+        told: &mut Reply,
+    ) -> Result<(), AllocError>
         requires tenant { tenant < length self.old.host.config.tenants }
         requires room { length pass.old.calls < 4096 }
         requires known { Knows self.old pass.old }
-        ensures ok { IfOk result (λ r. self.new.log ≡ self.old.log ++ Logged.Call pass.old.seat (record { tenant = tenant; command = prepared; reply = r }) ∷ []) }
-        ensures pass { IfOk result (λ r. pass.new ≡ record {
-          seat = pass.old.seat;
-          calls = pass.old.calls ++ record { tenant = tenant; command = prepared; reply = r } ∷ [];
-          seen = pass.old.seen;
-        }) }
-        ensures base { OnOk result ((self.new.base ≡ self.old.base) × (self.new.seats ≡ self.old.seats)) }
-        ensures reply { IfOk result (λ r. ForEachState self.old.host (λ setting state. r ≡ (after_command setting tenant prepared (row_at state tenant)).reply)) }
-        ensures memory { IfOk result (λ r. r ≢ Reply.Refused Refusal.Memory) }
-        ensures step { OnOk result (TakesEvent (Event.Own tenant prepared) self.old.host self.new.host) }
+        ensures noted { OnOk result (IsNoted self.old self.new pass.old pass.new tenant prepared is_told told.new) }
         ensures refused { OnErr result ((self.new ≡ self.old) × (pass.new ≡ pass.old)) }
     {
-        self.log.known();
-        let outstanding = self.host.outstanding() as usize;
+        self.awaited = self.outstanding() as usize;
         let place = self.log.len();
         let seat = &mut self.seats[pass.seat];
         make_room(
             &mut self.log,
-            outstanding,
+            self.awaited,
             &mut pass.calls,
             &mut seat.places,
         )?;
         let carried = carry_out(self.alloc, &mut self.host, tenant, prepared, left)?;
+        tell(self.alloc, &carried.logged, is_told, told)?;
         seat.places.push_reserved(place);
         seat.calls += 1;
         self.log
             .push_reserved(Logged::Call(pass.seat, carried.logged));
         pass.calls.push_reserved(carried.noted);
         let _ = mem::replace(&mut pass.front, self.log.front());
-        Ok(carried.reply)
+        Ok(())
     }
 }
 
-// The entry of an instant, with room in the log for it and for the completions of all jobs that it can release.
+// The entry of an instant, with room in the log for it, for these many completions and for those of all jobs that it can release.
 fn room_for_instant<N: Naming>(
     alloc: Global,
     host: &mut Host,
     log: &mut Log<N>,
+    awaited: usize,
     frame: &[i64],
 ) -> Result<Logged, AllocError>
-    requires { length log.old.items + outstanding_count host.old ≤ log.old.capacity }
+    requires { length log.old.items + awaited ≤ log.old.capacity }
     ensures entry { IfOk result (λ e. e ≡ Logged.Tick frame.now) }
     ensures host { host.new ≡ host.old }
     ensures log { log.new.items ≡ log.old.items }
-    ensures room { OnOk result (length log.new.items + 1 + outstanding_count host.old + most_of host.old.tenants ≤ log.new.capacity) }
+    ensures room { OnOk result (length log.new.items + 1 + awaited + most_of host.old.tenants ≤ log.new.capacity) }
     ensures most { OnOk result (most_of host.old.tenants < 2 ^ 64) }
-    ensures kept { length log.new.items + outstanding_count host.old ≤ log.new.capacity }
+    ensures kept { length log.new.items + awaited ≤ log.new.capacity }
 {
     let entry = Logged::Tick(copy_of_frame(alloc, frame)?);
-    log.known();
-    let outstanding = host.outstanding() as usize;
     let most = host.ready()?;
-    let jobs = most.checked_add(outstanding).ok_or(AllocError)?;
+    let jobs = most.checked_add(awaited).ok_or(AllocError)?;
     let room = jobs.checked_add(1).ok_or(AllocError)?;
     log.reserve(room)?;
     Ok(entry)
@@ -430,72 +488,22 @@ fn room_for_instant<N: Naming>(
 // Makes room for a call: in the log, where these many completions are to come, in the pass, and among the seat's places.
 fn make_room<N: Naming>(
     log: &mut Log<N>,
-    outstanding: usize,
-    calls: &mut Vec<Call>,
+    awaited: usize,
+    calls: &mut Vec<KeptCall>,
     places: &mut Vec<usize>,
 ) -> Result<(), AllocError>
-    requires { outstanding < 2 ^ 64 - 1 }
+    requires { length log.old.items + awaited ≤ log.old.capacity }
     ensures log { log.new.items ≡ log.old.items }
     ensures calls { calls.new.items ≡ calls.old.items }
     ensures places { places.new.items ≡ places.old.items }
-    ensures log_room { OnOk result (length log.new.items + outstanding + 1 ≤ log.new.capacity) }
+    ensures log_room { OnOk result (length log.new.items + awaited + 1 ≤ log.new.capacity) }
     ensures calls_room { OnOk result (vec_len calls.new + 1 ≤ vec_capacity calls.new) }
     ensures places_room { OnOk result (vec_len places.new + 1 ≤ vec_capacity places.new) }
-    ensures kept { length log.old.items + outstanding ≤ log.old.capacity → length log.new.items + outstanding ≤ log.new.capacity }
+    ensures kept { length log.new.items + awaited ≤ log.new.capacity }
 {
-    log.reserve(outstanding + 1)?;
+    log.known();
+    log.reserve(awaited + 1)?;
     calls.reserve(1)?;
     places.reserve(1)?;
     Ok(())
-}
-
-// A command that was carried out: its reply, and the call for the log and for the pass.
-#[derive(Drop)]
-struct Carried {
-    reply: Reply,
-    logged: Call,
-    noted: Call,
-}
-
-// Carries out a tenant's command. All that takes memory is made before the host changes; a reply that takes memory is that of a command
-// which changes nothing.
-fn carry_out(
-    alloc: Global,
-    host: &mut Host,
-    tenant: TenantId,
-    prepared: Prepared,
-    left: &mut Option<Checked>,
-) -> Result<Carried, AllocError>
-    requires { tenant < length host.old.config.tenants }
-    ensures logged { IfOk result (λ r. r.logged ≡ record { tenant = tenant; command = prepared; reply = r.reply }) }
-    ensures noted { IfOk result (λ r. r.noted ≡ record { tenant = tenant; command = prepared; reply = r.reply }) }
-    ensures memory { IfOk result (λ r. r.reply ≢ Reply.Refused Refusal.Memory) }
-    ensures reply { IfOk result (λ r. ForEachState host.old (λ setting state. r.reply ≡ (after_command setting tenant prepared (row_at state tenant)).reply)) }
-    ensures step { OnOk result (TakesEvent (Event.Own tenant prepared) host.old host.new) }
-    ensures outstanding { outstanding_count host.new ≤ outstanding_count host.old }
-    ensures refused { OnErr result (host.new ≡ host.old) }
-{
-    let for_log = prepared.command().copy(alloc)?;
-    let for_pass = prepared.command().copy(alloc)?;
-    let reply = host.carry_out(tenant, prepared, left);
-    if reply.is_memory() {
-        return Err(AllocError);
-    }
-    let reply_for_log = reply.copy(alloc)?;
-    let reply_for_pass = reply.copy(alloc)?;
-    let logged = Call {
-        tenant,
-        command: for_log,
-        reply: reply_for_log,
-    };
-    let noted = Call {
-        tenant,
-        command: for_pass,
-        reply: reply_for_pass,
-    };
-    Ok(Carried {
-        reply,
-        logged,
-        noted,
-    })
 }

@@ -10,7 +10,7 @@ use crate::passes::Pass;
 use crate::same::Same;
 use crate::seats::Seat;
 use call_history::naming::Naming;
-use rig_model::logged::{Call, Logged};
+use rig_model::logged::{KeptCall, Logged};
 
 /// Whether the pass is known to the book of these: its seat was given, its calls behind the base are the log's of this seat, and it
 /// has seen no longer log. Costs as much as the pass has calls behind the base.
@@ -38,7 +38,7 @@ pub(crate) fn is_known<N: Naming>(
 }
 
 // Whether the calls from `before` on are those at these places.
-fn are_calls(log: &[Logged], places: &[usize], calls: &[Call], before: usize) -> bool
+fn are_calls(log: &[Logged], places: &[usize], calls: &[KeptCall], before: usize) -> bool
     requires before { before ≤ length calls.now }
     requires within { (k : ℕ) → k < length places.now → slice_index_or places.now k 0 < length log.now }
     ensures { IsTrue result ↔ map (call_at log.now) places.now ≡ map Some (drop before calls.now) }
@@ -57,7 +57,7 @@ fn are_calls(log: &[Logged], places: &[usize], calls: &[Call], before: usize) ->
     true
 }
 
-fn is_call(entry: &Logged, call: &Call) -> bool
+fn is_call(entry: &Logged, call: &KeptCall) -> bool
     ensures { IsTrue result ↔ call_of entry.now ≡ Some call.now }
 {
     match entry {

@@ -10,6 +10,7 @@
 
 mod bases;
 pub mod books;
+mod carried;
 mod comparison;
 pub mod desks;
 pub mod faults;

@@ -5,7 +5,7 @@ ghost use Rattle.std.specs.Prelude.{◌≡◌, ◌<◌, ◌↔◌, ◌≤◌, []
 use call_history::histories::Front;
 use call_history::naming::Naming;
 use rig_config::TenantId;
-use rig_model::logged::{Call, SeatId};
+use rig_model::logged::{Call, KeptCall, SeatId};
 use std::alloc::{AllocError, Global};
 use std::marker::Model;
 use tenant_lines::commands::Command;
@@ -18,7 +18,7 @@ pub const MOST_CALLS: usize = 4096;
 #[derive(Drop)]
 pub struct Pass<N: Naming> {
     pub(crate) seat: SeatId,
-    pub(crate) calls: Vec<Call>,
+    pub(crate) calls: Vec<KeptCall>,
     pub(crate) seen: u128,
     // What the desk's history was behind its last call, where all its calls stand there.
     pub(crate) front: Option<Front<N>>,
@@ -57,7 +57,7 @@ impl<N: Naming> Pass<N> {
     }
 
     /// Its calls with their replies, in their order. Takes no memory.
-    pub fn calls(&self) -> &[Call]
+    pub fn calls(&self) -> &[KeptCall]
         ensures { result.now ≡ self.now.calls }
     {
         &self.calls
@@ -89,13 +89,14 @@ impl<N: Naming> Pass<N> {
         ensures refused { OnErr result (self.new ≡ self.old) }
     {
         self.calls.reserve(1)?;
-        self.front = None;
         let call = Call {
             tenant,
             command,
             reply,
         };
-        self.calls.push_reserved(call);
+        let kept = KeptCall::own(Box::new(*self.calls.allocator(), call)?);
+        self.front = None;
+        self.calls.push_reserved(kept);
         Ok(())
     }
 }

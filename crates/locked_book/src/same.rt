@@ -5,7 +5,7 @@ ghost use Rattle.std.specs.Prelude.{◌≡◌, ◌↔◌, IsTrue};
 use giotto_tasks::names::Name;
 use rig_config::intervals::Bounds;
 use rig_model::jobs::JobId;
-use rig_model::logged::{Call, Logged};
+use rig_model::logged::{Call, KeptCall, Logged};
 use tenant_grants::rows::{Bind, Offer, Row};
 use tenant_lines::commands::Command;
 use tenant_lines::grant_lines::GrantCommand;
@@ -291,6 +291,12 @@ impl Same for Call {
             return false;
         }
         self.reply.is_same(&other.reply)
+    }
+}
+
+impl Same for KeptCall {
+    fn is_same(&self, other: &KeptCall) -> bool {
+        self.as_call().is_same(other.as_call())
     }
 }
 

@@ -186,7 +186,10 @@ fn events_of(alloc: Global, log: &[Logged]) -> Result<Vec<Event>, AllocError> {
     let mut events = Vec::new(alloc);
     for entry in log {
         let event = match entry {
-            Logged::Call(_, call) => Event::Own(call.tenant, call.command.copy(alloc)?),
+            Logged::Call(_, kept) => {
+                let call = kept.as_call();
+                Event::Own(call.tenant, call.command.copy(alloc)?)
+            }
             Logged::Tick(frame) => Event::Tick(copy_of_frame(alloc, frame.as_slice())?),
             Logged::Done(id) => Event::Done(id.copy()),
         };
@@ -223,9 +226,10 @@ fn add_all(texts: &mut [Text], next: &mut [usize], log: &[Logged], all: &[Heard]
 
 // Adds the reply to this call, if it is one.
 fn add(texts: &mut [Text], next: &mut [usize], entry: &Logged, all: &[Heard]) -> Option<()> {
-    let Logged::Call(seat, call) = entry else {
+    let Logged::Call(seat, kept) = entry else {
         return Some(());
     };
+    let call = kept.as_call();
     let reply = next_reply(next.get_mut(*seat)?, all.get(*seat)?)?;
     add_line(texts.get_mut(call.tenant)?, reply).ok()
 }

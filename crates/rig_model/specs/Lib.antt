@@ -14,6 +14,7 @@ pub mod Host
 pub mod HostState
 pub mod Instants
 pub mod Jobs
+pub mod KeptCalls
 pub mod Legal
 pub mod LineValues
 pub mod Logs

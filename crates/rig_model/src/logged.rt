@@ -1,5 +1,7 @@
 //! What is logged.
 
+ghost use Rattle.std.specs.Arc.{arc_value};
+ghost use Rattle.std.specs.Box.{box_value};
 ghost use Rattle.std.specs.Prelude.{◌≡◌, IfOk};
 
 use crate::frames::copy_of_frame;
@@ -7,6 +9,8 @@ use crate::jobs::JobId;
 use giotto_tasks::lists::List;
 use rig_config::TenantId;
 use std::alloc::{AllocError, Global};
+use std::marker::Model;
+use std::sync::Arc;
 use tenant_lines::commands::Command;
 use tenant_lines::replies::Reply;
 
@@ -21,11 +25,34 @@ pub struct Call {
     pub reply: Reply,
 }
 
+// Where a call is kept: in a place that others share, or in one of its own.
+#[derive(Drop)]
+enum Place {
+    Shared(Arc<Call, Global>),
+    Own(Box<Call>),
+}
+
+/// A call as a log or a pass keeps it: in memory of its own, or in memory that another shares. It moves no more than an address. Contracts
+/// see it as the call.
+#[derive(Drop)]
+pub struct KeptCall {
+    place: Place,
+}
+
+impl Model for KeptCall {
+    ghost use Rattle.rig_model.specs.declared.logged.Call.{Call};
+    ghost use Rattle.rig_model.specs.KeptCalls.{call_in};
+
+    ghost Value = { Call };
+
+    ghost view = { λ k. call_in k.place };
+}
+
 /// An entry of a log.
 #[derive(Drop)]
 pub enum Logged {
     /// A call of a seat.
-    Call(SeatId, Call),
+    Call(SeatId, KeptCall),
     /// An instant of all tenants, with the input value of each line.
     Tick(List<i64>),
     /// The completion of a job, which counted.
@@ -45,6 +72,58 @@ impl Call {
             command: self.command.copy(alloc)?,
             reply: self.reply.copy(alloc)?,
         })
+    }
+}
+
+impl KeptCall {
+    /// The call in this place of its own. Takes no memory.
+    pub fn own(call: Box<Call>) -> KeptCall
+        ensures { result ≡ box_value call }
+    {
+        KeptCall {
+            place: Place::Own(call),
+        }
+    }
+
+    /// The call twice, in one place.
+    ///
+    /// # Errors
+    /// Want of memory for the place, or a share of it is refused.
+    pub fn twice(alloc: Global, call: Call) -> Result<(KeptCall, KeptCall), AllocError>
+        ensures { IfOk result (λ calls. (calls.0 ≡ call) × (calls.1 ≡ call)) }
+    {
+        let one = Arc::new(alloc, call)?;
+        let other = Arc::try_clone(&one)?;
+        Ok((KeptCall::shared(one), KeptCall::shared(other)))
+    }
+
+    fn shared(call: Arc<Call, Global>) -> KeptCall
+        ensures { result ≡ arc_value call }
+    {
+        KeptCall {
+            place: Place::Shared(call),
+        }
+    }
+
+    /// The call.
+    pub fn as_call(&self) -> &Call
+        ensures { result.now ≡ self.now }
+    {
+        match &self.place {
+            Place::Shared(call) => call,
+            Place::Own(call) => call,
+        }
+    }
+
+    /// An equal call, in memory of its own.
+    ///
+    /// # Errors
+    /// Want of memory.
+    pub fn copy(&self, alloc: Global) -> Result<KeptCall, AllocError>
+        ensures { IfOk result (λ call. call ≡ self.now) }
+    {
+        let call = self.as_call().copy(alloc)?;
+        Ok(KeptCall::own(Box::new(alloc, call)?))
     }
 }
 

@@ -116,7 +116,7 @@ fn both_start<N: Naming + Send + Sync, R: Threads + Wait + Sync>(
 // Whether the calls are a load and a start of this tenant, both carried out.
 fn has_started<N: Naming>(pass: &Pass<N>, tenant: TenantId) -> bool {
     match pass.calls() {
-        [load, start] => is_load(load, tenant) && is_start(start, tenant),
+        [load, start] => is_load(load.as_call(), tenant) && is_start(start.as_call(), tenant),
         _ => false,
     }
 }

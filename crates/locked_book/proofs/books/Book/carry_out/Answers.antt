@@ -1,31 +1,17 @@
-use Rattle.std.proofs.Common.{◌≡◌, ◌+◌, arith, [], ◌∷◌, ◌++◌, length, refl, sym, ap, ◌∙◌}
-use Rattle.rig_model.specs.declared.logged.Call.{Call}
-use Rattle.std.proofs.lemmas.List.{length-append}
-use Rattle.locked_book.specs.Books.{BaseValue, PassValue, Knows, length_of}
-use Rattle.locked_book.proofs.Steps.{knows_on}
+use Rattle.std.proofs.Common.{◌≢◌, refl, sym, subst}
+use Rattle.tenant_lines.specs.declared.replies.Refusal.TheVariants.{Memory}
+use Rattle.tenant_lines.specs.declared.replies.Reply.{Reply}
+use Rattle.tenant_lines.specs.declared.replies.Reply.TheVariants.{Refused}
+use Rattle.locked_book.specs.Books.{IsAnswered}
+use Rattle.locked_book.specs.inner.Carried.{call_with}
 use Rattle.locked_book.proofs.books.Book.carry_out.Goals as goal
-
-pub returns-clause-known : goal.returns-clause-known
-returns-clause-known g c =
-    let call : Call = record { tenant = c.args.tenant; command = c.args.prepared; reply = c.in-Ok.reply } in
-    let done = c.in-Ok.ensures in
-    let now : Knows c.carry_out_known.new.self (record { seat = c.args.pass.now.seat; calls = c.args.pass.now.calls ++ call ∷ []; seen = c.length-length.result + 1 }) =
-    knows_on c.args.self.now c.carry_out_known.new.self c.args.pass.now call (c.length-length.result + 1) (c.if-not-knows.ensures.0 refl) done.base.0 done.base.1 done.ok (ap (λ n. n + 1) c.length-length.ensures.length) in
-    let pass = c.pass.view_is ∙ done.pass in
-    rw (ap (λ (p : PassValue). p.seat) pass, ap (λ (p : PassValue). p.calls) pass) now
 
 pub returns-clause-answered : goal.returns-clause-answered
 returns-clause-answered g c =
-    let done = c.in-Ok.ensures in
-    let more : length_of c.carry_out_known.new.self ≡ length_of c.args.self.now + 1 =
-    (let l = ap length done.ok ∙ length-append c.args.self.now.log _ in let b = ap (λ (x : BaseValue). x.entries_before) done.base.0 in omega (arith, l, b)) in
-    let seen : c.length-length.result + 1 ≡ length_of c.carry_out_known.new.self = ap (λ n. n + 1) c.length-length.ensures.length ∙ sym more in
-    let pass = c.pass.view_is ∙ done.pass in
-    record {
-      log = done.ok;
-      pass = rw (ap (λ (p : PassValue). p.seat) pass, ap (λ (p : PassValue). p.calls) pass, seen) refl;
-      reply = done.reply;
-      step = done.step;
-      base = done.base.0;
-      seats = done.base.1;
-    }
+    let answered = c.in_ok-answer.ensures.answered in
+    subst (λ (r : Reply). IsAnswered c.args.self.now c.answer.new.self c.args.pass.now c.answer.new.pass (call_with c.args.tenant c.args.prepared r)) (sym (answered.3 refl)) answered.1
+
+pub returns-clause-memory : goal.returns-clause-memory
+returns-clause-memory g c =
+    let answered = c.in_ok-answer.ensures.answered in
+    subst (λ (r : Reply). r ≢ Refused Memory) (sym (answered.3 refl)) answered.2

@@ -1,0 +1,162 @@
+//! Commands that are carried out, as the log and the pass keep them.
+//!
+//! Memory has to be had before the host changes. A question changes nothing, so its call is made behind it, and is kept once for both. The calls
+//! of other commands are made before, each in a place of its own, and get their replies behind it.
+
+ghost use Rattle.std.specs.Box.{box_value};
+ghost use Rattle.std.specs.Prelude.{◌≡◌, ◌<◌, ◌≤◌, length, true, IfOk, IsErr, IsTrue, OnErr, OnOk};
+ghost use Rattle.host_core.specs.HostStanding.{outstanding_count};
+ghost use Rattle.host_core.specs.Questions.{is_question};
+ghost use Rattle.locked_book.specs.inner.Carried.{IsCarriedOut, IsTaken};
+ghost use Rattle.tenant_lines.specs.cited.Copies.{has_list};
+
+use giotto_check::Checked;
+use host_core::hosts::Host;
+use rig_config::TenantId;
+use rig_model::logged::{Call, KeptCall};
+use std::alloc::{AllocError, Global};
+use tenant_lines::commands::Command;
+use tenant_lines::grant_lines::GrantCommand;
+use tenant_lines::replies::Reply;
+use tenant_programs::prepared::Prepared;
+
+/// A call of a command that was carried out, for the log and for the pass.
+#[derive(Drop)]
+pub(crate) struct Carried {
+    pub(crate) logged: KeptCall,
+    pub(crate) noted: KeptCall,
+}
+
+/// Carries out a tenant's command.
+///
+/// # Errors
+/// Want of memory. The host stays as it was then.
+pub(crate) fn carry_out(
+    alloc: Global,
+    host: &mut Host,
+    tenant: TenantId,
+    prepared: Prepared,
+    left: &mut Option<Checked>,
+) -> Result<Carried, AllocError>
+    requires { tenant < length host.old.config.tenants }
+    ensures carried { IfOk result (λ c. IsCarriedOut host.old host.new tenant prepared c.logged c.noted) }
+    ensures outstanding { outstanding_count host.new ≤ outstanding_count host.old }
+    ensures refused { OnErr result (host.new ≡ host.old) }
+{
+    if is_question(prepared.command()) {
+        carry_out_question(alloc, host, tenant, prepared, left)
+    } else {
+        carry_out_change(alloc, host, tenant, prepared, left)
+    }
+}
+
+fn is_question(command: &Command) -> bool
+    ensures { result ≡ is_question command.now }
+{
+    match command {
+        Command::Load(_) | Command::Replace(_) | Command::Start | Command::Stop => false,
+        Command::ShowMode | Command::ShowPort(_) | Command::ShowAll | Command::Trace => true,
+        Command::Grants(command) => matches!(command, GrantCommand::Rows),
+    }
+}
+
+// Carries out a question. Its call is kept once.
+fn carry_out_question(
+    alloc: Global,
+    host: &mut Host,
+    tenant: TenantId,
+    prepared: Prepared,
+    left: &mut Option<Checked>,
+) -> Result<Carried, AllocError>
+    requires tenant { tenant < length host.old.config.tenants }
+    requires question { IsTrue (is_question prepared) }
+    ensures carried { IfOk result (λ c. IsCarriedOut host.old host.new tenant prepared c.logged c.noted) }
+    ensures same { host.new ≡ host.old }
+{
+    let command = prepared.command().copy(alloc)?;
+    let reply = reply_of(host, tenant, prepared, left)?;
+    let call = Call {
+        tenant,
+        command,
+        reply,
+    };
+    let (logged, noted) = KeptCall::twice(alloc, call)?;
+    Ok(Carried { logged, noted })
+}
+
+// Carries out a command that isn't a question. Behind it no memory is taken.
+fn carry_out_change(
+    alloc: Global,
+    host: &mut Host,
+    tenant: TenantId,
+    prepared: Prepared,
+    left: &mut Option<Checked>,
+) -> Result<Carried, AllocError>
+    requires { tenant < length host.old.config.tenants }
+    ensures carried { IfOk result (λ c. IsCarriedOut host.old host.new tenant prepared c.logged c.noted) }
+    ensures outstanding { outstanding_count host.new ≤ outstanding_count host.old }
+    ensures refused { OnErr result (host.new ≡ host.old) }
+{
+    let mut logged = place_for(alloc, tenant, prepared.command())?;
+    let mut noted = place_for(alloc, tenant, prepared.command())?;
+    let reply = reply_of(host, tenant, prepared, left)?;
+    noted.reply = reply.copy(alloc)?;
+    logged.reply = reply;
+    Ok(Carried {
+        logged: KeptCall::own(logged),
+        noted: KeptCall::own(noted),
+    })
+}
+
+// The reply of the host to a tenant's command, but for want of memory.
+#[inline(always)]
+fn reply_of(
+    host: &mut Host,
+    tenant: TenantId,
+    prepared: Prepared,
+    left: &mut Option<Checked>,
+) -> Result<Reply, AllocError>
+    requires { tenant < length host.old.config.tenants }
+    ensures taken { IfOk result (λ reply. IsTaken host.old host.new tenant prepared reply) }
+    ensures asked { IsTrue (is_question prepared) → host.new ≡ host.old }
+    ensures outstanding { outstanding_count host.new ≤ outstanding_count host.old }
+    ensures refused { OnErr result (host.new ≡ host.old) }
+{
+    let reply = host.carry_out(tenant, prepared, left);
+    if reply.is_memory() {
+        return Err(AllocError);
+    }
+    Ok(reply)
+}
+
+// A place of its own for a call of this command, whose reply is to come.
+fn place_for(alloc: Global, tenant: TenantId, command: &Command) -> Result<Box<Call>, AllocError>
+    ensures tenant { IfOk result (λ c. (box_value c).tenant ≡ tenant) }
+    ensures command { IfOk result (λ c. (box_value c).command ≡ command.now) }
+{
+    let call = Call {
+        tenant,
+        command: command.copy(alloc)?,
+        reply: Reply::Loaded,
+    };
+    Ok(Box::new(alloc, call)?)
+}
+
+/// Makes a copy of a call's reply, where it is asked for.
+///
+/// # Errors
+/// Want of memory, only where the reply is a list.
+pub(crate) fn tell(
+    alloc: Global,
+    call: &KeptCall,
+    is_told: bool,
+    told: &mut Reply,
+) -> Result<(), AllocError>
+    ensures told { is_told ≡ true → OnOk result (told.new ≡ call.now.reply) }
+    ensures memory { IsErr result → IsTrue (has_list call.now.reply) }
+{
+    if is_told {
+        *told = call.as_call().reply.copy(alloc)?;
+    }
+    Ok(())
+}
