@@ -7,5 +7,6 @@ pub mod NextStarts
 pub mod Numbers
 pub mod Places
 pub mod Steps
+pub mod Together
 pub mod WindowMarks
 pub mod cited

@@ -1,5 +1,5 @@
 -- Books: a host with its log from a base on, and the passes of those who call it. The logs here have the oldest entry first.
-use Rattle.std.specs.Prelude.{◌≡◌, ◌≢◌, ℕ, ◌+◌, ◌-◌, ◌<◌, ◌≤◌, nat_lt, Bool, true, false, ◌==◌, if◌then◌else◌, List, [], ◌∷◌, ◌++◌, length, map, drop, take, slice_get, slice_index_or, Option, Some, None}
+use Rattle.std.specs.Prelude.{◌≡◌, ◌≢◌, ℕ, ◌+◌, ◌-◌, ◌<◌, ◌≤◌, nat_lt, Bool, true, false, ◌==◌, if◌then◌else◌, List, [], ◌∷◌, ◌++◌, length, map, reverse, drop, take, slice_get, slice_index_or, Option, Some, None, Result, OnOk, OnErr}
 use Rattle.std.specs.List.{All, list_any}
 use Rattle.rig_config.specs.Roster.{Rig}
 use Rattle.rig_model.specs.Base.{Setting, new_base}
@@ -7,7 +7,9 @@ use Rattle.rig_model.specs.HostState.{row_at}
 use Rattle.rig_model.specs.Views.{after_command}
 use Rattle.rig_model.specs.declared.events.Event.TheVariants.{Own}
 use Rattle.host_core.specs.HostStanding.{ForEachState, HostStanding, TakesEvent, new_host}
-use Rattle.rig_model.specs.Logs.{calls_of_seat}
+use Rattle.rig_model.specs.Logs.{IsLegalLog, calls_of_seat}
+use Rattle.tenant_lines.specs.declared.commands.Command.{Command}
+use Rattle.locked_book.specs.declared.faults.DeskFault.{DeskFault}
 use Rattle.rig_model.specs.declared.logged.Call.{Call}
 use Rattle.rig_model.specs.declared.logged.Logged.{Logged}
 use Rattle.rig_model.specs.declared.logged.Logged.TheVariants as logged
@@ -85,6 +87,29 @@ pub record IsAnswered (old new : BookValue) (before after : PassValue) (call : C
   pub step : TakesEvent (Own call.tenant call.command) old.host new.host
   pub base : new.base ≡ old.base
   pub seats : new.seats ≡ old.seats
+
+-- who asked for a call, and for what
+abbrev pub asked_by : Call → ℕ × Command
+asked_by call = (call.tenant, call.command)
+
+-- a tenant that asks for a command
+abbrev pub asking : ℕ → Command → ℕ × Command
+asking tenant command = (tenant, command)
+
+-- The first of these commands of a tenant were called on a pass, one behind the other: all of them, unless one was refused.
+pub record AreCalled (tenant : ℕ) (commands : List Command) (result : Result Unit DeskFault) (old new : PassValue) : Type 0 where
+  pub made : List Call
+  pub calls : new.calls ≡ old.calls ++ made
+  pub asked : map asked_by made ≡ map (asking tenant) (take (length made) commands)
+  pub all : OnOk result (length made ≡ length commands)
+  pub fewer : OnErr result (length made < length commands)
+
+-- these calls of a pass end a legal log, one behind the other, in which the calls of its seat are those of the pass, and whose length it has seen
+pub record EndLegalLog (setting : Setting) (pass : PassValue) (made : List Call) : Type 0 where
+  pub before : List Logged
+  pub legal : IsLegalLog setting (reverse (before ++ map (logged.Call pass.seat) made))
+  pub calls : calls_of_seat pass.seat (before ++ map (logged.Call pass.seat) made) ≡ pass.calls
+  pub seen : pass.seen ≡ length before + length made
 
 -- one of these passes has the seat
 abbrev pub has_seat : List PassValue → ℕ → Bool

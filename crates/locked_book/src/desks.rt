@@ -1,6 +1,6 @@
 //! The desk: a book under a lock.
 
-ghost use Rattle.std.specs.Prelude.{◌≡◌, ℕ, ◌+◌, ◌<◌, ◌≤◌, ◌↔◌, List, [], ◌∷◌, ◌++◌, length, map, reverse, true, IfOk, OnOk, OnErr, IfErr, IfSome, Err, Some};
+ghost use Rattle.std.specs.Prelude.{◌≡◌, ◌≢◌, ℕ, ◌+◌, ◌<◌, ◌≤◌, ◌↔◌, List, [], ◌∷◌, ◌++◌, length, map, reverse, true, IfOk, OnOk, OnErr, IfErr, IfSome, Err, Some};
 ghost use Rattle.std.specs.List.{All, range_with_len};
 ghost use Rattle.instant_engine.specs.Tenants.{released_from};
 ghost use Rattle.host_core.specs.HostStanding.{HostStanding, Stands};
@@ -10,11 +10,13 @@ ghost use Rattle.rig_model.specs.Host.{host_after};
 ghost use Rattle.rig_model.specs.HostState.{row_at};
 ghost use Rattle.rig_model.specs.LineValues.{value_of_line};
 ghost use Rattle.rig_model.specs.Sources.{kept_of};
-ghost use Rattle.locked_book.specs.Books.{AreAll, BookValue, IsMismatch, IsMissing, PassValue, beginning, new_setting};
+ghost use Rattle.locked_book.specs.Books.{AreAll, AreCalled, BookValue, EndLegalLog, IsMismatch, IsMissing, PassValue, beginning, new_setting};
 ghost use Rattle.rig_model.specs.Logs.{IsLegalLog, answers_in, calls_of_seat, events_of};
 ghost use Rattle.locked_book.specs.declared.faults.CloseFault.{CloseFault};
 ghost use Rattle.locked_book.specs.declared.faults.DeskFault.{DeskFault};
+ghost use Rattle.rig_model.specs.declared.logged.Call.{Call};
 ghost use Rattle.rig_model.specs.declared.logged.Logged.{Logged};
+ghost use Rattle.locked_book.specs.inner.Books.{AreMade};
 
 use crate::books::Book;
 use crate::faults::{CloseFault, DeskFault, PassFault};
@@ -109,6 +111,34 @@ impl<N: Naming> Desk<N> {
             self.settled.notify_all();
         }
         Ok(reply)
+    }
+
+    /// Calls of a pass, one behind the other under one lock: these commands of a tenant, down to the first that is refused. They end a
+    /// legal log, in which the seat's calls are exactly those of the pass. Meant for short commands: the text of a `load` or a `replace`
+    /// is copied and read while the lock is held.
+    ///
+    /// # Errors
+    /// As `call`, of the first command that is refused. Those before it are made.
+    pub fn call_all(
+        &self,
+        rt: &impl Wait,
+        pass: &mut Pass<N>,
+        tenant: TenantId,
+        commands: &[Command],
+    ) -> Result<(), DeskFault>
+        ensures called { AreCalled tenant commands.now result pass.old pass.new }
+        ensures legal { (made : List Call) → pass.new.calls ≡ pass.old.calls ++ made → made ≢ [] → EndLegalLog (new_setting N.config N.first_tick) pass.new made }
+        ensures seat { pass.new.seat ≡ pass.old.seat }
+        ensures none { pass.new.calls ≡ pass.old.calls → pass.new ≡ pass.old }
+        ensures full { result ≡ Err DeskFault.PassFull ↔ ((4096 ≤ length pass.new.calls) × (length pass.new.calls < length pass.old.calls + length commands.now)) }
+    {
+        let mut book = self.enter(rt);
+        let answer = make_all(self.alloc, &mut book, pass, tenant, commands);
+        let _ = book.log();
+        if book.outstanding() == 0 {
+            self.settled.notify_all();
+        }
+        answer
     }
 
     /// An instant of all tenants. It is the last entry of a legal log, at the place that it tells; the jobs are those that it released.
@@ -220,4 +250,29 @@ impl<N: Naming> Desk<N> {
             }
         }
     }
+}
+
+// Makes these calls of a pass, one behind the other, down to the first that is refused.
+fn make_all<N: Naming>(
+    alloc: Global,
+    book: &mut Book<N>,
+    pass: &mut Pass<N>,
+    tenant: TenantId,
+    commands: &[Command],
+) -> Result<(), DeskFault>
+    ensures called { AreCalled tenant commands.now result pass.old pass.new }
+    ensures made { (made : List Call) → pass.new.calls ≡ pass.old.calls ++ made → AreMade made book.old book.new pass.old pass.new }
+    ensures full { result ≡ Err DeskFault.PassFull ↔ ((4096 ≤ length pass.new.calls) × (length pass.new.calls < length pass.old.calls + length commands.now)) }
+{
+    for command in commands {
+        if pass.is_full() {
+            return Err(DeskFault::PassFull);
+        }
+        let Ok(command) = command.copy(alloc) else {
+            return Err(DeskFault::Memory);
+        };
+        let mut left = None;
+        book.make(pass, tenant, prepare(alloc, command), &mut left)?;
+    }
+    Ok(())
 }

@@ -1,5 +1,5 @@
 -- What a line does, by its step.
-use Rattle.std.proofs.Common.{◌≡◌, ◌≢◌, ℕ, List, [], ◌∷◌, ◌++◌, Option, Some, None, Result, Ok, Err, IfErr, refl, sym, ap, ◌∙◌, subst, append-nil}
+use Rattle.std.proofs.Common.{◌≡◌, ◌≢◌, ℕ, List, [], ◌∷◌, ◌++◌, Option, Some, None, Result, Ok, Err, IfErr, OnOk, refl, sym, ap, ◌∙◌, subst, append-nil}
 use Rattle.std.specs.Io.KnownBytes.{Appends}
 use Rattle.locked_book.specs.Books.{PassValue}
 use Rattle.locked_book.specs.declared.faults.DeskFault.{DeskFault}
@@ -57,6 +57,11 @@ unread_taken step s t old Written is same done =
 pub on_err : {T : Type 0} (r : Result T TalkFault) (P Q : TalkFault → Type 0) → IfErr r P → ((f : TalkFault) → P f → Q f) → IfErr r Q
 on_err (Ok x) P Q h f = tt
 on_err (Err e) P Q h f = f e h
+
+-- what follows of two things that hold of an answer
+pub on_ok_two : {T E : Type 0} (r : Result T E) (A B Q : Type 0) → OnOk r A → OnOk r B → (A → B → Q) → OnOk r Q
+on_ok_two (Ok x) A B Q a b f = f a b
+on_ok_two (Err e) A B Q a b f = tt
 
 -- where only a write can fail
 pub unsaid : {T : Type 0} (r : Result T TalkFault) (P : TalkFault → Type 0) → IfErr r (λ f. f ≡ Write) → P Write → IfErr r P

@@ -1,3 +1,4 @@
 pub mod Answering
+pub mod Batches
 pub mod SessionLines
 pub mod SoFar

@@ -11,15 +11,17 @@ use Rattle.rig_model.specs.declared.limits.TheConstants.{MAX_READS}
 use Rattle.rig_model.specs.declared.logged.Call.{Call}
 use Rattle.rig_model.specs.Sessions.{Outcome, Session, State, Step, begun, behind_line, behind_lines, behind_step, bye_bad_line, ended, line_step, says, stranger, tenant, text_step, written}
 use Rattle.rig_sessions.specs.inner.Faults.{fault_of_lines}
-use Rattle.rig_sessions.specs.Talks.{AreFewRead, IsCutOff, Talked, TalkedInto, TookWholeLines}
+use Rattle.rig_sessions.specs.Talks.{outcome_of, AreFewRead, IsCutOff, Talked, TalkedInto, TookWholeLines}
 use Rattle.rig_sessions.specs.declared.faults.TalkFault.{TalkFault}
 use Rattle.rig_sessions.specs.declared.faults.TalkFault.TheVariants.{Read, Write, Turns, Desk}
-use Rattle.rig_sessions.specs.inner.Answered.{IsAnswered, IsTaken, IsUnanswered}
+use Rattle.rig_sessions.specs.inner.Answered.{AreAnswered, AreTaken, AreUnanswered, behind_texts}
 use Rattle.rig_sessions.proofs.Answering.{appends_nothing}
 use Rattle.text_lines.specs.declared.faults.LinesFault.{LinesFault}
 use Rattle.text_lines.specs.declared.faults.LinesFault.TheVariants as lines
+use Rattle.text_lines.specs.cited.Batches.{AreFirstLines}
 use Rattle.text_lines.specs.cited.Reading.{AreCounted, HasFirstLine, HasNoWholeLine, IsFirstLine, IsNextLine}
-use Rattle.text_lines.proofs.cited.AnsweredLines.{AreOf, HasCome, come_nowhere, come_further}
+use Rattle.text_lines.proofs.cited.AnsweredLines.{AreOf, HasCome, come_nowhere, come_further, come_ended}
+use Rattle.text_lines.proofs.cited.FirstLines.{behind_first, first_of_both}
 use Rattle.text_lines.proofs.cited.CountedReads.{taken_by}
 
 module _ (config : Rig) where
@@ -31,7 +33,7 @@ module _ (config : Rig) where
   silent s text = []
 
   -- over lines that are text
-  as_texts : (s : Session) (ls : List (List ℕ)) → AllByRecursion IsText ls → state_after silent after s ls ≡ behind_lines config s ls
+  pub as_texts : (s : Session) (ls : List (List ℕ)) → AllByRecursion IsText ls → state_after silent after s ls ≡ behind_lines config s ls
   as_texts s [] all = refl
   as_texts s (l ∷ ls) all = by (text_of_line l) refl all.0 (λ t. as_texts (after s t) ls all.1)
     where
@@ -40,12 +42,12 @@ module _ (config : Rig) where
       by None f some rest = cc
       by (Some t) f some rest = rw f (rest t)
 
-  lines_both : (s : Session) (xs ys : List (List ℕ)) → behind_lines config s (xs ++ ys) ≡ behind_lines config (behind_lines config s xs) ys
+  pub lines_both : (s : Session) (xs ys : List (List ℕ)) → behind_lines config s (xs ++ ys) ≡ behind_lines config (behind_lines config s xs) ys
   lines_both s [] ys = refl
   lines_both s (x ∷ xs) ys = lines_both (behind_line config s x) xs ys
 
   -- behind the end
-  ended_stays : (os : List Outcome) (calls : List Call) (text : List ℕ) (ls : List (List ℕ))
+  pub ended_stays : (os : List Outcome) (calls : List Call) (text : List ℕ) (ls : List (List ℕ))
       → behind_lines config (record { state = ended; outcomes = os; calls = calls; text = text }) ls ≡ record { state = ended; outcomes = os; calls = calls; text = text }
   ended_stays os calls text [] = refl
   ended_stays os calls text (l ∷ ls) = by (text_of_line l) refl (ended_stays os calls text ls)
@@ -68,6 +70,14 @@ module _ (config : Rig) where
       (given : List Outcome) × (made : List Call) × (said : List ℕ) × (new.calls ≡ old.calls ++ made) × Appends w v said
       × ((later : List Outcome) → HasCome silent after (begun (given ++ later)) bytes None (record { state = s; outcomes = later; calls = made; text = said }) rest over None)
 
+  -- over the texts of the first lines that are left
+  pub come_over : (begin : Session) (bytes : List ℕ) (x : Session) (rest : List ℕ) (over : Bool) (texts : List (List ℕ)) (later : List ℕ)
+      → HasCome silent after begin bytes None x rest over None → AreFirstLines rest texts over (λ r. r ≡ later) → HasCome silent after begin bytes None (behind_texts config x texts) later over None
+  come_over begin bytes x rest over [] later come first = subst (λ r. HasCome silent after begin bytes None x r over None) first come
+  come_over begin bytes x rest over (text ∷ texts) later come first =
+      come_over begin bytes (after x text) first.1 over texts later
+      (come_further silent after begin bytes None x rest over None come None tt first.0 first.1 text (after x text) over None first.2 (λ is. is) first.3 refl tt) first.4
+
   pub on_nowhere : (bytes : List ℕ) (over : Bool) (old : PassValue) (w : Option (List ℕ)) → IsOn bytes bytes over stranger old old w w
   on_nowhere bytes over old w = ([], [], [], sym (append-nil old.calls), appends_nothing w, λ later. come_nowhere silent after (begun later) bytes None over)
 
@@ -79,10 +89,10 @@ module _ (config : Rig) where
         let come = on.5 later in
         (come.4.0, come.4.1, sym (as_texts (begun (on.0 ++ later)) come.4.0 come.4.2) ∙ sym come.4.4)
 
-    -- one line more
-    pub on_further : (new : PassValue) (z : Option (List ℕ)) (t : State) (line later text : List ℕ) (over_now : Bool) → IsFirstLine line later rest over_now → (over ≡ true → over_now ≡ true) → text_of_line line ≡ Some text
-        → IsAnswered (text_step config s text) t mid new (Appends u z) → IsOn bytes later over_now t old new w z
-    on_further new z t line later text over_now first stays is_text done =
+    -- these texts more
+    abbrev pub on_further : (new : PassValue) (z : Option (List ℕ)) (t : State) (texts : List (List ℕ)) (later : List ℕ) (over_now : Bool) → AreFirstLines rest texts over_now (λ r. r ≡ later) → (over ≡ true → over_now ≡ true)
+        → AreAnswered config s texts t mid new (Appends u z) → IsOn bytes later over_now t old new w z
+    on_further new z t texts later over_now first stays done =
         let taken = done.0 in (
           on.0 ++ taken.given,
           on.1 ++ taken.made,
@@ -90,9 +100,12 @@ module _ (config : Rig) where
           taken.pass ∙ ap (λ l. l ++ taken.made) on.3 ∙ append_assoc old.calls on.1 taken.made,
           Appends-trans w u z on.2 taken.said (Appends-kept w v u on.2 on.4 kept) done.1,
           λ more.
+              (let from : Session = record { state = s; outcomes = taken.given ++ more; calls = on.1; text = on.2 } in
+              let come : HasCome silent after (begun (on.0 ++ (taken.given ++ more))) bytes None from rest over_now None =
+              come_ended silent after (begun (on.0 ++ (taken.given ++ more))) bytes None from rest over over_now None (on.5 (taken.given ++ more)) stays in
               subst (λ gs. HasCome silent after (begun gs) bytes None (record { state = t; outcomes = more; calls = on.1 ++ taken.made; text = on.2 ++ taken.said }) later over_now None) (sym (append_assoc on.0 taken.given more))
-              (come_further silent after (begun (on.0 ++ (taken.given ++ more))) bytes None (record { state = s; outcomes = taken.given ++ more; calls = on.1; text = on.2 }) rest over None (on.5 (taken.given ++ more)) None tt
-              line later text (record { state = t; outcomes = more; calls = on.1 ++ taken.made; text = on.2 ++ taken.said }) over_now None first stays is_text (sym (taken.takes s more on.1 on.2)) tt),
+              (subst (λ x. HasCome silent after (begun (on.0 ++ (taken.given ++ more))) bytes None x later over_now None) (taken.takes more on.1 on.2)
+              (come_over (begun (on.0 ++ (taken.given ++ more))) bytes from rest over_now texts later come first))),
         )
 
     -- just the lines so far
@@ -131,60 +144,27 @@ module _ (config : Rig) where
           refl,
         )
 
-    module _ (new : PassValue) (line later text : List ℕ) (over_now : Bool) (first : IsFirstLine line later rest over_now) (is_text : text_of_line line ≡ Some text) where
-      -- the lines down to this one
-      line_behind : (t : State) (taken : IsTaken (text_step config s text) t mid new)
-          → behind_line config (record { state = s; outcomes = taken.given ++ []; calls = on.1; text = on.2 }) line ≡ record { state = t; outcomes = []; calls = on.1 ++ taken.made; text = on.2 ++ taken.said }
-      line_behind t taken =
-          ap (λ found. behind_step (record { state = s; outcomes = taken.given ++ []; calls = on.1; text = on.2 }) (line_step config s found)) is_text ∙ taken.takes s [] on.1 on.2
+    -- a session that ended
+    abbrev pub over_taken : s ≡ ended → Talked config (cut bytes) old mid
+    over_taken is =
+        let at = front [] in
+        record {
+          outcomes = on.0 ++ [];
+          state = ended;
+          made = on.1;
+          said = on.2;
+          session =
+              ap (behind_lines config (begun (on.0 ++ []))) at.1 ∙ lines_both (begun (on.0 ++ [])) at.0 (cut rest)
+              ∙ ap (λ x. behind_lines config x (cut rest)) (at.2 ∙ ap (λ x. record { state = x; outcomes = []; calls = on.1; text = on.2 }) is) ∙ ended_stays [] on.1 on.2 (cut rest);
+          pass = on.3;
+        }
 
-      pub down_to_line : (t : State) → IsTaken (text_step config s text) t mid new → (before : List (List ℕ)) × (behind : List (List ℕ)) × (cut bytes ≡ before ++ behind) × Talked config before old new
-      down_to_line t taken =
-          let at = front (taken.given ++ []) in (
-            at.0 ++ line ∷ [],
-            cut later,
-            at.1 ∙ ap (λ l. at.0 ++ l) first.0 ∙ sym (append_assoc at.0 (line ∷ []) (cut later)),
-            record {
-              outcomes = on.0 ++ (taken.given ++ []);
-              state = t;
-              made = on.1 ++ taken.made;
-              said = on.2 ++ taken.said;
-              session = lines_both (begun (on.0 ++ (taken.given ++ []))) at.0 (line ∷ []) ∙ ap (λ x. behind_lines config x (line ∷ [])) at.2 ∙ line_behind t taken;
-              pass = taken.pass ∙ ap (λ l. l ++ taken.made) on.3 ∙ append_assoc old.calls on.1 taken.made;
-            },
-          )
+    pub over_into : s ≡ ended → (t : Talked config (cut bytes) old mid) × Appends w u t.said × (t.state ≡ ended)
+    over_into is = (over_taken is, Appends-kept w v u on.2 on.4 kept, refl)
 
-      -- a line that ends the session
-      abbrev ended_by : IsTaken (text_step config s text) ended mid new → Talked config (cut bytes) old new
-      ended_by taken =
-          let at = front (taken.given ++ []) in
-          record {
-            outcomes = on.0 ++ (taken.given ++ []);
-            state = ended;
-            made = on.1 ++ taken.made;
-            said = on.2 ++ taken.said;
-            session =
-                ap (behind_lines config (begun (on.0 ++ (taken.given ++ [])))) (at.1 ∙ ap (λ l. at.0 ++ l) first.0)
-                ∙ lines_both (begun (on.0 ++ (taken.given ++ []))) at.0 (line ∷ cut later) ∙ ap (λ x. behind_lines config x (line ∷ cut later)) at.2
-                ∙ ap (λ x. behind_lines config x (cut later)) (line_behind ended taken) ∙ ended_stays [] (on.1 ++ taken.made) (on.2 ++ taken.said) (cut later);
-            pass = taken.pass ∙ ap (λ l. l ++ taken.made) on.3 ∙ append_assoc old.calls on.1 taken.made;
-          }
-
-      pub line_ended : (t : State) (z y : Option (List ℕ)) → t ≡ ended → IsAnswered (text_step config s text) t mid new (Appends u z) → Keeps z y
-          → (k : Talked config (cut bytes) old new) × Appends w y k.said × (k.state ≡ ended)
-      line_ended t z y is done kept_now =
-          let here = subst (λ x. IsAnswered (text_step config s text) x mid new (Appends u z)) is done in (
-            ended_by here.0,
-            Appends-kept w z y (on.2 ++ here.0.said) (Appends-trans w u z on.2 here.0.said (Appends-kept w v u on.2 on.4 kept) here.1) kept_now,
-            refl,
-          )
-
-      -- the line wasn't answered
-      pub line_cut : (fault : TalkFault) (Written : List ℕ → Type 0) (remaining : Option (List ℕ)) → IsUnanswered (text_step config s text) mid new fault → IsCutOff config old new Written remaining bytes fault
-      line_cut Read Written remaining failed = absurd failed
-      line_cut Turns Written remaining failed = absurd failed
-      line_cut Write Written remaining failed = down_to_line failed.0 failed.1
-      line_cut (Desk fault) Written remaining failed = (ended_by failed.0, on.0, ap (λ l. on.0 ++ l) (append-nil failed.0.given ∙ failed.1), refl, failed.2)
+    -- the lines down to here
+    pub down_to : (before : List (List ℕ)) × (behind : List (List ℕ)) × (cut bytes ≡ before ++ behind) × Talked config before old mid
+    down_to = ((front []).0, cut rest, (front []).1, so_far)
 
     -- just the lines that came whole
     whole_taken : (remaining : Option (List ℕ)) → over ≢ true → HasNoWholeLine rest remaining → TookWholeLines bytes remaining (TalkedInto config old mid (Appends w u))
@@ -213,6 +193,39 @@ module _ (config : Rig) where
     pub end_cut : (Written : List ℕ → Type 0) (remaining : Option (List ℕ)) → IsCutOff config old mid Written remaining bytes Write
     end_cut Written remaining = ((front []).0, cut rest, (front []).1, so_far)
 
+module _ (config : Rig) (bytes rest : List ℕ) (over : Bool) (s : State) (old mid : PassValue) (w v : Option (List ℕ)) (on : IsOn config bytes rest over s old mid w v) where
+  -- the same, and nothing is said of what was written
+  abbrev unwritten : IsOn config bytes rest over s old mid None None
+  unwritten = (on.0, on.1, on.2, on.3, tt, on.5)
+
+  -- texts of the next lines that weren't all answered
+  pub texts_cut : (new : PassValue) (texts : List (List ℕ)) (over_now : Bool) (Then : List ℕ → Type 0) → AreFirstLines rest texts over_now Then → (over ≡ true → over_now ≡ true)
+      → (fault : TalkFault) (Written : List ℕ → Type 0) (remaining : Option (List ℕ)) → AreUnanswered config s texts mid new fault → IsCutOff config old new Written remaining bytes fault
+  texts_cut new texts over_now Then first stays Read Written remaining failed = absurd failed
+  texts_cut new texts over_now Then first stays Turns Written remaining failed = absurd failed
+  texts_cut new texts over_now Then first stays Write Written remaining failed =
+      let parts = first_of_both rest failed.0 failed.1 over_now Then (subst (λ l. AreFirstLines rest l over_now Then) failed.2 first) in
+      let at = behind_first rest failed.0 over_now (λ r. AreFirstLines r failed.1 over_now Then) parts in
+      down_to config bytes at.0 over_now failed.3 old new None None
+      (on_further config bytes rest over s old mid None None unwritten None tt new None failed.3 failed.0 at.0 over_now at.2 stays (failed.4, tt)) None tt
+  texts_cut new texts over_now Then first stays (Desk fault) Written remaining failed =
+      let at = behind_first rest texts over_now Then first in
+      let t = over_taken config bytes at.0 over_now ended old new None None
+      (on_further config bytes rest over s old mid None None unwritten None tt new None ended texts at.0 over_now at.2 stays (failed.0, tt)) None tt refl in
+      (t, on.0 ++ failed.1, append-nil (on.0 ++ failed.0.given) ∙ ap (λ l. on.0 ++ l) failed.2 ∙ sym (append_assoc on.0 failed.1 (outcome_of fault ∷ [])), refl, failed.3)
+
+pub kept_here : (known : Option (List ℕ)) → Keeps known known
+kept_here None = tt
+kept_here (Some xs) = refl
+
+-- behind the texts of the next lines
+pub batch_on : (config : Rig) (bytes rest : List ℕ) (over : Bool) (s : State) (old mid : PassValue) (w v u z : Option (List ℕ)) → IsOn config bytes rest over s old mid w v → Keeps v u
+    → (texts : List (List ℕ)) (over_now : Bool) (Then : List ℕ → Type 0) → AreFirstLines rest texts over_now Then → (over ≡ true → over_now ≡ true) → (t : State) (new : PassValue) → AreAnswered config s texts t mid new (Appends u z)
+    → (later : List ℕ) × Then later × IsOn config bytes later over_now t old new w z
+batch_on config bytes rest over s old mid w v u z on kept texts over_now Then first stays t new done =
+    let at = behind_first rest texts over_now Then first in
+    (at.0, at.1, on_further config bytes rest over s old mid w v on u kept new z t texts at.0 over_now at.2 stays done)
+
 -- what was read, by how many reads gave bytes
 pub few_read : (r : Result Unit TalkFault) (known after : Option (List ℕ)) (count : ℕ) → AreCounted 0 count known after → count ≤ MAX_READS → (r ≡ Err Turns → MAX_READS ≤ count) → AreFewRead r known after
 few_read r None after count counted few many = tt
@@ -230,11 +243,11 @@ lines_turns lines.Write is = absurd (cc)
 lines_turns lines.Turns is = refl
 lines_turns lines.Memory is = absurd (cc)
 
-pub unanswered_no_turns : (step : Step) (old new : PassValue) (fault : TalkFault) → IsUnanswered step old new fault → fault ≡ Turns → ⊥
-unanswered_no_turns step old new Read failed is = failed
-unanswered_no_turns step old new Turns failed is = failed
-unanswered_no_turns step old new Write failed is = cc
-unanswered_no_turns step old new (Desk f) failed is = cc
+pub unanswered_no_turns : (config : Rig) (from : State) (texts : List (List ℕ)) (old new : PassValue) (fault : TalkFault) → AreUnanswered config from texts old new fault → fault ≡ Turns → ⊥
+unanswered_no_turns config from texts old new Read failed is = failed
+unanswered_no_turns config from texts old new Turns failed is = failed
+unanswered_no_turns config from texts old new Write failed is = cc
+unanswered_no_turns config from texts old new (Desk f) failed is = cc
 
 pub same_fault : {T : Type 0} (r : Result T TalkFault) (fault : TalkFault) → r ≡ Err fault → r ≡ Err Turns → fault ≡ Turns
 same_fault r fault one other = let same = sym one ∙ other in cc
@@ -244,12 +257,12 @@ pub write_no_turns : {T : Type 0} (r : Result T TalkFault) → IfErr r (λ f. f 
 write_no_turns (Ok x) failed is = cc
 write_no_turns (Err f) failed is = cc
 
--- the calls that a line made, where it wasn't answered
-pub unanswered_calls : (step : Step) (old new : PassValue) (fault : TalkFault) → IsUnanswered step old new fault → (made : List Call) × (new.calls ≡ old.calls ++ made)
-unanswered_calls step old new Read failed = absurd failed
-unanswered_calls step old new Turns failed = absurd failed
-unanswered_calls step old new Write failed = (failed.1.made, failed.1.pass)
-unanswered_calls step old new (Desk f) failed = (failed.0.made, failed.0.pass)
+-- the calls that texts made, where they weren't all answered
+pub unanswered_calls : (config : Rig) (from : State) (texts : List (List ℕ)) (old new : PassValue) (fault : TalkFault) → AreUnanswered config from texts old new fault → (made : List Call) × (new.calls ≡ old.calls ++ made)
+unanswered_calls config from texts old new Read failed = absurd failed
+unanswered_calls config from texts old new Turns failed = absurd failed
+unanswered_calls config from texts old new Write failed = (failed.4.made, failed.4.pass)
+unanswered_calls config from texts old new (Desk f) failed = (failed.0.made, failed.0.pass)
 
 pub calls_both : (old mid new : PassValue) → (made : List Call) × (mid.calls ≡ old.calls ++ made) → (more : List Call) × (new.calls ≡ mid.calls ++ more) → (made : List Call) × (new.calls ≡ old.calls ++ made)
 calls_both old mid new one other = (one.0 ++ other.0, other.1 ∙ ap (λ l. l ++ other.0) one.1 ∙ append_assoc old.calls one.0 other.0)

@@ -1,5 +1,6 @@
 //! Who takes the calls of a session.
 
+ghost use Rattle.locked_book.specs.Books.{AreCalled};
 ghost use Rattle.std.specs.Prelude.{◌≡◌, [], ◌∷◌, ◌++◌, IfOk, OnErr};
 
 use call_history::naming::Naming;
@@ -7,6 +8,7 @@ use locked_book::desks::Desk;
 use locked_book::faults::DeskFault;
 use locked_book::passes::Pass;
 use rig_config::TenantId;
+use std::alloc::Global;
 use std::sync::Wait;
 use tenant_lines::commands::Command;
 use tenant_lines::replies::Reply;
@@ -27,6 +29,31 @@ pub trait Calls<N: Naming> {
         ensures added { IfOk result (λ r. pass.new.calls ≡ pass.old.calls ++ record { tenant = tenant; command = command; reply = r } ∷ []) }
         ensures seat { pass.new.seat ≡ pass.old.seat }
         ensures refused { OnErr result (pass.new ≡ pass.old) };
+
+    /// Calls of a pass, one behind the other: these commands of a tenant, down to the first that is refused. Each stands on the pass
+    /// then, with its reply.
+    ///
+    /// # Errors
+    /// As those of `call`, of the first command that is refused.
+    fn call_all<R: Wait>(
+        &self,
+        rt: &R,
+        alloc: Global,
+        pass: &mut Pass<N>,
+        tenant: TenantId,
+        commands: &[Command],
+    ) -> Result<(), DeskFault>
+        ensures called { AreCalled tenant commands.now result pass.old pass.new }
+        ensures seat { pass.new.seat ≡ pass.old.seat }
+    {
+        for command in commands {
+            let Ok(command) = command.copy(alloc) else {
+                return Err(DeskFault::Memory);
+            };
+            let _reply = self.call(rt, pass, tenant, command)?;
+        }
+        Ok(())
+    }
 }
 
 impl<N: Naming> Calls<N> for Desk<N> {
@@ -38,5 +65,16 @@ impl<N: Naming> Calls<N> for Desk<N> {
         command: Command,
     ) -> Result<Reply, DeskFault> {
         Desk::call(self, rt, pass, tenant, command)
+    }
+
+    fn call_all<R: Wait>(
+        &self,
+        rt: &R,
+        _alloc: Global,
+        pass: &mut Pass<N>,
+        tenant: TenantId,
+        commands: &[Command],
+    ) -> Result<(), DeskFault> {
+        Desk::call_all(self, rt, pass, tenant, commands)
     }
 }

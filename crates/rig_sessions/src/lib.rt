@@ -15,3 +15,5 @@ pub mod faults;
 pub mod replies;
 pub mod sessions;
 pub mod talking;
+mod waiting;
+mod writing;

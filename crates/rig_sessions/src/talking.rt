@@ -1,26 +1,27 @@
 //! A session over a reader and a writer.
 
-ghost use Rattle.std.specs.Prelude.{◌≡◌, ◌⊎◌, ℕ, List, ◌++◌, string_bytes, IfErr, IfSome, OnOk};
+ghost use Rattle.std.specs.Prelude.{◌≡◌, ℕ, List, [], ◌∷◌, ◌++◌, Option, map, string_bytes, IfErr, IfSome, OnOk};
 ghost use Rattle.std.specs.Io.KnownBytes.{Appends, Keeps};
 ghost use Rattle.rig_model.specs.declared.logged.Call.{Call};
-ghost use Rattle.tenant_lines.specs.Replies.{text_of_reply};
-ghost use Rattle.rig_model.specs.Sessions.{State, bye_bad_line, call, text_of_outcome, text_step, untold, written};
-ghost use Rattle.rig_sessions.specs.Talks.{AreFewRead, IsCutOff, TalkedToEnd, outcome_of};
-ghost use Rattle.rig_sessions.specs.inner.Answered.{IsAnswered, IsUnanswered};
+ghost use Rattle.rig_model.specs.Sessions.{State, call};
+ghost use Rattle.locked_book.specs.Books.{PassValue};
+ghost use Rattle.rig_sessions.specs.Talks.{AreFewRead, IsCutOff, TalkedToEnd};
+ghost use Rattle.rig_sessions.specs.inner.Answered.{AreAnswered, AreUnanswered, IsAnswered, IsUnanswered, IsUnderWay};
 
 use crate::calls::Calls;
 use crate::faults::TalkFault;
 use crate::sessions::{Session, Step};
+use crate::waiting::{Work, call_and_say, call_waiting};
+use crate::writing::{flush, refuse, say, say_bad_line, say_reply};
 use call_history::naming::Naming;
 use locked_book::faults::DeskFault;
 use locked_book::passes::Pass;
 use rig_config::{Config, TenantId};
-use std::alloc::{AllocError, Global};
+use std::alloc::Global;
 use std::io::{Read, Write};
 use std::sync::Wait;
 use tenant_lines::commands::Command;
-use tenant_lines::replies::{Reply, add_reply};
-use text_lines::lines::{Line, Lines};
+use text_lines::lines::{Behind, Lines};
 
 /// Answers the lines of a client, in their order, until its input or the session ends: by itself, or by a call of the pass, which comes
 /// back with the new calls at its end. A line that is too long or no text is answered `bye bad-line`, and what stands behind the end
@@ -70,25 +71,48 @@ fn converse<N: Naming, R: Wait, D: Calls<N>, I: Read, W: Write>(
         IsCutOff config.now pass.old pass.new (Appends (W.contents writer.old) (W.contents writer.new)) (I.remaining reader.new) bytes fault)) }
     ensures reads { AreFewRead result (I.remaining reader.old) (I.remaining reader.new) }
 {
-    let mut text = String::new(alloc);
     let mut session = Session::new(config);
+    let mut work = Work::new(alloc);
     let mut lines = Lines::new(alloc);
+    let mut texts = Vec::new(alloc);
     loop {
-        match lines.next_line(reader, writer)? {
-            Line::Whole(line) => {
-                let line = line.as_str();
-                answer(rt, desk, &mut session, pass, writer, line, &mut text)?;
-                if session.has_ended() {
-                    return flush(writer);
-                }
-            }
-            Line::Bad => return say_bad_line(writer),
-            Line::End => return flush(writer),
+        let behind = lines.next_lines(reader, writer, &mut texts);
+        answer_all(rt, desk, &mut session, pass, writer, &texts, &mut work)?;
+        if session.has_ended() {
+            return flush(writer);
+        }
+        match behind? {
+            Behind::More => {}
+            Behind::Bad => return say_bad_line(writer),
+            Behind::End => return flush(writer),
         }
     }
 }
 
-// Answers one line. A reply is put together in this text; what stood there is gone.
+// Answers these lines, one behind the other. Short calls that follow one another are made together.
+fn answer_all<N: Naming, R: Wait, D: Calls<N>, W: Write>(
+    rt: &R,
+    desk: &D,
+    session: &mut Session<'_>,
+    pass: &mut Pass<N>,
+    writer: &mut W,
+    lines: &[String],
+    work: &mut Work,
+) -> Result<(), TalkFault>
+    requires { work.old.waiting.items ≡ [] }
+    ensures ok { OnOk result (AreAnswered session.old.config session.old.state (map string_bytes lines.now) session.new.state pass.old pass.new (Appends (W.contents writer.old) (W.contents writer.new))) }
+    ensures fault { IfErr result (AreUnanswered session.old.config session.old.state (map string_bytes lines.now) pass.old pass.new) }
+    ensures none { OnOk result (work.new.waiting.items ≡ []) }
+    ensures config { session.new.config ≡ session.old.config }
+    ensures seat { pass.new.seat ≡ pass.old.seat }
+{
+    for line in lines {
+        answer(rt, desk, session, pass, writer, line.as_str(), work)?;
+    }
+    call_waiting(rt, desk, pass, writer, work)
+}
+
+// Answers a line, or lets its call wait.
 fn answer<N: Naming, R: Wait, D: Calls<N>, W: Write>(
     rt: &R,
     desk: &D,
@@ -96,21 +120,34 @@ fn answer<N: Naming, R: Wait, D: Calls<N>, W: Write>(
     pass: &mut Pass<N>,
     writer: &mut W,
     line: &str,
-    text: &mut String,
+    work: &mut Work,
 ) -> Result<(), TalkFault>
-    ensures ok { OnOk result (IsAnswered (text_step session.old.config session.old.state line.now) session.new.state pass.old pass.new (Appends (W.contents writer.old) (W.contents writer.new))) }
-    ensures fault { IfErr result (IsUnanswered (text_step session.old.config session.old.state line.now) pass.old pass.new) }
+    ensures ok { OnOk result ((from : State) (texts : List (List ℕ)) (first : PassValue) (before : Option (List ℕ))
+        → IsUnderWay session.old.config from texts session.old.state work.old.tenant work.old.waiting.items first pass.old (Appends before (W.contents writer.old))
+        → IsUnderWay session.old.config from (texts ++ line.now ∷ []) session.new.state work.new.tenant work.new.waiting.items first pass.new (Appends before (W.contents writer.new))) }
+    ensures fault { IfErr result (λ fault. (from : State) (texts : List (List ℕ)) (first : PassValue) (before : Option (List ℕ))
+        → IsUnderWay session.old.config from texts session.old.state work.old.tenant work.old.waiting.items first pass.old (Appends before (W.contents writer.old))
+        → AreUnanswered session.old.config from (texts ++ line.now ∷ []) first pass.new fault) }
     ensures config { session.new.config ≡ session.old.config }
     ensures seat { pass.new.seat ≡ pass.old.seat }
 {
-    let Ok(step) = session.line(*text.allocator(), line) else {
-        return say(writer, b"err memory\n");
+    let Ok(step) = session.line(*work.text.allocator(), line) else {
+        return call_and_say(rt, desk, pass, writer, work, b"err memory\n");
     };
     match step {
-        Step::Quiet => Ok(()),
-        Step::Say(reply) => say(writer, reply.as_line().as_bytes()),
-        Step::Call(tenant, command) => request(rt, desk, pass, writer, tenant, command, text),
-        Step::End => say(writer, b"bye\n"),
+        Step::Quiet => call_waiting(rt, desk, pass, writer, work),
+        Step::Say(reply) => {
+            let own = reply.as_line().as_bytes();
+            call_and_say(rt, desk, pass, writer, work, own)
+        }
+        Step::Call(tenant, command) => match work.wait(tenant, command) {
+            Ok(()) => Ok(()),
+            Err(command) => {
+                call_waiting(rt, desk, pass, writer, work)?;
+                request(rt, desk, pass, writer, tenant, command, &mut work.text)
+            }
+        },
+        Step::End => call_and_say(rt, desk, pass, writer, work, b"bye\n"),
     }
 }
 
@@ -133,76 +170,5 @@ fn request<N: Naming, R: Wait, D: Calls<N>, W: Write>(
         Err(DeskFault::Memory) => say(writer, b"err memory\n"),
         Err(DeskFault::PassFull) => Err(refuse(writer, DeskFault::PassFull)),
         Err(DeskFault::Strange(length)) => Err(refuse(writer, DeskFault::Strange(length))),
-    }
-}
-
-// Writes the reply to a call, or that there is no memory for its text.
-fn say_reply<W: Write>(writer: &mut W, reply: &Reply, text: &mut String) -> Result<(), TalkFault>
-    ensures written { OnOk result (Appends (W.contents writer.old) (W.contents writer.new) (written (text_of_reply reply.now))
-        ⊎ Appends (W.contents writer.old) (W.contents writer.new) (written (text_of_outcome (untold reply.now)))) }
-    ensures fault { IfErr result (λ fault. fault ≡ TalkFault.Write) }
-{
-    match reply_line(text, reply) {
-        Ok(()) => say(writer, text.as_str().as_bytes()),
-        Err(_) => say(writer, b"err memory\n"),
-    }
-}
-
-// Puts a reply as it is written into a text, in place of what stood there.
-fn reply_line(text: &mut String, reply: &Reply) -> Result<(), AllocError>
-    ensures { OnOk result (string_bytes text.new ≡ written (text_of_reply reply.now)) }
-{
-    text.clear();
-    add_reply(text, reply)?;
-    text.push_str("\n")
-}
-
-// Tells why a call was refused, also where that can't be written.
-fn refuse<W: Write>(writer: &mut W, fault: DeskFault) -> TalkFault
-    ensures { result ≡ TalkFault.Desk fault }
-{
-    let _ = say_refusal(writer, fault);
-    TalkFault::Desk(fault)
-}
-
-// Writes why a call was refused.
-fn say_refusal<W: Write>(writer: &mut W, fault: DeskFault) -> Result<(), TalkFault>
-    ensures written { OnOk result (Appends (W.contents writer.old) (W.contents writer.new) (written (text_of_outcome (outcome_of fault)))) }
-    ensures fault { IfErr result (λ fault. fault ≡ TalkFault.Write) }
-{
-    match fault {
-        DeskFault::PassFull => say(writer, b"bye pass-full\n")?,
-        DeskFault::Strange(_) => say(writer, b"bye strange\n")?,
-        DeskFault::Memory => say(writer, b"err memory\n")?,
-    }
-    flush(writer)
-}
-
-// Writes that a line is too long or no text.
-fn say_bad_line<W: Write>(writer: &mut W) -> Result<(), TalkFault>
-    ensures written { OnOk result (Appends (W.contents writer.old) (W.contents writer.new) (written bye_bad_line)) }
-    ensures fault { IfErr result (λ fault. fault ≡ TalkFault.Write) }
-{
-    say(writer, b"bye bad-line\n")?;
-    flush(writer)
-}
-
-fn say<W: Write>(writer: &mut W, bytes: &[u8]) -> Result<(), TalkFault>
-    ensures written { OnOk result (Appends (W.contents writer.old) (W.contents writer.new) bytes.now) }
-    ensures fault { IfErr result (λ fault. fault ≡ TalkFault.Write) }
-{
-    match writer.write_all(bytes) {
-        Ok(()) => Ok(()),
-        Err(_) => Err(TalkFault::Write),
-    }
-}
-
-fn flush<W: Write>(writer: &mut W) -> Result<(), TalkFault>
-    ensures kept { Keeps (W.contents writer.old) (W.contents writer.new) }
-    ensures fault { IfErr result (λ fault. fault ≡ TalkFault.Write) }
-{
-    match writer.flush() {
-        Ok(()) => Ok(()),
-        Err(_) => Err(TalkFault::Write),
     }
 }

@@ -1,3 +1,4 @@
+mod AddedLines
 pub mod LineCuts
 pub mod NextLine
 pub mod cited

@@ -1,2 +1,3 @@
 pub mod AnsweredLines
 pub mod CountedReads
+pub mod FirstLines

@@ -1,9 +1,12 @@
 //! Lines of a reader: at most 16,384 bytes before each LF, one CR at the end taken off, and UTF-8.
 
-ghost use Rattle.std.specs.Prelude.{◌≡◌, ◌≢◌, ◌<◌, ◌≤◌, ◌+◌, ℕ, true, false, List, length, Option, Some, IfErr, IfSome, OnOk, Ok, Err};
+ghost use Rattle.std.specs.Prelude.{◌≡◌, ◌≢◌, ◌<◌, ◌≤◌, ◌+◌, ℕ, true, false, List, [], ◌∷◌, ◌++◌, length, map, string_bytes, Option, Some, IfErr, IfSome, OnOk, OnErr, Ok, Err};
 ghost use Rattle.std.specs.Io.KnownBytes.{Keeps};
 ghost use Rattle.tokio_util.specs.Codec.Lines.{IsOutOfMemory};
 ghost use Rattle.rig_model.specs.declared.limits.TheConstants.{MAX_READS};
+ghost use Rattle.text_lines.specs.cited.Batches.{AreNextLines, IsAtHand, IsFurtherAtHand, IsFurtherBehind};
+ghost use Rattle.text_lines.specs.declared.lines.Lines.{Lines};
+ghost use Rattle.text_lines.specs.declared.lines.TheConstants.{MOST_LINES};
 ghost use Rattle.text_lines.specs.cited.Reading.{AreAhead, AreAtLineStart, IsReading, IsLeft, IsFurther, IsNextLine, AreCounted, has_ended, left_at_most, reads_of};
 
 use crate::faults::LinesFault;
@@ -17,6 +20,9 @@ use tokio_util::codec::{Decoder, LinesCodec, LinesCodecError};
 /// How many bytes a read may give.
 pub const PAGE: usize = 4096;
 
+/// How many lines `Lines::next_lines` gives at most.
+pub const MOST_LINES: usize = 32;
+
 /// What the next line is.
 #[derive(Drop)]
 pub enum Line {
@@ -25,6 +31,17 @@ pub enum Line {
     /// The line is longer than 16,384 bytes, or no UTF-8.
     Bad,
     /// The input has ended.
+    End,
+}
+
+/// What stands behind lines that were given.
+#[derive(Clone, Copy, Debug, PartialEq, Eq)]
+pub enum Behind {
+    /// Lines may come.
+    More,
+    /// A line that is longer than 16,384 bytes, or no UTF-8.
+    Bad,
+    /// The end of the input.
     End,
 }
 
@@ -83,6 +100,7 @@ impl Lines {
         ensures further { AreAtLineStart self.old → IsFurther self.old result self.new }
         ensures stays_ended { has_ended self.old ≡ true → has_ended self.new ≡ true }
         ensures no_read { has_ended self.old ≡ true → IfErr result (λ fault. fault ≡ LinesFault.Memory) }
+        ensures failed_read { IfErr result (λ fault. has_ended self.new ≡ true → fault ≡ LinesFault.Memory) }
         ensures written { Keeps (W.contents writer.old) (W.contents writer.new) }
     {
         loop {
@@ -98,6 +116,81 @@ impl Lines {
                 return Err(LinesFault::Write);
             };
             self.fill(reader)?;
+        }
+    }
+
+    /// The next lines, in place of those in `texts`: the next one, as `next_line` gives it, and behind it those that were read with it,
+    /// 32 at most. What stands behind them.
+    ///
+    /// # Errors
+    /// As those of `next_line`; the lines before the fault are in `texts`.
+    pub fn next_lines<R: Read, W: Write>(
+        &mut self,
+        reader: &mut R,
+        writer: &mut W,
+        texts: &mut Vec<String>,
+    ) -> Result<Behind, LinesFault>
+        ensures lines { (bytes : List ℕ) → IsLeft self.old (R.remaining reader.old) bytes
+            → AreNextLines bytes (map string_bytes texts.new.items) result (R.remaining reader.new) (has_ended self.new) (IsLeft self.new (R.remaining reader.new)) }
+        ensures few { length texts.new.items ≤ MOST_LINES }
+        ensures count { AreCounted (reads_of self.old) (reads_of self.new) (R.remaining reader.old) (R.remaining reader.new) }
+        ensures bound { reads_of self.old ≤ MAX_READS → reads_of self.new ≤ MAX_READS }
+        ensures turns { result ≡ Err LinesFault.Turns → MAX_READS ≤ reads_of self.new }
+        ensures further { AreAtLineStart self.old → IsFurtherBehind self.old result self.new }
+        ensures stays_ended { has_ended self.old ≡ true → has_ended self.new ≡ true }
+        ensures no_read { IfErr result (λ fault. has_ended self.new ≡ true → fault ≡ LinesFault.Memory) }
+        ensures written { Keeps (W.contents writer.old) (W.contents writer.new) }
+    {
+        texts.clear();
+        let first = self.next_line(reader, writer)?;
+        self.add_lines(first, texts)
+    }
+
+    // Adds this line to the texts, and those behind it that were read with it. What stands behind them.
+    fn add_lines(&mut self, first: Line, texts: &mut Vec<String>) -> Result<Behind, LinesFault>
+        requires { length texts.old.items ≡ 0 }
+        ensures few { length texts.new.items ≤ MOST_LINES }
+        ensures lines { (remaining : Option (List ℕ)) (bytes : List ℕ) → IsNextLine bytes (Ok first) remaining (has_ended self.old) (IsLeft self.old remaining)
+            → AreNextLines bytes (map string_bytes texts.new.items) result remaining (has_ended self.new) (IsLeft self.new remaining) }
+        ensures further { (before : Lines) → IsFurther before (Ok first) self.old → IsFurtherBehind before result self.new }
+        ensures faults { IfErr result (λ fault. fault ≡ LinesFault.Memory) }
+        ensures count { reads_of self.new ≡ reads_of self.old }
+        ensures ended { has_ended self.new ≡ has_ended self.old }
+    {
+        let mut line = first;
+        loop {
+            match line {
+                Line::Whole(text) => add_text(texts, text)?,
+                Line::Bad => return Ok(Behind::Bad),
+                Line::End => return Ok(Behind::End),
+            }
+            if texts.len() >= MOST_LINES {
+                return Ok(Behind::More);
+            }
+            line = match self.at_hand()? {
+                Some(next) => next,
+                None => return Ok(Behind::More),
+            };
+        }
+    }
+
+    // The next line, if all of it was read. `Memory` where there is no memory for it.
+    fn at_hand(&mut self) -> Result<Option<Line>, LinesFault>
+        ensures line { (remaining : Option (List ℕ)) (bytes : List ℕ) → IsLeft self.old remaining bytes
+            → IsAtHand bytes result remaining (has_ended self.new) (IsLeft self.new remaining) }
+        ensures further { AreAtLineStart self.old → IsFurtherAtHand self.old result self.new }
+        ensures faults { IfErr result (λ fault. fault ≡ LinesFault.Memory) }
+        ensures count { reads_of self.new ≡ reads_of self.old }
+        ensures ended { has_ended self.new ≡ has_ended self.old }
+    {
+        match self.codec.decode(&mut self.buffer) {
+            Ok(Some(text)) => Ok(Some(Line::Whole(text))),
+            Ok(None) => {
+                // Its bytes so far are looked through again with those that come.
+                self.codec = LinesCodec::new_with_max_length(MAX_LINE);
+                Ok(None)
+            }
+            Err(error) => Ok(Some(unread(error)?)),
         }
     }
 
@@ -134,6 +227,7 @@ impl Lines {
         ensures faults { IfErr result (λ fault. fault ≢ LinesFault.Write) }
         ensures kept { IfErr result (λ fault. fault ≢ LinesFault.Memory → Keeps (R.remaining reader.old) (R.remaining reader.new)) }
         ensures memory { result ≡ Err LinesFault.Memory → IfSome (R.remaining reader.old) (λ bytes. 0 < length bytes) }
+        ensures going { OnErr result (self.new.at_end ≡ false) }
         ensures count { AreCounted (reads_of self.old) (reads_of self.new) (R.remaining reader.old) (R.remaining reader.new) }
         ensures further { OnOk result (self.new.at_end ≡ false → reads_of self.new ≡ reads_of self.old + 1) }
         ensures ended { self.new.at_end ≡ true → reads_of self.new ≡ reads_of self.old }
@@ -158,6 +252,17 @@ impl Lines {
                 Ok(())
             }
         }
+    }
+}
+
+fn add_text(texts: &mut Vec<String>, text: String) -> Result<(), LinesFault>
+    ensures added { OnOk result (texts.new.items ≡ texts.old.items ++ text ∷ []) }
+    ensures refused { OnErr result (texts.new.items ≡ texts.old.items) }
+    ensures faults { IfErr result (λ fault. fault ≡ LinesFault.Memory) }
+{
+    match texts.push(text) {
+        Ok(()) => Ok(()),
+        Err(_) => Err(LinesFault::Memory),
     }
 }
 

@@ -11,6 +11,7 @@ use Rattle.giotto_tasks.proofs.bodies.Expr.TheLaws.TheKnot as expr_knot
 use Rattle.giotto_tasks.proofs.bodies.Stmt.TheLaws.TheKnot as stmt_knot
 use Rattle.giotto_tasks.proofs.code.Op.TheLaws.TheKnot as op_knot
 use Rattle.rig_model.proofs.logged.Call.TheSendSync as calls
+use Rattle.rig_model.proofs.logged.Place.TheSendSync as places
 use Rattle.tenant_lines.proofs.commands.Command.TheSendSync as commands
 use Rattle.tenant_lines.proofs.replies.Reply.TheSendSync as replies
 use Rattle.giotto_tasks.specs.contracts.names.Name as Name
@@ -44,6 +45,7 @@ use Rattle.tenant_trace.specs.contracts.records.Record as Record
 use Rattle.tenant_trace.specs.contracts.traces.Trace as Trace
 use Rattle.rig_model.specs.contracts.jobs.JobId as JobId
 use Rattle.rig_model.specs.contracts.logged.Call as Call
+use Rattle.rig_model.specs.contracts.logged.KeptCall as KeptCall
 use Rattle.rig_model.specs.contracts.logged.Logged as Logged
 use Rattle.tenant_lines.specs.contracts.commands.Command as Command
 use Rattle.tenant_lines.specs.contracts.replies.Reply as Reply
@@ -242,12 +244,15 @@ reply_send = search (crosses, name_send, record_send, sendable) depth 60 fits 20
 pub call_send : IsSend Call.the_row
 call_send = search (crosses, commands.the_field_send, replies.the_field_send, command_send, reply_send, sendable) depth 60 fits 20000
 
+pub kept_send : IsSend KeptCall.the_row
+kept_send = search (crosses, places.the_field_send, sendable) depth 60 fits 20000
+
 pub logged_send : IsSend Logged.the_row
-logged_send = search (crosses, calls.the_field_send, call_send, id_send, sendable) depth 60 fits 20000
+logged_send = search (crosses, kept_send, sendable) depth 60 fits 20000
 
 module _ (N : RattleType) (g : Ghosts N.Denot) (s : IsSend N) where
   pub pass_send : IsSend (Pass.the_row N g)
-  pass_send = search (crosses, call_send, fronts.the_send, sendable) depth 60 fits 20000
+  pass_send = search (crosses, kept_send, fronts.the_send, sendable) depth 60 fits 20000
 
   pub log_send : IsSend (Log.the_row N g)
   log_send = search (crosses, logged_send, histories.the_send, sendable) depth 60 fits 20000

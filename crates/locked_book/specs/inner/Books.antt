@@ -1,12 +1,12 @@
 -- What a book keeps, and what is known of it at any time. The logs here have the oldest entry first.
-use Rattle.std.specs.Prelude.{◌≡◌, ℕ, ◌+◌, ◌*◌, ◌-◌, ◌<◌, ◌≤◌, ◌^◌, ◌==◌, if◌then◌else◌, List, [], ◌∷◌, ◌++◌, length, reverse, slice_index_or, sum_by, Option, Some, None}
+use Rattle.std.specs.Prelude.{◌≡◌, ◌≢◌, ℕ, ◌+◌, ◌*◌, ◌-◌, ◌<◌, ◌≤◌, ◌^◌, ◌==◌, if◌then◌else◌, List, [], ◌∷◌, ◌++◌, length, map, reverse, slice_index_or, sum_by, Option, Some, None}
 use Rattle.std.specs.List.{All}
 use Rattle.rig_config.specs.Roster.{Rig}
 use Rattle.rig_model.specs.Base.{Setting, new_base}
 use Rattle.rig_model.specs.Host.{host_after}
 use Rattle.host_core.specs.HostStanding.{HostStanding, Stands, outstanding_count}
 use Rattle.rig_model.specs.Logs.{calls_of_seat, events_of, IsReplay}
-use Rattle.locked_book.specs.Books.{calls_before, beginning, BookValue, PassValue, SeatValue, new_setting}
+use Rattle.locked_book.specs.Books.{Knows, calls_before, beginning, BookValue, PassValue, SeatValue, length_of, new_setting}
 use Rattle.rig_model.specs.declared.logged.Call.{Call}
 use Rattle.rig_model.specs.declared.logged.Logged.{Logged}
 use Rattle.rig_model.specs.declared.logged.Logged.TheVariants as logged
@@ -56,3 +56,12 @@ pub record IsBook (rig : Rig) (first_tick : ℕ) (book : BookValue) (seats : Lis
   pub begun : first_tick ≤ book.host.clock
   pub clock : book.host.clock < 2 ^ 64
   pub bound : book.base.entries_before + length book.log + outstanding_count book.host ≤ sum_by (λ (s : SeatValue). s.calls) seats + 2 ^ 64 * (book.host.clock - first_tick)
+
+-- Calls were made on a book, one behind the other: they are the last entries of its log and the last calls of the pass, which has seen the
+-- log now. Where none was made the pass hasn't changed.
+pub record AreMade (made : List Call) (old new : BookValue) (before after : PassValue) : Type 0 where
+  pub log : new.log ≡ old.log ++ map (logged.Call before.seat) made
+  pub calls : after.calls ≡ before.calls ++ made
+  pub seat : after.seat ≡ before.seat
+  pub none : made ≡ [] → after ≡ before
+  pub known : made ≢ [] → (after.seen ≡ length_of new) × Knows new after

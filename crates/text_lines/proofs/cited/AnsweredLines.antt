@@ -97,6 +97,26 @@ module _ {S : Type 0} (reply : S → List ℕ → List ℕ) (after : S → List 
   pub come_nowhere : (s : S) (bytes : List ℕ) (w : Option (List ℕ)) (ended : Bool) → HasCome s bytes w s bytes ended w
   come_nowhere s bytes w ended = ([], appends_nothing w, refl, refl, ([], refl, tt, refl, refl, inl ([], refl, λ xs. refl)))
 
+  -- the same where the reader has ended since
+  pub come_ended : (s : S) (bytes : List ℕ) (w : Option (List ℕ)) (t : S) (rest : List ℕ) (ended ended_now : Bool) (v : Option (List ℕ)) → HasCome s bytes w t rest ended v → (ended ≡ true → ended_now ≡ true) → HasCome s bytes w t rest ended_now v
+  come_ended s bytes w t rest ended ended_now v come stays = (
+    come.0,
+    come.1,
+    come.2,
+    come.3,
+    (
+      come.4.0,
+      come.4.1,
+      come.4.2,
+      come.4.3,
+      come.4.4,
+      elim come.4.5 [
+        | inl before ↦ inl before
+        | inr is ↦ inr (stays is)
+      ],
+    ),
+  )
+
   module _ (s : S) (bytes : List ℕ) (w : Option (List ℕ)) (t : S) (rest : List ℕ) (ended : Bool) (v : Option (List ℕ)) (come : HasCome s bytes w t rest ended v) (flushed : Option (List ℕ)) (kept : Keeps v flushed) where
     -- one line more
     pub come_further : (line later text : List ℕ) (u : S) (ended_now : Bool) (written : Option (List ℕ)) → IsFirstLine line later rest ended_now → (ended ≡ true → ended_now ≡ true) → text_of_line line ≡ Some text → u ≡ after t text

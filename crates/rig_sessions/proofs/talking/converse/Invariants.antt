@@ -1,4 +1,4 @@
-use Rattle.std.proofs.Common.{◌≡◌, ◌≢◌, ℕ, List, ◌++◌}
+use Rattle.std.proofs.Common.{◌≡◌, ◌≢◌, ℕ, List, [], ◌++◌}
 use Rattle.std.specs.Prelude.{IfSome}
 use Rattle.rig_model.specs.declared.logged.Call.{Call}
 use Rattle.rig_model.specs.Sessions.{ended}
@@ -6,8 +6,8 @@ use Rattle.text_lines.specs.cited.Reading.{AreAtLineStart, AreCounted, IsLeft, h
 use Rattle.rig_sessions.proofs.SoFar.{IsOn}
 use Rattle.rig_sessions.proofs.talking.converse.Given as goal
 
-abbrev pub invariant-loop-lines : goal.invariant-loop-lines
-invariant-loop-lines g l =
+abbrev pub invariant-loop-texts : goal.invariant-loop-texts
+invariant-loop-texts g l =
     let left = g.I.Read.remaining in
     let contents = g.W.Write.contents in
     record {
@@ -16,10 +16,11 @@ invariant-loop-lines g l =
       pass : (made : List Call) × (l.pass.calls ≡ l.initial.pass.calls ++ made);
       seat : l.pass.seat ≡ l.initial.pass.seat;
       config : l.session.config ≡ l.config;
+      waiting : l.work.waiting.items ≡ [];
       alive : l.session.state ≢ ended;
       on : IfSome (left l.initial.reader) (λ bytes. (rest : List ℕ) × IsLeft l.lines (left l.reader) rest
           × IsOn l.config bytes rest (has_ended l.lines) l.session.state l.initial.pass l.pass (contents l.initial.writer) (contents l.writer));
     }
 
-abbrev pub decreases-loop-lines : goal.decreases-loop-lines
-decreases-loop-lines g l = left_at_most l.lines
+abbrev pub decreases-loop-texts : goal.decreases-loop-texts
+decreases-loop-texts g l = left_at_most l.lines

@@ -79,3 +79,6 @@ invariant_of-pass-2 g c =
     rw (c.push_reserved-3.ensures.items, c.in_ok-make_room.ensures.calls, made.same, c.push_reserved-2.ensures.items, c.in_ok-make_room.ensures.log, made.call)
     (calls_with rig first book c.self.inside.seats.items pass c.self.invariant.3 call known) in
     front_of_log _ _ c.push_reserved-2.new.self.items c.push_reserved-3.new.self.items pass.seat c.replace.ensures.after c.front.ensures all
+
+pub invariant_of-pass-in_err-tell : goal.invariant_of-pass-in_err-tell
+invariant_of-pass-in_err-tell g c = rw c.in_ok-make_room.ensures.calls c.pass.invariant

@@ -1,0 +1,177 @@
+//! Calls that wait for one another: short ones that follow one another are made together, so that who takes them is asked once.
+
+ghost use Rattle.std.specs.Prelude.{◌≡◌, ◌⊎◌, Option, ℕ, ◌+◌, ◌<◌, ◌≤◌, List, [], ◌∷◌, ◌++◌, drop, length, take, IfErr, IfOk, OnErr, OnOk};
+ghost use Rattle.std.specs.Io.KnownBytes.{Appends};
+ghost use Rattle.rig_config.specs.Roster.{Rig};
+ghost use Rattle.rig_model.specs.Sessions.{Outcome, State};
+ghost use Rattle.rig_sessions.specs.inner.Answered.{AreAnswered, AreTaken, AreTold, AreUnanswered, AreWaiting};
+
+use crate::calls::Calls;
+use crate::faults::TalkFault;
+use crate::writing::{refuse, say, say_reply};
+use call_history::naming::Naming;
+use locked_book::faults::DeskFault;
+use locked_book::passes::Pass;
+use rig_config::TenantId;
+use rig_model::logged::KeptCall;
+use std::alloc::Global;
+use std::io::Write;
+use std::sync::Wait;
+use tenant_lines::commands::Command;
+use tenant_lines::grant_lines::GrantCommand;
+use text_lines::lines::MOST_LINES;
+
+/// What a session has at hand while it answers lines.
+#[derive(Drop)]
+pub(crate) struct Work {
+    // A reply, put together; what stood there before is gone.
+    pub(crate) text: String,
+    // Commands that were asked for and aren't called yet, all of one tenant.
+    tenant: TenantId,
+    waiting: Vec<Command>,
+}
+
+impl Work {
+    pub(crate) fn new(alloc: Global) -> Work
+        ensures { result.waiting.items ≡ [] }
+    {
+        Work {
+            text: String::new(alloc),
+            tenant: 0,
+            waiting: Vec::new(alloc),
+        }
+    }
+
+    /// Lets a tenant's command wait for others, to be called with them: a short one, where there is room for it. Another one is handed
+    /// back.
+    pub(crate) fn wait(&mut self, tenant: TenantId, command: Command) -> Result<(), Command>
+        ensures waits { OnOk result ((self.new.waiting.items ≡ self.old.waiting.items ++ command ∷ []) × (self.new.tenant ≡ tenant)) }
+        ensures back { IfErr result (λ c. c ≡ command) }
+        ensures refused { OnErr result ((self.new.waiting.items ≡ self.old.waiting.items) × (self.new.tenant ≡ self.old.tenant)) }
+    {
+        if !is_short(&command) || self.waiting.len() >= MOST_LINES {
+            return Err(command);
+        }
+        let Ok(()) = self.waiting.reserve(1) else {
+            return Err(command);
+        };
+        self.tenant = tenant;
+        self.waiting.push_reserved(command);
+        Ok(())
+    }
+}
+
+// Whether neither the command nor its reply has a text or a list.
+fn is_short(command: &Command) -> bool {
+    match command {
+        Command::Load(_) | Command::Replace(_) | Command::ShowAll | Command::Trace => false,
+        Command::Grants(GrantCommand::Rows) => false,
+        _ => true,
+    }
+}
+
+/// Makes the calls that wait, and writes what comes of each.
+pub(crate) fn call_waiting<N: Naming, R: Wait, D: Calls<N>, W: Write>(
+    rt: &R,
+    desk: &D,
+    pass: &mut Pass<N>,
+    writer: &mut W,
+    work: &mut Work,
+) -> Result<(), TalkFault>
+    ensures ok { OnOk result ((config : Rig) (s : State) (texts : List (List ℕ)) → AreWaiting config s work.old.tenant texts work.old.waiting.items
+        → AreAnswered config s texts s pass.old pass.new (Appends (W.contents writer.old) (W.contents writer.new))) }
+    ensures fault { IfErr result (λ fault. (config : Rig) (s : State) (texts : List (List ℕ)) → AreWaiting config s work.old.tenant texts work.old.waiting.items
+        → AreUnanswered config s texts pass.old pass.new fault) }
+    ensures none { OnOk result (work.new.waiting.items ≡ []) }
+    ensures seat { pass.new.seat ≡ pass.old.seat }
+{
+    let mut at = 0;
+    while at < work.waiting.len() {
+        let commands = behind(&work.waiting, at);
+        at += call_some(
+            rt,
+            desk,
+            pass,
+            writer,
+            work.tenant,
+            commands,
+            &mut work.text,
+        )?;
+    }
+    work.waiting.clear();
+    Ok(())
+}
+
+/// Makes the calls that wait, writes what comes of each, and then these bytes.
+pub(crate) fn call_and_say<N: Naming, R: Wait, D: Calls<N>, W: Write>(
+    rt: &R,
+    desk: &D,
+    pass: &mut Pass<N>,
+    writer: &mut W,
+    work: &mut Work,
+    bytes: &[u8],
+) -> Result<(), TalkFault>
+    ensures ok { OnOk result ((between : Option (List ℕ)) × ((config : Rig) (s : State) (texts : List (List ℕ)) → AreWaiting config s work.old.tenant texts work.old.waiting.items
+        → AreAnswered config s texts s pass.old pass.new (Appends (W.contents writer.old) between)) × Appends between (W.contents writer.new) bytes.now) }
+    ensures fault { IfErr result (λ fault. (config : Rig) (s : State) (texts : List (List ℕ)) → AreWaiting config s work.old.tenant texts work.old.waiting.items
+        → ((fault ≡ TalkFault.Write) × AreTaken config s texts s pass.old pass.new) ⊎ AreUnanswered config s texts pass.old pass.new fault) }
+    ensures none { OnOk result (work.new.waiting.items ≡ []) }
+    ensures seat { pass.new.seat ≡ pass.old.seat }
+{
+    call_waiting(rt, desk, pass, writer, work)?;
+    say(writer, bytes)
+}
+
+// Makes the first of these calls of a tenant, and writes what comes of each. How many: at least one.
+fn call_some<N: Naming, R: Wait, D: Calls<N>, W: Write>(
+    rt: &R,
+    desk: &D,
+    pass: &mut Pass<N>,
+    writer: &mut W,
+    tenant: TenantId,
+    commands: &[Command],
+    text: &mut String,
+) -> Result<usize, TalkFault>
+    requires { 0 < length commands.now }
+    ensures some { IfOk result (λ n. (0 < n) × (n ≤ length commands.now)) }
+    ensures ok { IfOk result (λ n. (config : Rig) (s : State) (texts : List (List ℕ)) → AreWaiting config s tenant texts commands.now
+        → AreAnswered config s (take n texts) s pass.old pass.new (Appends (W.contents writer.old) (W.contents writer.new))) }
+    ensures fault { IfErr result (λ fault. (config : Rig) (s : State) (texts : List (List ℕ)) → AreWaiting config s tenant texts commands.now
+        → AreUnanswered config s texts pass.old pass.new fault) }
+    ensures seat { pass.new.seat ≡ pass.old.seat }
+{
+    let before = pass.calls().len();
+    let answer = desk.call_all(rt, *text.allocator(), pass, tenant, commands);
+    let calls = behind(pass.calls(), before);
+    say_replies(writer, calls, text)?;
+    match answer {
+        Ok(()) => Ok(calls.len()),
+        Err(fault) => match fault {
+            DeskFault::Memory => {
+                say(writer, b"err memory\n")?;
+                Ok(calls.len() + 1)
+            }
+            DeskFault::PassFull => Err(refuse(writer, DeskFault::PassFull)),
+            DeskFault::Strange(length) => Err(refuse(writer, DeskFault::Strange(length))),
+        },
+    }
+}
+
+// All but the first so many.
+fn behind<T>(all: &[T], count: usize) -> &[T]
+    requires { count ≤ length all.now }
+    ensures { result.now ≡ drop count all.now }
+{
+    &all[count..]
+}
+
+// Writes the replies to these calls, or that there is no memory for the text of one.
+fn say_replies<W: Write>(writer: &mut W, calls: &[KeptCall], text: &mut String) -> Result<(), TalkFault>
+    ensures told { OnOk result ((outcomes : List Outcome) × (said : List ℕ) × AreTold calls.now outcomes said × Appends (W.contents writer.old) (W.contents writer.new) said) }
+    ensures fault { IfErr result (λ fault. fault ≡ TalkFault.Write) }
+{
+    for call in calls {
+        say_reply(writer, &call.as_call().reply, text)?;
+    }
+    Ok(())
+}
