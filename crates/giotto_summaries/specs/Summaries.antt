@@ -4,7 +4,7 @@ use Rattle.std.specs.Fmt.{decimal}
 use Rattle.std.specs.List.{flat_map}
 use Rattle.giotto_text.specs.Program.{Source, from_line, from_grant, SensorDeclaration, ActuatorDeclaration, OutputDeclaration, TaskDeclaration, ModeDeclaration, GiottoProgram}
 use Rattle.giotto_rules.specs.Costs.{greatest_cost_of}
-use Rattle.giotto_check.specs.cited.Slots.{slots_of}
+use Rattle.giotto_rules.specs.Ports.{ports_of}
 use Rattle.giotto_summaries.specs.Parts.{ProgramPart, body, steps_of_part, parts_of, first_of_cost, text_of_part}
 
 -- a line has its end behind it
@@ -57,4 +57,4 @@ dearest_line p = line_of_dearest (steps_told p) (first_of_cost (steps_told p) (p
 abbrev pub summary_of : GiottoProgram → List ℕ
 summary_of p =
     flat_map (λ s. ended (line_of_sensor s)) p.sensors ++ (flat_map (λ a. ended (line_of_actuator a)) p.actuators ++ (flat_map (λ o. ended (line_of_output o)) p.outputs
-    ++ (flat_map (λ t. ended (line_of_task t)) p.tasks ++ (flat_map (λ m. ended (line_of_mode m)) p.modes ++ (ended (line_of_ports (slots_of p)) ++ ended (dearest_line p))))))
+    ++ (flat_map (λ t. ended (line_of_task t)) p.tasks ++ (flat_map (λ m. ended (line_of_mode m)) p.modes ++ (ended (line_of_ports (length (ports_of p))) ++ ended (dearest_line p))))))
