@@ -1,10 +1,11 @@
 //! The parts of a program that take steps, and what each costs.
 
-ghost use Rattle.std.specs.Prelude.{◌≡◌, ◌-◌, ◌^◌, min, IfSome};
-ghost use Rattle.giotto_text.specs.ProgramTrees.{task_of, update_of, switch_of, invocation_of, guard_of};
+ghost use Rattle.std.specs.Prelude.{◌≡◌, ◌-◌, ◌^◌, min, option_map};
+ghost use Rattle.std.specs.Fmt.{WritesOnOk};
+ghost use Rattle.giotto_text.specs.ProgramTrees.{task_of, mode_of, update_of, switch_of, invocation_of, guard_of};
 ghost use Rattle.giotto_tasks.specs.Cost.{cost_of};
 ghost use Rattle.giotto_rules.specs.Costs as costs;
-ghost use Rattle.giotto_summaries.specs.Parts.{cost_of_part};
+ghost use Rattle.giotto_summaries.specs.Parts.{drivers_of, first_of_cost, part_of, parts_of, steps_of_part, text_of_part};
 
 use giotto_tasks::bodies::{Body, Expr};
 use giotto_tasks::{cost, driver_cost};
@@ -23,7 +24,7 @@ pub enum Part<'a> {
 impl Part<'_> {
     /// What the part costs, in steps; `u64::MAX` where it is more.
     pub fn cost(&self) -> u64
-        ensures { result ≡ min (cost_of_part self.now) (2 ^ 64 - 1) }
+        ensures { result ≡ steps_of_part (part_of self.now) }
     {
         match self {
             Part::Body(task) => body_cost(task),
@@ -35,31 +36,43 @@ impl Part<'_> {
 }
 
 impl fmt::Display for Part<'_> {
+    ghost use Rattle.std.specs.Prelude.{Some};
+    ghost use Rattle.giotto_summaries.specs.Parts.{part_of, text_of_part};
+
+    ghost output = { λ part. Some (text_of_part (part_of part)) };
+
     fn fmt<W: fmt::Write>(&self, f: &mut fmt::Formatter<W>) -> fmt::Result {
-        match self {
-            Part::Body(task) => {
-                let task = task.name.as_str();
-                write!(f, "the body of `{task}`")
-            }
-            Part::Update(mode, update) => {
-                let (mode, actuator) = (mode.name.as_str(), update.actuator.as_str());
-                write!(f, "the update of `{actuator}` in mode `{mode}`")
-            }
-            Part::Switch(mode, switch) => {
-                let (mode, target) = (mode.name.as_str(), switch.target.as_str());
-                write!(f, "the switch from mode `{mode}` to `{target}`")
-            }
-            Part::Invocation(mode, invocation) => {
-                let (mode, task) = (mode.name.as_str(), invocation.task.as_str());
-                write!(f, "the invocation of `{task}` in mode `{mode}`")
-            }
+        write_part(f, self)
+    }
+}
+
+// Writes the name of a part.
+fn write_part<W: fmt::Write>(f: &mut fmt::Formatter<W>, part: &Part) -> fmt::Result
+    ensures { WritesOnOk W.write_str_gives f.old result (text_of_part (part_of part.now)) f.new }
+{
+    match part {
+        Part::Body(task) => {
+            let task = task.name.as_str();
+            write!(f, "the body of `{task}`")
+        }
+        Part::Update(mode, update) => {
+            let (mode, actuator) = (mode.name.as_str(), update.actuator.as_str());
+            write!(f, "the update of `{actuator}` in mode `{mode}`")
+        }
+        Part::Switch(mode, switch) => {
+            let (mode, target) = (mode.name.as_str(), switch.target.as_str());
+            write!(f, "the switch from mode `{mode}` to `{target}`")
+        }
+        Part::Invocation(mode, invocation) => {
+            let (mode, task) = (mode.name.as_str(), invocation.task.as_str());
+            write!(f, "the invocation of `{task}` in mode `{mode}`")
         }
     }
 }
 
 /// The first part of a program that costs this: its tasks come first, and then, mode by mode, its updates, switches and invocations.
 pub fn part_of_cost<'a>(program: &'a Program, cost: u64) -> Option<Part<'a>>
-    ensures { IfSome result (λ part. cost ≡ min (cost_of_part part) (2 ^ 64 - 1)) }
+    ensures { option_map part_of result ≡ first_of_cost cost (parts_of program.now) }
 {
     for task in program.tasks() {
         let part = Part::Body(task);
@@ -77,7 +90,7 @@ pub fn part_of_cost<'a>(program: &'a Program, cost: u64) -> Option<Part<'a>>
 
 // The first driver of the mode that costs this.
 fn driver_of_cost<'a>(mode: &'a Mode, cost: u64) -> Option<Part<'a>>
-    ensures { IfSome result (λ part. cost ≡ min (cost_of_part part) (2 ^ 64 - 1)) }
+    ensures { option_map part_of result ≡ first_of_cost cost (drivers_of (mode_of mode.now)) }
 {
     for update in mode.updates.as_slice() {
         let part = Part::Update(mode, update);
