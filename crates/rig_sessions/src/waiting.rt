@@ -166,7 +166,11 @@ fn behind<T>(all: &[T], count: usize) -> &[T]
 }
 
 // Writes the replies to these calls, or that there is no memory for the text of one.
-fn say_replies<W: Write>(writer: &mut W, calls: &[KeptCall], text: &mut String) -> Result<(), TalkFault>
+fn say_replies<W: Write>(
+    writer: &mut W,
+    calls: &[KeptCall],
+    text: &mut String,
+) -> Result<(), TalkFault>
     ensures told { OnOk result ((outcomes : List Outcome) × (said : List ℕ) × AreTold calls.now outcomes said × Appends (W.contents writer.old) (W.contents writer.new) said) }
     ensures fault { IfErr result (λ fault. fault ≡ TalkFault.Write) }
 {

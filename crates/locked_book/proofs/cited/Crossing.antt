@@ -10,10 +10,7 @@ use Rattle.circular_buffer.proofs.cells.Deed.TheSendSync as deed
 use Rattle.giotto_tasks.proofs.bodies.Expr.TheLaws.TheKnot as expr_knot
 use Rattle.giotto_tasks.proofs.bodies.Stmt.TheLaws.TheKnot as stmt_knot
 use Rattle.giotto_tasks.proofs.code.Op.TheLaws.TheKnot as op_knot
-use Rattle.rig_model.proofs.logged.Call.TheSendSync as calls
 use Rattle.rig_model.proofs.logged.Place.TheSendSync as places
-use Rattle.tenant_lines.proofs.commands.Command.TheSendSync as commands
-use Rattle.tenant_lines.proofs.replies.Reply.TheSendSync as replies
 use Rattle.giotto_tasks.specs.contracts.names.Name as Name
 use Rattle.giotto_tasks.specs.contracts.bodies.Expr as Expr
 use Rattle.giotto_tasks.specs.contracts.bodies.Stmt as Stmt
@@ -44,11 +41,8 @@ use Rattle.tenant_trace.specs.contracts.records.Happening as Happening
 use Rattle.tenant_trace.specs.contracts.records.Record as Record
 use Rattle.tenant_trace.specs.contracts.traces.Trace as Trace
 use Rattle.rig_model.specs.contracts.jobs.JobId as JobId
-use Rattle.rig_model.specs.contracts.logged.Call as Call
 use Rattle.rig_model.specs.contracts.logged.KeptCall as KeptCall
 use Rattle.rig_model.specs.contracts.logged.Logged as Logged
-use Rattle.tenant_lines.specs.contracts.commands.Command as Command
-use Rattle.tenant_lines.specs.contracts.replies.Reply as Reply
 use Rattle.tenant_jobs.specs.contracts.finished.Finished as Finished
 use Rattle.tenant_jobs.specs.contracts.jobs.Job as Job
 use Rattle.tenant_jobs.specs.contracts.jobs.Done as Done
@@ -234,15 +228,6 @@ tenant_send = search (crosses, name_send, grants_send, checked_send, values_send
 
 pub host_send : IsSend Host.the_row
 host_send = search (crosses, config_send, tenant_send, finished_send, sendable) depth 60 fits 20000
-
-pub command_send : IsSend Command.the_row
-command_send = search (crosses, name_send, sendable) depth 60 fits 20000
-
-pub reply_send : IsSend Reply.the_row
-reply_send = search (crosses, name_send, record_send, sendable) depth 60 fits 20000
-
-pub call_send : IsSend Call.the_row
-call_send = search (crosses, commands.the_field_send, replies.the_field_send, command_send, reply_send, sendable) depth 60 fits 20000
 
 pub kept_send : IsSend KeptCall.the_row
 kept_send = search (crosses, places.the_field_send, sendable) depth 60 fits 20000

@@ -1,4 +1,4 @@
-use Rattle.std.proofs.Common.{◌≡◌, ◌<◌, ◌≤◌, ◌+◌, ◌∷◌, [], ◌++◌, arith, ℕ, List, refl, sym, ap, ◌∙◌, subst, length}
+use Rattle.std.proofs.Common.{◌≡◌, ◌<◌, ◌+◌, ◌∷◌, [], ◌++◌, arith, ℕ, List, sym, ap, ◌∙◌, subst, length}
 use Rattle.std.proofs.lemmas.List.{length-set, get_or_default}
 use Rattle.rig_model.specs.declared.events.Event.TheVariants.{Own}
 use Rattle.rig_model.specs.declared.logged.Call.{Call}
