@@ -26,6 +26,6 @@ loop-call-preserved g c =
       Appends-trans (contents c.args.writer.now) (contents l.writer) (contents c.say_reply.new.writer) h.1 (written (text_of_outcome o)) h.3 grown,
     ) in
     subst Told (sym more) (elim c.in_ok-say_reply.ensures.written [
-      | inl grown ↦ by (replied k.reply) (inl refl) grown
-      | inr grown ↦ by (untold k.reply) (inr refl) grown
+      | inl grown ↦ by (replied k.reply) (inl refl) (subst (λ (x : Call). Appends (contents l.writer) (contents c.say_reply.new.writer) (written (text_of_outcome (replied x.reply)))) c.as_call.ensures grown)
+      | inr grown ↦ by (untold k.reply) (inr refl) (subst (λ (x : Call). Appends (contents l.writer) (contents c.say_reply.new.writer) (written (text_of_outcome (untold x.reply)))) c.as_call.ensures grown)
     ])
