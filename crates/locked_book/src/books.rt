@@ -449,7 +449,8 @@ impl<N: Naming> Book<N> {
             &mut pass.calls,
             &mut seat.places,
         )?;
-        let carried = carry_out(self.alloc, &mut self.host, tenant, prepared, left)?;
+        let last = pass.calls.last();
+        let carried = carry_out(self.alloc, &mut self.host, tenant, prepared, left, last)?;
         tell(self.alloc, &carried.logged, is_told, told)?;
         seat.places.push_reserved(place);
         seat.calls += 1;

@@ -1,7 +1,8 @@
 //! Commands that are carried out, as the log and the pass keep them.
 //!
-//! Memory has to be had before the host changes. A question changes nothing, so its call is made behind it, and is kept once for both. The calls
-//! of other commands are made before, each in a place of its own, and get their replies behind it.
+//! Memory has to be had before the host changes. A question changes nothing, so its call is made behind it, and is kept once for both; one
+//! that a pass asks again, and that is answered the same, is kept where it stands already. The calls of other commands are made before, each
+//! in a place of its own, and get their replies behind it.
 
 ghost use Rattle.std.specs.Box.{box_value};
 ghost use Rattle.std.specs.Prelude.{◌≡◌, ◌<◌, ◌≤◌, length, true, IfOk, IsErr, IsTrue, OnErr, OnOk};
@@ -10,6 +11,7 @@ ghost use Rattle.host_core.specs.Questions.{is_question};
 ghost use Rattle.locked_book.specs.inner.Carried.{IsCarriedOut, IsTaken};
 ghost use Rattle.tenant_lines.specs.cited.Copies.{has_list};
 
+use crate::same::Same;
 use giotto_check::Checked;
 use host_core::hosts::Host;
 use rig_config::TenantId;
@@ -27,7 +29,7 @@ pub(crate) struct Carried {
     pub(crate) noted: KeptCall,
 }
 
-/// Carries out a tenant's command.
+/// Carries out a tenant's command. `last` is the last call of the pass, if it has one.
 ///
 /// # Errors
 /// Want of memory. The host stays as it was then.
@@ -37,17 +39,22 @@ pub(crate) fn carry_out(
     tenant: TenantId,
     prepared: Prepared,
     left: &mut Option<Checked>,
+    last: Option<&KeptCall>,
 ) -> Result<Carried, AllocError>
     requires { tenant < length host.old.config.tenants }
     ensures carried { IfOk result (λ c. IsCarriedOut host.old host.new tenant prepared c.logged c.noted) }
     ensures outstanding { outstanding_count host.new ≤ outstanding_count host.old }
     ensures refused { OnErr result (host.new ≡ host.old) }
 {
-    if is_question(prepared.command()) {
-        carry_out_question(alloc, host, tenant, prepared, left)
-    } else {
-        carry_out_change(alloc, host, tenant, prepared, left)
+    if !is_question(prepared.command()) {
+        return carry_out_change(alloc, host, tenant, prepared, left);
     }
+    if let Some(last) = last {
+        if asks_the_same(last.as_call(), tenant, prepared.command()) {
+            return ask_again(alloc, host, prepared, left, last);
+        }
+    }
+    carry_out_question(alloc, host, tenant, prepared, left)
 }
 
 fn is_question(command: &Command) -> bool
@@ -75,11 +82,72 @@ fn carry_out_question(
 {
     let command = prepared.command().copy(alloc)?;
     let reply = reply_of(host, tenant, prepared, left)?;
-    let call = Call {
-        tenant,
-        command,
-        reply,
-    };
+    keep_twice(
+        alloc,
+        Call {
+            tenant,
+            command,
+            reply,
+        },
+    )
+}
+
+fn asks_the_same(call: &Call, tenant: TenantId, command: &Command) -> bool
+    ensures { IsTrue result ↔ ((call.now.tenant ≡ tenant) × (call.now.command ≡ command.now)) }
+{
+    if call.tenant != tenant {
+        return false;
+    }
+    call.command.is_same(command)
+}
+
+// Carries out the question of a call once more.
+fn ask_again(
+    alloc: Global,
+    host: &mut Host,
+    prepared: Prepared,
+    left: &mut Option<Checked>,
+    asked: &KeptCall,
+) -> Result<Carried, AllocError>
+    requires tenant { asked.now.tenant < length host.old.config.tenants }
+    requires same { asked.now.command ≡ prepared }
+    requires question { IsTrue (is_question prepared) }
+    ensures carried { IfOk result (λ c. IsCarriedOut host.old host.new asked.now.tenant prepared c.logged c.noted) }
+    ensures same { host.new ≡ host.old }
+{
+    let reply = reply_of(host, asked.as_call().tenant, prepared, left)?;
+    keep_again(alloc, asked, reply)
+}
+
+// Keeps the call of a question that was asked once more, with this reply: where it stands already if the reply is the same.
+fn keep_again(alloc: Global, asked: &KeptCall, reply: Reply) -> Result<Carried, AllocError>
+    ensures logged { IfOk result (λ c. c.logged ≡ call_with asked.now.tenant asked.now.command reply) }
+    ensures noted { IfOk result (λ c. c.noted ≡ c.logged) }
+{
+    let call = asked.as_call();
+    if call.reply.is_same(&reply) {
+        return Ok(Carried {
+            logged: asked.copy(alloc)?,
+            noted: asked.copy(alloc)?,
+        });
+    }
+    let tenant = call.tenant;
+    let command = call.command.copy(alloc)?;
+    keep_twice(
+        alloc,
+        Call {
+            tenant,
+            command,
+            reply,
+        },
+    )
+}
+
+// Keeps a call once, for both.
+fn keep_twice(alloc: Global, call: Call) -> Result<Carried, AllocError>
+    ensures logged { IfOk result (λ c. c.logged ≡ call) }
+    ensures noted { IfOk result (λ c. c.noted ≡ call) }
+{
     let (logged, noted) = KeptCall::twice(alloc, call)?;
     Ok(Carried { logged, noted })
 }

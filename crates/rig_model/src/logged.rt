@@ -115,15 +115,20 @@ impl KeptCall {
         }
     }
 
-    /// An equal call, in memory of its own.
+    /// An equal call: in the same place where that is shared, else in memory of its own.
     ///
     /// # Errors
-    /// Want of memory.
+    /// Want of memory, or a share is refused.
     pub fn copy(&self, alloc: Global) -> Result<KeptCall, AllocError>
         ensures { IfOk result (λ call. call ≡ self.now) }
     {
-        let call = self.as_call().copy(alloc)?;
-        Ok(KeptCall::own(Box::new(alloc, call)?))
+        match &self.place {
+            Place::Shared(call) => Ok(KeptCall::shared(Arc::try_clone(call)?)),
+            Place::Own(call) => {
+                let call = call.copy(alloc)?;
+                Ok(KeptCall::own(Box::new(alloc, call)?))
+            }
+        }
     }
 }
 
