@@ -33,8 +33,9 @@ use tenant_lines::commands::Command;
 use tenant_lines::replies::Reply;
 use tenant_programs::prepared::prepare;
 
-// How often the lock is asked for before a thread sleeps until it is free. A call holds it for less time than falling asleep takes.
-const TRIES: u32 = 100;
+// How often the lock is asked for before a thread sleeps until it is free: for about as long as it takes to fall asleep and to be woken. What
+// a session calls together holds it for less.
+const TRIES: u32 = 1000;
 
 /// A book under a lock. What waits takes the runtime; nothing else does.
 #[derive(Drop)]
