@@ -17,8 +17,9 @@ HANDS = 16
 CONNECTIONS = 10000
 # How many rounds there are by hand, and how many lines each session says in each.
 LONG_ROUNDS, LONG_LINES = 40, 100
-# How many bytes a connection without calls may leave behind, until the halt.
+# How many bytes a connection without calls may leave behind, until the halt, and a question that was asked before with the same answer.
 LEFT = 400
+LEFT_BY_A_POLL = 160
 
 REPLIES = (
     "ok load,ok replace,ok start,ok stop,ok mode,ok port,ok all,ok trace,ok offer,ok unoffer,ok bind,ok unbind,ok rows,err bad-command,"
@@ -58,13 +59,13 @@ def all_seats(program):
         server.halt()
 
 
-def leaves_little(before, behind, connections):
-    """What these many connections left in memory, by the bytes before and behind them."""
-    left = (behind - before) / connections
+def leaves_little(before, behind, times, what="connections", most=LEFT):
+    """What these many connections, or others, left in memory, by the bytes before and behind them."""
+    left = (behind - before) / times
     if os.environ.get("TIMES"):
-        print("%d bytes behind %d connections, %.0f for each" % (behind, connections, left))
-    if left > LEFT:
-        raise Failed("each of %d connections leaves %.0f bytes" % (connections, left))
+        print("%d bytes behind %d %s, %.0f for each" % (behind, times, what, left))
+    if left > most:
+        raise Failed("each of %d %s leaves %.0f bytes" % (times, what, left))
 
 
 def nothing_held(server, beside=(5, 4)):
@@ -148,6 +149,20 @@ def connections(program):
                 short_session(server, draw)
             nothing_held(server)
         leaves_little(begun, server.resident(), CONNECTIONS // 2)
+        server.halt()
+
+
+def polls(program):
+    """Who asks the same over and over, and is answered the same, leaves little memory."""
+    asked = b"hello alpha ka\n" + b"show mode\n" * (CALLS - 1)
+    with Server(program) as server:
+        begun = server.resident()
+        for _ in range(8):
+            client = server.client()
+            client.send(asked + b"quit\n")
+            is_same("who polls", client.rest(), "ok hello\n" + "ok mode empty\n" * (CALLS - 1) + "bye\n")
+            client.close()
+        leaves_little(begun, server.resident(), 8 * CALLS, "polls", LEFT_BY_A_POLL)
         server.halt()
 
 
