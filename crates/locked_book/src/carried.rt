@@ -5,10 +5,10 @@
 //! in a place of its own, and get their replies behind it.
 
 ghost use Rattle.std.specs.Box.{box_value};
-ghost use Rattle.std.specs.Prelude.{◌≡◌, ◌<◌, ◌≤◌, length, true, IfOk, IsErr, IsTrue, OnErr, OnOk};
+ghost use Rattle.std.specs.Prelude.{◌≡◌, ◌<◌, ◌≤◌, ◌↔◌, length, true, IfOk, IsErr, IsTrue, OnErr, OnOk};
 ghost use Rattle.host_core.specs.HostStanding.{outstanding_count};
 ghost use Rattle.host_core.specs.Questions.{is_question};
-ghost use Rattle.locked_book.specs.inner.Carried.{IsCarriedOut, IsTaken};
+ghost use Rattle.locked_book.specs.inner.Carried.{IsCarriedOut, IsTaken, call_with};
 ghost use Rattle.tenant_lines.specs.cited.Copies.{has_list};
 
 use crate::same::Same;
