@@ -449,8 +449,8 @@ impl<N: Naming> Book<N> {
             &mut pass.calls,
             &mut seat.places,
         )?;
-        let last = pass.calls.last();
-        let carried = carry_out(self.alloc, &mut self.host, tenant, prepared, left, last)?;
+        let before = pass.calls.as_slice();
+        let carried = carry_out(self.alloc, &mut self.host, tenant, prepared, left, before)?;
         tell(self.alloc, &carried.logged, is_told, told)?;
         seat.places.push_reserved(place);
         seat.calls += 1;

@@ -5,7 +5,7 @@
 //! in a place of its own, and get their replies behind it.
 
 ghost use Rattle.std.specs.Box.{box_value};
-ghost use Rattle.std.specs.Prelude.{◌≡◌, ◌<◌, ◌≤◌, ◌↔◌, length, true, IfOk, IsErr, IsTrue, OnErr, OnOk};
+ghost use Rattle.std.specs.Prelude.{◌≡◌, ◌<◌, ◌≤◌, ◌↔◌, length, true, IfOk, IfSome, IsErr, IsTrue, OnErr, OnOk};
 ghost use Rattle.host_core.specs.HostStanding.{outstanding_count};
 ghost use Rattle.host_core.specs.Questions.{is_question};
 ghost use Rattle.locked_book.specs.inner.Carried.{IsCarriedOut, IsTaken, call_with};
@@ -22,6 +22,9 @@ use tenant_lines::grant_lines::GrantCommand;
 use tenant_lines::replies::Reply;
 use tenant_programs::prepared::Prepared;
 
+// How many of the last calls of a pass are looked at for one that asks the same.
+const LOOKED_AT: usize = 8;
+
 /// A call of a command that was carried out, for the log and for the pass.
 #[derive(Drop)]
 pub(crate) struct Carried {
@@ -29,7 +32,7 @@ pub(crate) struct Carried {
     pub(crate) noted: KeptCall,
 }
 
-/// Carries out a tenant's command. `last` is the last call of the pass, if it has one.
+/// Carries out a tenant's command. `before` are the calls of its pass so far.
 ///
 /// # Errors
 /// Want of memory. The host stays as it was then.
@@ -39,7 +42,7 @@ pub(crate) fn carry_out(
     tenant: TenantId,
     prepared: Prepared,
     left: &mut Option<Checked>,
-    last: Option<&KeptCall>,
+    before: &[KeptCall],
 ) -> Result<Carried, AllocError>
     requires { tenant < length host.old.config.tenants }
     ensures carried { IfOk result (λ c. IsCarriedOut host.old host.new tenant prepared c.logged c.noted) }
@@ -49,12 +52,26 @@ pub(crate) fn carry_out(
     if !is_question(prepared.command()) {
         return carry_out_change(alloc, host, tenant, prepared, left);
     }
-    if let Some(last) = last {
-        if asks_the_same(last.as_call(), tenant, prepared.command()) {
-            return ask_again(alloc, host, prepared, left, last);
+    match asked_before(before, tenant, prepared.command()) {
+        Some(asked) => ask_again(alloc, host, prepared, left, asked),
+        None => carry_out_question(alloc, host, tenant, prepared, left),
+    }
+}
+
+// The last call by which the tenant gave this command, if it is one of the last few.
+fn asked_before<'a>(
+    calls: &'a [KeptCall],
+    tenant: TenantId,
+    command: &Command,
+) -> Option<&'a KeptCall>
+    ensures { IfSome result (λ c. (c.now.tenant ≡ tenant) × (c.now.command ≡ command.now)) }
+{
+    for call in calls.iter().rev().take(LOOKED_AT) {
+        if asks_the_same(call.as_call(), tenant, command) {
+            return Some(call);
         }
     }
-    carry_out_question(alloc, host, tenant, prepared, left)
+    None
 }
 
 fn is_question(command: &Command) -> bool
