@@ -1,20 +1,18 @@
 -- A question changes nothing, nor does a command that is answered by a list.
 use Rattle.std.specs.Prelude.{unwrap_or}
-use Rattle.std.proofs.Common.{◌≡◌, ◌≢◌, ◌<◌, ℕ, Bool, true, false, not, ◌&&◌, ◌||◌, cond, List, [], ◌∷◌, map, length, set, Option, Some, None, Result, Ok, Err, refl, sym, ap, ◌∙◌, ◌⊎◌, ⊎_elim, inl, inr, subst, take, arith, zero, suc}
+use Rattle.std.proofs.Common.{◌≡◌, ◌≢◌, ◌<◌, ℕ, Bool, true, false, not, ◌&&◌, ◌||◌, cond, List, [], ◌∷◌, map, length, set, Option, Some, None, Result, Ok, Err, refl, sym, ap, ◌∙◌, ◌⊎◌, ⊎_elim, inl, inr, arith, zero, suc}
 use Rattle.std.proofs.Math.ListN.{get_or}
-use Rattle.std.proofs.lemmas.List.{map-set}
-use Rattle.std.specs.Option.{option_map}
 use Rattle.giotto_text.specs.Program.{GiottoProgram}
 use Rattle.rig_config.specs.declared.Budgets.{Budgets}
 use Rattle.rig_model.specs.Admission.{broken_budget, program_of}
 use Rattle.rig_model.specs.Commands.{CommandOutcome, commanded, grant_rows, load_read, load_within, refused, replace_read, replace_within, show_all, show_port, show_value, start_program, with_grants}
-use Rattle.rig_model.specs.GrantCommands.{GrantOutcome, grants_commanded, with_binds, with_offers}
-use Rattle.rig_model.specs.Jobs.{has_job, job_of, same_job}
+use Rattle.rig_model.specs.GrantCommands.{grants_commanded, with_binds, with_offers}
+use Rattle.rig_model.specs.Jobs.{has_job, job_of}
 use Rattle.rig_model.specs.Ports.{value_of_port}
 use Rattle.rig_model.specs.Row.{ActiveTask, Row, is_running}
 use Rattle.rig_model.specs.Tenancies.{Tenancy}
 use Rattle.rig_model.specs.declared.jobs.JobId.{JobId}
-use Rattle.tenant_grants.specs.Grants.{GrantRows, bound, offered, unbound, unoffered}
+use Rattle.tenant_grants.specs.Grants.{bound, offered, unbound, unoffered}
 use Rattle.tenant_grants.specs.declared.faults.GrantFault.{GrantFault}
 use Rattle.tenant_grants.specs.declared.rows.Bind as binds
 use Rattle.tenant_grants.specs.declared.rows.Offer as offers

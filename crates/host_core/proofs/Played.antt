@@ -33,7 +33,6 @@ use Rattle.tenant_state.specs.Jobs.{job_in, released_at}
 use Rattle.tenant_lines.specs.Replies.{text_of_reply}
 use Rattle.rig_model.specs.Row.{ActiveTask, Row}
 use Rattle.tenant_state.specs.Standing.{Standing, no_tenant, IsKnown}
-use Rattle.rig_laws.proofs.cited.Histories.{releases}
 use Rattle.rig_laws.proofs.cited.AloneAlong.{same_rows}
 use Rattle.rig_laws.proofs.cited.AloneAlong.{same_clock}
 use Rattle.rig_laws.proofs.cited.LaterBase.{new_is_base, new_row}

@@ -1,10 +1,14 @@
--- Which commands are questions.
-use Rattle.std.specs.Prelude.{Bool, true, false}
+-- Which commands are questions, and the reply to one of them.
+use Rattle.std.specs.Prelude.{Bool, true, false, ℤ, Result, Ok, Err}
 use Rattle.tenant_lines.specs.declared.commands.Command.{Command}
 use Rattle.tenant_lines.specs.declared.commands.Command.TheVariants.{Load, Replace, Start, Stop, ShowMode, ShowPort, ShowAll, Grants}
 use Rattle.tenant_lines.specs.declared.commands.Command.TheVariants as command
 use Rattle.tenant_lines.specs.declared.grant_lines.GrantCommand.{GrantCommand}
 use Rattle.tenant_lines.specs.declared.grant_lines.GrantCommand.TheVariants as about
+use Rattle.tenant_lines.specs.declared.ports.PortName.{PortName}
+use Rattle.tenant_lines.specs.declared.replies.Refusal.{Refusal}
+use Rattle.tenant_lines.specs.declared.replies.Reply.{Reply}
+use Rattle.tenant_lines.specs.declared.replies.Reply.TheVariants.{Port, Refused}
 
 -- a command about grants asks for the rows
 abbrev pub asks_for_rows : GrantCommand → Bool
@@ -25,3 +29,8 @@ is_question (ShowPort x) = true
 is_question ShowAll = true
 is_question command.Trace = true
 is_question (Grants c) = asks_for_rows c
+
+-- the reply to "show port", by the port's value, or why there is none
+abbrev pub reply_of_port : PortName → Result ℤ Refusal → Reply
+reply_of_port port (Ok z) = Port (record { port = port; value = z })
+reply_of_port port (Err r) = Refused r

@@ -20,7 +20,8 @@ ghost use Rattle.tenant_jobs.specs.Finished.{has_result};
 ghost use Rattle.tenant_jobs.specs.cited.Finished.{is_entered};
 ghost use Rattle.rig_model.specs.declared.jobs.JobId.{JobId};
 ghost use Rattle.host_core.specs.ListReplies.{is_list};
-ghost use Rattle.host_core.specs.Questions.{is_question};
+ghost use Rattle.host_core.specs.Questions.{is_question, reply_of_port};
+ghost use Rattle.tenant_lines.specs.declared.commands.Command.{Command};
 ghost use Rattle.tenant_lines.specs.declared.replies.Refusal.{Refusal};
 ghost use Rattle.tenant_lines.specs.declared.replies.Reply.{Reply};
 ghost use Rattle.tenant_state.specs.Memory.{takes_memory};
@@ -36,7 +37,8 @@ use std::alloc::{AllocError, Global};
 use std::marker::Model;
 use tenant_grants::granted::Granted;
 use tenant_lines::commands::Command;
-use tenant_lines::replies::Reply;
+use tenant_lines::ports::PortName;
+use tenant_lines::replies::{Refusal, Reply};
 use tenant_programs::prepared::{Prepared, prepare};
 use tenant_state::tenants::Tenant;
 use thiserror::Error;
@@ -173,6 +175,21 @@ impl Host {
         tenant.known();
         tenant.leave(&mut self.finished);
         reply
+    }
+
+    /// The value of a port of a tenant's program, as `show port` shows it: of an input or a state of a task, if one is named, and else of a
+    /// sensor, an actuator or an output. Takes no memory.
+    ///
+    /// # Errors
+    /// `NotLoaded` where the tenant has no program, else `NoPort` where the program has no such port.
+    #[inline(always)]
+    pub fn port_value(&self, tenant: TenantId, port: &PortName) -> Result<i64, Refusal>
+        requires { tenant < length self.now.config.tenants }
+        ensures room { result ≢ Err Refusal.Memory }
+        ensures reply { ForEachState self.now (λ setting state. reply_of_port port.now result ≡ (after_command setting tenant (Command.ShowPort port.now) (row_at state tenant)).reply) }
+        ensures step { TakesEvent (Event.Own tenant (Command.ShowPort port.now)) self.now self.now }
+    {
+        self.tenants[tenant].port_value(port)
     }
 
     /// Makes all that the next instant needs, before anything changes: places for the tasks that it can release, shares of their bodies, and

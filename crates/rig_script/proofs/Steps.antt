@@ -10,7 +10,7 @@ use Rattle.tenant_lines.specs.declared.commands.Command.{Command}
 use Rattle.tenant_lines.specs.declared.replies.Reply.{Reply}
 use Rattle.rig_model.specs.Host.{after_event, host_after}
 use Rattle.rig_model.specs.HostState.{row_at}
-use Rattle.host_core.specs.HostStanding.{HostStanding, Stands, line_of}
+use Rattle.host_core.specs.HostStanding.{ForEachState, HostStanding, Stands, TakesEvent, line_of}
 use Rattle.rig_model.specs.LineValues.{value_of_line}
 use Rattle.rig_model.specs.Legal.{next_tick, may_follow, is_legal}
 use Rattle.rig_model.specs.Base.{Setting}
@@ -34,6 +34,18 @@ pub step_done : (step : Step) (past : List Event) (r : Result (Unit {0}) AllocEr
     → OnOk r (Said text) → text ≡ step.reply → IsTold Before After (reverse step.events) → Stands (step.events ++ past) → IsCarriedOut step past Before After r Said Stands
 step_done step past (Ok u) Before After Said Stands text given is told after = (subst Said is given, told, after)
 step_done step past (Err e) Before After Said Stands text given is told after = tt
+
+-- what was told is the reply of each state for which the host stands
+pub told_for_each : (r : Result (Unit {0}) AllocError) (Said : List ℕ → Type 0) (host : HostStanding) (t : ℕ) (command : Command) (name : List ℕ) (reply : Reply)
+    → ForEachState host (λ setting state. reply ≡ (after_command setting t command (row_at state t)).reply) → OnOk r (Said (reply_line name (text_of_reply reply)))
+    → OnOk r (ForEachState host (λ setting state. Said (reply_line name (text_of_reply (after_command setting t command (row_at state t)).reply))))
+told_for_each (Ok u) Said host t command name reply same given = λ setting state stands. subst (λ p. Said (reply_line name (text_of_reply p))) (same setting state stands) given
+told_for_each (Err e) Said host t command name reply same given = tt
+
+-- what holds anyhow
+pub on_ok : (r : Result (Unit {0}) AllocError) {P : Type 0} → P → OnOk r P
+on_ok (Ok u) h = h
+on_ok (Err e) h = tt
 
 -- where nothing was told, nobody was told anything
 pub none_told_to : (step : Step) (past : List Event) (r : Result (Unit {0}) AllocError) (Told : List Event → Type 0) (Said : List ℕ → Type 0) (Stands : List Event → Type 0) → IsCarriedOut step past AreNone AreNone r Said Stands → IsCarriedOut step past Told Told r Said Stands
@@ -74,6 +86,21 @@ module _ (setting : Setting) (past : List Event) (host later : HostStanding) (h 
       (step_done step past r Before After Said (IsHostAfter setting later) (reply_line name (text_of_reply reply)) given
       (ap (λ p. reply_line name (text_of_reply p)) (answered ∙ ap (λ w. (after_command setting t command w).reply) row)) told
       (record { base = h.base; legal = and_from (is_tenant setting.config t) (is_legal setting past) is h.legal; stands = after }))
+
+  -- a command was answered, or there was want of memory
+  pub command_answered : (t : ℕ) (name line : List ℕ) (command : Command) → t < length host.config.tenants → command_of_line line ≡ Some command
+      → OnOk r (ForEachState host (λ setting state. Said (reply_line name (text_of_reply (after_command setting t command (row_at state t)).reply))))
+      → OnOk r (TakesEvent (Own t command) host later) → IsTold Before After (Own t command ∷ []) → IsCarriedOut (tenant_step setting past t name line) past Before After r Said (IsHostAfter setting later)
+  command_answered t name line command lt spelled given step told = by r refl given step
+    where
+      by : (q : Result (Unit {0}) AllocError) → r ≡ q
+          → OnOk q (ForEachState host (λ setting state. Said (reply_line name (text_of_reply (after_command setting t command (row_at state t)).reply))))
+          → OnOk q (TakesEvent (Own t command) host later) → IsCarriedOut (tenant_step setting past t name line) past Before After r Said (IsHostAfter setting later)
+      by (Ok u) is given step =
+          let state = host_after setting past in
+          command_done t name line command (after_command setting t command (row_at state t)).reply lt spelled refl (step setting state h.stands)
+          (subst (λ q. OnOk q (Said (reply_line name (text_of_reply (after_command setting t command (row_at state t)).reply)))) (sym is) (given setting state h.stands)) told
+      by (Err e) is given step = subst (λ q. IsCarriedOut (tenant_step setting past t name line) past Before After q Said (IsHostAfter setting later)) (sym is) tt
 
   -- a line of no form
   pub operator_refused : (words : List (List ℕ)) → operator_line_of words ≡ None → later ≡ host → OnOk r (Said (reply_line operator (codes "err bad-command")))

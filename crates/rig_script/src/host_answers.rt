@@ -4,7 +4,12 @@ ghost use Rattle.std.specs.Prelude.{◌≡◌, [], ◌∷◌, ◌++◌, ◌<◌,
 ghost use Rattle.std.specs.Io.KnownBytes.{Appends};
 ghost use Rattle.tenant_lines.specs.Replies.{text_of_reply};
 ghost use Rattle.tenant_lines.specs.Words.{words_of};
-ghost use Rattle.host_core.specs.HostStanding.{line_of};
+ghost use Rattle.tenant_lines.specs.declared.commands.Command.{Command};
+ghost use Rattle.tenant_lines.specs.declared.replies.Reply.{Reply};
+ghost use Rattle.host_core.specs.HostStanding.{ForEachState, TakesEvent, line_of};
+ghost use Rattle.rig_model.specs.HostState.{row_at};
+ghost use Rattle.rig_model.specs.Views.{after_command};
+ghost use Rattle.rig_model.specs.declared.events.Event.{Event};
 ghost use Rattle.rig_model.specs.Answered.{reply_line, IsText};
 ghost use Rattle.rig_model.specs.TextLines.{cut};
 ghost use Rattle.rig_script.specs.cited.HostAnswers.{Adds, AnswersLine, CarriesOut, Holds, IsHostAfter};
@@ -20,11 +25,14 @@ use crate::records::{Record, Unrecorded};
 use crate::speakers::{Speaker, who_is};
 use giotto_text::name_bytes::is_name;
 use host_core::hosts::{Host, TickFault};
+use itoa::Buffer;
 use rig_config::{Config, TenantId};
 use std::alloc::{AllocError, Global};
 use std::io::{Read, Write};
 use tenant_lines::command_lines::{LineFault, command_of};
-use tenant_lines::replies::{Reply, add_reply};
+use tenant_lines::commands::Command;
+use tenant_lines::ports::PortName;
+use tenant_lines::replies::{Reply, add_reply, add_shown};
 use tenant_lines::words;
 use tenant_programs::prepared::prepare;
 
@@ -120,10 +128,47 @@ fn tenant_line<R: Record>(
         Err(LineFault::BadCommand) => return reply_line(text, name, "err bad-command"),
         Err(LineFault::Memory) => return Err(AllocError),
     };
-    let prepared = prepare(alloc, command);
-    events.command(alloc, tenant, prepared.command())?;
+    events.command(alloc, tenant, &command)?;
+    if let Command::ShowPort(port) = &command {
+        return show_port(host, tenant, port, name, text);
+    }
+    answer_command(alloc, host, tenant, command, name, text)
+}
+
+// The answer to `show port` of a tenant.
+#[inline(always)]
+fn show_port(
+    host: &Host,
+    tenant: TenantId,
+    port: &PortName,
+    name: &str,
+    text: &mut String,
+) -> Result<(), AllocError>
+    requires { tenant < length host.now.config.tenants }
+    ensures reply { OnOk result (ForEachState host.now (λ setting state. Adds text.old text.new (reply_line name.now (text_of_reply (after_command setting tenant (Command.ShowPort port.now) (row_at state tenant)).reply)))) }
+    ensures step { TakesEvent (Event.Own tenant (Command.ShowPort port.now)) host.now host.now }
+{
+    match host.port_value(tenant, port) {
+        Ok(value) => tell_value(text, name, port, value),
+        Err(refusal) => tell(text, name, &Reply::Refused(refusal)),
+    }
+}
+
+// The answer to a tenant's command.
+fn answer_command(
+    alloc: Global,
+    host: &mut Host,
+    tenant: TenantId,
+    command: Command,
+    name: &str,
+    text: &mut String,
+) -> Result<(), AllocError>
+    requires { tenant < length host.old.config.tenants }
+    ensures reply { OnOk result (ForEachState host.old (λ setting state. Adds text.old text.new (reply_line name.now (text_of_reply (after_command setting tenant command (row_at state tenant)).reply)))) }
+    ensures step { OnOk result (TakesEvent (Event.Own tenant command) host.old host.new) }
+{
     let mut left = None;
-    let reply = host.carry_out(tenant, prepared, &mut left);
+    let reply = host.carry_out(tenant, prepare(alloc, command), &mut left);
     drop(left);
     if reply.is_memory() {
         return Err(AllocError);
@@ -262,14 +307,20 @@ fn add_values(text: &mut String, host: &Host) -> Result<(), AllocError>
 fn tick_reply(text: &mut String, number: u64) -> Result<(), AllocError>
     ensures { OnOk result (string_bytes text.new ≡ string_bytes text.old ++ reply_line operator (codes "ok tick " ++ decimal number)) }
 {
-    write!(text, "op ok tick {number}\n")
+    let mut digits = Buffer::new();
+    text.push_str("op ok tick ")?;
+    text.push_str(digits.format(number))?;
+    text.push_str("\n")
 }
 
 // The reply to `work` that completed so many jobs.
 fn work_reply(text: &mut String, number: u128) -> Result<(), AllocError>
     ensures { OnOk result (string_bytes text.new ≡ string_bytes text.old ++ reply_line operator (codes "ok work " ++ decimal number)) }
 {
-    write!(text, "op ok work {number}\n")
+    let mut digits = Buffer::new();
+    text.push_str("op ok work ")?;
+    text.push_str(digits.format(number))?;
+    text.push_str("\n")
 }
 
 // The reply to a tenant's command, as it is written: the tenant's name, a space, the reply, and LF.
@@ -277,10 +328,28 @@ fn work_reply(text: &mut String, number: u128) -> Result<(), AllocError>
 fn tell(text: &mut String, name: &str, reply: &Reply) -> Result<(), AllocError>
     ensures { OnOk result (string_bytes text.new ≡ string_bytes text.old ++ reply_line name.now (text_of_reply reply.now)) }
 {
-    text.push_str(name)?;
-    text.push_str(" ")?;
+    begin(text, name)?;
     add_reply(text, reply)?;
     text.push_str("\n")
+}
+
+// The reply to `show port`, as it is written.
+#[inline(always)]
+fn tell_value(text: &mut String, name: &str, port: &PortName, value: i64) -> Result<(), AllocError>
+    ensures { OnOk result (string_bytes text.new ≡ string_bytes text.old ++ reply_line name.now (text_of_reply (Reply.Port (record { port = port.now; value = value })))) }
+{
+    begin(text, name)?;
+    add_shown(text, port, value)?;
+    text.push_str("\n")
+}
+
+// Adds who is answered, and a space.
+#[inline(always)]
+fn begin(text: &mut String, name: &str) -> Result<(), AllocError>
+    ensures { OnOk result (string_bytes text.new ≡ string_bytes text.old ++ (name.now ++ codes " ")) }
+{
+    text.push_str(name)?;
+    text.push_str(" ")
 }
 
 // A reply as it is written: who is answered, a space, the reply, and LF.

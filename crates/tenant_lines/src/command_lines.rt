@@ -39,7 +39,7 @@ pub enum LineFault {
 /// # Errors
 /// `BadCommand` for every other line, and `Memory` where there is want of memory for the text of a `load` or a `replace`
 /// that has one.
-#[inline(never)]
+#[inline(always)]
 pub fn command_of(alloc: Global, line: &str) -> Result<Command, LineFault>
     ensures command { IfOk result (λ c. command_of_line line.now ≡ Some c) }
     ensures none { result ≡ Err LineFault.BadCommand → command_of_line line.now ≡ None }

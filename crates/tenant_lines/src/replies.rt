@@ -5,10 +5,12 @@ ghost use Rattle.std.specs.Fmt.{WritesOnOk, signed_decimal};
 ghost use Rattle.std.specs.List.{flat_map};
 ghost use Rattle.tenant_lines.specs.Replies.{word_of_budget, text_of_happening, text_of_port, text_of_record, text_of_refusal, text_of_reply, text_of_bounds, text_of_row, text_of_status, text_of_value};
 ghost use Rattle.tenant_lines.specs.cited.Copies.{has_list};
+ghost use Rattle.tenant_lines.specs.declared.replies.Reply.{Reply};
 
 use crate::ports::{PortName, PortValue};
 use giotto_tasks::lists::List;
 use giotto_tasks::names::Name;
+use itoa::Buffer;
 use rig_config::intervals::Bounds;
 use std::alloc::{AllocError, Global};
 use std::fmt;
@@ -244,19 +246,30 @@ pub fn add_reply(text: &mut String, reply: &Reply) -> Result<(), AllocError>
     ensures { OnOk result (string_bytes text.new ≡ string_bytes text.old ++ text_of_reply reply.now) }
 {
     match reply {
-        Reply::Port(shown) => add_shown(text, shown),
+        Reply::Port(shown) => add_shown(text, &shown.port, shown.value),
         _ => write!(text, "{reply}"),
     }
 }
 
-// Adds the reply to `show port`, part by part, which is the shorter way.
-fn add_shown(text: &mut String, shown: &PortValue) -> Result<(), AllocError>
-    ensures { OnOk result (string_bytes text.new ≡ string_bytes text.old ++ (codes "ok port " ++ (text_of_port shown.now.port ++ (codes " " ++ signed_decimal shown.now.value)))) }
+/// Adds the text of the reply to `show port`, without the name of the tenant and without LF: part by part, which is the shorter way.
+///
+/// # Errors
+/// Want of memory. Nothing is said of the text then.
+pub fn add_shown(text: &mut String, port: &PortName, value: i64) -> Result<(), AllocError>
+    ensures { OnOk result (string_bytes text.new ≡ string_bytes text.old ++ text_of_reply (Reply.Port (record { port = port.now; value = value }))) }
 {
     text.push_str("ok port ")?;
-    add_port(text, &shown.port)?;
+    add_port(text, port)?;
     text.push_str(" ")?;
-    write!(text, "{}", shown.value)
+    add_value(text, value)
+}
+
+// Adds a value in decimal.
+fn add_value(text: &mut String, value: i64) -> Result<(), AllocError>
+    ensures { OnOk result (string_bytes text.new ≡ string_bytes text.old ++ signed_decimal value) }
+{
+    let mut digits = Buffer::new();
+    text.push_str(digits.format(value))
 }
 
 // Adds the name of a port.

@@ -8,6 +8,7 @@ pub mod PlacedOnce
 pub mod ReadLines
 pub mod Recorded
 pub mod SensedSlots
+pub mod SharedSlots
 pub mod TakenSwitches
 pub mod TaskValues
 pub mod WrittenRanges

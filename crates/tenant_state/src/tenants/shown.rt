@@ -35,8 +35,13 @@ impl Tenant {
         }
     }
 
-    // The value of a port of the program.
-    pub(crate) fn port_value(&self, port: &PortName) -> Result<i64, Refusal>
+    /// The value of a port of the program: an input or a state of a task, if one is named, and else a sensor, an actuator or an output.
+    /// Takes no memory.
+    ///
+    /// # Errors
+    /// `NotLoaded` where the tenant has no program, else `NoPort` where the program has no such port.
+    #[inline(always)]
+    pub fn port_value(&self, port: &PortName) -> Result<i64, Refusal>
         ensures room { result ≢ Err Refusal.Memory }
         ensures refused { IfErr result (λ r. IsRefused self.now (λ row. show_port port.now row row.program) r) }
         ensures shown { IfOk result (λ z. (row : Row) → StandsFor self.now row
@@ -47,10 +52,10 @@ impl Tenant {
         };
         let values = self.values.as_slice();
         let task = match &port.task {
-            Some(task) => Some(task.as_str()),
+            Some(task) => Some(task),
             None => None,
         };
-        match port_value(checked, task, port.name.as_str(), values) {
+        match port_value(checked, task, &port.name, values) {
             Some(value) => Ok(value),
             None => Err(Refusal::NoPort),
         }
