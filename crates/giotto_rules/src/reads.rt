@@ -23,7 +23,9 @@ pub(crate) fn reads_only(names: &Scope, e: &Expr) -> bool
         Expr::Number(_) => true,
         Expr::Port(name) => names.contains(name),
         Expr::Unary(_, a) => reads_only(names, a),
-        Expr::Binary(_, a, b) => reads_only(names, a) && reads_only(names, b),
+        Expr::Binary(_, operands) => {
+            reads_only(names, &operands.left) && reads_only(names, &operands.right)
+        }
     }
 }
 

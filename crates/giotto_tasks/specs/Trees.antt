@@ -13,7 +13,7 @@ abbrev pub expression_of : Expr → Expression
 expression_of (Number z) = number z
 expression_of (Port x) = port x
 expression_of (Unary' o p e) = unary o (expression_of e)
-expression_of (Binary' o p a q b) = binary o (expression_of a) (expression_of b)
+expression_of (Binary' o p a b) = binary o (expression_of a) (expression_of b)
 
 -- the block of these statements
 abbrev pub in_order : List Statement → Block

@@ -18,6 +18,7 @@ use std::marker::Model;
 /// An expression over the values of some ports: the function of a driver, a guard, or a part of a
 /// task's body.
 #[derive(Drop)]
+#[cycle(expression)]
 pub enum Expr {
     /// A number. In a program's text it is 0 to `i64::MAX`.
     Number(i64),
@@ -26,7 +27,15 @@ pub enum Expr {
     /// An operation of one operand.
     Unary(UnaryOperator, Box<Expr>),
     /// An operation of two operands, both of which are evaluated.
-    Binary(BinaryOperator, Box<Expr>, Box<Expr>),
+    Binary(BinaryOperator, Box<Operands>),
+}
+
+/// What an operation of two operands is of, in one piece of memory.
+#[derive(Drop)]
+#[cycle(expression)]
+pub struct Operands {
+    pub left: Expr,
+    pub right: Expr,
 }
 
 /// A statement of a body.
@@ -166,8 +175,8 @@ fn same_expression(a: &Expr, b: &Expr) -> bool
         (Expr::Number(y), Expr::Number(z)) => y == z,
         (Expr::Port(x), Expr::Port(y)) => x == y,
         (Expr::Unary(o, a), Expr::Unary(p, b)) => o == p && same_expression(a, b),
-        (Expr::Binary(o, a, b), Expr::Binary(p, c, d)) => {
-            o == p && same_expression(a, c) && same_expression(b, d)
+        (Expr::Binary(o, a), Expr::Binary(p, b)) => {
+            o == p && same_expression(&a.left, &b.left) && same_expression(&a.right, &b.right)
         }
         _ => false,
     }

@@ -24,8 +24,8 @@ pub fn driver_cost(e: &Expr) -> u64
         Expr::Number(_) => 0,
         Expr::Port(_) => 0,
         Expr::Unary(_, a) => driver_cost(a).saturating_add(1),
-        Expr::Binary(_, a, b) => driver_cost(a)
-            .saturating_add(driver_cost(b))
+        Expr::Binary(_, operands) => driver_cost(&operands.left)
+            .saturating_add(driver_cost(&operands.right))
             .saturating_add(1),
     }
 }

@@ -27,10 +27,10 @@ impl Printer {
                 self.symbol(symbol_of_unary(*operator))?;
                 self.operand(a)
             }
-            Expr::Binary(operator, a, b) => {
-                self.operand(a)?;
+            Expr::Binary(operator, operands) => {
+                self.operand(&operands.left)?;
                 self.symbol(symbol_of_binary(*operator))?;
-                self.operand(b)
+                self.operand(&operands.right)
             }
         }
     }
@@ -42,7 +42,7 @@ impl Printer {
     {
         match expression {
             Expr::Number(_) | Expr::Port(_) => self.expression(expression),
-            Expr::Unary(_, _) | Expr::Binary(_, _, _) => {
+            Expr::Unary(_, _) | Expr::Binary(_, _) => {
                 self.symbol(Symbol::OpenParenthesis)?;
                 self.expression(expression)?;
                 self.symbol(Symbol::CloseParenthesis)

@@ -8,7 +8,7 @@ ghost use Rattle.giotto_text.specs.ProgramTrees.{guard_of};
 ghost use Rattle.giotto_text.specs.declared.tokens.Token.TheVariants as token;
 
 use super::{Reader, Stop};
-use giotto_tasks::bodies::Expr;
+use giotto_tasks::bodies::{Expr, Operands};
 use giotto_tasks::lists::List;
 use giotto_tasks::operators::{BinaryOperator, UnaryOperator};
 use giotto_text::tokens::{Keyword, Symbol};
@@ -67,9 +67,8 @@ impl Reader<'_> {
             return Ok(left);
         };
         let right = self.operand()?;
-        let left = Box::new(self.alloc, left)?;
-        let right = Box::new(self.alloc, right)?;
-        Ok(Expr::Binary(operator, left, right))
+        let operands = Box::new(self.alloc, Operands { left, right })?;
+        Ok(Expr::Binary(operator, operands))
     }
 
     // prim = INT | NAME | "(" expr ")"
