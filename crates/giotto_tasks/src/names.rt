@@ -156,22 +156,8 @@ impl Default for Name {
 fn first_word(bytes: &[u8]) -> u64
     ensures { to_le_bytes w64 result ≡ padded 8 bytes.now }
 {
-    u64::from_le_bytes(first_bytes(bytes))
-}
-
-// The first 8 bytes, with zeros behind fewer: without a loop, since most names are short.
-fn first_bytes(bytes: &[u8]) -> [u8; 8]
-    ensures { result ≡ padded 8 bytes.now }
-{
-    match bytes {
-        [] => [0; 8],
-        [a] => [*a, 0, 0, 0, 0, 0, 0, 0],
-        [a, b] => [*a, *b, 0, 0, 0, 0, 0, 0],
-        [a, b, c] => [*a, *b, *c, 0, 0, 0, 0, 0],
-        [a, b, c, d] => [*a, *b, *c, *d, 0, 0, 0, 0],
-        [a, b, c, d, e] => [*a, *b, *c, *d, *e, 0, 0, 0],
-        [a, b, c, d, e, f] => [*a, *b, *c, *d, *e, *f, 0, 0],
-        [a, b, c, d, e, f, g] => [*a, *b, *c, *d, *e, *f, *g, 0],
-        [a, b, c, d, e, f, g, h, ..] => [*a, *b, *c, *d, *e, *f, *g, *h],
-    }
+    let count = bytes.len().min(8);
+    let mut first = [0; 8];
+    first[..count].copy_from_slice(&bytes[..count]);
+    u64::from_le_bytes(first)
 }
