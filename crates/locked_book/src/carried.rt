@@ -23,7 +23,7 @@ use tenant_lines::replies::Reply;
 use tenant_programs::prepared::Prepared;
 
 // How many of the last calls of a pass are looked at for one that asks the same.
-const LOOKED_AT: usize = 8;
+const LOOKED_AT: usize = 4;
 
 /// A call of a command that was carried out, for the log and for the pass.
 #[derive(Drop)]
