@@ -1,6 +1,6 @@
 -- A step of a loop that takes one thing of each element of a list.
 use Rattle.std.proofs.Common.{◌≡◌, ℕ, ◌+◌, ◌<◌, List, [], ◌∷◌, ◌++◌, length, get_or, map, take, refl, sym, ap, ◌∙◌}
-use Rattle.std.proofs.lemmas.List.{map-append, take_more}
+use Rattle.std.proofs.lemmas.List.{append_assoc, map-append, take_more}
 
 -- what is taken of one element more
 pub taken_more : {X Y Z : Type 0} (g : Y → Z) (f : X → Y) (xs : List X) (i : ℕ) (x : X) (z : Z) (old new : List Z) → i < length xs
@@ -10,6 +10,14 @@ taken_more g f xs i x z old new lt is before taken more =
     let all : map g (map f (take (i + 1) xs)) ≡ map g (map f (take i xs)) ++ g (f x) ∷ [] =
     ap (λ ys. map g (map f ys)) step ∙ ap (map g) (map-append f (take i xs) (x ∷ [])) ∙ map-append g (map f (take i xs)) (f x ∷ []) in
     more ∙ ap (λ ys. ys ++ z ∷ []) before ∙ ap (λ y. map g (map f (take i xs)) ++ y ∷ []) taken ∙ sym all
+
+-- what is taken of one element more, behind what stood before
+pub added_more : {X Y Z : Type 0} (first : List Z) (g : Y → Z) (f : X → Y) (xs : List X) (i : ℕ) (x : X) (z : Z) (old new : List Z) → i < length xs
+    → x ≡ get_or xs i x → old ≡ first ++ map g (map f (take i xs)) → z ≡ g (f x) → new ≡ old ++ z ∷ [] → new ≡ first ++ map g (map f (take (i + 1) xs))
+added_more first g f xs i x z old new lt is before taken more =
+    let all : map g (map f (take i xs)) ++ z ∷ [] ≡ map g (map f (take (i + 1) xs)) =
+    taken_more g f xs i x z (map g (map f (take i xs))) (map g (map f (take i xs)) ++ z ∷ []) lt is refl taken refl in
+    more ∙ ap (λ ys. ys ++ z ∷ []) before ∙ append_assoc first (map g (map f (take i xs))) (z ∷ []) ∙ ap (λ ys. first ++ ys) all
 
 -- what is taken of that
 pub taken_more_of : {X Y Z W : Type 0} (h : Z → W) (g : Y → Z) (f : X → Y) (xs : List X) (i : ℕ) (x : X) (w : W) (old new : List W) → i < length xs

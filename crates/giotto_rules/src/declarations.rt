@@ -25,40 +25,72 @@ pub(crate) fn actuator_names(alloc: Global, program: &Program) -> Result<Vec<Nam
     ensures { IfOk result (λ names. names.items ≡ declared.actuator_names program.now) }
 {
     let mut names = Vec::new(alloc);
+    add_actuator_names(&mut names, program)?;
+    Ok(names)
+}
+
+// Adds the names of the actuators at the end.
+fn add_actuator_names(names: &mut Vec<Name>, program: &Program) -> Result<(), AllocError>
+    ensures { OnOk result (names.new.items ≡ names.old.items ++ declared.actuator_names program.now) }
+{
     for actuator in program.actuators() {
         names.push(actuator.name.copy())?;
     }
-    Ok(names)
+    Ok(())
 }
 
 pub(crate) fn output_names(alloc: Global, program: &Program) -> Result<Vec<Name>, AllocError>
     ensures { IfOk result (λ names. names.items ≡ declared.output_names program.now) }
 {
     let mut names = Vec::new(alloc);
+    add_output_names(&mut names, program)?;
+    Ok(names)
+}
+
+// Adds the names of the outputs at the end.
+fn add_output_names(names: &mut Vec<Name>, program: &Program) -> Result<(), AllocError>
+    ensures { OnOk result (names.new.items ≡ names.old.items ++ declared.output_names program.now) }
+{
     for output in program.outputs() {
         names.push(output.name.copy())?;
     }
-    Ok(names)
+    Ok(())
 }
 
 pub(crate) fn task_names(alloc: Global, program: &Program) -> Result<Vec<Name>, AllocError>
     ensures { IfOk result (λ names. names.items ≡ declared.task_names program.now) }
 {
     let mut names = Vec::new(alloc);
+    add_task_names(&mut names, program)?;
+    Ok(names)
+}
+
+// Adds the names of the tasks at the end.
+fn add_task_names(names: &mut Vec<Name>, program: &Program) -> Result<(), AllocError>
+    ensures { OnOk result (names.new.items ≡ names.old.items ++ declared.task_names program.now) }
+{
     for task in program.tasks() {
         names.push(task.name.copy())?;
     }
-    Ok(names)
+    Ok(())
 }
 
 pub(crate) fn mode_names(alloc: Global, program: &Program) -> Result<Vec<Name>, AllocError>
     ensures { IfOk result (λ names. names.items ≡ declared.mode_names program.now) }
 {
     let mut names = Vec::new(alloc);
+    add_mode_names(&mut names, program)?;
+    Ok(names)
+}
+
+// Adds the names of the modes at the end.
+fn add_mode_names(names: &mut Vec<Name>, program: &Program) -> Result<(), AllocError>
+    ensures { OnOk result (names.new.items ≡ names.old.items ++ declared.mode_names program.now) }
+{
     for mode in program.modes() {
         names.push(mode.name.copy())?;
     }
-    Ok(names)
+    Ok(())
 }
 
 /// The names of sensors, actuators and outputs, in text order: what drivers may read at most.
@@ -69,8 +101,8 @@ pub fn driver_ports(alloc: Global, program: &Program) -> Result<Vec<Name>, Alloc
     ensures { IfOk result (λ names. names.items ≡ declared.driver_ports program.now) }
 {
     let mut names = sensor_names(alloc, program)?;
-    push_names(&mut names, &actuator_names(alloc, program)?)?;
-    push_names(&mut names, &output_names(alloc, program)?)?;
+    add_actuator_names(&mut names, program)?;
+    add_output_names(&mut names, program)?;
     Ok(names)
 }
 
@@ -79,8 +111,8 @@ pub(crate) fn declared_names(alloc: Global, program: &Program) -> Result<Vec<Nam
     ensures { IfOk result (λ names. names.items ≡ declared.declared_names program.now) }
 {
     let mut names = driver_ports(alloc, program)?;
-    push_names(&mut names, &task_names(alloc, program)?)?;
-    push_names(&mut names, &mode_names(alloc, program)?)?;
+    add_task_names(&mut names, program)?;
+    add_mode_names(&mut names, program)?;
     Ok(names)
 }
 

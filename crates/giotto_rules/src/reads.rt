@@ -3,18 +3,19 @@
 ghost use Rattle.std.specs.Prelude.{◌≡◌, map};
 ghost use Rattle.giotto_tasks.specs.Names as tasks;
 ghost use Rattle.giotto_tasks.specs.Sound as sound;
-ghost use Rattle.giotto_tasks.specs.Trees.{expression_of};
+ghost use Rattle.giotto_tasks.specs.Trees.{expression_of, primary_of};
 ghost use Rattle.giotto_text.specs.ProgramTrees.{guard_of, update_of, switch_of, invocation_of, destination_of};
 ghost use Rattle.giotto_rules.specs.Declarations.{names_read, destinations_of};
 ghost use Rattle.giotto_rules.specs.Names.{are_among};
 ghost use Rattle.giotto_rules.specs.Reads.{names_in_guard, names_in_destinations, names_in_arguments, names_in_update, names_in_switch, names_in_invocation};
 
 use crate::scopes::Scope;
-use giotto_tasks::bodies::Expr;
+use giotto_tasks::bodies::{Expr, Primary};
 use giotto_tasks::index::Index;
 use giotto_text::programs::{Destination, Invocation, Switch, Update};
 
 /// Whether an expression reads these names alone.
+#[cycle(expressions)]
 pub(crate) fn reads_only(names: &Scope, e: &Expr) -> bool
     ensures body { result ≡ sound.reads_only (tasks.is_among names.now) (expression_of e.now) }
     ensures driver { result ≡ are_among names.now (names_read (expression_of e.now)) }
@@ -22,8 +23,20 @@ pub(crate) fn reads_only(names: &Scope, e: &Expr) -> bool
     match e {
         Expr::Number(_) => true,
         Expr::Port(name) => names.contains(name),
-        Expr::Unary(_, a) => reads_only(names, a),
-        Expr::Binary(_, a, b) => reads_only(names, a) && reads_only(names, b),
+        Expr::Unary(_, a) => primary_reads_only(names, a),
+        Expr::Binary(_, a, b) => primary_reads_only(names, a) && primary_reads_only(names, b),
+    }
+}
+
+#[cycle(expressions)]
+fn primary_reads_only(names: &Scope, primary: &Primary) -> bool
+    ensures body { result ≡ sound.reads_only (tasks.is_among names.now) (primary_of primary.now) }
+    ensures driver { result ≡ are_among names.now (names_read (primary_of primary.now)) }
+{
+    match primary {
+        Primary::Number(_) => true,
+        Primary::Port(name) => names.contains(name),
+        Primary::Nested(e) => reads_only(names, e),
     }
 }
 

@@ -3,17 +3,26 @@ use Rattle.std.specs.Prelude.{List, [], ◌∷◌, map}
 use Rattle.giotto_tasks.specs.Syntax.{Expression, number, port, unary, binary, Statement, assign, branch, repeat, Block, finished, step, TaskBody}
 use Rattle.giotto_tasks.specs.declared.names.Name.{Name}
 use Rattle.giotto_tasks.specs.declared.bodies.Expr.{Expr}
-use Rattle.giotto_tasks.specs.declared.bodies.Expr.TheVariants.{Number, Port, Unary', Binary'}
+use Rattle.giotto_tasks.specs.declared.bodies.Expr.TheVariants.{Number, Port, Unary, Binary}
+use Rattle.giotto_tasks.specs.declared.bodies.Primary.{Primary}
+use Rattle.giotto_tasks.specs.declared.bodies.Primary.TheVariants as primary
 use Rattle.giotto_tasks.specs.declared.bodies.Stmt.{Stmt}
 use Rattle.giotto_tasks.specs.declared.bodies.Stmt.TheOpen.{Stmt-F, Assign, If, Repeat}
 use Rattle.giotto_tasks.specs.declared.bodies.Stmt.TheFolds.{fold-Stmt}
 
--- an expression without the boxes that hold its parts
-abbrev pub expression_of : Expr → Expression
-expression_of (Number z) = number z
-expression_of (Port x) = port x
-expression_of (Unary' o p e) = unary o (expression_of e)
-expression_of (Binary' o p a q b) = binary o (expression_of a) (expression_of b)
+abbrev mutual
+  -- an expression without the boxes that hold its parts
+  pub expression_of : Expr → Expression
+  expression_of (Number z) = number z
+  expression_of (Port x) = port x
+  expression_of (Unary o a) = unary o (primary_of a)
+  expression_of (Binary o a b) = binary o (primary_of a) (primary_of b)
+
+  -- what an operation is of, as an expression: parentheses leave no mark
+  pub primary_of : Primary → Expression
+  primary_of (primary.Number z) = number z
+  primary_of (primary.Port x) = port x
+  primary_of (primary.Nested' p e) = expression_of e
 
 -- the block of these statements
 abbrev pub in_order : List Statement → Block

@@ -4,7 +4,8 @@ ghost use Rattle.std.specs.Prelude.{◌≡◌, ◌↔◌, ◌≤◌, ◌<◌, �
 ghost use Rattle.giotto_tasks.specs.Depth.{depth_of_block};
 ghost use Rattle.giotto_tasks.specs.inner.HasCode.{IsCompiled};
 ghost use Rattle.giotto_tasks.specs.Sound.{is_small};
-ghost use Rattle.giotto_tasks.specs.Trees.{expression_of, statement_of, block_of, body_of};
+ghost use Rattle.giotto_tasks.specs.Syntax as syntax;
+ghost use Rattle.giotto_tasks.specs.Trees.{expression_of, primary_of, statement_of, block_of, body_of};
 
 use crate::code::compiled::Code;
 use crate::code::ports::Ports;
@@ -18,15 +19,28 @@ use std::marker::Model;
 /// An expression over the values of some ports: the function of a driver, a guard, or a part of a
 /// task's body.
 #[derive(Drop)]
+#[cycle(expression)]
 pub enum Expr {
     /// A number. In a program's text it is 0 to `i64::MAX`.
     Number(i64),
     /// The value of a port.
     Port(Name),
     /// An operation of one operand.
-    Unary(UnaryOperator, Box<Expr>),
+    Unary(UnaryOperator, Primary),
     /// An operation of two operands, both of which are evaluated.
-    Binary(BinaryOperator, Box<Expr>, Box<Expr>),
+    Binary(BinaryOperator, Primary, Primary),
+}
+
+/// What an operation is of. A number or a name lies in the operation itself.
+#[derive(Drop)]
+#[cycle(expression)]
+pub enum Primary {
+    /// A number, as in [`Expr`].
+    Number(i64),
+    /// The value of a port.
+    Port(Name),
+    /// An expression in parentheses.
+    Nested(Box<Expr>),
 }
 
 /// A statement of a body.
@@ -159,17 +173,59 @@ fn same_names(a: &List<Name>, b: &List<Name>) -> bool
     a.as_slice() == b.as_slice()
 }
 
+#[cycle(same_expressions)]
 fn same_expression(a: &Expr, b: &Expr) -> bool
     ensures { IsTrue result ↔ (expression_of a.now ≡ expression_of b.now) }
 {
     match (a, b) {
         (Expr::Number(y), Expr::Number(z)) => y == z,
         (Expr::Port(x), Expr::Port(y)) => x == y,
-        (Expr::Unary(o, a), Expr::Unary(p, b)) => o == p && same_expression(a, b),
+        (Expr::Unary(o, a), Expr::Unary(p, b)) => o == p && same_primary(a, b),
         (Expr::Binary(o, a, b), Expr::Binary(p, c, d)) => {
-            o == p && same_expression(a, c) && same_expression(b, d)
+            o == p && same_primary(a, c) && same_primary(b, d)
         }
         _ => false,
+    }
+}
+
+#[cycle(same_expressions)]
+fn same_primary(a: &Primary, b: &Primary) -> bool
+    ensures { IsTrue result ↔ (primary_of a.now ≡ primary_of b.now) }
+{
+    match (a, b) {
+        (Primary::Nested(a), Primary::Nested(b)) => same_expression(a, b),
+        (_, Primary::Number(z)) => is_number(a, *z),
+        (_, Primary::Port(y)) => is_port(a, y),
+        (Primary::Number(y), _) => is_number(b, *y),
+        (Primary::Port(x), _) => is_port(b, x),
+    }
+}
+
+// Whether this is the number, in parentheses or not.
+fn is_number(primary: &Primary, number: i64) -> bool
+    ensures { IsTrue result ↔ (primary_of primary.now ≡ syntax.number number) }
+{
+    match primary {
+        Primary::Number(z) => *z == number,
+        Primary::Port(_) => false,
+        Primary::Nested(e) => match &**e {
+            Expr::Number(z) => *z == number,
+            _ => false,
+        },
+    }
+}
+
+// Whether this is the port of the name, in parentheses or not.
+fn is_port(primary: &Primary, name: &Name) -> bool
+    ensures { IsTrue result ↔ (primary_of primary.now ≡ syntax.port name.now) }
+{
+    match primary {
+        Primary::Number(_) => false,
+        Primary::Port(x) => x == name,
+        Primary::Nested(e) => match &**e {
+            Expr::Port(x) => x == name,
+            _ => false,
+        },
     }
 }
 

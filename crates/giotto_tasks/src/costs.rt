@@ -2,9 +2,9 @@
 
 ghost use Rattle.std.specs.Prelude.{◌≡◌, ◌-◌, ◌^◌, min};
 ghost use Rattle.giotto_tasks.specs.Cost.{operators_of, cost_of_statement, cost_of};
-ghost use Rattle.giotto_tasks.specs.Trees.{expression_of, statement_of, block_of};
+ghost use Rattle.giotto_tasks.specs.Trees.{expression_of, primary_of, statement_of, block_of};
 
-use crate::bodies::{Body, Expr, Stmt};
+use crate::bodies::{Body, Expr, Primary, Stmt};
 
 /// The steps that a body takes at most, whatever its inputs and states are, or `u64::MAX` where
 /// they are more. An assignment costs 1 and its operators; an `if` 1, the operators of its
@@ -17,16 +17,29 @@ pub fn cost(body: &Body) -> u64
 
 /// The number of operators of an expression, or `u64::MAX` where there are more: the steps that it
 /// takes as a part of a driver.
+#[cycle(operators)]
 pub fn driver_cost(e: &Expr) -> u64
     ensures { result ≡ min (operators_of (expression_of e.now)) (2 ^ 64 - 1) }
 {
     match e {
         Expr::Number(_) => 0,
         Expr::Port(_) => 0,
-        Expr::Unary(_, a) => driver_cost(a).saturating_add(1),
-        Expr::Binary(_, a, b) => driver_cost(a)
-            .saturating_add(driver_cost(b))
+        Expr::Unary(_, a) => primary_cost(a).saturating_add(1),
+        Expr::Binary(_, a, b) => primary_cost(a)
+            .saturating_add(primary_cost(b))
             .saturating_add(1),
+    }
+}
+
+#[cycle(operators)]
+#[inline(always)]
+fn primary_cost(primary: &Primary) -> u64
+    ensures { result ≡ min (operators_of (primary_of primary.now)) (2 ^ 64 - 1) }
+{
+    match primary {
+        Primary::Number(_) => 0,
+        Primary::Port(_) => 0,
+        Primary::Nested(e) => driver_cost(e),
     }
 }
 

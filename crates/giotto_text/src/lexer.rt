@@ -251,5 +251,6 @@ fn digits_len(text: &[u8]) -> usize
 fn is_blank(c: u8) -> bool
     ensures { result ≡ is_blank_of_text c }
 {
-    matches!(c, b' ' | b'\t' | b'\r' | b'\n')
+    // most bytes are told by the first test
+    c <= b' ' && matches!(c, b' ' | b'\t' | b'\r' | b'\n')
 }

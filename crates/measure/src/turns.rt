@@ -5,7 +5,7 @@ ghost use Rattle.giotto_tasks.specs.Sound.{IsSound};
 ghost use Rattle.giotto_tasks.specs.Syntax.{step, finished};
 ghost use Rattle.giotto_tasks.specs.Trees.{statement_of};
 
-use giotto_tasks::bodies::{Body, Expr, Stmt};
+use giotto_tasks::bodies::{Body, Expr, Primary, Stmt};
 use giotto_tasks::evaluation::eval;
 use giotto_tasks::faults::CodeFault;
 use giotto_tasks::lists::List;
@@ -37,9 +37,8 @@ pub fn evaluated(alloc: Global, turns: u64) -> Result<i64, CodeFault> {
 /// # Errors
 /// Want of memory.
 pub fn jobs(alloc: Global, times: u64) -> Result<i64, CodeFault> {
-    let left = Box::new(alloc, Expr::Port(named("i")))?;
-    let right = Box::new(alloc, Expr::Number(1))?;
-    let sum = Expr::Binary(BinaryOperator::Add, left, right);
+    let input = Primary::Port(named("i"));
+    let sum = Expr::Binary(BinaryOperator::Add, input, Primary::Number(1));
     let body = body_of(alloc, Stmt::Assign(named("o"), sum))?;
     Ok(summed::<Brand>(&body, times, Blank::new(1)))
 }
@@ -56,9 +55,9 @@ pub fn plain(turns: u64) -> i64 {
 fn adding_body(alloc: Global, turns: u64) -> Result<Body, CodeFault>
     ensures { IfOk result (λ b. IsSound b × (length b.inputs ≡ 1) × (length b.states ≡ 0)) }
 {
-    let left = Box::new(alloc, Expr::Port(named("o")))?;
-    let right = Box::new(alloc, Expr::Port(named("i")))?;
-    let sum = Expr::Binary(BinaryOperator::Add, left, right);
+    let output = Primary::Port(named("o"));
+    let input = Primary::Port(named("i"));
+    let sum = Expr::Binary(BinaryOperator::Add, output, input);
     let add = Stmt::Assign(named("o"), sum);
     let repeat = Stmt::Repeat(turns, vec![in alloc; add]?);
     body_of(alloc, repeat)

@@ -1,6 +1,6 @@
 //! When the code of bodies and drivers is refused, which no contract says.
 
-use giotto_tasks::bodies::{Body, Expr, Stmt};
+use giotto_tasks::bodies::{Body, Expr, Primary, Stmt};
 use giotto_tasks::code::driver::DriverCode;
 use giotto_tasks::faults::CodeFault;
 use giotto_tasks::index::Index;
@@ -13,9 +13,8 @@ use std::alloc::{AllocError, Global};
 fn ones(alloc: Global, operators: u64) -> Result<Expr, AllocError> {
     let mut e = Expr::Number(1);
     for _operator in 0..operators {
-        let one = Box::new(alloc, Expr::Number(1))?;
-        let rest = Box::new(alloc, e)?;
-        e = Expr::Binary(BinaryOperator::Add, one, rest);
+        let rest = Primary::Nested(Box::new(alloc, e)?);
+        e = Expr::Binary(BinaryOperator::Add, Primary::Number(1), rest);
     }
     Ok(e)
 }

@@ -2,13 +2,13 @@
 #![tactic(auto, using(crate::proofs::Writing::writing))]
 
 ghost use Rattle.std.specs.Prelude.{◌≡◌, OnOk};
-ghost use Rattle.giotto_tasks.specs.Trees.{expression_of};
+ghost use Rattle.giotto_tasks.specs.Trees.{expression_of, primary_of};
 ghost use Rattle.giotto_text.specs.Canonical.{expression_tokens, operand_tokens, given_tokens};
 ghost use Rattle.giotto_text.specs.Grammar.{symbol_of_unary, symbol_of_binary};
 ghost use Rattle.giotto_read.specs.inner.Printing.{written};
 
 use super::Printer;
-use giotto_tasks::bodies::Expr;
+use giotto_tasks::bodies::{Expr, Primary};
 use giotto_tasks::names::Name;
 use giotto_tasks::operators::{BinaryOperator, UnaryOperator};
 use giotto_text::tokens::Symbol;
@@ -37,7 +37,19 @@ impl Printer {
 
     // prim = INT | NAME | "(" expr ")"
     #[cycle(nest)]
-    fn operand(&mut self, expression: &Expr) -> Result<(), AllocError>
+    fn operand(&mut self, primary: &Primary) -> Result<(), AllocError>
+        ensures { OnOk result (self.new ≡ written self.old (operand_tokens (primary_of primary.now) (expression_tokens (primary_of primary.now)))) }
+    {
+        match primary {
+            Primary::Number(value) => self.initial(*value),
+            Primary::Port(name) => self.name(name),
+            Primary::Nested(e) => self.nested(e),
+        }
+    }
+
+    // A number or a name needs no parentheses.
+    #[cycle(nest)]
+    fn nested(&mut self, expression: &Expr) -> Result<(), AllocError>
         ensures { OnOk result (self.new ≡ written self.old (operand_tokens (expression_of expression.now) (expression_tokens (expression_of expression.now)))) }
     {
         match expression {

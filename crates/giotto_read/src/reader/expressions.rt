@@ -2,13 +2,13 @@
 
 ghost use Rattle.std.specs.Prelude.{◌≡◌, map};
 ghost use Rattle.giotto_read.specs.inner.Doing.{Does, TakesOne};
-ghost use Rattle.giotto_tasks.specs.Trees.{expression_of};
+ghost use Rattle.giotto_tasks.specs.Trees.{expression_of, primary_of};
 ghost use Rattle.giotto_text.specs.Parsing.{binary_in, read_expression, read_guard, read_list, read_operand_of, read_parentheses, unary_in};
 ghost use Rattle.giotto_text.specs.ProgramTrees.{guard_of};
 ghost use Rattle.giotto_text.specs.declared.tokens.Token.TheVariants as token;
 
 use super::{Reader, Stop};
-use giotto_tasks::bodies::Expr;
+use giotto_tasks::bodies::{Expr, Primary};
 use giotto_tasks::lists::List;
 use giotto_tasks::operators::{BinaryOperator, UnaryOperator};
 use giotto_text::tokens::{Keyword, Symbol};
@@ -59,35 +59,33 @@ impl Reader<'_> {
     {
         if let Some(operator) = self.accept_unary() {
             let operand = self.operand()?;
-            let operand = Box::new(self.alloc, operand)?;
             return Ok(Expr::Unary(operator, operand));
         }
         let left = self.operand()?;
         let Some(operator) = self.accept_binary() else {
-            return Ok(left);
+            return Ok(expression_alone(left));
         };
         let right = self.operand()?;
-        let left = Box::new(self.alloc, left)?;
-        let right = Box::new(self.alloc, right)?;
         Ok(Expr::Binary(operator, left, right))
     }
 
     // prim = INT | NAME | "(" expr ")"
     #[cycle(nest)]
-    fn operand(&mut self) -> Result<Expr, Stop>
-        ensures { Does expression_of (read_operand_of read_expression) self.old result self.new }
+    fn operand(&mut self) -> Result<Primary, Stop>
+        ensures { Does primary_of (read_operand_of read_expression) self.old result self.new }
     {
         if self.next_name().is_some() {
             let name = self.name()?;
-            return Ok(Expr::Port(name));
+            return Ok(Primary::Port(name));
         }
         if self.accept(Symbol::OpenParenthesis) {
             let inner = self.expression()?;
             self.symbol(Symbol::CloseParenthesis)?;
-            return Ok(inner);
+            let inner = Box::new(self.alloc, inner)?;
+            return Ok(Primary::Nested(inner));
         }
         let number = self.int()?;
-        Ok(Expr::Number(number as i64))
+        Ok(Primary::Number(number as i64))
     }
 
     // Takes an operator of one operand if it comes next.
@@ -108,6 +106,17 @@ impl Reader<'_> {
         let operator = binary_operator(symbol)?;
         self.at += 1;
         Some(operator)
+    }
+}
+
+// What stands beside no operator.
+fn expression_alone(primary: Primary) -> Expr
+    ensures { expression_of result ≡ primary_of primary }
+{
+    match primary {
+        Primary::Number(number) => Expr::Number(number),
+        Primary::Port(name) => Expr::Port(name),
+        Primary::Nested(inner) => Box::into_inner(inner),
     }
 }
 
