@@ -10,14 +10,15 @@ use Rattle.giotto_tasks.specs.declared.bodies.Stmt.{Stmt}
 use Rattle.giotto_tasks.specs.declared.bodies.Stmt.TheOpen.{Stmt-F, Assign, If, Repeat}
 use Rattle.giotto_tasks.specs.declared.bodies.Stmt.TheFolds.{fold-Stmt}
 
--- an expression without the boxes that hold its parts
 abbrev mutual
+  -- an expression without the boxes that hold its parts
   pub expression_of : Expr → Expression
   expression_of (Number z) = number z
   expression_of (Port x) = port x
   expression_of (Unary o a) = unary o (primary_of a)
   expression_of (Binary o a b) = binary o (primary_of a) (primary_of b)
 
+  -- what an operation is of, as an expression: parentheses leave no mark
   pub primary_of : Primary → Expression
   primary_of (primary.Number z) = number z
   primary_of (primary.Port x) = port x
