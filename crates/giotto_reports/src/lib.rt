@@ -15,7 +15,7 @@ ghost use Rattle.std.specs.Prelude.{◌≡◌, ◌++◌, ◌∷◌, [], IfOk, Ok
 ghost use Rattle.giotto_files.specs.Comments.{one_line};
 ghost use Rattle.giotto_rules.specs.Rules.{first_broken_rule};
 ghost use Rattle.giotto_text.specs.Parsing.{parsed};
-ghost use Rattle.giotto_reports.specs.Reports.{IsExamined, IsWritten, Tells};
+ghost use Rattle.giotto_reports.specs.Reports.{AreShown, IsExamined, IsWritten, Tells};
 
 use giotto_breaks::broken_rule;
 use giotto_check::{CheckFault, Checked, check};
@@ -64,7 +64,7 @@ pub enum Examined {
 /// # Errors
 /// Want of memory.
 pub fn report_on(alloc: Global, file: &str, source: &str, wish: Wish) -> Result<Report, AllocError>
-    ensures { IfOk result (λ report. Tells source.now report.is_good) }
+    ensures { IfOk result (λ report. Tells file.now source.now wish.entry report) }
 {
     let text = one_line(alloc, source)?;
     match examine(alloc, text.as_str(), source)? {
@@ -146,7 +146,9 @@ pub fn shown(
     file: &str,
     source: &str,
     findings: &[Finding],
-) -> Result<String, AllocError> {
+) -> Result<String, AllocError>
+    ensures { IfOk result (λ text. AreShown file.now source.now findings.now (string_bytes text)) }
+{
     let mut text = String::new(alloc);
     for finding in findings {
         let told = finding.shown(alloc, file, source)?;

@@ -1,2 +1,5 @@
+pub mod Budgets
+pub mod Excess
+pub mod inner
 pub mod Numbers
 pub mod Programs

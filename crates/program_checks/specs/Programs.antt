@@ -1,13 +1,20 @@
--- When a program is good for a tenant.
-use Rattle.std.specs.Prelude.{◌≡◌, ℕ, Bool, true, false, List, length, Ok, None}
+-- When a program is good for a tenant, and what is told of it.
+use Rattle.std.specs.Prelude.{◌≡◌, ◌⊎◌, ℕ, Bool, true, false, List, ◌++◌, length, Ok, Some, None, string_bytes}
+use Rattle.giotto_faults.specs.declared.findings.Finding.{Finding}
 use Rattle.giotto_files.specs.Comments.{one_line}
 use Rattle.giotto_text.specs.Canonical.{canonical_of}
 use Rattle.giotto_text.specs.Program.{GiottoProgram}
+use Rattle.giotto_reports.specs.declared.Report.{Report}
 use Rattle.giotto_reports.specs.declared.Wish.{Wish}
 use Rattle.giotto_reports.specs.declared.Wish.TheVariants.{Summary, Load, Print, Pretty}
-use Rattle.giotto_reports.specs.Reports.{IsWritten}
+use Rattle.giotto_reports.specs.Reports.{AreShown, IsWritten, TellWhy}
+use Rattle.giotto_summaries.specs.Summaries.{summary_of}
 use Rattle.rig_config.specs.declared.Budgets.{Budgets}
+use Rattle.rig_config.specs.declared.TenantConfig.{TenantConfig}
 use Rattle.rig_model.specs.Admission.{broken_budget, program_of}
+use Rattle.tenant_lines.specs.declared.replies.Budget.{Budget}
+use Rattle.program_checks.specs.Budgets.{text_of_budgets}
+use Rattle.program_checks.specs.Excess.{AreOver, words_over}
 
 -- how many bytes the host would get of a program, by what is wanted of it: its canonical text, or the text of its file
 abbrev pub bytes_wanted : Wish → List ℕ → GiottoProgram → ℕ
@@ -20,7 +27,30 @@ bytes_wanted Pretty text p = length text
 abbrev pub IsLetIn : Budgets → Wish → List ℕ → GiottoProgram → Type 0
 IsLetIn budgets wish text p = (program_of text ≡ Ok p) × (broken_budget budgets (bytes_wanted wish text p) p ≡ None)
 
--- what is told of a file is so: good exactly where the host would let the program of its text in, and then with what was wanted
-abbrev pub TellsFor : Budgets → Wish → List ℕ → Bool → List ℕ → Type 0
-TellsFor budgets wish source true told = (p : GiottoProgram) × IsLetIn budgets wish (one_line source) p × IsWritten wish p told
-TellsFor budgets wish source false told = ¬ ((p : GiottoProgram) × IsLetIn budgets wish (one_line source) p)
+-- what is written of a program with so many bytes for a tenant: what was wished, and behind a summary its numbers beside the budgets
+abbrev pub IsWrittenFor : TenantConfig → ℕ → Wish → GiottoProgram → List ℕ → Type 0
+IsWrittenFor tenant bytes Summary p told = told ≡ summary_of p ++ text_of_budgets tenant bytes p
+IsWrittenFor tenant bytes (Load name) p told = IsWritten (Load name) p told
+IsWrittenFor tenant bytes Print p told = IsWritten Print p told
+IsWrittenFor tenant bytes Pretty p told = IsWritten Pretty p told
+
+-- the text spells a program that is over a budget of the tenant, and the findings tell of the first such budget
+abbrev pub TellOver : TenantConfig → Wish → List ℕ → List Finding → Type 0
+TellOver tenant wish text findings = (p : GiottoProgram) × (budget : Budget) × (program_of text ≡ Ok p)
+    × (broken_budget tenant.budgets (bytes_wanted wish text p) p ≡ Some budget) × AreOver budget (words_over tenant (bytes_wanted wish text p) p budget) findings
+
+-- What is told of a file is so: good exactly where the host would let the program of its text in, and then with what was wanted, else
+-- with findings that tell why it isn't well-formed, or which budget it is over.
+abbrev pub TellsFor : TenantConfig → List ℕ → List ℕ → Wish → Report → Type 0
+TellsFor tenant file source wish report = by report.is_good
+  where
+    text : List ℕ
+    text = one_line source
+
+    told : List ℕ
+    told = string_bytes report.text
+
+    by : Bool → Type 0
+    by true = (p : GiottoProgram) × IsLetIn tenant.budgets wish text p × IsWrittenFor tenant (bytes_wanted wish text p) wish p told
+    by false = (¬ ((p : GiottoProgram) × IsLetIn tenant.budgets wish text p))
+        × ((findings : List Finding) × (TellWhy text findings ⊎ TellOver tenant wish text findings) × AreShown file source findings told)

@@ -5,8 +5,7 @@ ghost use Rattle.giotto_files.specs.Comments.{one_line};
 ghost use Rattle.giotto_rules.specs.Rules.{first_broken_rule};
 ghost use Rattle.giotto_text.specs.Parsing.{parsed};
 ghost use Rattle.rig_model.specs.Admission.{program_of};
-ghost use Rattle.giotto_reports.specs.Reports.{IsWritten};
-ghost use Rattle.program_checks.specs.Programs.{TellsFor, bytes_wanted};
+ghost use Rattle.program_checks.specs.Programs.{IsWrittenFor, TellsFor, bytes_wanted};
 
 use crate::budgets::{Held, over_budget, text_of_budgets};
 use giotto_check::Checked;
@@ -37,7 +36,7 @@ pub fn check_program(
     wish: Wish,
     tenant: &TenantConfig,
 ) -> Result<Report, AllocError>
-    ensures { IfOk result (λ report. TellsFor tenant.now.budgets wish.entry source.now report.is_good (string_bytes report.text)) }
+    ensures { IfOk result (λ report. TellsFor tenant.now file.now source.now wish.entry report) }
 {
     let text = one_line(alloc, source)?;
     match examine(alloc, text.as_str(), source)? {
@@ -66,7 +65,7 @@ fn hold(
 ) -> Result<Report, AllocError>
     requires line { file.now.text.now ≡ one_line file.now.source.now }
     requires program { program_of file.now.text.now ≡ Ok checked.now }
-    ensures { IfOk result (λ report. TellsFor tenant.now.budgets wish.entry file.now.source.now report.is_good (string_bytes report.text)) }
+    ensures { IfOk result (λ report. TellsFor tenant.now file.now.name.now file.now.source.now wish.entry report) }
 {
     let held = Held {
         tenant,
@@ -102,7 +101,7 @@ fn bytes_wanted(
 
 // What was wanted of a program that keeps all budgets; behind a summary they stand beside its numbers.
 fn written_of(alloc: Global, held: &Held, wish: Wish) -> Result<String, AllocError>
-    ensures { IfOk result (λ text. IsWritten wish.entry held.now.checked.now (string_bytes text)) }
+    ensures { IfOk result (λ text. IsWrittenFor held.now.tenant.now held.now.bytes wish.entry held.now.checked.now (string_bytes text)) }
 {
     match wish {
         Wish::Summary => {

@@ -1,0 +1,12 @@
+use Rattle.giotto_summaries.specs.Parts.{switch}
+use Rattle.giotto_text.specs.ProgramTrees.{mode_of, switch_of}
+use Rattle.program_checks.specs.Excess.{words_of_part}
+use Rattle.giotto_text.specs.declared.programs.Switch.{Switch}
+use Rattle.program_checks.proofs.Telling.{told_further}
+use Rattle.program_checks.proofs.budgets.Over.costly_switches.Goals as goal
+
+pub loop-one-preserved : goal.loop-one-preserved
+loop-one-preserved c =
+    let l = c.loop-one in
+    told_further c.args.self.now.budget (λ (x : Switch). words_of_part c.args.self.now.held.tenant.now (switch (mode_of c.args.mode.now) (switch_of x))) c.as_slice-switches.result.now l.one c.index-switches-one.result
+    c.args.findings.now.items l.findings.items c.costly_part.new.findings.items l.invariant c.loop-one-test.true c.index-switches-one.is c.in_ok-costly_part.ensures
