@@ -25,8 +25,8 @@ use Rattle.rig_model.specs.Legal.{next_tick}
 use Rattle.rig_model.specs.Tenancies.{tenancy_at}
 use Rattle.rig_model.specs.Views.{after_command, run_of, view_of, row_of}
 use Rattle.rig_laws.proofs.cited.ActiveTasks.{Keeps, kept_by_command}
-use Rattle.rig_laws.proofs.cited.Histories.{own_row}
-use Rattle.rig_laws.proofs.cited.Histories.{releases}
+use Rattle.rig_laws.proofs.Histories.{own_row}
+use Rattle.rig_laws.proofs.Histories.{releases}
 use Rattle.rig_model.proofs.cited.JobNames.{same_job_is, own_jobs_active}
 use Rattle.giotto_tasks.proofs.cited.ListLemmas.{all_filter, all_flat, all_if, all_map, all_option, all_zip, any_of_filter}
 

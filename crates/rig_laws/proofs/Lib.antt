@@ -6,6 +6,7 @@ pub mod FirstScript
 pub mod FromABase
 pub mod GrantedRun
 pub mod GuardedScript
+pub mod Histories
 pub mod KeptRun
 pub mod LineRows
 pub mod LogRows

@@ -1,6 +1,5 @@
 pub mod ActiveTasks
 pub mod AloneAlong
-pub mod Histories
 pub mod LaterBase
 pub mod Places
 pub mod Releases

@@ -30,8 +30,8 @@ use Rattle.rig_model.specs.Views.{row_of}
 use Rattle.rig_model.specs.Instants.{after_instant}
 use Rattle.rig_laws.proofs.cited.ActiveTasks.{kept_by_instant}
 use Rattle.rig_laws.proofs.Alone.{Agrees, all_due, marks_after, known_after, own_event}
-use Rattle.rig_laws.proofs.cited.Histories.{unfinished_of, own_instant}
-use Rattle.rig_laws.proofs.cited.Histories.{releases, completed_is_early}
+use Rattle.rig_laws.proofs.Histories.{unfinished_of, own_instant}
+use Rattle.rig_laws.proofs.Histories.{releases, completed_is_early}
 use Rattle.rig_model.proofs.cited.JobNames.{same_job_is, own_jobs_active}
 use Rattle.std.proofs.lemmas.Bool.{and_from, and_parts, false_from_ne_true}
 use Rattle.giotto_tasks.proofs.cited.TestLemmas.{either, or_true}

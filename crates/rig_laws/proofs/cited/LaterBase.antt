@@ -17,7 +17,7 @@ use Rattle.rig_model.specs.Row.{ActiveTask, Row, empty_row}
 use Rattle.rig_laws.proofs.Alone.{Agrees}
 use Rattle.rig_laws.proofs.cited.AloneAlong.{agrees_along}
 use Rattle.rig_laws.proofs.cited.AloneAlong.{same_clock}
-use Rattle.rig_laws.proofs.cited.Histories.{releases}
+use Rattle.rig_laws.proofs.Histories.{releases}
 use Rattle.rig_laws.proofs.cited.Places.{nobody}
 use Rattle.rig_model.proofs.cited.JobNames.{same_job_is}
 use Rattle.giotto_tasks.proofs.cited.TestLemmas.{either}

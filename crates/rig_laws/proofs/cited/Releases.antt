@@ -20,8 +20,8 @@ use Rattle.rig_model.specs.Row.{ActiveTask, Row, empty_row}
 use Rattle.rig_model.specs.SecondHalf.{second_half_of}
 use Rattle.rig_laws.proofs.cited.ActiveTasks.{kept_by_command}
 use Rattle.rig_laws.proofs.cited.ActiveTasks.{kept_by_instant}
-use Rattle.rig_laws.proofs.cited.Histories.{unfinished_of, own_instant, own_row}
-use Rattle.rig_laws.proofs.cited.Histories.{releases}
+use Rattle.rig_laws.proofs.Histories.{unfinished_of, own_instant, own_row}
+use Rattle.rig_laws.proofs.Histories.{releases}
 use Rattle.rig_model.proofs.cited.JobNames.{same_job_is}
 use Rattle.giotto_tasks.proofs.cited.TestLemmas.{absorbed}
 use Rattle.giotto_tasks.proofs.cited.ListLemmas.{all_if_any, any_if_all}

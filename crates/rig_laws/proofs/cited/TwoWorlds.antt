@@ -25,7 +25,7 @@ use Rattle.rig_model.specs.Legal.{next_tick, was_released, may_follow, is_legal}
 use Rattle.rig_model.specs.Sources.{is_source, suppliers_of, sources_before, sources_from, sources_of, kept_from, kept_of}
 use Rattle.rig_model.specs.Tenancies.{roster_of}
 use Rattle.rig_model.specs.Views.{LocalEvent, command, instant, run_of, view_of, row_of}
-use Rattle.rig_laws.proofs.cited.Histories.{own_instant}
+use Rattle.rig_laws.proofs.Histories.{own_instant}
 use Rattle.rig_laws.proofs.cited.Releases.{released_own, released_done}
 use Rattle.rig_model.proofs.cited.JobNames.{same_job_is}
 use Rattle.giotto_tasks.proofs.cited.ListLemmas.{all_map, map_same}
