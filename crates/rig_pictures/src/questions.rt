@@ -1,10 +1,10 @@
 //! What tenants are asked between two lines of a script: questions, which change nothing.
 
-ghost use Rattle.std.specs.Prelude.{◌≡◌, ◌<◌, length, IfOk};
+ghost use Rattle.std.specs.Prelude.{◌≡◌, ◌<◌, length, IfOk, IsTrue};
 ghost use Rattle.host_core.specs.HostStanding.{ForEachState};
+ghost use Rattle.host_core.specs.Questions.{is_question};
 ghost use Rattle.rig_model.specs.HostState.{row_at};
 ghost use Rattle.rig_model.specs.Views.{after_command};
-ghost use Rattle.rig_pictures.specs.cited.Questions.{IsQuestion, StaysBehind};
 
 use giotto_tasks::lists::List;
 use host_core::hosts::Host;
@@ -20,7 +20,7 @@ use tenant_lines::replies::Reply;
 /// # Errors
 /// Want of memory.
 pub(crate) fn views_of(alloc: Global, host: &mut Host) -> Result<Vec<View>, AllocError>
-    ensures { StaysBehind host.old host.new }
+    ensures { host.new ≡ host.old }
 {
     let mut views = Vec::new(alloc);
     for tenant in 0..host.config().tenants().len() {
@@ -33,8 +33,7 @@ pub(crate) fn views_of(alloc: Global, host: &mut Host) -> Result<Vec<View>, Allo
 // What the tenant at this place shows.
 fn view_of(alloc: Global, host: &mut Host, tenant: TenantId) -> Result<View, AllocError>
     requires { tenant < length host.old.config.tenants }
-    ensures stays { StaysBehind host.old host.new }
-    ensures config { host.new.config ≡ host.old.config }
+    ensures { host.new ≡ host.old }
 {
     let ports = ports_of(alloc, ask(host, tenant, Command::ShowAll)?);
     match ask(host, tenant, Command::ShowMode)? {
@@ -57,9 +56,8 @@ fn ports_of(alloc: Global, reply: Reply) -> List<PortValue> {
 /// Want of memory.
 pub fn ask(host: &mut Host, tenant: TenantId, question: Command) -> Result<Reply, AllocError>
     requires tenant { tenant < length host.old.config.tenants }
-    requires question { IsQuestion question }
-    ensures stays { StaysBehind host.old host.new }
-    ensures config { host.new.config ≡ host.old.config }
+    requires question { IsTrue (is_question question) }
+    ensures same { host.new ≡ host.old }
     ensures reply { IfOk result (λ reply. ForEachState host.old (λ setting state. reply ≡ (after_command setting tenant question (row_at state tenant)).reply)) }
 {
     let reply = host.command(tenant, question);

@@ -1,8 +1,7 @@
 //! A script that is watched: who answers it is asked, behind each line, what stands there.
 
-ghost use Rattle.std.specs.Prelude.{OnOk};
+ghost use Rattle.std.specs.Prelude.{◌≡◌, OnOk};
 ghost use Rattle.std.specs.Io.KnownBytes.{Appends};
-ghost use Rattle.rig_pictures.specs.cited.Questions.{StaysBehind};
 ghost use Rattle.rig_script.specs.BrokenOff.{ForNewHostReading};
 ghost use Rattle.rig_model.specs.Script.{script_text_of};
 
@@ -71,7 +70,7 @@ struct Watched<W> {
 impl<W: Watch> Watched<W> {
     // Shows what stands behind a line.
     fn show(&mut self, alloc: Global, line: &str, reply: &str) -> Result<(), AllocError>
-        ensures { StaysBehind self.old.host self.new.host }
+        ensures { self.new.host ≡ self.old.host }
     {
         let views = views_of(alloc, &mut self.host)?;
         let scene = Scene {

@@ -5,7 +5,6 @@ ghost use Rattle.rig_config.specs.Roster.{name_at};
 ghost use Rattle.rig_model.specs.Commands.{status_of};
 ghost use Rattle.rig_model.specs.Row.{Row, is_running};
 ghost use Rattle.rig_model.specs.declared.events.Event.{Event};
-ghost use Rattle.rig_pictures.specs.cited.Questions.{StaysBehind};
 ghost use Rattle.rig_reports.specs.inner.Reported.{listed, missed_task, overrun_of, overruns_up_to, row_behind};
 ghost use Rattle.rig_reports.specs.inner.Telling.{ForEachPastOf, running_up_to};
 ghost use Rattle.tenant_lines.specs.declared.replies.Reply.TheVariants.{Mode};
@@ -24,8 +23,7 @@ use tenant_lines::replies::{Reply, Status};
 /// # Errors
 /// Want of memory.
 pub fn running(alloc: Global, host: &mut Host) -> Result<Vec<bool>, AllocError>
-    ensures stays { StaysBehind host.old host.new }
-    ensures config { host.new.config ≡ host.old.config }
+    ensures same { host.new ≡ host.old }
     ensures each { IfOk result (λ ran. ForEachPastOf host.old (λ setting past. ran.items ≡ running_up_to setting past (length setting.config.tenants))) }
 {
     let mut running = Vec::new(alloc);
@@ -41,7 +39,7 @@ pub fn running(alloc: Global, host: &mut Host) -> Result<Vec<bool>, AllocError>
 /// # Errors
 /// Want of memory.
 pub fn overruns(alloc: Global, host: &mut Host, ran: &[bool]) -> Result<Vec<Overrun>, AllocError>
-    ensures stays { StaysBehind host.old host.new }
+    ensures same { host.new ≡ host.old }
     ensures each { IfOk result (λ stops. (before : List Event) → ForEachPastOf host.old (λ setting past. ran.now ≡ running_up_to setting before (length setting.config.tenants)
         → stops.items ≡ overruns_up_to setting before past (length setting.config.tenants))) }
 {
@@ -76,8 +74,7 @@ fn ran_at(ran: &[bool], tenant: TenantId) -> bool
 // The overrun of the tenant at this place, which ran before an instant or not.
 fn overrun_of(host: &mut Host, tenant: TenantId, ran: bool) -> Result<Option<Overrun>, AllocError>
     requires { tenant < length host.old.config.tenants }
-    ensures stays { StaysBehind host.old host.new }
-    ensures config { host.new.config ≡ host.old.config }
+    ensures same { host.new ≡ host.old }
     ensures overrun { IfOk result (λ stop. (before : Row) → ran ≡ is_running before
         → ForEachPastOf host.old (λ setting past. stop ≡ overrun_of (name_at setting.config tenant) before (row_behind setting past tenant))) }
 {

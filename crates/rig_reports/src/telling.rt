@@ -4,7 +4,6 @@ ghost use Rattle.std.specs.Prelude.{◌≡◌, [], ◌+◌, ◌-◌, ◌^◌, mi
 ghost use Rattle.std.specs.Io.KnownBytes.{Appends};
 ghost use Rattle.rig_model.specs.Script.{past_after, script_text_of};
 ghost use Rattle.rig_model.specs.TextLines.{cut};
-ghost use Rattle.rig_pictures.specs.cited.Questions.{StaysBehind};
 ghost use Rattle.rig_model.specs.declared.events.Event.{Event};
 ghost use Rattle.rig_reports.specs.inner.Reported.{AreReported, IsEndOf, overruns_between};
 ghost use Rattle.rig_reports.specs.inner.Telling.{ForEachPastOf, IsBefore, bad_line};
@@ -125,7 +124,7 @@ impl<L: Listener> Telling<L> {
 
 // What stands before a line.
 fn before_line(alloc: Global, host: &mut Host) -> Result<Before, AllocError>
-    ensures stays { StaysBehind host.old host.new }
+    ensures same { host.new ≡ host.old }
     ensures before { IfOk result (λ before. ForEachPastOf host.old (λ setting past. IsBefore setting past before.clock before.ran.items)) }
 {
     let clock = host.clock();
@@ -139,7 +138,7 @@ fn overruns_since(
     host: &mut Host,
     before: &Before,
 ) -> Result<Vec<Overrun>, AllocError>
-    ensures stays { StaysBehind host.old host.new }
+    ensures same { host.new ≡ host.old }
     ensures each { IfOk result (λ stops. (earlier : List Event) → ForEachPastOf host.old (λ setting past. IsBefore setting earlier before.now.clock before.now.ran.items
         → stops.items ≡ overruns_between setting earlier past)) }
 {

@@ -1,14 +1,12 @@
 use Rattle.std.proofs.Common.{◌≡◌, List, length}
 use Rattle.rig_model.specs.declared.events.Event.{Event}
-use Rattle.rig_pictures.specs.cited.Questions.{StaysBehind}
 use Rattle.rig_reports.specs.inner.Reported.{overruns_up_to}
 use Rattle.rig_reports.specs.inner.Telling.{ForEachPastOf, running_up_to}
 use Rattle.rig_reports.proofs.overruns.overruns.Given as goal
 
 abbrev pub invariant-loop-tenant : goal.invariant-loop-tenant
 invariant-loop-tenant l = record {
-  stays : StaysBehind l.initial.host l.host;
-  config : l.host.config ≡ l.initial.host.config;
+  same : l.host ≡ l.initial.host;
   each : (before : List Event) → ForEachPastOf l.initial.host (λ setting past. l.ran ≡ running_up_to setting before (length setting.config.tenants)
       → l.overruns.items ≡ overruns_up_to setting before past l.tenant);
 }

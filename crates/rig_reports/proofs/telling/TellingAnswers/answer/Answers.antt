@@ -8,9 +8,8 @@ use Rattle.rig_reports.proofs.telling.TellingAnswers.answer.Goals as goal
 pub returns-in-Ok-tell : goal.returns-in-Ok-tell
 returns-in-Ok-tell g c = λ setting past w.
     let later = past_behind setting past c.args.line.now in
-    let done = c.in_ok-answer.ensures setting past (c.in-Ok.ensures.stays setting past w.0) in
-    let stays = c.in-Ok-overruns_since.ensures.stays setting later done.1 in
-    let stands = subst (λ (h : HostStanding). IsHostAfter setting h later) (sym c.tell.ensures.host) stays in
+    let done = c.in_ok-answer.ensures setting past (subst (λ (h : HostStanding). IsHostAfter setting h past) (sym c.in-Ok.ensures.same) w.0) in
+    let stands = subst (λ (h : HostStanding). IsHostAfter setting h later) (sym (c.tell.ensures.host ∙ c.in-Ok-overruns_since.ensures.same)) done.1 in
     let stops = c.in-Ok-overruns_since.ensures.each past setting later done.1 (c.in-Ok.ensures.before setting past w.0) in (
       done.0,
       one_more setting past c.args.self.now.host c.tell.new.self.host c.args.self.now.answered c.tell.new.self.answered
