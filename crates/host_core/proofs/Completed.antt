@@ -21,7 +21,7 @@ use Rattle.host_core.specs.HostStanding.{HostStanding, Stands, outstanding_jobs,
 use Rattle.rig_model.specs.Base.{Setting}
 use Rattle.giotto_tasks.proofs.cited.ListLemmas.{all_of, all_flat, all_filtered, any_if_all, any_map}
 use Rattle.giotto_tasks.proofs.cited.TestLemmas.{absorbed, or_assoc, or_true, or_turned}
-use Rattle.host_core.proofs.cited.HostSteps.{active_alike}
+use Rattle.host_core.proofs.HostSteps.{active_alike}
 use Rattle.host_core.proofs.cited.Outstanding.{jobs_at, all_jobs, awaited_at, code_awaits}
 use Rattle.rig_laws.proofs.cited.Places.{first_done}
 

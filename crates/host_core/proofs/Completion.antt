@@ -22,7 +22,7 @@ use Rattle.host_core.specs.HostStanding.{HostStanding, Stands, IsOwn, awaited_in
 use Rattle.host_core.specs.inner.HostStanding.{IsAt}
 use Rattle.rig_model.specs.Base.{Setting}
 use Rattle.host_core.proofs.AtRest.{stands_inside, awaited_at_rest, awaited_here}
-use Rattle.host_core.proofs.cited.HostSteps.{awaits_here}
+use Rattle.host_core.proofs.HostSteps.{awaits_here}
 
 -- what isn't counted is late
 late_if : (result : Counted) → (result ≡ became.Counted → ⊥) → result ≡ became.Late

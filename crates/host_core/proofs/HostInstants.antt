@@ -23,7 +23,7 @@ use Rattle.rig_model.specs.Base.{Setting}
 use Rattle.instant_engine.proofs.cited.AtRest.{same_length}
 use Rattle.instant_engine.proofs.cited.Loops.{sums_within}
 use Rattle.host_core.proofs.AtRest.{kept_at_rest, stands_at_rest, stands_inside, stands_outside}
-use Rattle.host_core.proofs.cited.HostSteps.{stands_after_tick}
+use Rattle.host_core.proofs.HostSteps.{stands_after_tick}
 use Rattle.rig_config.specs.Roster.{Rig, budgets_at, no_budgets}
 use Rattle.rig_config.specs.declared.Budgets.{Budgets}
 use Rattle.rig_config.specs.declared.TenantConfig.{TenantConfig}

@@ -26,7 +26,7 @@ use Rattle.host_core.specs.inner.HostStanding.{IsAt, IsWhole}
 use Rattle.giotto_tasks.proofs.cited.ListLemmas.{all_map, all_of, all_pass, any_if_all, same_filter}
 use Rattle.instant_engine.proofs.cited.Loops.{sums_within}
 use Rattle.host_core.specs.HostStanding.{outstanding_from}
-use Rattle.host_core.proofs.cited.HostSteps.{AreResultsStill, tenancies_set, placed_set, released_is}
+use Rattle.host_core.proofs.HostSteps.{AreResultsStill, tenancies_set, placed_set, released_is}
 use Rattle.host_core.proofs.cited.Outstanding.{another_job, counted_from, number_outstanding}
 
 -- a job of a tenant's tasks is of that tenant

@@ -5,6 +5,7 @@ pub mod Flows
 pub mod HostBinds
 pub mod HostInstants
 pub mod HostReleases
+pub mod HostSteps
 pub mod HostTables
 pub mod Listed
 pub mod Marks

@@ -1,3 +1,2 @@
-pub mod HostSteps
 pub mod LineValues
 pub mod Outstanding

@@ -1,4 +1,3 @@
 pub mod Cutting
 pub mod Deciding
-pub mod Showing
 pub mod Texts

@@ -1,9 +1,5 @@
--- What is wrong with the lines of a script, by the text of each alone, and what is told of it.
-use Rattle.std.specs.Prelude.{◌≡◌, ℕ, ◌+◌, ◌==◌, Bool, true, false, nat_le, if◌then◌else◌, List, [], ◌∷◌, ◌++◌, length, Option, Some, None, is_some, is_none, map, option_map, Result, Ok, Err, codes}
-use Rattle.std.specs.Fmt.{decimal}
-use Rattle.std.specs.List.{flat_map}
-use Rattle.giotto_faults.specs.declared.findings.Finding.{Finding}
-use Rattle.giotto_faults.specs.Findings.{BeginsWith, head_at}
+-- What is wrong with the lines of a script, by the text of each alone.
+use Rattle.std.specs.Prelude.{◌≡◌, ℕ, ◌+◌, ◌==◌, Bool, true, false, nat_le, if◌then◌else◌, List, [], ◌∷◌, length, Option, Some, None, is_some, is_none, map, option_map, Result, Ok, Err}
 use Rattle.giotto_text.specs.Program.{GiottoProgram}
 use Rattle.rig_config.specs.Roster.{Rig, budgets_at, place_of}
 use Rattle.rig_config.specs.declared.Budgets.{Budgets}
@@ -100,27 +96,3 @@ AreTold lines faults = map told_of lines ≡ faults
 abbrev pub is_good : List (ℕ × LineFault) → Bool
 is_good [] = true
 is_good (fault ∷ faults) = false
-
--- the findings at these lines, each with the number of its line
-abbrev pub findings_at : List FaultyLine → List (ℕ × Finding)
-findings_at lines = flat_map (λ (line : FaultyLine). map (λ (f : Finding). (line.number, f)) line.found.findings.items) lines
-
--- a text has a part for each of these findings, in their order, and each part begins with "FILE:LINE:COLUMN: SEVERITY: MESSAGE" and LF
-abbrev pub AreShown : List ℕ → List (ℕ × Finding) → List ℕ → Type 0
-AreShown file [] text = text ≡ []
-AreShown file (found ∷ others) text = (column : ℕ) × (part : List ℕ) × (later : List ℕ) × (text ≡ part ++ later)
-    × BeginsWith (head_at found.1 file (record { line = found.0; column = column })) part × AreShown file others later
-
--- "FILE: lines LINES" and LF
-abbrev pub line_of_script : List ℕ → ℕ → List ℕ
-line_of_script file lines = file ++ (codes ": lines " ++ (decimal lines ++ 10 ∷ []))
-
--- what is told of a script of so many lines before its findings: how many they are, where none is at fault
-abbrev pub told_first : List ℕ → ℕ → Bool → List ℕ
-told_first file lines good = if good then line_of_script file lines else []
-
--- what is told of a script: the findings at its lines at fault, and notes behind them
-abbrev pub IsToldOf : Rig → List ℕ → List ℕ → List ℕ → Type 0
-IsToldOf config file bytes told = (faulty : List FaultyLine) × AreTold faulty (faults_of config bytes)
-    × ((shown : List ℕ) × (notes : List ℕ) × AreShown file (findings_at faulty) shown
-    × (told ≡ told_first file (length (cut bytes)) (is_good (faults_of config bytes)) ++ (shown ++ notes)))

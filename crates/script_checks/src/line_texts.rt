@@ -1,8 +1,5 @@
 //! What is told of lines of a script, in the form of a compiler's messages.
 
-ghost use Rattle.std.specs.Prelude.{◌≡◌, ℕ, IfOk, string_bytes};
-ghost use Rattle.giotto_faults.specs.Findings.{BeginsWith, head_at};
-
 use crate::scripts::LineFault;
 use giotto_faults::findings::{Finding, Severity};
 use rig_config::Config;
@@ -174,47 +171,11 @@ pub(crate) fn shown_in_line(
     number: usize,
     line: &str,
     finding: &Finding,
-) -> Result<String, AllocError>
-    ensures { IfOk result (λ shown. (column : ℕ) × BeginsWith (head_at finding.now file.now (record { line = number; column = column })) (string_bytes shown)) }
-{
-    let head = head_of(
-        alloc,
-        file,
-        number,
-        column_of(line, finding.offset),
-        finding,
-    )?;
-    let below = below(alloc, number, line, finding)?;
-    format!(in alloc; "{head}{below}")
-}
-
-// The column of a byte of a line, in characters.
-fn column_of(line: &str, offset: usize) -> usize {
-    let before = line.get(..offset).unwrap_or(line);
-    before.chars().count().saturating_add(1)
-}
-
-// The first line: the file, the place and what is found.
-fn head_of(
-    alloc: Global,
-    file: &str,
-    number: usize,
-    column: usize,
-    finding: &Finding,
-) -> Result<String, AllocError>
-    ensures { IfOk result (λ head. string_bytes head ≡ head_at finding.now file.now (record { line = number; column = column })) }
-{
-    let (severity, message) = (finding.severity, finding.message.as_str());
-    format!(in alloc; "{file}:{number}:{column}: {severity}: {message}\n")
-}
-
-// What stands below it: the line with carets, the rule and the help.
-fn below(
-    alloc: Global,
-    number: usize,
-    line: &str,
-    finding: &Finding,
 ) -> Result<String, AllocError> {
+    let before = line.get(..finding.offset).unwrap_or(line);
+    let column = before.chars().count().saturating_add(1);
+    let (severity, message) = (finding.severity, finding.message.as_str());
+    let mut text = format!(in alloc; "{file}:{number}:{column}: {severity}: {message}\n")?;
     let number = format!(in alloc; "{number}")?;
     let margin = repeated(alloc, " ", number.len())?;
     let begin = begin_of(line, finding.offset);
@@ -225,7 +186,7 @@ fn below(
     let carets = repeated(alloc, "^", width_of(line, finding))?;
     let (margin, number) = (margin.as_str(), number.as_str());
     let (excerpt, indent, carets) = (excerpt.as_str(), indent.as_str(), carets.as_str());
-    let mut text = format!(in alloc; "{margin} |\n{number} | {excerpt}\n")?;
+    text.push_str(format!(in alloc; "{margin} |\n{number} | {excerpt}\n")?.as_str())?;
     text.push_str(format!(in alloc; "{margin} | {indent}{carets}\n")?.as_str())?;
     if let Some(rule) = &finding.rule {
         text.push_str(format!(in alloc; "{margin} = {}\n", rule.as_str())?.as_str())?;

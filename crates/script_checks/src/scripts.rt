@@ -1,13 +1,11 @@
 //! Which lines of a script are at fault, whatever comes of the others.
 
-ghost use Rattle.std.specs.Prelude.{◌≡◌, ◌==◌, ◌+◌, ◌-◌, ◌<◌, ◌≤◌, true, false, Some, IfOk, OnOk, drop, get_or, length, map, option_map, string_bytes, take};
+ghost use Rattle.std.specs.Prelude.{◌≡◌, ◌==◌, ◌+◌, ◌-◌, ◌<◌, ◌≤◌, true, false, Some, IfOk, drop, get_or, length, map, option_map, take};
 ghost use Rattle.std.specs.List.{position_or_len};
-ghost use Rattle.giotto_faults.specs.declared.findings.Finding.{Finding as AnyFinding};
 ghost use Rattle.rig_model.specs.TextLines.{cut, text_of_line, without_last_cr};
 ghost use Rattle.tenant_lines.specs.CommandLine.{command_of_line};
 ghost use Rattle.tenant_lines.specs.Words.{behind_first_word};
-ghost use Rattle.script_checks.specs.Scripts.{AreTold, IsFound, IsToldOf, fault_of_command, fault_of_line, fault_of_program, faults_from, faults_of, findings_at, is_good, told_first};
-ghost use Rattle.script_checks.specs.inner.Telling.{Adds};
+ghost use Rattle.script_checks.specs.Scripts.{AreTold, IsFound, fault_of_command, fault_of_line, fault_of_program, faults_from, faults_of, is_good};
 
 use crate::binds::notes_of_binds;
 use crate::line_texts::{lossy, one_finding, shown_in_line};
@@ -69,65 +67,39 @@ pub fn check_script(
     bytes: &[u8],
     config: &Config,
 ) -> Result<Report, AllocError>
-    ensures good { IfOk result (λ report. report.is_good ≡ is_good (faults_of config.now bytes.now)) }
-    ensures told { IfOk result (λ report. IsToldOf config.now file.now bytes.now (string_bytes report.text)) }
+    ensures { IfOk result (λ report. report.is_good ≡ is_good (faults_of config.now bytes.now)) }
 {
     let lines = lines_of(alloc, bytes)?;
     let faulty = faulty_lines(alloc, config, lines.as_slice())?;
     let is_good = faulty.is_empty();
-    let mut text = told_first(alloc, file, lines.len(), is_good)?;
-    add_faults(alloc, &mut text, file, lines.as_slice(), faulty.as_slice())?;
+    let mut text = text_of_faults(alloc, file, lines.as_slice(), faulty.as_slice())?;
+    if is_good {
+        let count = lines.len();
+        text = format!(in alloc; "{file}: lines {count}\n")?;
+    }
     text.push_str(notes_of_binds(alloc, file, lines.as_slice(), config)?.as_str())?;
     Ok(Report { is_good, text })
 }
 
-// How many lines a script has, where none is at fault.
-fn told_first(alloc: Global, file: &str, lines: usize, is_good: bool) -> Result<String, AllocError>
-    ensures { IfOk result (λ text. string_bytes text ≡ told_first file.now lines is_good) }
-{
-    if is_good {
-        format!(in alloc; "{file}: lines {lines}\n")
-    } else {
-        Ok(String::new(alloc))
-    }
-}
-
-// Adds what is told of lines at fault.
-fn add_faults(
+fn text_of_faults(
     alloc: Global,
-    text: &mut String,
     file: &str,
     lines: &[&[u8]],
     faulty: &[FaultyLine],
-) -> Result<(), AllocError>
-    ensures { OnOk result (Adds file.now (findings_at faulty.now) (string_bytes text.old) (string_bytes text.new)) }
-{
+) -> Result<String, AllocError> {
+    let mut text = String::new(alloc);
     for line in faulty {
         let bytes = lines
             .get(line.number.saturating_sub(1))
             .copied()
             .unwrap_or(b"");
         let source = lossy(alloc, bytes)?;
-        add_findings(alloc, text, file, source.as_str(), line)?;
+        for finding in &line.found.findings {
+            let told = shown_in_line(alloc, file, line.number, source.as_str(), finding)?;
+            text.push_str(told.as_str())?;
+        }
     }
-    Ok(())
-}
-
-// Adds what is told of a line at fault, which has this text.
-fn add_findings(
-    alloc: Global,
-    text: &mut String,
-    file: &str,
-    source: &str,
-    line: &FaultyLine,
-) -> Result<(), AllocError>
-    ensures { OnOk result (Adds file.now (map (λ (f : AnyFinding). (line.now.number, f)) line.now.found.findings.items) (string_bytes text.old) (string_bytes text.new)) }
-{
-    for finding in &line.found.findings {
-        let told = shown_in_line(alloc, file, line.number, source, finding)?;
-        text.push_str(told.as_str())?;
-    }
-    Ok(())
+    Ok(text)
 }
 
 /// Those of these lines of a script that are at fault, in their order. The first line has the number 1.

@@ -20,7 +20,7 @@ use Rattle.tenant_state.specs.Standing.{Standing, StandsFor, all_different_relea
 use Rattle.giotto_tasks.specs.Names.{same_name}
 use Rattle.giotto_tasks.proofs.cited.NameLemmas.{same_name_self}
 use Rattle.giotto_tasks.proofs.cited.ListLemmas.{all_map, all_of, all_pass, filter-map, same_filter}
-use Rattle.host_core.proofs.cited.HostSteps.{outstanding_are}
+use Rattle.host_core.proofs.HostSteps.{outstanding_are}
 use Rattle.rig_laws.proofs.cited.Places.{nobody}
 
 -- how many a tenant has, by this table

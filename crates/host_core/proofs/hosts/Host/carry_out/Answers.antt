@@ -11,7 +11,7 @@ use Rattle.rig_model.specs.Tenancies.{Tenancy}
 use Rattle.tenant_state.specs.Standing.{Standing, at_rest, no_tenant}
 use Rattle.tenant_state.specs.cited.Standing.{without_ended}
 use Rattle.host_core.proofs.AtRest.{here_at_rest, outstanding_at_rest, standing, stands_inside, stands_outside}
-use Rattle.host_core.proofs.cited.HostSteps.{own_outcome, stands_after_command}
+use Rattle.host_core.proofs.HostSteps.{own_outcome, stands_after_command}
 use Rattle.instant_engine.specs.cited.Instants.{IsBetween}
 use Rattle.host_core.proofs.Listed.{Leaves, asked_leaves, listed_leaves, nothing_ended, same_at_rest, same_set}
 use Rattle.host_core.proofs.HostTables.{command_still, outstanding_behind, whole_behind}

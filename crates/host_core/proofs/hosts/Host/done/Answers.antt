@@ -11,7 +11,7 @@ use Rattle.rig_model.specs.Base.{Setting}
 use Rattle.host_core.specs.declared.hosts.Counted.TheVariants as became
 use Rattle.host_core.proofs.AtRest.{outstanding_at_rest, standing, stands_inside, stands_outside}
 use Rattle.host_core.proofs.Completion.{ComesTo, awaited_own, awaited_parts, awaited_without, comes_to, past_roster}
-use Rattle.host_core.proofs.cited.HostSteps.{stands_after_done}
+use Rattle.host_core.proofs.HostSteps.{stands_after_done}
 use Rattle.host_core.proofs.HostTables.{active_if_released, entered_if_released, has_added, whole_done}
 use Rattle.host_core.proofs.cited.Outstanding.{one_fewer_in}
 use Rattle.host_core.proofs.hosts.Host.done.Goals as goal

@@ -3,7 +3,7 @@ use Rattle.std.specs.Prelude.{is_some, IfOk}
 use Rattle.rig_model.specs.HostState.{is_awaited}
 use Rattle.host_core.specs.HostStanding.{HostStanding, ForEachState, awaited_in}
 use Rattle.host_core.proofs.AtRest.{awaited_here, standing}
-use Rattle.host_core.proofs.cited.HostSteps.{job_awaits, told_as}
+use Rattle.host_core.proofs.HostSteps.{job_awaits, told_as}
 use Rattle.tenant_state.specs.Standing.{awaited_job}
 use Rattle.host_core.proofs.hosts.Host.job.Goals as goal
 

@@ -25,7 +25,7 @@ use Rattle.host_core.specs.HostStanding.{HostStanding, Stands}
 use Rattle.host_core.specs.Questions.{reply_of_port}
 use Rattle.host_core.proofs.AtRest.{standing, stands_inside, stands_outside}
 use Rattle.host_core.proofs.HostTables.{entered_of_result}
-use Rattle.host_core.proofs.cited.HostSteps.{AreResultsStill, own_outcome, stands_after_command}
+use Rattle.host_core.proofs.HostSteps.{AreResultsStill, own_outcome, stands_after_command}
 use Rattle.host_core.proofs.hosts.Host.port_value.Goals as goal
 use Rattle.host_core.proofs.hosts.Host.port_value.Goals.{After-port_value}
 
