@@ -1,5 +1,5 @@
 -- The table of a script, from a new host on.
-use Rattle.std.proofs.Common.{◌≡◌, ◌+◌, ◌-◌, ◌^◌, ℕ, min, Bool, true, false, List, [], Option, Some, None, IfSome, Result, Ok, Err, IfOk, Vec, reverse, refl, sym, ap, ◌∙◌, subst}
+use Rattle.std.proofs.Common.{◌≡◌, ℕ, Bool, true, List, [], Option, Some, None, IfSome, Result, Ok, Err, IfOk, Vec, reverse, refl, sym, subst}
 use Rattle.std.specs.Prelude.{All, ◌↔◌}
 use Rattle.std.specs.declared.alloc.AllocError.{AllocError}
 use Rattle.std.specs.declared.alloc.Global.{Global}
@@ -19,7 +19,7 @@ use Rattle.rig_script.proofs.cited.NewScript.{starts}
 use Rattle.rig_model.specs.Answered.{IsText}
 use Rattle.rig_retests.specs.declared.courses.Course.{Course}
 use Rattle.rig_retests.specs.declared.recordings.RecordedLine.{RecordedLine}
-use Rattle.rig_retests.specs.inner.Courses.{IsCourseOf, IsEnd, IsQuiet}
+use Rattle.rig_retests.specs.Courses.{IsCourseOf, IsEnd, IsQuiet}
 use Rattle.rig_retests.specs.inner.Recording.{IsRecorded, has_tenant}
 use Rattle.rig_script.specs.declared.answers.Ending.{Ending}
 use Rattle.rig_script.specs.declared.answers.Ending.TheVariants.{Input, BadLine}

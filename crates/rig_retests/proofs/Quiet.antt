@@ -1,5 +1,5 @@
 -- A line that isn't a tenant's adds no command of a tenant.
-use Rattle.std.proofs.Common.{◌≡◌, ◌==◌, ◌-◌, ◌^◌, ◌||◌, ℕ, nat_lt, Bool, true, false, ℤ, List, [], ◌∷◌, ◌++◌, length, map, reverse, Option, Some, None, refl, sym, ap, ◌∙◌}
+use Rattle.std.proofs.Common.{◌≡◌, ◌==◌, ◌-◌, ◌^◌, ◌||◌, ℕ, nat_lt, Bool, true, false, ℤ, List, [], ◌∷◌, length, map, reverse, Option, Some, None, refl, sym, ap, ◌∙◌}
 use Rattle.std.specs.List.{list_any}
 use Rattle.std.proofs.lemmas.List.{reverse-append}
 use Rattle.std.proofs.lemmas.List.Folds.{list_any-append}
@@ -14,7 +14,7 @@ use Rattle.rig_model.specs.declared.jobs.JobId.{JobId}
 use Rattle.rig_model.specs.declared.speakers.Speaker.{Speaker}
 use Rattle.rig_model.specs.declared.speakers.Speaker.TheVariants.{Nobody, Operator, Tenant, Unknown}
 use Rattle.tenant_lines.specs.Words.{words_of, behind_first_word}
-use Rattle.rig_retests.specs.inner.Courses.{IsQuiet, is_command}
+use Rattle.rig_retests.specs.Courses.{IsQuiet, is_command}
 use Rattle.rig_retests.specs.inner.Speaking.{is_tenants}
 
 -- completions are no commands

@@ -2,7 +2,7 @@
 
 ghost use Rattle.std.specs.Prelude.{◌≡◌, ◌||◌, [], reverse, IfOk, OnOk};
 ghost use Rattle.rig_model.specs.Script.{past_after};
-ghost use Rattle.rig_retests.specs.inner.Courses.{IsCourseOf};
+ghost use Rattle.rig_retests.specs.Courses.{IsCourseOf};
 ghost use Rattle.rig_retests.specs.inner.Recording.{has_tenant};
 ghost use Rattle.rig_retests.specs.inner.Speaking.{is_tenants};
 ghost use Rattle.rig_model.specs.TextLines.{cut};

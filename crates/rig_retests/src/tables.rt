@@ -8,7 +8,7 @@ ghost use Rattle.tenant_sources.specs.cited.Additions.{IsPlaceOf};
 ghost use Rattle.rig_model.specs.Base.{Setting};
 ghost use Rattle.rig_model.specs.declared.events.Event.{Event};
 ghost use Rattle.rig_config.specs.Roster.{is_tenant};
-ghost use Rattle.rig_retests.specs.inner.Courses.{IsCourseOf};
+ghost use Rattle.rig_retests.specs.Courses.{IsCourseOf};
 ghost use Rattle.rig_retests.specs.inner.Watching.{IsAddedTo};
 ghost use Rattle.rig_model.specs.TextLines.{cut};
 ghost use Rattle.rig_script.specs.BrokenOff.{ForNewHostReading};

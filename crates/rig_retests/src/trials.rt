@@ -4,7 +4,7 @@ ghost use Rattle.std.specs.Prelude.{◌≡◌, [], IfOk, string_bytes};
 ghost use Rattle.rig_model.specs.Script.{past_after};
 ghost use Rattle.rig_model.specs.TextLines.{cut};
 ghost use Rattle.rig_script.specs.BrokenOff.{ForNewHostReading};
-ghost use Rattle.rig_retests.specs.inner.Courses.{IsCourseOf};
+ghost use Rattle.rig_retests.specs.Courses.{IsCourseOf};
 ghost use Rattle.rig_retests.specs.inner.Texts.{text_of_fate, text_of_part};
 
 use crate::columns::Columns;

@@ -5,7 +5,7 @@ use Rattle.host_core.specs.HostStanding.{HostStanding}
 use Rattle.rig_model.specs.Base.{Setting}
 use Rattle.rig_model.specs.declared.events.Event.{Event}
 use Rattle.rig_retests.specs.declared.recordings.RecordedLine.{RecordedLine}
-use Rattle.rig_retests.specs.inner.Courses.{IsQuiet}
+use Rattle.rig_retests.specs.Courses.{IsQuiet}
 use Rattle.rig_retests.specs.inner.Speaking.{is_tenants}
 use Rattle.rig_script.specs.cited.HostAnswers.{IsHostAfter}
 

@@ -8,7 +8,7 @@ use Rattle.tenant_sources.specs.cited.Additions.{with_links}
 use Rattle.rig_model.specs.Base.{Setting}
 use Rattle.rig_model.specs.declared.events.Event.{Event}
 use Rattle.tenant_sources.specs.declared.tables.Addition.{Addition}
-use Rattle.rig_retests.specs.inner.Courses.{IsQuiet}
+use Rattle.rig_retests.specs.Courses.{IsQuiet}
 use Rattle.rig_script.specs.cited.HostAnswers.{IsHostAfter}
 
 -- The host stands behind these events, and the table is theirs where it is whole; where no line was a tenant's, none of them is a tenant's

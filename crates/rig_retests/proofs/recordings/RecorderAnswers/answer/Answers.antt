@@ -1,4 +1,4 @@
-use Rattle.std.proofs.Common.{◌≡◌, reverse, sym, ap, subst, ◌∙◌}
+use Rattle.std.proofs.Common.{reverse, sym, ap, subst, ◌∙◌}
 use Rattle.std.proofs.lemmas.List.{reverse-append}
 use Rattle.host_core.specs.HostStanding.{HostStanding}
 use Rattle.rig_config.specs.Roster.{Rig}

@@ -1,4 +1,4 @@
-use Rattle.std.proofs.Common.{Bool, sym, ap, subst, ◌∙◌}
+use Rattle.std.proofs.Common.{sym, ap, subst, ◌∙◌}
 use Rattle.rig_config.specs.Roster.{Rig}
 use Rattle.rig_retests.proofs.Quiet.{quiet_on}
 use Rattle.host_core.specs.HostStanding.{HostStanding}
