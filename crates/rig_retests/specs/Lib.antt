@@ -1,1 +1,3 @@
 pub mod inner
+pub mod Courses
+pub mod Retested

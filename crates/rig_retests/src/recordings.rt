@@ -1,10 +1,10 @@
 //! A script that is recorded: its lines with their replies, and the events that they are.
 
-ghost use Rattle.std.specs.Prelude.{◌≡◌, [], reverse, IfOk};
-ghost use Rattle.std.specs.List.{list_any};
+ghost use Rattle.std.specs.Prelude.{◌≡◌, ◌||◌, [], reverse, IfOk, OnOk};
 ghost use Rattle.rig_model.specs.Script.{past_after};
+ghost use Rattle.rig_retests.specs.Courses.{IsCourseOf};
+ghost use Rattle.rig_retests.specs.inner.Recording.{has_tenant};
 ghost use Rattle.rig_retests.specs.inner.Speaking.{is_tenants};
-ghost use Rattle.rig_retests.specs.declared.recordings.RecordedLine.{RecordedLine as Line};
 ghost use Rattle.rig_model.specs.TextLines.{cut};
 ghost use Rattle.rig_script.specs.BrokenOff.{ForNewHostReading};
 
@@ -52,8 +52,10 @@ pub fn recorded<R: Read>(
     reader: &mut R,
     config: &Config,
 ) -> Result<Recording, ScriptFault>
-    ensures { IfOk result (λ recording. ForNewHostReading config.now (R.remaining reader.old) (λ setting bytes.
+    ensures events { IfOk result (λ recording. ForNewHostReading config.now (R.remaining reader.old) (λ setting bytes.
         recording.events.items ≡ reverse (past_after setting [] (cut bytes)))) }
+    ensures course { IfOk result (λ recording. ForNewHostReading config.now (R.remaining reader.old) (λ setting bytes.
+        IsCourseOf bytes (R.remaining reader.new) (past_after setting [] (cut bytes)) recording.course)) }
 {
     let host = Host::new(alloc, config, 0)?;
     let mut recorder = Recorder::new(alloc, host);
@@ -74,7 +76,7 @@ pub fn recorded<R: Read>(
 
 // Whether one of these lines is a tenant's.
 fn has_tenant(lines: &[RecordedLine]) -> bool
-    ensures { result ≡ list_any (λ (l : Line). is_tenants l.speaker) lines.now }
+    ensures { result ≡ has_tenant lines.now }
 {
     lines.iter().any(|line| is_tenants(line.speaker))
 }
@@ -93,6 +95,7 @@ impl Recorder {
     fn new(alloc: Global, host: Host) -> Recorder
         ensures host { result.host ≡ host }
         ensures events { result.recording.events.items ≡ [] }
+        ensures lines { result.recording.lines.items ≡ [] }
     {
         Recorder {
             host,
@@ -116,6 +119,7 @@ impl Recorder {
     ) -> Result<(), AllocError>
         ensures host { self.new.host ≡ self.old.host }
         ensures events { self.new.recording.events.items ≡ self.old.recording.events.items }
+        ensures lines { OnOk result (has_tenant self.new.recording.lines.items ≡ (has_tenant self.old.recording.lines.items || is_tenants speaker)) }
     {
         self.answered = self.answered.saturating_add(1);
         if speaker == Speaker::Nobody {
@@ -135,7 +139,7 @@ impl Recorder {
 impl Answers for Recorder {
     ghost use Rattle.rig_retests.specs.inner.Recording.{IsRecorded};
 
-    ghost stands = { λ r setting past. IsRecorded setting r.host r.recording.events.items past };
+    ghost stands = { λ r setting past. IsRecorded setting r.host r.recording.events.items r.recording.lines.items past };
 
     fn answer(&mut self, alloc: Global, line: &str, text: &mut String) -> Result<(), Unanswered> {
         let speaker = who_speaks(self.host.config(), line);

@@ -8,6 +8,7 @@ ghost use Rattle.tenant_sources.specs.cited.Additions.{IsPlaceOf};
 ghost use Rattle.rig_model.specs.Base.{Setting};
 ghost use Rattle.rig_model.specs.declared.events.Event.{Event};
 ghost use Rattle.rig_config.specs.Roster.{is_tenant};
+ghost use Rattle.rig_retests.specs.Courses.{IsCourseOf};
 ghost use Rattle.rig_retests.specs.inner.Watching.{IsAddedTo};
 ghost use Rattle.rig_model.specs.TextLines.{cut};
 ghost use Rattle.rig_script.specs.BrokenOff.{ForNewHostReading};
@@ -27,7 +28,7 @@ use std::io::Read;
 use std::marker::Model;
 use tenant_sources::tables::{Addition, Link, SourceTable};
 
-/// Whose change calls for whose retest in a script. Contracts see it as the table of links between its tenants.
+/// Whose change calls for whose retest in a script. Contracts see it as the table of links between its tenants, and how the script went.
 #[derive(Drop)]
 pub struct Retests {
     table: SourceTable,
@@ -38,19 +39,18 @@ pub struct Retests {
 }
 
 impl Model for Retests {
-    ghost use Rattle.std.specs.Prelude.{List, Option};
-    ghost use Rattle.tenant_sources.specs.declared.tables.Link.{Link};
+    ghost use Rattle.rig_retests.specs.Retested.{Retested};
 
-    ghost Value = { List (List (Option Link)) };
+    ghost Value = { Retested };
 
-    ghost view = { λ r. r.table };
+    ghost view = { λ r. record { links = r.table; course = r.course } };
 }
 
 impl Retests {
     /// Whether `source`, another tenant, is a source of `tenant` somewhere in the script. Takes no memory.
     pub fn is_source(&self, tenant: TenantId, source: TenantId) -> bool
         ensures itself { tenant ≡ source → result ≡ false }
-        ensures sources { tenant ≢ source → (setting : Setting) (past : List Event) → IsLinkTable setting past self.now → is_tenant setting.config tenant ≡ true → is_tenant setting.config source ≡ true
+        ensures sources { tenant ≢ source → (setting : Setting) (past : List Event) → IsLinkTable setting past self.now.links → is_tenant setting.config tenant ≡ true → is_tenant setting.config source ≡ true
             → result ≡ is_source_of setting past tenant source }
     {
         if tenant == source {
@@ -70,11 +70,11 @@ impl Retests {
         tenant: TenantId,
         source: TenantId,
     ) -> Result<Vec<Link>, AllocError>
-        ensures chain { IfOk result (λ links. (setting : Setting) (past : List Event) → is_legal setting past ≡ true → IsLinkTable setting past self.now
+        ensures chain { IfOk result (λ links. (setting : Setting) (past : List Event) → is_legal setting past ≡ true → IsLinkTable setting past self.now.links
             → is_tenant setting.config tenant ≡ true → is_tenant setting.config source ≡ true → is_source_of setting past tenant source ≡ true
             → IsChain setting past (next_tick setting past) tenant source links.items) }
-        ensures none { link_in self.now tenant source ≡ None → IfOk result (λ links. links.items ≡ []) }
-        ensures never_refused { link_in self.now tenant source ≡ None → IsOk result }
+        ensures none { link_in self.now.links tenant source ≡ None → IfOk result (λ links. links.items ≡ []) }
+        ensures never_refused { link_in self.now.links tenant source ≡ None → IsOk result }
     {
         self.table.chain(alloc, tenant, source)
     }
@@ -93,7 +93,9 @@ impl Retests {
     }
 
     /// How the script went.
-    pub fn course(&self) -> Course {
+    pub fn course(&self) -> Course
+        ensures { result ≡ self.now.course }
+    {
         self.course
     }
 }
@@ -114,6 +116,7 @@ impl Watched {
     fn keep(&mut self, added: Result<Vec<Addition>, AllocError>)
         requires { IfOk added (λ list. All (IsPlaceOf self.old.table) list.items) }
         ensures host { self.new.host ≡ self.old.host }
+        ensures notes { self.new.notes ≡ self.old.notes }
         ensures table { self.new.is_whole ≡ true → (self.old.is_whole ≡ true) × IsAddedTo added self.old.table self.new.table }
     {
         let Ok(added) = added else {
@@ -131,7 +134,7 @@ impl Watched {
 impl Answers for Watched {
     ghost use Rattle.rig_retests.specs.inner.Watching.{IsWatching};
 
-    ghost stands = { λ w setting past. IsWatching setting w.host w.table w.is_whole past };
+    ghost stands = { λ w setting past. IsWatching setting w.host w.table w.is_whole w.notes.has_tenant past };
 
     fn answer(&mut self, alloc: Global, line: &str, text: &mut String) -> Result<(), Unanswered> {
         let clock = self.host.clock();
@@ -156,7 +159,9 @@ pub fn retests_of<R: Read>(
     reader: &mut R,
     config: &Config,
 ) -> Result<Retests, ScriptFault>
-    ensures { IfOk result (λ retests. ForNewHostReading config.now (R.remaining reader.old) (λ setting bytes. IsLinkTable setting (past_after setting [] (cut bytes)) retests)) }
+    ensures sources { IfOk result (λ retests. ForNewHostReading config.now (R.remaining reader.old) (λ setting bytes. IsLinkTable setting (past_after setting [] (cut bytes)) retests.links)) }
+    ensures course { IfOk result (λ retests. ForNewHostReading config.now (R.remaining reader.old) (λ setting bytes.
+        IsCourseOf bytes (R.remaining reader.new) (past_after setting [] (cut bytes)) retests.course)) }
 {
     let host = Host::new(alloc, config, 0)?;
     let table = SourceTable::new(alloc, config.tenants().len())?;

@@ -1,6 +1,10 @@
 //! The trial of a script for one tenant: what is kept of it, and what the tenant is answered with and without the rest.
 
-ghost use Rattle.std.specs.Prelude.{◌≡◌, IfOk, string_bytes};
+ghost use Rattle.std.specs.Prelude.{◌≡◌, [], IfOk, string_bytes};
+ghost use Rattle.rig_model.specs.Script.{past_after};
+ghost use Rattle.rig_model.specs.TextLines.{cut};
+ghost use Rattle.rig_script.specs.BrokenOff.{ForNewHostReading};
+ghost use Rattle.rig_retests.specs.Courses.{IsCourseOf};
 ghost use Rattle.rig_retests.specs.inner.Texts.{text_of_fate, text_of_part};
 
 use crate::columns::Columns;
@@ -54,7 +58,10 @@ pub fn text_of_trial<R: Read>(
     config: &Config,
     tenant: TenantId,
     form: TrialForm,
-) -> Result<TrialText, ScriptFault> {
+) -> Result<TrialText, ScriptFault>
+    ensures { IfOk result (λ told. ForNewHostReading config.now (R.remaining reader.old) (λ setting bytes.
+        IsCourseOf bytes (R.remaining reader.new) (past_after setting [] (cut bytes)) told.course)) }
+{
     let recording = recorded(alloc, reader, config)?;
     // What happened is legal, and the tenant is in the roster: it is refused for want of memory alone.
     let Ok(trial) = trial(alloc, config, recording.events.as_slice(), tenant) else {

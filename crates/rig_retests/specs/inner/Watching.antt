@@ -8,11 +8,13 @@ use Rattle.tenant_sources.specs.cited.Additions.{with_links}
 use Rattle.rig_model.specs.Base.{Setting}
 use Rattle.rig_model.specs.declared.events.Event.{Event}
 use Rattle.tenant_sources.specs.declared.tables.Addition.{Addition}
+use Rattle.rig_retests.specs.Courses.{IsQuiet}
 use Rattle.rig_script.specs.cited.HostAnswers.{IsHostAfter}
 
--- the host stands behind these events, and the table is theirs where it is whole
-abbrev pub IsWatching : Setting → HostStanding → Links → Bool → List Event → Type 0
-IsWatching setting host links whole past = IsHostAfter setting host past × (whole ≡ true → IsLinkTable setting past links)
+-- The host stands behind these events, and the table is theirs where it is whole; where no line was a tenant's, none of them is a tenant's
+-- command.
+abbrev pub IsWatching : Setting → HostStanding → Links → Bool → Bool → List Event → Type 0
+IsWatching setting host links whole has_tenant past = IsHostAfter setting host past × (whole ≡ true → IsLinkTable setting past links) × IsQuiet has_tenant past
 
 -- the table has these links more, where there was memory for them
 abbrev pub IsAddedTo : Result (Vec Addition Global) AllocError → Links → Links → Type 0

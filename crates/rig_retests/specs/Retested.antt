@@ -1,0 +1,8 @@
+-- What is told of a script's sources.
+use Rattle.tenant_sources.specs.Links.{Links}
+use Rattle.rig_retests.specs.declared.courses.Course.{Course}
+
+-- the links between its tenants, and how the script went
+pub record Retested : Type 0 where
+  pub links : Links
+  pub course : Course
