@@ -29,7 +29,7 @@ use itoa::Buffer;
 use rig_config::{Config, TenantId};
 use std::alloc::{AllocError, Global};
 use std::io::{Read, Write};
-use tenant_lines::command_lines::{LineFault, command_of};
+use tenant_lines::command_lines::{LineFault, command_of, name_shown};
 use tenant_lines::commands::Command;
 use tenant_lines::ports::PortName;
 use tenant_lines::replies::{Reply, add_reply, add_shown};
@@ -123,15 +123,37 @@ fn tenant_line<R: Record>(
     requires { tenant < length host.old.config.tenants }
     ensures { CarriesOut (λ setting past. tenant_step setting past tenant name.now line.now) (R.tells events.old) (R.tells events.new) host.old host.new result (Adds text.old text.new) }
 {
+    let Some(shown) = name_shown(line) else {
+        return command_line(alloc, host, events, tenant, name, line, text);
+    };
+    let port = PortName {
+        task: None,
+        name: shown,
+    };
+    events.command(alloc, tenant, &Command::ShowPort(port.copy()))?;
+    show_port(host, tenant, &port, name, text)
+}
+
+// The step of a tenant's line, by its command. It isn't inlined: what a command takes on the stack would be cleared for each line.
+#[inline(never)]
+fn command_line<R: Record>(
+    alloc: Global,
+    host: &mut Host,
+    events: &mut R,
+    tenant: TenantId,
+    name: &str,
+    line: &str,
+    text: &mut String,
+) -> Result<(), AllocError>
+    requires { tenant < length host.old.config.tenants }
+    ensures { CarriesOut (λ setting past. tenant_step setting past tenant name.now line.now) (R.tells events.old) (R.tells events.new) host.old host.new result (Adds text.old text.new) }
+{
     let command = match command_of(alloc, line) {
         Ok(command) => command,
         Err(LineFault::BadCommand) => return reply_line(text, name, "err bad-command"),
         Err(LineFault::Memory) => return Err(AllocError),
     };
     events.command(alloc, tenant, &command)?;
-    if let Command::ShowPort(port) = &command {
-        return show_port(host, tenant, port, name, text);
-    }
     answer_command(alloc, host, tenant, command, name, text)
 }
 
@@ -215,7 +237,7 @@ fn tick<R: Record>(
     let number = host.clock();
     match host.instant(frame.as_slice()) {
         Ok(()) => {
-            events.tick(frame)?;
+            events.tick(alloc, frame.as_slice())?;
             tick_reply(text, number)
         }
         Err(TickFault::BadFrame) => reply_line(text, "op", "err bad-frame"),
@@ -289,7 +311,7 @@ fn line_values(text: &mut String, host: &Host) -> Result<(), AllocError>
 {
     text.push_str("op ok lines")?;
     add_values(text, host)?;
-    text.push_str("\n")
+    text.push('\n')
 }
 
 // Adds the value of each line of the rig, with a blank before it.
@@ -310,7 +332,7 @@ fn tick_reply(text: &mut String, number: u64) -> Result<(), AllocError>
     let mut digits = Buffer::new();
     text.push_str("op ok tick ")?;
     text.push_str(digits.format(number))?;
-    text.push_str("\n")
+    text.push('\n')
 }
 
 // The reply to `work` that completed so many jobs.
@@ -320,7 +342,7 @@ fn work_reply(text: &mut String, number: u128) -> Result<(), AllocError>
     let mut digits = Buffer::new();
     text.push_str("op ok work ")?;
     text.push_str(digits.format(number))?;
-    text.push_str("\n")
+    text.push('\n')
 }
 
 // The reply to a tenant's command, as it is written: the tenant's name, a space, the reply, and LF.
@@ -330,7 +352,7 @@ fn tell(text: &mut String, name: &str, reply: &Reply) -> Result<(), AllocError>
 {
     begin(text, name)?;
     add_reply(text, reply)?;
-    text.push_str("\n")
+    text.push('\n')
 }
 
 // The reply to `show port`, as it is written.
@@ -340,7 +362,7 @@ fn tell_value(text: &mut String, name: &str, port: &PortName, value: i64) -> Res
 {
     begin(text, name)?;
     add_shown(text, port, value)?;
-    text.push_str("\n")
+    text.push('\n')
 }
 
 // Adds who is answered, and a space.
@@ -349,7 +371,7 @@ fn begin(text: &mut String, name: &str) -> Result<(), AllocError>
     ensures { OnOk result (string_bytes text.new ≡ string_bytes text.old ++ (name.now ++ codes " ")) }
 {
     text.push_str(name)?;
-    text.push_str(" ")
+    text.push(' ')
 }
 
 // A reply as it is written: who is answered, a space, the reply, and LF.

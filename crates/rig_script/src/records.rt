@@ -35,8 +35,8 @@ pub trait Record {
     ///
     /// # Errors
     /// Want of memory.
-    fn tick(&mut self, frame: Vec<i64>) -> Result<(), AllocError>
-        ensures { OnOk result (IsTold (tells self.old) (tells self.new) (Event.Tick frame.items ∷ [])) };
+    fn tick(&mut self, alloc: Global, frame: &[i64]) -> Result<(), AllocError>
+        ensures { OnOk result (IsTold (tells self.old) (tells self.new) (Event.Tick frame.now ∷ [])) };
 
     /// The completions of all outstanding jobs of a host, which are completed next.
     ///
@@ -72,7 +72,7 @@ impl Record for Unrecorded {
         Ok(())
     }
 
-    fn tick(&mut self, _frame: Vec<i64>) -> Result<(), AllocError> {
+    fn tick(&mut self, _alloc: Global, _frame: &[i64]) -> Result<(), AllocError> {
         Ok(())
     }
 
@@ -102,8 +102,9 @@ impl Record for Vec<Event> {
         Ok(())
     }
 
-    fn tick(&mut self, frame: Vec<i64>) -> Result<(), AllocError> {
-        self.push(Event::Tick(List::from_vec(frame)))?;
+    fn tick(&mut self, alloc: Global, frame: &[i64]) -> Result<(), AllocError> {
+        let values = Vec::from_slice(alloc, frame)?;
+        self.push(Event::Tick(List::from_vec(values)))?;
         Ok(())
     }
 

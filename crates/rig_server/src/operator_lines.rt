@@ -6,6 +6,7 @@ ghost use Rattle.rig_server.specs.OperatorLines.{bad_command, line_of, served_li
 
 use std::alloc::{AllocError, Global};
 use tenant_lines::words;
+use tenant_lines::words::Values;
 
 /// What a line of the operator is.
 #[derive(Drop)]
@@ -13,7 +14,7 @@ pub enum OperatorLine {
     /// A blank line, which has no reply.
     Blank,
     /// An instant, with the value of each line of the rig.
-    Tick(Vec<i64>),
+    Tick(Values),
     /// The value with which each line is driven.
     Lines,
     /// Waits until no job is outstanding.

@@ -81,7 +81,7 @@ impl<'a, N: Naming> Operator<'a, N> {
         };
         match line {
             OperatorLine::Blank => {}
-            OperatorLine::Tick(frame) => self.tick(rt, &frame, writer)?,
+            OperatorLine::Tick(frame) => self.tick(rt, frame.as_slice(), writer)?,
             OperatorLine::Lines => self.lines(rt, writer)?,
             OperatorLine::Wait => {
                 self.desk.settle(rt);

@@ -117,19 +117,19 @@ values_long w ws [] is = by (value_of_word w) refl (values_of_words ws) refl
     by (Some z) e None f = let none : values_of_words (w ∷ ws) ≡ None = rw (e, f) refl in cc
     by (Some z) e (Some ys) f = let some : values_of_words (w ∷ ws) ≡ Some (z ∷ ys) = rw (e, f) refl in cc
 
--- where the words from one on are values, behind those of the words before it: so are all, and one at least
-pub all_values : (vs : List ℤ) (line rest : List ℕ) → 0 < length (first_word_of rest)
+-- where the words from one on are values, behind those of eight words before it at least: so are all, and more than eight
+pub all_values : (vs : List ℤ) (line rest : List ℕ) → 8 ≤ length vs → 0 < length (first_word_of rest)
     → values_behind vs (values_of_words (words_of rest)) ≡ values_of_words (words_of line) → is_some (values_of_words (words_of rest)) ≡ true
-    → IsSomeAnd (values_of_words (words_of line)) (λ (values : List ℤ). 0 < length values)
-all_values vs line rest some so_far are = by (values_of_words (words_of rest)) refl so_far are
+    → IsSomeAnd (values_of_words (words_of line)) (λ (values : List ℤ). 8 < length values)
+all_values vs line rest full some so_far are = by (values_of_words (words_of rest)) refl so_far are
   where
     by : (o : Option (List ℤ)) → values_of_words (words_of rest) ≡ o → values_behind vs o ≡ values_of_words (words_of line) → is_some o ≡ true
-        → IsSomeAnd (values_of_words (words_of line)) (λ (values : List ℤ). 0 < length values)
+        → IsSomeAnd (values_of_words (words_of line)) (λ (values : List ℤ). 8 < length values)
     by None e so are = cc
     by (Some zs) e so are =
         let long : 0 < length zs = values_long (first_word_of rest) (words_of (behind_first_word rest)) zs (sym (ap values_of_words (words_first rest some)) ∙ e) in
-        let all_long : 0 < length (vs ++ zs) = omega (arith, long, length-append vs zs) in
-        subst (λ (o : Option (List ℤ)). IsSomeAnd o (λ (values : List ℤ). 0 < length values)) so all_long
+        let all_long : 8 < length (vs ++ zs) = omega (arith, full, long, length-append vs zs) in
+        subst (λ (o : Option (List ℤ)). IsSomeAnd o (λ (values : List ℤ). 8 < length values)) so all_long
 
 -- where one of them is none, no list is that of all
 pub no_values : (vs : List ℤ) (line rest : List ℕ)

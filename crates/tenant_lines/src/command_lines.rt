@@ -51,10 +51,10 @@ pub fn command_of(alloc: Global, line: &str) -> Result<Command, LineFault>
     }
 }
 
-// The name in `show port NAME`, where one blank stands between the words and nothing behind them. This is asked most, so such a
-// line isn't cut into words.
+/// The name in a line `show port NAME` with one blank between its words and nothing behind them, without a command that is made of it. This
+/// is asked most, so such a line isn't cut into words. `None` says nothing of the line.
 #[inline(always)]
-fn name_shown(line: &str) -> Option<Name>
+pub fn name_shown(line: &str) -> Option<Name>
     ensures { IfSome result (λ name. command_of_line line.now ≡ Some (Command.ShowPort (record { task = None; name = name }))) }
 {
     let (words, name) = skip_blanks(line).split_at_checked(10)?;

@@ -260,7 +260,7 @@ pub fn add_shown(text: &mut String, port: &PortName, value: i64) -> Result<(), A
 {
     text.push_str("ok port ")?;
     add_port(text, port)?;
-    text.push_str(" ")?;
+    text.push(' ')?;
     add_value(text, value)
 }
 
@@ -278,7 +278,7 @@ fn add_port(text: &mut String, port: &PortName) -> Result<(), AllocError>
 {
     if let Some(task) = &port.task {
         text.push_str(task.as_str())?;
-        text.push_str(".")?;
+        text.push('.')?;
     }
     text.push_str(port.name.as_str())
 }

@@ -7,7 +7,11 @@ ghost use Rattle.std.specs.List.{prefix_len};
 ghost use Rattle.std.specs.Option.{option_map};
 ghost use Rattle.tenant_lines.specs.Words.{is_blank_of_line, is_word_byte, words_of, from_first_word, first_word_of, behind_first_word, value_of_word, values_of_words};
 
+use smallvec::SmallVec;
 use std::alloc::{AllocError, Global};
+
+/// The values of a line's words. Up to eight take no memory.
+pub type Values = SmallVec<i64, 8>;
 
 /// A line, cut behind its first word: that word, and what stands behind it, its blanks included. Neither has a byte where the line is
 /// blank.
@@ -79,19 +83,20 @@ pub(crate) fn value_of_word(word: &str) -> Option<i64>
     word.parse().ok()
 }
 
-/// The values of all words of a line, in their order, or `None` where a word has none. Takes memory for the values alone.
+/// The values of all words of a line, in their order, or `None` where a word has none. Takes memory for more than eight values alone.
 ///
 /// # Errors
-/// Want of memory, where there is a word and each has a value. Where one has none, that is answered, whatever memory did.
+/// Want of memory, where there are more than eight words and each has a value. Where one has none, that is answered, whatever memory did.
+#[inline(always)]
 #[tactic(auto, using(crate::proofs::ValueLemmas::values_fault, crate::proofs::cited::WordLemmas::behind_shorter))]
-pub fn values_of_words(alloc: Global, line: &str) -> Result<Option<Vec<i64>>, AllocError>
+pub fn values_of_words(alloc: Global, line: &str) -> Result<Option<Values>, AllocError>
     ensures values { IfOk result (λ values. option_map (λ v. v.items) values ≡ values_of_words (words_of line.now)) }
-    ensures memory { IsErr result → IsSomeAnd (values_of_words (words_of line.now)) (λ values. 0 < length values) }
+    ensures memory { IsErr result → IsSomeAnd (values_of_words (words_of line.now)) (λ values. 8 < length values) }
 {
-    let mut values = Vec::new(alloc);
+    let mut values = Values::new(alloc);
     let mut rest = line;
     loop {
-        let word = first_word(rest);
+        let (word, behind) = cut(rest);
         if word.is_empty() {
             return Ok(Some(values));
         }
@@ -106,7 +111,7 @@ pub fn values_of_words(alloc: Global, line: &str) -> Result<Option<Vec<i64>>, Al
                 Ok(None)
             };
         }
-        rest = behind_first_word(rest);
+        rest = behind;
     }
 }
 

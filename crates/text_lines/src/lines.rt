@@ -87,6 +87,7 @@ impl Lines {
     /// # Errors
     /// `Read` where a read failed, `Write` where a flush failed, and `Turns` where 1,048,576 reads gave bytes and none of them found the
     /// end: then all lines were given whose LF was read. `Memory` where there is no memory for the next line.
+    #[inline(always)]
     pub fn next_line<R: Read, W: Write>(
         &mut self,
         reader: &mut R,

@@ -151,6 +151,10 @@ impl Tenant {
         };
         // Its frequencies are positive.
         old.known();
+        // Mostly none waits, and then nothing is moved.
+        if self.waiting.is_none() {
+            return;
+        }
         let Some(waiting) = self.waiting.take() else {
             return;
         };

@@ -1,4 +1,4 @@
-use Rattle.std.proofs.Common.{◌≡◌, ◌++◌, ℕ, List, Result, Ok, Err, OnOk, is_ok, if◌then◌else◌, codes, string_bytes, ap, ◌∙◌}
+use Rattle.std.proofs.Common.{◌≡◌, ◌++◌, ℕ, List, Result, Ok, Err, OnOk, is_ok, if◌then◌else◌, codes, string_bytes, ap, ◌∙◌, arith}
 use Rattle.std.proofs.lemmas.List.{append_assoc}
 use Rattle.host_core.specs.HostStanding.{line_of}
 use Rattle.rig_model.specs.Script.{text_of_lines}
@@ -13,7 +13,8 @@ pub returns : goal.returns
 returns c =
     let before = string_bytes c.args.text.now in
     let values = text_of_lines (line_of c.args.host.now) c.args.host.now.config.lines in
-    on_ok_then c.push_str-2.result _ _ (pushed c.push_str-2.result (string_bytes c.add_values.new.text) (string_bytes c.push_str-2.new.self) (codes "\n") c.push_str-2.ensures.bytes)
+    let bytes = rw (c.push.ensures.ascii (omega arith)) at c.push.ensures.bytes in
+    on_ok_then c.push.result _ _ (pushed c.push.result (string_bytes c.add_values.new.text) (string_bytes c.push.new.self) (codes "\n") bytes)
     (λ grown.
     grown ∙ ap (λ t. t ++ codes "\n") (c.in_ok-add_values.ensures ∙ ap (λ t. t ++ values) c.in_ok-push_str.ensures.bytes)
     ∙ append_assoc (before ++ codes "op ok lines") values (codes "\n") ∙ append_assoc before (codes "op ok lines") (values ++ codes "\n"))

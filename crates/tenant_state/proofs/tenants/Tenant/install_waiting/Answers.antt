@@ -10,6 +10,10 @@ use Rattle.tenant_state.proofs.Installed.{none_left, stands_for_itself}
 use Rattle.tenant_state.proofs.Replaced.{due_is, installed_is, released_as_before, released_behind}
 use Rattle.tenant_state.proofs.tenants.Tenant.install_waiting.Goals as goal
 
+pub returns-then-is_none-clause-none_active : goal.returns-then-is_none-clause-none_active
+returns-then-is_none-clause-none_active c =
+    none_left _ _ _ _ _ _ _ _ _ _ _ _ c.self.inside.waiting c.self.inside.trace _ _ c.self.view_is c.self.invariant.0 c.requires.running c.in-Some.old c.in-Some.is c.known.ensures.fits c.requires.ended_due c.requires.begins
+
 pub returns-in_default-take-clause-none_active : goal.returns-in_default-take-clause-none_active
 returns-in_default-take-clause-none_active c =
     none_left _ _ _ _ _ _ _ _ _ _ _ _ c.self.inside.waiting c.self.inside.trace _ _ c.self.view_is c.self.invariant.0 c.requires.running c.in-Some.old c.in-Some.is c.known.ensures.fits c.requires.ended_due c.requires.begins
