@@ -50,14 +50,13 @@ fn ports_of(alloc: Global, reply: Reply) -> List<PortValue> {
     }
 }
 
-/// The reply of the tenant at this place to a question: a command that changes nothing, as `show mode`.
+/// The reply of the tenant at this place to a command. A question, as `show mode`, leaves the host as it was.
 ///
 /// # Errors
 /// Want of memory.
 pub fn ask(host: &mut Host, tenant: TenantId, question: Command) -> Result<Reply, AllocError>
-    requires tenant { tenant < length host.old.config.tenants }
-    requires question { IsTrue (is_question question) }
-    ensures same { host.new ≡ host.old }
+    requires { tenant < length host.old.config.tenants }
+    ensures same { IsTrue (is_question question) → host.new ≡ host.old }
     ensures reply { IfOk result (λ reply. ForEachState host.old (λ setting state. reply ≡ (after_command setting tenant question (row_at state tenant)).reply)) }
 {
     let reply = host.command(tenant, question);

@@ -95,7 +95,7 @@ impl<W: Watch> Watched<W> {
 impl<W: Watch> Answers for Watched<W> {
     ghost use Rattle.rig_script.specs.cited.HostAnswers.{IsHostAfter};
 
-    ghost stands = { λ watched setting past. IsHostAfter setting watched.host past };
+    ghost stands = { λ watched setting texts past. IsHostAfter setting watched.host past };
 
     fn answer(&mut self, alloc: Global, line: &str, text: &mut String) -> Result<(), Unanswered> {
         self.host.answer(alloc, line, text)?;

@@ -1,13 +1,10 @@
 //! The replies that come to the lines of a run.
 
-ghost use Rattle.std.specs.Prelude.{◌≡◌, ℕ, [], ◌++◌, List, Option, IfOk, IfSome, length, map};
+ghost use Rattle.std.specs.Prelude.{◌≡◌, ◌++◌, IfOk};
 ghost use Rattle.rig_model.specs.Base.{Setting};
 ghost use Rattle.rig_model.specs.Plays.{IsSettingOf};
-ghost use Rattle.rig_model.specs.Script.{past_after};
-ghost use Rattle.rig_model.specs.TextLines.{cut};
-ghost use Rattle.rig_reports.specs.inner.Reported.{AreReported, number_behind, reply_to_bad_line};
-ghost use Rattle.script_reports.specs.cited.Heard.{HeardLine};
-ghost use Rattle.script_reports.specs.cited.Runs.{line_in, script_of};
+ghost use Rattle.rig_reports.specs.inner.Reported.{replies_of, reply_to_bad_line};
+ghost use Rattle.script_reports.specs.cited.Runs.{script_of};
 
 use crate::telling::{Told, told_script};
 use rig_config::Config;
@@ -26,9 +23,7 @@ pub fn answered_run(
     config: &Config,
     lines: &[RunLine],
 ) -> Result<Replies, ScriptFault>
-    ensures { IfOk result (λ replies. (setting : Setting) → IsSettingOf config.now setting
-        → (told : List HeardLine) × AreReported setting [] 0 told (past_after setting [] (cut (script_of lines.now)))
-        × ((end : Option ℕ) × IfSome end (λ number. number ≡ number_behind (length told)) × (replies ≡ map (λ (l : HeardLine). line_in l.reply) told ++ reply_to_bad_line end))) }
+    ensures { IfOk result (λ replies. (setting : Setting) → IsSettingOf config.now setting → replies ≡ replies_of setting (script_of lines.now)) }
 {
     let script = script_of(alloc, lines)?;
     let mut reader = script.as_str().as_bytes();

@@ -1,13 +1,12 @@
 //! A script with a report of what went wrong in it.
 
-ghost use Rattle.std.specs.Prelude.{◌≡◌, ℕ, [], ◌++◌, List, Option, IfOk, OnOk};
+ghost use Rattle.std.specs.Prelude.{◌≡◌, [], ◌++◌, All, Some, IfOk, IfSome, OnOk};
 ghost use Rattle.std.specs.Io.KnownBytes.{Appends};
-ghost use Rattle.rig_model.specs.Script.{past_after, script_text_of};
+ghost use Rattle.rig_model.specs.Answered.{IsText};
+ghost use Rattle.rig_model.specs.Script.{script_text_of};
 ghost use Rattle.rig_model.specs.TextLines.{cut};
-ghost use Rattle.rig_reports.specs.inner.Reported.{AreReported, IsEndOf, told_of_bad_line};
+ghost use Rattle.rig_reports.specs.inner.Reported.{report_of, told_of_bad_line};
 ghost use Rattle.rig_script.specs.BrokenOff.{ForNewHostReading};
-ghost use Rattle.script_reports.specs.cited.Heard.{HeardLine};
-ghost use Rattle.script_reports.specs.cited.Told.{told_of_lines};
 
 use crate::telling::{Told, told_script};
 use rig_config::Config;
@@ -29,9 +28,8 @@ pub fn strict_script<R: Read, W: Write>(
 ) -> Result<Report, ScriptFault>
     ensures written { OnOk result (ForNewHostReading config.now (R.remaining reader.old) (λ setting bytes.
         Appends (W.contents writer.old) (W.contents writer.new) (script_text_of setting bytes))) }
-    ensures told { IfOk result (λ report. ForNewHostReading config.now (R.remaining reader.old) (λ setting bytes.
-        (lines : List HeardLine) × AreReported setting [] 0 lines (past_after setting [] (cut bytes))
-        × ((end : Option ℕ) × IsEndOf lines bytes (R.remaining reader.new) end × (report ≡ told_of_lines lines ++ told_of_bad_line end)))) }
+    ensures told { IfOk result (λ report. ForNewHostReading config.now (R.remaining reader.old) (λ setting bytes. report ≡ report_of setting bytes)) }
+    ensures end { OnOk result (IfSome (R.remaining reader.old) (λ bytes. All IsText (cut bytes) → R.remaining reader.new ≡ Some [])) }
 {
     let told = told_script(alloc, reader, writer, config, Report::new(alloc))?;
     Ok(with_end(alloc, told)?)

@@ -1,14 +1,15 @@
 //! A script that is told: a host answers it, and who listens is told each line as it is answered.
 
-ghost use Rattle.std.specs.Prelude.{◌≡◌, [], ◌+◌, ◌-◌, ◌^◌, min, List, IfOk, OnOk};
+ghost use Rattle.std.specs.Prelude.{◌≡◌, [], ◌+◌, ◌-◌, ◌^◌, min, List, IfOk, IfSome, OnOk};
 ghost use Rattle.std.specs.Io.KnownBytes.{Appends};
-ghost use Rattle.rig_model.specs.Script.{past_after, script_text_of};
-ghost use Rattle.rig_model.specs.TextLines.{cut};
+ghost use Rattle.rig_model.specs.Script.{script_text_of};
 ghost use Rattle.rig_model.specs.declared.events.Event.{Event};
-ghost use Rattle.rig_reports.specs.inner.Reported.{AreReported, IsEndOf, overruns_between};
-ghost use Rattle.rig_reports.specs.inner.Telling.{ForEachPastOf, IsBefore, bad_line};
+ghost use Rattle.rig_reports.specs.inner.Reported.{heard_of, overruns_between};
+ghost use Rattle.rig_reports.specs.inner.Telling.{ForEachPastOf, IsBefore};
 ghost use Rattle.rig_script.specs.BrokenOff.{ForNewHostReading};
-ghost use Rattle.script_reports.specs.cited.Heard.{HeardLine, IsHeard};
+ghost use Rattle.rig_script.specs.Given.{IsEndOf};
+ghost use Rattle.rig_script.specs.cited.Ended.{end_behind};
+ghost use Rattle.script_reports.specs.cited.Heard.{IsHeard};
 
 use crate::overruns::{overruns, running};
 use host_core::hosts::Host;
@@ -43,8 +44,8 @@ pub fn told_script<R: Read, W: Write, L: Listener + Drop>(
     requires { L.heard listener [] }
     ensures written { OnOk result (ForNewHostReading config.now (R.remaining reader.old) (λ setting bytes.
         Appends (W.contents writer.old) (W.contents writer.new) (script_text_of setting bytes))) }
-    ensures heard { IfOk result (λ told. ForNewHostReading config.now (R.remaining reader.old) (λ setting bytes.
-        (lines : List HeardLine) × L.heard told.listener lines × AreReported setting [] 0 lines (past_after setting [] (cut bytes)) × IsEndOf lines bytes (R.remaining reader.new) told.bad_line)) }
+    ensures heard { IfOk result (λ told. ForNewHostReading config.now (R.remaining reader.old) (λ setting bytes. L.heard told.listener (heard_of setting bytes))) }
+    ensures end { IfOk result (λ told. IfSome (R.remaining reader.old) (λ bytes. IsEndOf bytes (R.remaining reader.new) told.bad_line)) }
 {
     let host = Host::new(alloc, config, 0)?;
     let mut telling = Telling {
@@ -84,7 +85,7 @@ struct Before {
 impl<L: Listener> Answers for Telling<L> {
     ghost use Rattle.rig_reports.specs.inner.Telling.{IsTelling};
 
-    ghost stands = { λ t setting past. IsTelling setting t.host t.answered (L.heard t.listener) past };
+    ghost stands = { λ t setting texts past. IsTelling setting t.host t.answered (L.heard t.listener) texts past };
 
     fn answer(&mut self, alloc: Global, line: &str, text: &mut String) -> Result<(), Unanswered> {
         let speaker = who_speaks(self.host.config(), line);
@@ -150,7 +151,7 @@ fn overruns_since(
 
 // The number of the line that ended a script which ended so behind so many lines.
 fn bad_line(ending: Ending, answered: u64) -> Option<u64>
-    ensures { result ≡ bad_line ending answered }
+    ensures { result ≡ end_behind ending answered }
 {
     match ending {
         Ending::Input => None,

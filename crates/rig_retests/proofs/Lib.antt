@@ -1,3 +1,5 @@
 pub mod Following
+pub mod Noting
 pub mod Quiet
+pub mod Recording
 pub mod Ticking

@@ -15,7 +15,7 @@ use Rattle.rig_model.specs.declared.speakers.Speaker.{Speaker}
 use Rattle.rig_model.specs.declared.speakers.Speaker.TheVariants.{Nobody, Operator, Tenant, Unknown}
 use Rattle.tenant_lines.specs.Words.{words_of, behind_first_word}
 use Rattle.rig_retests.specs.Courses.{IsQuiet, is_command}
-use Rattle.rig_retests.specs.inner.Speaking.{is_tenants}
+use Rattle.rig_retests.specs.Speaking.{is_tenants}
 
 -- completions are no commands
 completions : (jobs : List JobId) → list_any is_command (reverse (map Done jobs)) ≡ false

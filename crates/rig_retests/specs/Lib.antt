@@ -1,3 +1,4 @@
 pub mod inner
 pub mod Courses
 pub mod Retested
+pub mod Speaking

@@ -1,5 +1,5 @@
 pub mod Courses
+pub mod Noting
 pub mod Recording
-pub mod Speaking
 pub mod Texts
 pub mod Watching

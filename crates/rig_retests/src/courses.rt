@@ -1,8 +1,9 @@
 //! How a script went, by which it is known whether what is told of it says less than it seems to.
 
-ghost use Rattle.std.specs.Prelude.{◌≡◌, ◌↔◌, ◌+◌, ◌-◌, ◌^◌, min, None, IfSome};
+ghost use Rattle.std.specs.Prelude.{◌≡◌};
 ghost use Rattle.rig_retests.specs.inner.Courses.{shortfall_of};
-ghost use Rattle.rig_retests.specs.inner.Speaking.{is_tenants};
+ghost use Rattle.rig_retests.specs.Speaking.{is_tenants};
+ghost use Rattle.rig_script.specs.cited.Ended.{end_behind};
 
 use rig_script::answers::Ending;
 use rig_script::speakers::Speaker;
@@ -60,8 +61,7 @@ impl Course {
 /// How a script went that ended so behind so many lines that were answered, of which one was a tenant's or none.
 pub(crate) fn course_of(ending: Ending, answered: usize, has_tenant: bool) -> Course
     ensures tenant { result.has_tenant ≡ has_tenant }
-    ensures whole { result.bad_line ≡ None ↔ ending ≡ Ending.Input }
-    ensures line { IfSome result.bad_line (λ number. number ≡ min (answered + 1) (2 ^ 64 - 1)) }
+    ensures line { result.bad_line ≡ end_behind ending answered }
 {
     let bad_line = match ending {
         Ending::Input => None,

@@ -1,7 +1,7 @@
 //! What is noted of the lines of a script, beside what they do.
 
-ghost use Rattle.std.specs.Prelude.{◌≡◌, ◌||◌, false};
-ghost use Rattle.rig_retests.specs.inner.Speaking.{is_tenants};
+ghost use Rattle.std.specs.Prelude.{◌≡◌, ◌||◌, ◌+◌, ◌-◌, ◌^◌, min, false};
+ghost use Rattle.rig_retests.specs.Speaking.{is_tenants};
 
 use crate::courses::is_tenants;
 use crate::shared_lines::SharedLines;
@@ -24,7 +24,8 @@ pub struct Notes {
 impl Notes {
     /// Of no line.
     pub fn new(alloc: Global) -> Notes
-        ensures { result.has_tenant ≡ false }
+        ensures answered { result.answered ≡ 0 }
+        ensures tenant { result.has_tenant ≡ false }
     {
         Notes {
             answered: 0,
@@ -36,7 +37,8 @@ impl Notes {
 
     /// Notes a line that was answered, as far as there is memory.
     pub fn note(&mut self, alloc: Global, speaker: Speaker, line: &str, reply: &str)
-        ensures { self.new.has_tenant ≡ (self.old.has_tenant || is_tenants speaker) }
+        ensures answered { self.new.answered ≡ min (self.old.answered + 1) (2 ^ 64 - 1) }
+        ensures tenant { self.new.has_tenant ≡ (self.old.has_tenant || is_tenants speaker) }
     {
         self.answered = self.answered.saturating_add(1);
         self.has_tenant = self.has_tenant || is_tenants(speaker);

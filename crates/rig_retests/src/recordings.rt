@@ -1,10 +1,10 @@
 //! A script that is recorded: its lines with their replies, and the events that they are.
 
-ghost use Rattle.std.specs.Prelude.{◌≡◌, ◌||◌, [], reverse, IfOk, OnOk};
+ghost use Rattle.std.specs.Prelude.{◌≡◌, ◌||◌, ◌+◌, ◌-◌, ◌^◌, ◌++◌, min, [], map, reverse, IfOk, OnOk};
 ghost use Rattle.rig_model.specs.Script.{past_after};
 ghost use Rattle.rig_retests.specs.Courses.{IsCourseOf};
-ghost use Rattle.rig_retests.specs.inner.Recording.{has_tenant};
-ghost use Rattle.rig_retests.specs.inner.Speaking.{is_tenants};
+ghost use Rattle.rig_retests.specs.inner.Recording.{has_tenant, recorded_as, recorded_of, unless_blank};
+ghost use Rattle.rig_retests.specs.Speaking.{is_tenants};
 ghost use Rattle.rig_model.specs.TextLines.{cut};
 ghost use Rattle.rig_script.specs.BrokenOff.{ForNewHostReading};
 
@@ -54,8 +54,10 @@ pub fn recorded<R: Read>(
 ) -> Result<Recording, ScriptFault>
     ensures events { IfOk result (λ recording. ForNewHostReading config.now (R.remaining reader.old) (λ setting bytes.
         recording.events.items ≡ reverse (past_after setting [] (cut bytes)))) }
+    ensures lines { IfOk result (λ recording. ForNewHostReading config.now (R.remaining reader.old) (λ setting bytes.
+        map recorded_as recording.lines.items ≡ recorded_of setting bytes)) }
     ensures course { IfOk result (λ recording. ForNewHostReading config.now (R.remaining reader.old) (λ setting bytes.
-        IsCourseOf bytes (R.remaining reader.new) (past_after setting [] (cut bytes)) recording.course)) }
+        IsCourseOf config.now bytes (R.remaining reader.new) (past_after setting [] (cut bytes)) recording.course)) }
 {
     let host = Host::new(alloc, config, 0)?;
     let mut recorder = Recorder::new(alloc, host);
@@ -94,6 +96,7 @@ impl Recorder {
     // Before the first line.
     fn new(alloc: Global, host: Host) -> Recorder
         ensures host { result.host ≡ host }
+        ensures answered { result.answered ≡ 0 }
         ensures events { result.recording.events.items ≡ [] }
         ensures lines { result.recording.lines.items ≡ [] }
     {
@@ -118,8 +121,11 @@ impl Recorder {
         events: usize,
     ) -> Result<(), AllocError>
         ensures host { self.new.host ≡ self.old.host }
+        ensures answered { self.new.answered ≡ min (self.old.answered + 1) (2 ^ 64 - 1) }
         ensures events { self.new.recording.events.items ≡ self.old.recording.events.items }
-        ensures lines { OnOk result (has_tenant self.new.recording.lines.items ≡ (has_tenant self.old.recording.lines.items || is_tenants speaker)) }
+        ensures tenant { OnOk result (has_tenant self.new.recording.lines.items ≡ (has_tenant self.old.recording.lines.items || is_tenants speaker)) }
+        ensures lines { OnOk result (map recorded_as self.new.recording.lines.items ≡ map recorded_as self.old.recording.lines.items ++ unless_blank
+            (record { number = min (self.old.answered + 1) (2 ^ 64 - 1); text = line.now; speaker = speaker; reply = reply.now; events = events })) }
     {
         self.answered = self.answered.saturating_add(1);
         if speaker == Speaker::Nobody {
@@ -139,7 +145,7 @@ impl Recorder {
 impl Answers for Recorder {
     ghost use Rattle.rig_retests.specs.inner.Recording.{IsRecorded};
 
-    ghost stands = { λ r setting past. IsRecorded setting r.host r.recording.events.items r.recording.lines.items past };
+    ghost stands = { λ r setting texts past. IsRecorded setting r.host r.answered r.recording.events.items r.recording.lines.items texts past };
 
     fn answer(&mut self, alloc: Global, line: &str, text: &mut String) -> Result<(), Unanswered> {
         let speaker = who_speaks(self.host.config(), line);

@@ -134,7 +134,7 @@ impl Watched {
 impl Answers for Watched {
     ghost use Rattle.rig_retests.specs.inner.Watching.{IsWatching};
 
-    ghost stands = { λ w setting past. IsWatching setting w.host w.table w.is_whole w.notes.has_tenant past };
+    ghost stands = { λ w setting texts past. IsWatching setting w.host w.table w.is_whole w.notes.answered w.notes.has_tenant texts past };
 
     fn answer(&mut self, alloc: Global, line: &str, text: &mut String) -> Result<(), Unanswered> {
         let clock = self.host.clock();
@@ -161,7 +161,7 @@ pub fn retests_of<R: Read>(
 ) -> Result<Retests, ScriptFault>
     ensures sources { IfOk result (λ retests. ForNewHostReading config.now (R.remaining reader.old) (λ setting bytes. IsLinkTable setting (past_after setting [] (cut bytes)) retests.links)) }
     ensures course { IfOk result (λ retests. ForNewHostReading config.now (R.remaining reader.old) (λ setting bytes.
-        IsCourseOf bytes (R.remaining reader.new) (past_after setting [] (cut bytes)) retests.course)) }
+        IsCourseOf config.now bytes (R.remaining reader.new) (past_after setting [] (cut bytes)) retests.course)) }
 {
     let host = Host::new(alloc, config, 0)?;
     let table = SourceTable::new(alloc, config.tenants().len())?;

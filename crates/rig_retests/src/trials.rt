@@ -60,7 +60,7 @@ pub fn text_of_trial<R: Read>(
     form: TrialForm,
 ) -> Result<TrialText, ScriptFault>
     ensures { IfOk result (λ told. ForNewHostReading config.now (R.remaining reader.old) (λ setting bytes.
-        IsCourseOf bytes (R.remaining reader.new) (past_after setting [] (cut bytes)) told.course)) }
+        IsCourseOf config.now bytes (R.remaining reader.new) (past_after setting [] (cut bytes)) told.course)) }
 {
     let recording = recorded(alloc, reader, config)?;
     // What happened is legal, and the tenant is in the roster: it is refused for want of memory alone.

@@ -1,5 +1,6 @@
 pub mod BrokenScript
 pub mod Completing
+pub mod GivenTexts
 pub mod LineValues
 pub mod Outstanding
 pub mod Speaking

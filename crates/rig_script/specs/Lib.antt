@@ -1,3 +1,4 @@
 pub mod BrokenOff
+pub mod Given
 pub mod cited
 pub mod inner

@@ -1,10 +1,11 @@
 //! A script's lines and who answers them.
 
-ghost use Rattle.std.specs.Prelude.{◌≡◌, ℕ, List, [], All, Some, Ok, IfErr, IfSome, OnOk};
+ghost use Rattle.std.specs.Prelude.{◌≡◌, ◌∷◌, ◌++◌, ℕ, List, [], All, Some, Ok, IfErr, IfSome, OnOk};
 ghost use Rattle.std.specs.Io.KnownBytes.{Appends, Keeps};
 ghost use Rattle.rig_model.specs.Base.{Setting};
 ghost use Rattle.rig_model.specs.declared.events.Event.{Event};
 ghost use Rattle.rig_model.specs.Answered.{bye_bad_line, err_memory, IsText};
+ghost use Rattle.rig_script.specs.Given.{texts_of};
 ghost use Rattle.rig_script.specs.cited.HostAnswers.{Holds};
 ghost use Rattle.rig_script.specs.cited.Past.{ForEachPast, ForEachPastReading};
 ghost use Rattle.rig_script.specs.inner.Script.{IsUnanswered, IsReplied};
@@ -20,16 +21,16 @@ use text_lines::lines::{Line, Lines};
 
 /// Who answers the lines of a script.
 pub trait Answers {
-    // it stands for what these events, the newest first, make of a rig
-    ghost stands: { Self → Setting → List Event → Type 0 };
+    // it was given the lines of these texts, the oldest first, and stands for what these events, the newest first, make of a rig
+    ghost stands: { Self → Setting → List (List ℕ) → List Event → Type 0 };
 
     /// Writes the reply to a line into a text, in place of what stood there: no byte for a line that has no reply.
     ///
     /// # Errors
     /// Where there is want of memory for the reply: nothing is said of the text then.
     fn answer(&mut self, alloc: Global, line: &str, text: &mut String) -> Result<(), Unanswered>
-        ensures { ForEachPast (stands self.old) (λ setting past. IsReplied (line_step setting past line.now) past (speaker_of setting.config line.now) result
-            (Holds text.new) (stands self.new setting)) };
+        ensures { ForEachPast (stands self.old) (λ setting texts past. IsReplied (line_step setting past line.now) past (speaker_of setting.config line.now) result
+            (Holds text.new) (stands self.new setting (texts ++ line.now ∷ []))) };
 }
 
 /// How the lines of a reader ended.
@@ -56,14 +57,14 @@ pub fn answer_lines<R: Read, W: Write, A: Answers>(
     writer: &mut W,
     answers: &mut A,
 ) -> Result<Ending, ScriptFault>
-    ensures written { OnOk result (ForEachPastReading (A.stands answers.old) (R.remaining reader.old) (λ setting past bytes.
+    ensures written { OnOk result (ForEachPastReading (A.stands answers.old) (R.remaining reader.old) (λ setting texts past bytes.
         Appends (W.contents writer.old) (W.contents writer.new) (script_from setting past (cut bytes)))) }
-    ensures state { OnOk result (ForEachPastReading (A.stands answers.old) (R.remaining reader.old) (λ setting past bytes.
-        A.stands answers.new setting (past_after setting past (cut bytes)))) }
-    ensures input { result ≡ Ok Ending.Input → IfSome (R.remaining reader.old) (λ bytes. R.remaining reader.new ≡ Some []) }
+    ensures state { OnOk result (ForEachPastReading (A.stands answers.old) (R.remaining reader.old) (λ setting texts past bytes.
+        A.stands answers.new setting (texts ++ texts_of (cut bytes)) (past_after setting past (cut bytes)))) }
+    ensures input { result ≡ Ok Ending.Input → IfSome (R.remaining reader.old) (λ bytes. All IsText (cut bytes) × (R.remaining reader.new ≡ Some [])) }
     ensures bad_line { result ≡ Ok Ending.BadLine → IfSome (R.remaining reader.old) (λ bytes. ¬ (All IsText (cut bytes))) }
-    ensures fault { IfErr result (λ fault. ForEachPastReading (A.stands answers.old) (R.remaining reader.old)
-        (AreBrokenOff (R.remaining reader.new) (Appends (W.contents writer.old) (W.contents writer.new)) fault)) }
+    ensures fault { IfErr result (λ fault. ForEachPastReading (A.stands answers.old) (R.remaining reader.old) (λ setting texts past bytes.
+        AreBrokenOff (R.remaining reader.new) (Appends (W.contents writer.old) (W.contents writer.new)) fault setting past bytes)) }
     ensures reads { AreFewRead result (R.remaining reader.old) (R.remaining reader.new) }
 {
     let mut text = String::new(alloc);
@@ -91,9 +92,9 @@ fn answer_line<W: Write, A: Answers>(
     line: &str,
     text: &mut String,
 ) -> Result<(), ScriptFault>
-    ensures stands { OnOk result (ForEachPast (A.stands answers.old) (λ setting past. A.stands answers.new setting (past_behind setting past line.now))) }
-    ensures written { OnOk result (ForEachPast (A.stands answers.old) (λ setting past. Appends (W.contents writer.old) (W.contents writer.new) (reply_to_line setting past line.now))) }
-    ensures fault { IfErr result (λ fault. IsUnanswered fault (ForEachPast (A.stands answers.old) (λ setting past.
+    ensures stands { OnOk result (ForEachPast (A.stands answers.old) (λ setting texts past. A.stands answers.new setting (texts ++ line.now ∷ []) (past_behind setting past line.now))) }
+    ensures written { OnOk result (ForEachPast (A.stands answers.old) (λ setting texts past. Appends (W.contents writer.old) (W.contents writer.new) (reply_to_line setting past line.now))) }
+    ensures fault { IfErr result (λ fault. IsUnanswered fault (ForEachPast (A.stands answers.old) (λ setting texts past.
         Appends (W.contents writer.old) (W.contents writer.new) (memory_reply setting line.now)))) }
 {
     match answers.answer(alloc, line, text) {

@@ -37,7 +37,7 @@ use tenant_lines::words;
 use tenant_programs::prepared::prepare;
 
 impl Answers for Host {
-    ghost stands = { λ host setting past. IsHostAfter setting host past };
+    ghost stands = { λ host setting texts past. IsHostAfter setting host past };
 
     fn answer(&mut self, alloc: Global, line: &str, text: &mut String) -> Result<(), Unanswered> {
         carry_out(alloc, self, &mut Unrecorded, line, text)

@@ -6,7 +6,8 @@
 //!
 //! [`speakers`] tells who speaks in a line, [`answers`] has whoever answers lines, and [`script`] is a host that answers them; [`carry_out`]
 //! answers one, and tells a record of [`records`] what it does. In the crate `rig_model` `TextLines.antt` says how bytes are cut, and `Script.antt` what a
-//! script is answered; `specs/BrokenOff.antt` says what was written before a fault. The lines are those of the crate `text_lines`.
+//! script is answered; `specs/Given.antt` says which lines are answered and which one ends them, and `specs/BrokenOff.antt` what was written
+//! before a fault. The lines are those of the crate `text_lines`.
 #![tactic(auto)]
 
 pub mod answers;

@@ -74,7 +74,7 @@ struct NoMemory {
 
 impl Answers for NoMemory {
     // no host
-    ghost stands = { λ it setting past. ⊥ };
+    ghost stands = { λ it setting texts past. ⊥ };
 
     fn answer(
         &mut self,

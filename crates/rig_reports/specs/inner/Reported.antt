@@ -1,9 +1,8 @@
 -- What is told of the lines of a script: each with its reply, and with the overruns at the instant that it gave.
-use Rattle.std.specs.Prelude.{◌≡◌, ℕ, zero, suc, ◌+◌, ◌-◌, ◌^◌, ◌==◌, min, if◌then◌else◌, List, [], ◌∷◌, ◌++◌, length, All, Option, Some, None, codes}
+use Rattle.std.specs.Prelude.{ℕ, zero, suc, ◌+◌, ◌==◌, if◌then◌else◌, List, [], ◌∷◌, ◌++◌, length, map, Option, Some, None, codes}
 use Rattle.std.specs.Option.{option_map}
 use Rattle.giotto_tasks.specs.declared.names.Name.{Name}
 use Rattle.rig_config.specs.Roster.{name_at}
-use Rattle.rig_model.specs.Answered.{IsText}
 use Rattle.rig_model.specs.Base.{Setting}
 use Rattle.rig_model.specs.Host.{host_after}
 use Rattle.rig_model.specs.HostState.{row_at}
@@ -12,8 +11,10 @@ use Rattle.rig_model.specs.Row.{Row, TenantState, StopReason, empty, loaded, run
 use Rattle.rig_model.specs.Script.{past_behind, reply_to_line}
 use Rattle.rig_model.specs.TextLines.{cut}
 use Rattle.rig_model.specs.declared.events.Event.{Event}
+use Rattle.rig_script.specs.Given.{bad_line_of, number_behind, texts_of}
 use Rattle.script_reports.specs.cited.Heard.{HeardLine}
-use Rattle.script_reports.specs.cited.Told.{told_of_end}
+use Rattle.script_reports.specs.cited.Runs.{line_in}
+use Rattle.script_reports.specs.cited.Told.{told_of_end, told_of_lines}
 use Rattle.script_reports.specs.declared.listeners.Overrun.{Overrun}
 
 -- the task for whose overrun a tenant is stopped
@@ -39,10 +40,6 @@ abbrev pub listed : Option Overrun → List Overrun
 listed None = []
 listed (Some o) = o ∷ []
 
--- the number of a line behind so many
-abbrev pub number_behind : ℕ → ℕ
-number_behind n = min (n + 1) (2 ^ 64 - 1)
-
 module _ (setting : Setting) where
   -- the row of the tenant at place t behind these events
   abbrev pub row_behind : List Event → ℕ → Row
@@ -57,19 +54,20 @@ module _ (setting : Setting) where
   abbrev pub overruns_between : List Event → List Event → List Overrun
   overruns_between before after = if next_tick setting after == next_tick setting before then [] else overruns_up_to before after (length setting.config.tenants)
 
-  -- Lines behind others, of which there are so many and behind which stand the events of the past: each has the next number, the reply that
-  -- the rig gives there and the overruns at its instant, and behind the last one stand the later events.
-  abbrev pub AreReported : List Event → ℕ → List HeardLine → List Event → Type 0
-  AreReported past n [] later = later ≡ past
-  AreReported past n (line ∷ lines) later =
-      (line.number ≡ number_behind n) × (line.reply ≡ reply_to_line setting past line.text)
-      × (line.overruns ≡ overruns_between past (past_behind setting past line.text)) × AreReported (past_behind setting past line.text) (n + 1) lines later
+  -- what is told of a line of this text behind so many others, behind which stand the events of the past: the next number, the reply that
+  -- the rig gives there, and the overruns at its instant
+  abbrev pub heard_line : List Event → ℕ → List ℕ → HeardLine
+  heard_line past n text =
+      record { number = number_behind n; text = text; reply = reply_to_line setting past text; overruns = overruns_between past (past_behind setting past text) }
 
--- Where a script was ended by a line, by its number: it stands right behind the lines that were told, and not all of the script is text.
--- Where it wasn't, the reader has nothing left.
-abbrev pub IsEndOf : List HeardLine → List ℕ → Option (List ℕ) → Option ℕ → Type 0
-IsEndOf lines bytes left None = left ≡ Some []
-IsEndOf lines bytes left (Some number) = (number ≡ number_behind (length lines)) × ¬ (All IsText (cut bytes))
+  -- what is told of lines of these texts behind others
+  abbrev pub heard_from : List Event → ℕ → List (List ℕ) → List HeardLine
+  heard_from past n [] = []
+  heard_from past n (text ∷ texts) = heard_line past n text ∷ heard_from (past_behind setting past text) (n + 1) texts
+
+  -- what is told of the lines of a script
+  abbrev pub heard_of : List ℕ → List HeardLine
+  heard_of bytes = heard_from [] 0 (texts_of (cut bytes))
 
 -- what is told of the line of this number that ended a script, if one did
 abbrev pub told_of_bad_line : Option ℕ → List ℕ
@@ -80,3 +78,11 @@ told_of_bad_line (Some number) = told_of_end number
 abbrev pub reply_to_bad_line : Option ℕ → List (List ℕ)
 reply_to_bad_line None = []
 reply_to_bad_line (Some number) = codes "host bye bad-line" ∷ []
+
+-- the report of a script: what is told of its lines, and of the one that ends it
+abbrev pub report_of : Setting → List ℕ → List ℕ
+report_of setting bytes = told_of_lines (heard_of setting bytes) ++ told_of_bad_line (bad_line_of (cut bytes))
+
+-- the replies to the lines of a script, each without its LF, and that to the one that ends it
+abbrev pub replies_of : Setting → List ℕ → List (List ℕ)
+replies_of setting bytes = map (λ (l : HeardLine). line_in l.reply) (heard_of setting bytes) ++ reply_to_bad_line (bad_line_of (cut bytes))

@@ -1,20 +1,19 @@
 -- A host that answers a script, and who was told its lines.
-use Rattle.std.specs.Prelude.{◌≡◌, ℕ, zero, suc, ◌-◌, ◌^◌, min, Bool, List, [], ◌∷◌, ◌++◌, length, Option, Some, None}
+use Rattle.std.specs.Prelude.{◌≡◌, ℕ, zero, suc, ◌-◌, ◌^◌, min, Bool, List, [], ◌∷◌, ◌++◌, length}
 use Rattle.host_core.specs.HostStanding.{HostStanding}
 use Rattle.rig_model.specs.Base.{Setting}
 use Rattle.rig_model.specs.Legal.{next_tick}
 use Rattle.rig_model.specs.Row.{is_running}
 use Rattle.rig_model.specs.declared.events.Event.{Event}
-use Rattle.rig_reports.specs.inner.Reported.{AreReported, number_behind, row_behind}
+use Rattle.rig_reports.specs.inner.Reported.{heard_from, row_behind}
 use Rattle.rig_script.specs.cited.HostAnswers.{IsHostAfter}
-use Rattle.rig_script.specs.declared.answers.Ending.{Ending}
-use Rattle.rig_script.specs.declared.answers.Ending.TheVariants.{Input, BadLine}
+use Rattle.rig_script.specs.cited.Past.{past_behind_all}
 use Rattle.script_reports.specs.cited.Heard.{HeardLine}
 
--- The host stands behind these events, and the lines that were told are those behind which they stand: they are so many.
-abbrev pub IsTelling : Setting → HostStanding → ℕ → (List HeardLine → Type 0) → List Event → Type 0
-IsTelling setting host answered Heard past =
-    IsHostAfter setting host past × ((lines : List HeardLine) × Heard lines × (answered ≡ min (length lines) (2 ^ 64 - 1)) × AreReported setting [] 0 lines past)
+-- the host stands behind these events, which are those of the lines of these texts; they are so many, and were told
+abbrev pub IsTelling : Setting → HostStanding → ℕ → (List HeardLine → Type 0) → List (List ℕ) → List Event → Type 0
+IsTelling setting host answered Heard texts past =
+    IsHostAfter setting host past × (past ≡ past_behind_all setting [] texts) × (answered ≡ min (length texts) (2 ^ 64 - 1)) × Heard (heard_from setting [] 0 texts)
 
 -- which of the first n tenants run behind these events
 abbrev pub running_up_to : Setting → List Event → ℕ → List Bool
@@ -28,8 +27,3 @@ ForEachPastOf host Holds = (setting : Setting) (past : List Event) → IsHostAft
 -- what stood before a line behind these events: the number of the next instant, and which tenants run
 abbrev pub IsBefore : Setting → List Event → ℕ → List Bool → Type 0
 IsBefore setting past clock ran = (clock ≡ next_tick setting past) × (ran ≡ running_up_to setting past (length setting.config.tenants))
-
--- the number of the line that ended a script which ended so behind so many lines
-abbrev pub bad_line : Ending → ℕ → Option ℕ
-bad_line Input answered = None
-bad_line BadLine answered = Some (number_behind answered)

@@ -1,19 +1,71 @@
--- A host that answers a script, and the events and lines so far.
-use Rattle.std.specs.Prelude.{◌≡◌, Bool, List, reverse}
+-- A host that answers a script, and the events and lines that are recorded of it.
+use Rattle.std.specs.Prelude.{◌≡◌, ℕ, ◌+◌, Bool, List, [], ◌∷◌, ◌++◌, length, map, reverse, string_bytes}
 use Rattle.std.specs.List.{list_any}
 use Rattle.host_core.specs.HostStanding.{HostStanding}
 use Rattle.rig_model.specs.Base.{Setting}
+use Rattle.rig_model.specs.Script.{line_step, past_behind, reply_to_line, speaker_of}
+use Rattle.rig_model.specs.TextLines.{cut}
 use Rattle.rig_model.specs.declared.events.Event.{Event}
+use Rattle.rig_model.specs.declared.speakers.Speaker.{Speaker}
+use Rattle.rig_model.specs.declared.speakers.Speaker.TheVariants.{Nobody, Operator, Tenant, Unknown}
 use Rattle.rig_retests.specs.declared.recordings.RecordedLine.{RecordedLine}
-use Rattle.rig_retests.specs.Courses.{IsQuiet}
-use Rattle.rig_retests.specs.inner.Speaking.{is_tenants}
+use Rattle.rig_retests.specs.inner.Noting.{IsNoted}
+use Rattle.rig_retests.specs.Speaking.{is_tenants}
+use Rattle.rig_script.specs.Given.{number_behind, texts_of}
 use Rattle.rig_script.specs.cited.HostAnswers.{IsHostAfter}
+use Rattle.rig_script.specs.cited.Past.{past_behind_all}
 
 -- one of these lines is a tenant's
 abbrev pub has_tenant : List RecordedLine → Bool
 has_tenant lines = list_any (λ (line : RecordedLine). is_tenants line.speaker) lines
 
--- The host stands behind these events, and just they were recorded, the oldest first; where no line that was recorded is a tenant's, none of
--- them is a tenant's command.
-abbrev pub IsRecorded : Setting → HostStanding → List Event → List RecordedLine → List Event → Type 0
-IsRecorded setting host recorded lines past = IsHostAfter setting host past × (recorded ≡ reverse past) × IsQuiet (has_tenant lines) past
+-- a line that was answered, by what is recorded of it
+pub record Recorded : Type 0 where
+  pub number : ℕ
+  pub text : List ℕ
+  pub speaker : Speaker
+  pub reply : List ℕ
+  -- how many there are
+  pub events : ℕ
+
+-- what a recorded line tells
+abbrev pub recorded_as : RecordedLine → Recorded
+recorded_as line =
+    record { number = line.number; text = string_bytes line.text; speaker = line.speaker; reply = string_bytes line.reply; events = line.events }
+
+-- a line that isn't blank, and none for one that is
+abbrev pub unless_blank : Recorded → List Recorded
+unless_blank line = by line.speaker
+  where
+    by : Speaker → List Recorded
+    by Nobody = []
+    by Operator = line ∷ []
+    by (Tenant t) = line ∷ []
+    by Unknown = line ∷ []
+
+module _ (setting : Setting) where
+  -- what is recorded of a line of this text behind so many others, behind which stand the events of the past
+  abbrev pub recorded_line : List Event → ℕ → List ℕ → Recorded
+  recorded_line past n text = record {
+    number = number_behind n;
+    text = text;
+    speaker = speaker_of setting.config text;
+    reply = reply_to_line setting past text;
+    events = length (line_step setting past text).events;
+  }
+
+  -- what is recorded of lines of these texts behind others
+  abbrev pub recorded_from : List Event → ℕ → List (List ℕ) → List Recorded
+  recorded_from past n [] = []
+  recorded_from past n (text ∷ texts) = unless_blank (recorded_line past n text) ++ recorded_from (past_behind setting past text) (n + 1) texts
+
+  -- what is recorded of the lines of a script
+  abbrev pub recorded_of : List ℕ → List Recorded
+  recorded_of bytes = recorded_from [] 0 (texts_of (cut bytes))
+
+-- The host stands behind these events, which are those of the lines of these texts. Just they were recorded, the oldest first, and just
+-- these lines; and how many they are, and whether one is a tenant's, is noted.
+abbrev pub IsRecorded : Setting → HostStanding → ℕ → List Event → List RecordedLine → List (List ℕ) → List Event → Type 0
+IsRecorded setting host answered recorded lines texts past =
+    IsHostAfter setting host past × (recorded ≡ reverse past) × (past ≡ past_behind_all setting [] texts) × (map recorded_as lines ≡ recorded_from setting [] 0 texts)
+    × IsNoted setting answered (has_tenant lines) texts past

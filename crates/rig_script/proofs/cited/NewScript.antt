@@ -23,16 +23,16 @@ module _ (host : HostStanding) (config : Rig) (begins : (setting : Setting) → 
 
   -- what is written for the bytes that a reader is known to have
   pub written_from_start : {T E : Type 0} (r : Result T E) (known : Option (List ℕ)) (Written : List ℕ → Type 0)
-      → OnOk r (ForEachPastReading (λ setting past. IsHostAfter setting host past) known (λ setting past bytes. Written (script_from setting past (cut bytes))))
+      → OnOk r (ForEachPastReading (λ setting texts past. IsHostAfter setting host past) known (λ setting texts past bytes. Written (script_from setting past (cut bytes))))
       → OnOk r (ForNewHostReading config known (λ setting bytes. Written (script_text_of setting bytes)))
   written_from_start (Err e) known Written h = tt
   written_from_start (Ok x) None Written h = λ setting of. tt
-  written_from_start (Ok x) (Some bytes) Written h = λ setting of. h setting [] (starts setting of)
+  written_from_start (Ok x) (Some bytes) Written h = λ setting of. h setting [] [] (starts setting of)
 
   -- how it is broken off
   pub broken_from_start : {T : Type 0} (r : Result T ScriptFault) (known after : Option (List ℕ)) (Written : List ℕ → Type 0)
-      → IfErr r (λ fault. ForEachPastReading (λ setting past. IsHostAfter setting host past) known (AreBrokenOff after Written fault))
+      → IfErr r (λ fault. ForEachPastReading (λ setting texts past. IsHostAfter setting host past) known (λ setting texts past bytes. AreBrokenOff after Written fault setting past bytes))
       → IfErr r (λ fault. ForNewHostReading config known (IsScriptBrokenOff after Written fault))
   broken_from_start (Ok x) known after Written h = tt
   broken_from_start (Err fault) None after Written h = λ setting of. tt
-  broken_from_start (Err fault) (Some bytes) after Written h = λ setting of. inr (h setting [] (starts setting of))
+  broken_from_start (Err fault) (Some bytes) after Written h = λ setting of. inr (h setting [] [] (starts setting of))

@@ -1,17 +1,25 @@
-use Rattle.std.proofs.Common.{sym, ap, subst, ◌∙◌}
+use Rattle.std.proofs.Common.{◌≡◌, Err, sym, ap, subst, ◌∙◌}
+use Rattle.std.proofs.lemmas.Result.{err_from_is_err_and}
 use Rattle.rig_config.specs.Roster.{Rig}
-use Rattle.rig_retests.proofs.Quiet.{quiet_on}
+use Rattle.rig_retests.proofs.Noting.{noted_on}
 use Rattle.host_core.specs.HostStanding.{HostStanding}
 use Rattle.tenant_sources.specs.Links.{IsLinkTable, Links}
 use Rattle.rig_script.specs.cited.HostAnswers.{IsHostAfter}
+use Rattle.rig_script.specs.declared.faults.Unanswered.{Unanswered}
 use Rattle.rig_model.specs.Script.{past_behind, speaker_of}
 use Rattle.rig_retests.proofs.Following.{kept}
 use Rattle.rig_retests.proofs.Ticking.{table_goes_on, table_stays}
 use Rattle.rig_retests.proofs.tables.WatchedAnswers.answer.Goals as goal
 
+pub returns-in_err-answer : goal.returns-in_err-answer
+returns-in_err-answer c = λ setting texts past w.
+    let failed = err_from_is_err_and c.from_residual.result c.from_residual.ensures.1 in
+    let is : c.from_residual.result ≡ Err c.in_err-answer.field-0.0 = failed.1 ∙ ap (λ (f : Unanswered). Err f) failed.2 in
+    rw is (c.in_err-answer.ensures setting texts past w.0)
+
 pub returns-then-clock : goal.returns-then-clock
-returns-then-clock c = λ setting past w.
-    let done = c.in_ok-answer.ensures setting past w.0 in
+returns-then-clock c = λ setting texts past w.
+    let done = c.in_ok-answer.ensures setting texts past w.0 in
     let speaks = c.who_speaks-speaker.ensures ∙ ap (λ (r : Rig). speaker_of r c.args.line.now) (c.config.ensures ∙ w.0.stands.same_config) in (
       done.0,
       (
@@ -19,13 +27,14 @@ returns-then-clock c = λ setting past w.
         λ whole.
             table_stays setting past c.args.line.now c.args.self.now.host c.answer.new.self w.0 done.1 c.args.self.now.table (w.1 whole)
             (sym c.clock.ensures ∙ (c.if-clock.true ∙ c.clock-clock.ensures)),
-        quiet_on setting past c.args.line.now c.who_speaks-speaker.result c.args.self.now.notes.has_tenant c.note.new.self.has_tenant w.2 speaks c.note.ensures,
+        noted_on setting texts past c.args.line.now c.who_speaks-speaker.result c.args.self.now.notes.answered c.note.new.self.answered c.args.self.now.notes.has_tenant c.note.new.self.has_tenant w.2 speaks
+            c.note.ensures.answered c.note.ensures.tenant,
       ),
     )
 
 pub returns : goal.returns
-returns c = λ setting past w.
-    let done = c.in_ok-answer.ensures setting past w.0 in
+returns c = λ setting texts past w.
+    let done = c.in_ok-answer.ensures setting texts past w.0 in
     let speaks = c.who_speaks-speaker.ensures ∙ ap (λ (r : Rig). speaker_of r c.args.line.now) (c.config.ensures ∙ w.0.stands.same_config) in (
       done.0,
       (
@@ -38,6 +47,7 @@ returns c = λ setting past w.
             table_goes_on setting past c.args.line.now c.args.self.now.host c.answer.new.self w.0 done.1 c.args.self.now.table (w.1 is.0) list adds
             (λ e. c.if-clock.false (c.clock.ensures ∙ (e ∙ sym c.clock-clock.ensures)))),
         rw c.keep.ensures.notes
-            (quiet_on setting past c.args.line.now c.who_speaks-speaker.result c.args.self.now.notes.has_tenant c.note.new.self.has_tenant w.2 speaks c.note.ensures),
+            (noted_on setting texts past c.args.line.now c.who_speaks-speaker.result c.args.self.now.notes.answered c.note.new.self.answered c.args.self.now.notes.has_tenant c.note.new.self.has_tenant w.2 speaks
+            c.note.ensures.answered c.note.ensures.tenant),
       ),
     )
