@@ -1,3 +1,6 @@
 pub mod Cutting
 pub mod Deciding
+pub mod Showing
+pub mod Tellings
 pub mod Texts
+pub mod Wording

@@ -1,1 +1,4 @@
+pub mod inner
+pub mod LineTexts
 pub mod Scripts
+pub mod Told

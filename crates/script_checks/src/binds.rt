@@ -1,6 +1,6 @@
 //! Offers and binds of a script that never grant anything in it.
 
-use crate::line_texts::shown_in_line;
+use crate::line_texts::{LineEnd, shown_in_line};
 use crate::scripts::text_of_line;
 use giotto_check::Checked;
 use giotto_faults::findings::{Finding, Severity};
@@ -51,6 +51,11 @@ pub(crate) fn notes_of_binds(
             .get(one.number.saturating_sub(1))
             .copied()
             .unwrap_or(b"");
+        let end = LineEnd {
+            number: one.number,
+            line,
+            before: 0,
+        };
         let Some(line) = text_of_line(line) else {
             continue;
         };
@@ -64,7 +69,7 @@ pub(crate) fn notes_of_binds(
             rule: None,
             help: None,
         };
-        text.push_str(shown_in_line(alloc, file, one.number, line, &note)?.as_str())?;
+        text.push_str(shown_in_line(alloc, file, &end, &note)?.as_str())?;
     }
     Ok(text)
 }
