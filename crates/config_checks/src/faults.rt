@@ -102,11 +102,7 @@ fn finding_in(
 }
 
 // What is said of the fault of a document.
-fn words_of_fault(
-    alloc: Global,
-    document: &Value,
-    fault: ConfigFault,
-) -> Result<String, AllocError>
+fn words_of_fault(alloc: Global, document: &Value, fault: ConfigFault) -> Result<String, AllocError>
     ensures { IfOk result (λ words. IsFaultTold (view document.now) fault (string_bytes words)) }
 {
     match fault {
@@ -118,11 +114,7 @@ fn words_of_fault(
 }
 
 // A field isn't there.
-fn words_of_missing(
-    alloc: Global,
-    document: &Value,
-    at: FieldPlace,
-) -> Result<String, AllocError>
+fn words_of_missing(alloc: Global, document: &Value, at: FieldPlace) -> Result<String, AllocError>
     ensures { IfOk result (λ words. IsFaultTold (view document.now) (ConfigFault.Missing at) (string_bytes words)) }
 {
     let word = at.field.word();
@@ -131,11 +123,7 @@ fn words_of_missing(
 }
 
 // The value of a field is another than it may be.
-fn words_of_range(
-    alloc: Global,
-    document: &Value,
-    at: FieldPlace,
-) -> Result<String, AllocError>
+fn words_of_range(alloc: Global, document: &Value, at: FieldPlace) -> Result<String, AllocError>
     ensures { IfOk result (λ words. IsFaultTold (view document.now) (ConfigFault.Range at) (string_bytes words)) }
 {
     let word = at.field.word();
@@ -145,11 +133,7 @@ fn words_of_range(
 }
 
 // Whose field it is: the rig's, or a tenant's, by its name where it has one.
-fn owner_of(
-    alloc: Global,
-    document: &Value,
-    tenant: Option<TenantId>,
-) -> Result<String, AllocError>
+fn owner_of(alloc: Global, document: &Value, tenant: Option<TenantId>) -> Result<String, AllocError>
     ensures { IfOk result (λ owner. string_bytes owner ≡ owner_of (view document.now) tenant) }
 {
     let Some(tenant) = tenant else {

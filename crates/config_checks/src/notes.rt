@@ -65,7 +65,12 @@ fn add_note(
     if driver == reader {
         return Ok(());
     }
-    let message = words_of_line(alloc, line, name_at(config, reader), name_at(config, driver))?;
+    let message = words_of_line(
+        alloc,
+        line,
+        name_at(config, reader),
+        name_at(config, driver),
+    )?;
     let offset = offset_of(text, place_of(reader, Field::Reads));
     notes.push(finding(Severity::Note, offset, Field::Reads, message))?;
     Ok(())

@@ -22,11 +22,7 @@ pub(crate) fn summary_of(alloc: Global, file: &str, config: &Config) -> Result<S
     Ok(told)
 }
 
-fn add_tenants(
-    alloc: Global,
-    told: &mut String,
-    tenants: &[TenantConfig],
-) -> Result<(), AllocError>
+fn add_tenants(alloc: Global, told: &mut String, tenants: &[TenantConfig]) -> Result<(), AllocError>
     ensures { OnOk result (string_bytes told.new ≡ string_bytes told.old ++ flat_map rows_of_tenant tenants.now) }
 {
     for tenant in tenants {
@@ -50,7 +46,12 @@ fn rows_of_tenant(alloc: Global, tenant: &TenantConfig) -> Result<String, AllocE
     let lines = row_of_lines(alloc, tenant)?;
     let programs = row_of_programs(alloc, &tenant.budgets)?;
     let grants = row_of_grants(alloc, &tenant.budgets)?;
-    format!(in alloc; "{}{}{}", lines.as_str(), programs.as_str(), grants.as_str())
+    format!(in alloc;
+        "{}{}{}",
+        lines.as_str(),
+        programs.as_str(),
+        grants.as_str()
+    )
 }
 
 fn row_of_lines(alloc: Global, tenant: &TenantConfig) -> Result<String, AllocError>
@@ -81,7 +82,10 @@ fn row_of_grants(alloc: Global, budgets: &Budgets) -> Result<String, AllocError>
     let bounds = words_of_bounds(alloc, &budgets.bounds)?;
     format!(in alloc;
         "  trace {}, offers {}, binds {}, offers go from {}\n",
-        budgets.trace, budgets.offers, budgets.binds, bounds.as_str()
+        budgets.trace,
+        budgets.offers,
+        budgets.binds,
+        bounds.as_str()
     )
 }
 

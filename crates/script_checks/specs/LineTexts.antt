@@ -1,9 +1,8 @@
 -- In which words a fault of a line of a script is told, and where.
-use Rattle.std.specs.Prelude.{◌≡◌, ℕ, ◌+◌, ◌-◌, min, Bool, if◌then◌else◌, List, [], ◌∷◌, ◌++◌, length, Option, Some, None, codes, string_bytes}
+use Rattle.std.specs.Prelude.{◌≡◌, ℕ, ◌-◌, min, Bool, if◌then◌else◌, List, [], ◌∷◌, ◌++◌, length, Option, Some, None, codes, string_bytes}
 use Rattle.std.specs.Fmt.{decimal}
 use Rattle.giotto_faults.specs.Places.{place_of}
 use Rattle.giotto_faults.specs.declared.findings.Finding.{Finding}
-use Rattle.giotto_faults.specs.declared.findings.Severity.{Severity}
 use Rattle.giotto_faults.specs.declared.findings.Severity.TheVariants.{Error}
 use Rattle.giotto_faults.specs.declared.places.Place.{Place}
 use Rattle.giotto_tasks.specs.Names.{is_among, same_name}

@@ -105,15 +105,8 @@ fn bad_frame(alloc: Global, config: &Config, line: &str) -> Result<Finding, Allo
     ensures { IfOk result (IsErrorAt (offset_of_word line.now (behind_first_word line.now)) (words_of_frame config.now)) }
 {
     let lines = config.lines();
-    let message = format!(in alloc;
-        "a tick has a value for each rig line, and these are {lines}"
-    )?;
-    Ok(at_word(
-        line,
-        words::behind_first_word(line),
-        message,
-        None,
-    ))
+    let message = format!(in alloc; "a tick has a value for each rig line, and these are {lines}")?;
+    Ok(at_word(line, words::behind_first_word(line), message, None))
 }
 
 // Who may speak.
@@ -136,12 +129,7 @@ fn bad_command(alloc: Global, line: &str) -> Result<Finding, AllocError>
     let forms = forms_of(speaker, word);
     let message = words_of_command(alloc, speaker, word, forms.is_some())?;
     let help = help_on_forms(alloc, speaker, forms)?;
-    Ok(at_word(
-        line,
-        end_with_command(line, rest),
-        message,
-        Some(help),
-    ))
+    Ok(at_word(line, end_with_command(line, rest), message, Some(help)))
 }
 
 // What stands behind the first word, where there is a word, or else the line.

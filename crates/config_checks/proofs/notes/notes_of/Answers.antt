@@ -1,4 +1,4 @@
-use Rattle.std.proofs.Common.{◌≡◌, drop, get_or, length, map, subst}
+use Rattle.std.proofs.Common.{map}
 use Rattle.config_checks.proofs.Noting.{reader_further}
 use Rattle.config_checks.specs.Notes.{as_note, notes_on, told_of}
 use Rattle.config_checks.proofs.notes.notes_of.Goals as goal

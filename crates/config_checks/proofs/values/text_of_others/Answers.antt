@@ -1,4 +1,4 @@
-use Rattle.std.proofs.Common.{◌≡◌, ◌++◌, codes, rules, string_bytes}
+use Rattle.std.proofs.Common.{rules, string_bytes}
 use Rattle.config_checks.proofs.Valued.{value_further}
 use Rattle.config_checks.proofs.values.text_of_others.Goals as goal
 

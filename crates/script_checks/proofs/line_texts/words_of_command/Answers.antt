@@ -1,4 +1,4 @@
-use Rattle.std.proofs.Common.{◌≡◌, ◌∙◌, sym}
+use Rattle.std.proofs.Common.{◌∙◌, sym}
 use Rattle.script_checks.proofs.Wording.{known_word, unknown_word}
 use Rattle.script_checks.proofs.line_texts.words_of_command.Goals as goal
 
