@@ -1,5 +1,6 @@
 pub mod Cutting
 pub mod Deciding
+pub mod Granting
 pub mod Showing
 pub mod Tellings
 pub mod Texts

@@ -1,4 +1,4 @@
--- What is told of a script.
+-- What is found at the lines at fault of a script, and how it is shown.
 use Rattle.std.specs.Prelude.{◌≡◌, ◌≢◌, ◌⊎◌, ℕ, ◌+◌, ◌-◌, Bool, if◌then◌else◌, List, [], ◌∷◌, ◌++◌, length, get_or, slice_get, map, Option, Some, None, codes}
 use Rattle.std.specs.Fmt.{decimal}
 use Rattle.std.specs.List.{flat_map}
@@ -95,14 +95,3 @@ findings_of lines faulty = flat_map (λ (f : FaultyLine). findings_in f.number (
 abbrev pub AreShown : List ℕ → List (Place × Finding) → List ℕ → Type 0
 AreShown file [] text = text ≡ []
 AreShown file (found ∷ others) text = (part : List ℕ) × (later : List ℕ) × (text ≡ part ++ later) × BeginsWith (head_at found.1 file found.0) part × AreShown file others later
-
--- "FILE: lines LINES" and LF of a script of so many lines of which none is at fault
-abbrev pub told_first : List ℕ → ℕ → Bool → List ℕ
-told_first file lines good = if good then file ++ (codes ": lines " ++ (decimal lines ++ 10 ∷ [])) else []
-
--- what is told of a script: how many lines it has, where none is at fault; what was found at just the lines at fault, in their order; and
--- notes behind
-abbrev pub IsToldOf : Rig → List ℕ → List ℕ → List ℕ → Type 0
-IsToldOf config file bytes told = (faulty : List FaultyLine) × AreTold faulty (faults_of config bytes) × AreFound config (cut bytes) faulty
-    × ((shown : List ℕ) × (notes : List ℕ) × AreShown file (findings_of (cut bytes) faulty) shown
-    × (told ≡ told_first file (length (cut bytes)) (is_good (faults_of config bytes)) ++ (shown ++ notes)))

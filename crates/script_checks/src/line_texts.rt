@@ -292,8 +292,8 @@ fn offset_within(before: usize, offset: usize, len: usize) -> usize
     before.saturating_add(offset).min(len)
 }
 
-// The text of a line; none of it where it is no text.
-fn text_or_none(line: &[u8]) -> &str
+/// The text of a line; none of it where it is no text.
+pub(crate) fn text_or_none(line: &[u8]) -> &str
     ensures { result.now ≡ text_or_none line.now }
 {
     match text_of_line(line) {

@@ -6,10 +6,11 @@ ghost use Rattle.rig_model.specs.TextLines.{cut, text_of_line, without_last_cr};
 ghost use Rattle.tenant_lines.specs.CommandLine.{command_of_line};
 ghost use Rattle.tenant_lines.specs.Words.{behind_first_word};
 ghost use Rattle.script_checks.specs.Scripts.{AreTold, IsFound, fault_of_command, fault_of_line, fault_of_program, faults_from, faults_of, is_good};
-ghost use Rattle.script_checks.specs.Told.{AreFound, IsOneFinding, IsToldOf, TellCommand, TellLine, TellProgram, findings_in, findings_of, line_at, told_first};
+ghost use Rattle.script_checks.specs.Reports.{IsToldOf, told_first};
+ghost use Rattle.script_checks.specs.Told.{AreFound, IsOneFinding, TellCommand, TellLine, TellProgram, findings_in, findings_of, line_at};
 ghost use Rattle.script_checks.specs.inner.Telling.{Adds};
 
-use crate::binds::notes_of_binds;
+use crate::binds::add_notes;
 use crate::line_texts::{LineEnd, one_finding, shown_in_line};
 use crate::operators::fault_of_operator;
 use giotto_faults::findings::Finding;
@@ -79,7 +80,7 @@ pub fn check_script(
     let is_good = faulty.is_empty();
     let mut text = told_first(alloc, file, lines.len(), is_good)?;
     add_faults(alloc, &mut text, file, lines.as_slice(), faulty.as_slice())?;
-    text.push_str(notes_of_binds(alloc, file, lines.as_slice(), config)?.as_str())?;
+    add_notes(alloc, &mut text, file, lines.as_slice(), config)?;
     Ok(Report { is_good, text })
 }
 
@@ -115,8 +116,8 @@ fn add_faults(
     Ok(())
 }
 
-// The line with this number, counted from 1.
-fn line_at<'a>(lines: &[&'a [u8]], number: usize) -> &'a [u8]
+/// The line with this number, counted from 1.
+pub(crate) fn line_at<'a>(lines: &[&'a [u8]], number: usize) -> &'a [u8]
     ensures { result.now ≡ line_at (map (λ line. line.now) lines.now) number }
 {
     match lines.get(number.saturating_sub(1)) {
