@@ -1,5 +1,5 @@
 -- What is said of grants, one line on.
-use Rattle.std.proofs.Common.{◌≡◌, ◌+◌, ◌<◌, ◌∙◌, ℕ, List, [], ◌∷◌, ◌++◌, Option, Some, None, Result, Ok, Err, length, drop, get_or, refl, sym, ap, append_assoc}
+use Rattle.std.proofs.Common.{◌≡◌, ◌+◌, ◌<◌, ◌∙◌, ℕ, List, [], ◌∷◌, ◌++◌, Some, None, Result, Ok, Err, length, drop, get_or, refl, sym, ap, append_assoc}
 use Rattle.std.proofs.lemmas.List.{drop_more}
 use Rattle.giotto_reports.specs.Reports.{IsWellFormed}
 use Rattle.giotto_rules.specs.Rules.{first_broken_rule}
@@ -11,7 +11,6 @@ use Rattle.rig_model.specs.Admission.{program_of}
 use Rattle.tenant_lines.specs.declared.replies.Refusal.{Refusal}
 use Rattle.script_checks.specs.Grants.{loaded, said_from, said_in_line}
 use Rattle.script_checks.specs.declared.binds.Said.{Said}
-use Rattle.script_checks.specs.declared.binds.What.{What}
 use Rattle.script_checks.specs.declared.binds.What.TheVariants.{Program}
 
 pub loaded_program : (text : List ℕ) (p : GiottoProgram) → parsed text ≡ Ok p → first_broken_rule p ≡ None → Some (Program p) ≡ loaded text

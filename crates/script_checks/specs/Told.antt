@@ -1,6 +1,5 @@
 -- What is found at the lines at fault of a script, and how it is shown.
-use Rattle.std.specs.Prelude.{◌≡◌, ◌≢◌, ◌⊎◌, ℕ, ◌+◌, ◌-◌, Bool, if◌then◌else◌, List, [], ◌∷◌, ◌++◌, length, get_or, slice_get, map, Option, Some, None, codes}
-use Rattle.std.specs.Fmt.{decimal}
+use Rattle.std.specs.Prelude.{◌≡◌, ◌≢◌, ◌⊎◌, ℕ, ◌+◌, ◌-◌, List, [], ◌∷◌, ◌++◌, length, get_or, slice_get, map, Option, Some, None}
 use Rattle.std.specs.List.{flat_map}
 use Rattle.giotto_faults.specs.declared.findings.Finding.{Finding}
 use Rattle.giotto_faults.specs.declared.places.Place.{Place}
@@ -11,14 +10,12 @@ use Rattle.program_checks.specs.Programs.{TellOver}
 use Rattle.rig_config.specs.Roster.{Rig}
 use Rattle.rig_config.specs.declared.TenantConfig.{TenantConfig}
 use Rattle.rig_model.specs.Script.{speaker_of}
-use Rattle.rig_model.specs.TextLines.{cut}
 use Rattle.rig_model.specs.declared.speakers.Speaker.TheVariants.{Tenant}
 use Rattle.tenant_lines.specs.CommandLine.{command_of_line}
 use Rattle.tenant_lines.specs.Words.{behind_first_word}
 use Rattle.tenant_lines.specs.declared.commands.Command.{Command}
 use Rattle.tenant_lines.specs.declared.commands.Command.TheVariants.{Load, Replace, Start, Stop, ShowMode, ShowPort, ShowAll, Trace, Grants}
 use Rattle.script_checks.specs.LineTexts.{IsErrorAt, offset_of_fault, place_in, text_or_none, words_of_fault}
-use Rattle.script_checks.specs.Scripts.{AreTold, faults_of, is_good}
 use Rattle.script_checks.specs.declared.scripts.FaultyLine.{FaultyLine}
 use Rattle.script_checks.specs.declared.scripts.Found.{Found}
 use Rattle.script_checks.specs.declared.scripts.LineFault.{LineFault}

@@ -292,9 +292,7 @@ fn note_of_sensor(
             "the sensor `{name}` reads a rig line, so nothing is granted to it; declare it with `grant`"
         )?));
     }
-    Ok(Some(format!(in alloc;
-        "no program that this tenant loads here has a sensor `{name}`"
-    )?))
+    Ok(Some(format!(in alloc; "no program that this tenant loads here has a sensor `{name}`")?))
 }
 
 // Whether the supplier at a place loads a program with this actuator, and offers it to the tenant.

@@ -1,4 +1,4 @@
-use Rattle.std.proofs.Common.{◌≡◌, drop, map}
+use Rattle.std.proofs.Common.{◌≡◌, drop}
 use Rattle.std.specs.List.{list_any}
 use Rattle.script_checks.specs.Grants.{loads_sensor}
 use Rattle.script_checks.proofs.binds.has_sensor.Given as goal

@@ -1,4 +1,4 @@
-use Rattle.std.proofs.Common.{◌≡◌, ◌<◌, Bor, List, ℕ, [], arith, length, map}
+use Rattle.std.proofs.Common.{◌<◌, Bor, List, ℕ, [], arith, length, map}
 use Rattle.std.proofs.Math.ListN.{get_or-map, length-map}
 use Rattle.script_checks.proofs.Granting.{said_further}
 use Rattle.script_checks.specs.Grants.{said_from}
