@@ -7,7 +7,8 @@ use Rattle.rig_model.specs.declared.speakers.Speaker.TheVariants.{Tenant}
 use Rattle.tenant_lines.specs.CommandLine.{command_of_line}
 use Rattle.tenant_lines.specs.Words.{behind_first_word}
 use Rattle.script_checks.specs.LineTexts.{text_or_none}
-use Rattle.script_checks.specs.Told.{IsOneFinding, TellBrought, TellCommand, TellLine, TellProgram, of_fault, program_in}
+use Rattle.script_checks.specs.inner.Telling.{TellCommand}
+use Rattle.script_checks.specs.Told.{IsOneFinding, TellBrought, TellLine, TellProgram, of_fault, program_in}
 use Rattle.script_checks.specs.declared.scripts.Found.{Found}
 use Rattle.script_checks.specs.declared.scripts.LineFault.{LineFault}
 use Rattle.script_checks.specs.declared.scripts.LineFault.TheVariants.{TooLong, NotText, UnknownSpeaker, BadCommand, BadFrame, UnknownTenant, Program}

@@ -59,10 +59,6 @@ TellProgram tenant text program found =
 abbrev pub TellBrought : TenantConfig → List ℕ → Found → Type 0
 TellBrought tenant text found = (program : List ℕ) × (program_in (command_of_line (behind_first_word text)) ≡ Some program) × TellProgram tenant text program found
 
--- what was found at a tenant's line with this text tells of its fault
-abbrev pub TellCommand : Rig → TenantConfig → List ℕ → Found → Type 0
-TellCommand config tenant text found = of_fault found.fault (TellBrought tenant text found) (IsOneFinding config text found)
-
 -- what was found at a line tells of its fault; it is a tenant who brings a program
 abbrev pub TellLine : Rig → List ℕ → Found → Type 0
 TellLine config line found =

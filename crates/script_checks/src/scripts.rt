@@ -7,8 +7,8 @@ ghost use Rattle.tenant_lines.specs.CommandLine.{command_of_line};
 ghost use Rattle.tenant_lines.specs.Words.{behind_first_word};
 ghost use Rattle.script_checks.specs.Scripts.{AreTold, IsFound, fault_of_command, fault_of_line, fault_of_program, faults_from, faults_of, is_good};
 ghost use Rattle.script_checks.specs.Reports.{IsToldOf, told_first};
-ghost use Rattle.script_checks.specs.Told.{AreFound, IsOneFinding, TellCommand, TellLine, TellProgram, findings_in, findings_of, line_at};
-ghost use Rattle.script_checks.specs.inner.Telling.{Adds};
+ghost use Rattle.script_checks.specs.Told.{AreFound, IsOneFinding, TellLine, TellProgram, findings_in, findings_of, line_at};
+ghost use Rattle.script_checks.specs.inner.Telling.{Adds, TellCommand};
 
 use crate::binds::add_notes;
 use crate::line_texts::{LineEnd, one_finding, shown_in_line};
