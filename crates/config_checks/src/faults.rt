@@ -1,15 +1,27 @@
 //! The fault of a configuration, with the tenant and the value.
 
+ghost use Rattle.std.specs.Prelude.{◌≡◌, ◌+◌, ◌++◌, IfOk, IfSome, codes, None, map, option_map, string_bytes};
+ghost use Rattle.std.specs.Fmt.{decimal};
+ghost use Rattle.std.specs.List.{find, list_any};
+ghost use Rattle.std.specs.Option.{option_copied};
+ghost use Rattle.toml.specs.View.{items_view, view};
+ghost use Rattle.rig_config.specs.Reading.{count_of};
+ghost use Rattle.giotto_faults.specs.Findings.{BeginsWith};
+ghost use Rattle.config_checks.specs.Faults.{IsFaultTold, TellsFault, IsValueOf, has_one, is_same, items_in, name_of, owner_of, shared_in, tenant_at, tenants_in, value_at, values_in, values_of, words_of_shared};
+
 use crate::places::{offset_of, place_of};
 use crate::values::text_of_value;
 use giotto_faults::findings::{Finding, Severity};
 use rig_config::TenantId;
 use rig_config::faults::{ConfigFault, Field, FieldPlace};
 use std::alloc::{AllocError, Global};
-use toml::{Table, Value};
+use toml::Value;
 
 /// A finding about a field that stands at this offset.
-pub(crate) fn finding(severity: Severity, offset: usize, field: Field, message: String) -> Finding {
+pub(crate) fn finding(severity: Severity, offset: usize, field: Field, message: String) -> Finding
+    ensures severity { result.severity ≡ severity }
+    ensures message { result.message ≡ message }
+{
     Finding {
         severity,
         offset,
@@ -24,187 +36,371 @@ pub(crate) fn finding(severity: Severity, offset: usize, field: Field, message: 
 ///
 /// # Errors
 /// Want of memory.
-pub(crate) fn text_of_fault(
+pub(crate) fn finding_of(
     alloc: Global,
-    file: &str,
     text: &str,
     fault: ConfigFault,
-) -> Result<String, AllocError> {
-    let table = match toml::table_from_str(alloc, text) {
-        Ok(table) => table,
-        Err(error) if error.is_memory() => return Err(AllocError),
-        Err(error) => {
-            let offset = match error.span() {
-                Some(span) => span.start,
-                None => 0,
-            };
-            return not_toml(alloc, offset, error.message())?.shown(alloc, file, text);
-        }
-    };
-    let source = Source {
-        alloc,
-        text,
-        table: &table,
-    };
-    let finding = match fault {
-        ConfigFault::Missing(at) => source.missing(at)?,
-        ConfigFault::Range(at) => source.out_of_range(at)?,
-        ConfigFault::Twice(field) => source.twice(field)?,
-        ConfigFault::NotToml | ConfigFault::Memory => not_toml(alloc, 0, "")?,
-    };
-    finding.shown(alloc, file, text)
+) -> Result<Finding, AllocError>
+    ensures { IfOk result (TellsFault text.now fault) }
+{
+    match toml::table_from_str(alloc, text) {
+        Ok(table) => finding_in(alloc, text, &Value::Table(table), fault),
+        Err(error) if error.is_memory() => Err(AllocError),
+        Err(error) => not_toml(alloc, &error),
+    }
 }
 
-fn not_toml(alloc: Global, offset: usize, why: &str) -> Result<Finding, AllocError> {
+// What is told of a text that is no TOML.
+fn not_toml(alloc: Global, error: &toml::de::Error) -> Result<Finding, AllocError>
+    ensures severity { IfOk result (λ f. f.severity ≡ Severity.Error) }
+    ensures message { IfOk result (λ f. BeginsWith (codes "this is no TOML: ") (string_bytes f.message)) }
+{
     Ok(Finding {
         severity: Severity::Error,
-        offset,
+        offset: start_of(error),
         len: 0,
-        message: format!(in alloc; "this is no TOML: {why}")?,
+        message: words_of_no_toml(alloc, error.message())?,
         rule: None,
         help: None,
     })
 }
 
-// The text of a configuration, and what it is in TOML.
-#[derive(Clone, Copy)]
-struct Source<'a> {
+fn words_of_no_toml(alloc: Global, why: &str) -> Result<String, AllocError>
+    ensures { IfOk result (λ words. string_bytes words ≡ codes "this is no TOML: " ++ why.now) }
+{
+    format!(in alloc; "this is no TOML: {why}")
+}
+
+// Where a text is no TOML.
+fn start_of(error: &toml::de::Error) -> usize {
+    match error.span() {
+        Some(span) => span.start,
+        None => 0,
+    }
+}
+
+// What is told of the fault of a document.
+fn finding_in(
     alloc: Global,
-    text: &'a str,
-    table: &'a Table,
+    text: &str,
+    document: &Value,
+    fault: ConfigFault,
+) -> Result<Finding, AllocError>
+    ensures severity { IfOk result (λ f. f.severity ≡ Severity.Error) }
+    ensures words { IfOk result (λ f. IsFaultTold (view document.now) fault (string_bytes f.message)) }
+{
+    let message = words_of_fault(alloc, document, fault)?;
+    let help = help_on_fault(alloc, fault)?;
+    Ok(Finding {
+        severity: Severity::Error,
+        offset: offset_of_fault(text, document, fault),
+        len: len_of_fault(fault),
+        message,
+        rule: None,
+        help,
+    })
 }
 
-impl Source<'_> {
-    fn missing(&self, at: FieldPlace) -> Result<Finding, AllocError> {
-        let word = at.field.word();
-        let owner = self.owner(at)?;
-        self.told(
-            at,
-            format!(in self.alloc; "{} has no `{word}`", owner.as_str())?,
-        )
-    }
-
-    fn out_of_range(&self, at: FieldPlace) -> Result<Finding, AllocError> {
-        let word = at.field.word();
-        let owner = self.owner(at)?;
-        let value = self.value(at)?;
-        self.told(
-            at,
-            format!(in self.alloc; "`{word}` of {} is {}", owner.as_str(), value.as_str())?,
-        )
-    }
-
-    // A fault of a field, with what it may be.
-    fn told(&self, at: FieldPlace, message: String) -> Result<Finding, AllocError> {
-        let (word, may) = (at.field.word(), words_of_range(at.field));
-        let offset = offset_of(self.text, at);
-        let mut finding = finding(Severity::Error, offset, at.field, message);
-        finding.help = Some(format!(in self.alloc; "`{word}` is {may}")?);
-        Ok(finding)
-    }
-
-    // Whose field it is: the rig's, or a tenant's, by its name where it has one.
-    fn owner(&self, at: FieldPlace) -> Result<String, AllocError> {
-        let Some(tenant) = at.tenant else {
-            return String::from_str(self.alloc, "the rig");
-        };
-        let number = tenant.saturating_add(1);
-        match self.name_of(tenant) {
-            Some(name) => format!(in self.alloc; "the tenant `{name}`"),
-            None => format!(in self.alloc; "tenant {number}, counted from 1,"),
-        }
-    }
-
-    fn name_of(&self, tenant: TenantId) -> Option<&str> {
-        self.tenants().get(tenant)?.get("name")?.as_str()
-    }
-
-    fn tenants(&self) -> &[Value] {
-        match self.table.get("tenant") {
-            Some(value) => match value.as_array() {
-                Some(tenants) => tenants.as_slice(),
-                None => &[],
-            },
-            None => &[],
-        }
-    }
-
-    // The value of a field, as it is written; how many tenants there are where it is they.
-    fn value(&self, at: FieldPlace) -> Result<String, AllocError> {
-        let word = at.field.word();
-        let found = match at.tenant {
-            None => self.table.get(word),
-            Some(tenant) => match self.tenants().get(tenant) {
-                Some(fields) => fields.get(word),
-                None => None,
-            },
-        };
-        let Some(value) = found else {
-            return String::from_str(self.alloc, "missing");
-        };
-        match (at.field, value.as_array()) {
-            (Field::Tenant, Some(tenants)) => {
-                let count = tenants.len();
-                format!(in self.alloc; "an array of {count}")
-            }
-            _ => text_of_value(self.alloc, value),
-        }
-    }
-
-    // Two tenants with the same name, or who may drive the same line: what is told stands at the second of them.
-    fn twice(&self, field: Field) -> Result<Finding, AllocError> {
-        let alloc = self.alloc;
-        let mut before: Vec<&Value> = Vec::new(alloc);
-        for (place, tenant) in self.tenants().iter().enumerate() {
-            let values = values_of(tenant, field);
-            for value in values {
-                if before.iter().any(|other| is_same(other, value)) {
-                    let shared = text_of_value(alloc, value)?;
-                    let message = match field {
-                        Field::Name => format!(in alloc;
-                            "two tenants have the name {}",
-                            shared.as_str()
-                        )?,
-                        _ => format!(in alloc; "two tenants may drive line {}", shared.as_str())?,
-                    };
-                    let offset = offset_of(self.text, place_of(place, field));
-                    return Ok(finding(Severity::Error, offset, field, message));
-                }
-            }
-            for value in values {
-                before.push(value)?;
-            }
-        }
-        let word = field.word();
-        let message = format!(in alloc; "two tenants share a value of `{word}`")?;
-        Ok(finding(Severity::Error, 0, field, message))
+// What is said of the fault of a document.
+fn words_of_fault(alloc: Global, document: &Value, fault: ConfigFault) -> Result<String, AllocError>
+    ensures { IfOk result (λ words. IsFaultTold (view document.now) fault (string_bytes words)) }
+{
+    match fault {
+        ConfigFault::Missing(at) => words_of_missing(alloc, document, at),
+        ConfigFault::Range(at) => words_of_range(alloc, document, at),
+        ConfigFault::Twice(field) => words_of_twice(alloc, document, field),
+        ConfigFault::NotToml | ConfigFault::Memory => String::from_str(alloc, "this is no TOML"),
     }
 }
 
-// The values of a field: those of its array, or the one that it has.
-fn values_of(tenant: &Value, field: Field) -> &[Value] {
-    match tenant.get(field.word()) {
-        Some(value) => match value.as_array() {
-            Some(values) => values.as_slice(),
-            None => std::slice::from_ref(value),
+// A field isn't there.
+fn words_of_missing(alloc: Global, document: &Value, at: FieldPlace) -> Result<String, AllocError>
+    ensures { IfOk result (λ words. IsFaultTold (view document.now) (ConfigFault.Missing at) (string_bytes words)) }
+{
+    let word = at.field.word();
+    let owner = owner_of(alloc, document, at.tenant)?;
+    format!(in alloc; "{} has no `{word}`", owner.as_str())
+}
+
+// The value of a field is another than it may be.
+fn words_of_range(alloc: Global, document: &Value, at: FieldPlace) -> Result<String, AllocError>
+    ensures { IfOk result (λ words. IsFaultTold (view document.now) (ConfigFault.Range at) (string_bytes words)) }
+{
+    let word = at.field.word();
+    let owner = owner_of(alloc, document, at.tenant)?;
+    let value = text_at(alloc, document, at)?;
+    format!(in alloc; "`{word}` of {} is {}", owner.as_str(), value.as_str())
+}
+
+// Whose field it is: the rig's, or a tenant's, by its name where it has one.
+fn owner_of(alloc: Global, document: &Value, tenant: Option<TenantId>) -> Result<String, AllocError>
+    ensures { IfOk result (λ owner. string_bytes owner ≡ owner_of (view document.now) tenant) }
+{
+    let Some(tenant) = tenant else {
+        return String::from_str(alloc, "the rig");
+    };
+    match name_of(document, tenant) {
+        Some(name) => format!(in alloc; "the tenant `{name}`"),
+        None => counted(alloc, tenant),
+    }
+}
+
+// A tenant that has no name.
+fn counted(alloc: Global, tenant: TenantId) -> Result<String, AllocError>
+    ensures { IfOk result (λ owner. string_bytes owner ≡ codes "tenant " ++ (decimal (tenant + 1) ++ codes ", counted from 1,")) }
+{
+    let number = tenant as u128 + 1;
+    format!(in alloc; "tenant {number}, counted from 1,")
+}
+
+// The name of the tenant at a place, where it has one.
+fn name_of(document: &Value, tenant: TenantId) -> Option<&str>
+    ensures { option_copied result ≡ name_of (view document.now) tenant }
+{
+    match tenant_at(document, tenant) {
+        Some(fields) => match fields.get("name") {
+            Some(name) => name.as_str(),
+            None => None,
         },
-        None => &[],
+        None => None,
     }
 }
 
-// Whether both are the same text or the same number.
-fn is_same(one: &Value, other: &Value) -> bool {
-    if let (Some(one), Some(other)) = (one.as_str(), other.as_str()) {
-        return one == other;
+// The tenant at a place of a document.
+fn tenant_at(document: &Value, tenant: TenantId) -> Option<&Value>
+    ensures { option_map (λ fields. view fields.now) result ≡ tenant_at (view document.now) tenant }
+{
+    match document.get("tenant") {
+        Some(tenants) => tenants.get(tenant),
+        None => None,
     }
-    if let (Some(one), Some(other)) = (one.as_integer(), other.as_integer()) {
-        return one == other;
+}
+
+// The value of a field.
+fn value_at(document: &Value, at: FieldPlace) -> Option<&Value>
+    ensures { option_map (λ value. view value.now) result ≡ value_at (view document.now) at }
+{
+    let word = at.field.word();
+    match at.tenant {
+        None => document.get(word),
+        Some(tenant) => match tenant_at(document, tenant) {
+            Some(fields) => fields.get(word),
+            None => None,
+        },
+    }
+}
+
+// The value of a field, as it is written; how many values there are in an array of the rig's.
+fn text_at(alloc: Global, document: &Value, at: FieldPlace) -> Result<String, AllocError>
+    ensures { IfOk result (λ text. IfSome (value_at (view document.now) at) (λ value. IsValueOf at.tenant value (string_bytes text))) }
+{
+    match value_at(document, at) {
+        Some(value) => text_of_field(alloc, at.tenant, value),
+        None => String::from_str(alloc, "missing"),
+    }
+}
+
+fn text_of_field(
+    alloc: Global,
+    tenant: Option<TenantId>,
+    value: &Value,
+) -> Result<String, AllocError>
+    ensures { IfOk result (λ text. IsValueOf tenant (view value.now) (string_bytes text)) }
+{
+    match tenant {
+        Some(_) => text_of_value(alloc, value),
+        None => text_of_rig(alloc, value),
+    }
+}
+
+// The value of a field of the rig.
+fn text_of_rig(alloc: Global, value: &Value) -> Result<String, AllocError>
+    ensures { IfOk result (λ text. IsValueOf None (view value.now) (string_bytes text)) }
+{
+    match value {
+        Value::Array(values) => text_of_count(alloc, values.as_slice()),
+        _ => text_of_value(alloc, value),
+    }
+}
+
+// How many values there are.
+#[tactic(auto, using(crate::proofs::Listed::count_of_view))]
+fn text_of_count(alloc: Global, values: &[Value]) -> Result<String, AllocError>
+    ensures { IfOk result (λ text. string_bytes text ≡ codes "an array of " ++ decimal (count_of (items_view values.now))) }
+{
+    let count = values.len();
+    format!(in alloc; "an array of {count}")
+}
+
+// Two tenants have the same name, or may drive the same line.
+fn words_of_twice(alloc: Global, document: &Value, field: Field) -> Result<String, AllocError>
+    ensures { IfOk result (λ words. IsFaultTold (view document.now) (ConfigFault.Twice field) (string_bytes words)) }
+{
+    let Some(shared) = shared_in(document, field) else {
+        return String::from_str(alloc, "two tenants share a value");
+    };
+    let value = text_of_value(alloc, shared.value)?;
+    words_of_shared(alloc, field, value.as_str())
+}
+
+fn words_of_shared(alloc: Global, field: Field, value: &str) -> Result<String, AllocError>
+    ensures { IfOk result (λ words. string_bytes words ≡ words_of_shared field value.now) }
+{
+    match field {
+        Field::Name => format!(in alloc; "two tenants have the name {value}"),
+        _ => format!(in alloc; "two tenants may drive line {value}"),
+    }
+}
+
+// A value that a tenant has and one before it too, and the place of the later one.
+#[derive(Clone, Copy)]
+struct Shared<'a> {
+    tenant: TenantId,
+    value: &'a Value,
+}
+
+// The first such value of this field.
+fn shared_in(document: &Value, field: Field) -> Option<Shared>
+    ensures { option_map (λ shared. view shared.value.now) result ≡ shared_in field (view document.now) }
+{
+    let tenants = tenants_in(document);
+    for (place, tenant) in tenants.iter().enumerate() {
+        if let Some(value) = shared_with(&tenants[..place], tenant, field) {
+            return Some(Shared {
+                tenant: place,
+                value,
+            });
+        }
+    }
+    None
+}
+
+// The first value of a tenant's field that one of these has too.
+fn shared_with<'a>(before: &[Value], tenant: &'a Value, field: Field) -> Option<&'a Value>
+    ensures { option_map (λ value. view value.now) result ≡ find (has_one field (map view before.now)) (values_in field (view tenant.now)) }
+{
+    first_in(before, values_in(tenant, field), field)
+}
+
+// The first of these values that one of these tenants has in this field.
+fn first_in<'a>(tenants: &[Value], values: &'a [Value], field: Field) -> Option<&'a Value>
+    ensures { option_map (λ value. view value.now) result ≡ find (has_one field (map view tenants.now)) (map view values.now) }
+{
+    for value in values {
+        if has_one(tenants, field, value) {
+            return Some(value);
+        }
+    }
+    None
+}
+
+// Whether one of these tenants has this value of a field.
+fn has_one(tenants: &[Value], field: Field, value: &Value) -> bool
+    ensures { result ≡ has_one field (map view tenants.now) (view value.now) }
+{
+    for tenant in tenants {
+        if is_among(values_in(tenant, field), value) {
+            return true;
+        }
     }
     false
 }
 
+// Whether a value is among these.
+fn is_among(values: &[Value], value: &Value) -> bool
+    ensures { result ≡ list_any (is_same (view value.now)) (map view values.now) }
+{
+    for other in values {
+        if is_same(value, other) {
+            return true;
+        }
+    }
+    false
+}
+
+// The tenants of a document.
+fn tenants_in(document: &Value) -> &[Value]
+    ensures { map view result.now ≡ tenants_in (view document.now) }
+{
+    match document.get("tenant") {
+        Some(value) => items_in(value),
+        None => &[],
+    }
+}
+
+// The values of an array; none of any other value.
+fn items_in(value: &Value) -> &[Value]
+    ensures { map view result.now ≡ items_in (view value.now) }
+{
+    match value {
+        Value::Array(values) => values.as_slice(),
+        _ => &[],
+    }
+}
+
+// The values of a field: those of its array, or the one that it has.
+fn values_in(tenant: &Value, field: Field) -> &[Value]
+    ensures { map view result.now ≡ values_in field (view tenant.now) }
+{
+    match tenant.get(field.word()) {
+        Some(value) => values_of(value),
+        None => &[],
+    }
+}
+
+fn values_of(value: &Value) -> &[Value]
+    ensures { map view result.now ≡ values_of (view value.now) }
+{
+    match value {
+        Value::Array(values) => values.as_slice(),
+        _ => std::slice::from_ref(value),
+    }
+}
+
+// Whether both are the same text or the same number.
+fn is_same(one: &Value, other: &Value) -> bool
+    ensures { result ≡ is_same (view one.now) (view other.now) }
+{
+    match (one, other) {
+        (Value::String(one), Value::String(other)) => one.as_str() == other.as_str(),
+        (Value::Integer(one), Value::Integer(other)) => *one == *other,
+        _ => false,
+    }
+}
+
+// Where the fault of a document stands in its text.
+fn offset_of_fault(text: &str, document: &Value, fault: ConfigFault) -> usize {
+    match fault {
+        ConfigFault::Missing(at) | ConfigFault::Range(at) => offset_of(text, at),
+        ConfigFault::Twice(field) => match shared_in(document, field) {
+            Some(shared) => offset_of(text, place_of(shared.tenant, field)),
+            None => 0,
+        },
+        ConfigFault::NotToml | ConfigFault::Memory => 0,
+    }
+}
+
+// How many bytes of the text the fault is about.
+fn len_of_fault(fault: ConfigFault) -> usize {
+    match fault.field() {
+        Some(field) => field.word().len(),
+        None => 0,
+    }
+}
+
+// What the field may be.
+fn help_on_fault(alloc: Global, fault: ConfigFault) -> Result<Option<String>, AllocError> {
+    match fault {
+        ConfigFault::Missing(at) | ConfigFault::Range(at) => {
+            let (word, may) = (at.field.word(), words_of_field(at.field));
+            Ok(Some(format!(in alloc; "`{word}` is {may}")?))
+        }
+        ConfigFault::Twice(_) | ConfigFault::NotToml | ConfigFault::Memory => Ok(None),
+    }
+}
+
 // What a field may be.
-fn words_of_range(field: Field) -> &'static str {
+fn words_of_field(field: Field) -> &'static str {
     match field {
         Field::Version => "1 or 2",
         Field::Lines => "1 to 64",

@@ -1,5 +1,5 @@
 -- The lines at fault, one line on.
-use Rattle.std.proofs.Common.{◌≡◌, ◌+◌, ◌<◌, ◌∙◌, ℕ, List, [], ◌∷◌, ◌++◌, Option, Some, None, Result, Ok, Err, length, drop, get_or, slice_get, map, refl, sym, ap, append_assoc}
+use Rattle.std.proofs.Common.{◌≡◌, ◌+◌, ◌-◌, ◌<◌, ◌==◌, ◌∙◌, ℕ, Bool, true, false, if◌then◌else◌, List, [], ◌∷◌, ◌++◌, Option, Some, None, IfSome, is_some, Result, Ok, Err, length, drop, get_or, slice_get, map, refl, sym, ap, subst, append_assoc, arith}
 use Rattle.std.proofs.Common.{Bor}
 use Rattle.std.proofs.lemmas.Bool.{ltb-false, ltb-true}
 use Rattle.std.proofs.lemmas.List.{drop_more, map-append}
@@ -11,9 +11,9 @@ use Rattle.giotto_text.specs.Program.{GiottoProgram}
 use Rattle.program_checks.proofs.cited.WellFormed.{program_of_text, text_of_program}
 use Rattle.giotto_rules.specs.Rules.{first_broken_rule}
 use Rattle.giotto_text.specs.Parsing.{parsed}
-use Rattle.rig_config.specs.Roster.{Rig}
+use Rattle.rig_config.specs.Roster.{Rig, place_of}
 use Rattle.rig_config.specs.declared.TenantConfig.{TenantConfig}
-use Rattle.rig_model.specs.Script.{speaker_of}
+use Rattle.rig_model.specs.Script.{OperatorLine, tick, work, work_of, line_values, speaker_of}
 use Rattle.rig_model.specs.TextLines.{text_of_line}
 use Rattle.rig_model.specs.declared.speakers.Speaker.TheVariants.{Tenant}
 use Rattle.tenant_lines.specs.CommandLine.{command_of_line}
@@ -24,8 +24,10 @@ use Rattle.tenant_lines.specs.declared.replies.Budget.{Budget}
 use Rattle.tenant_lines.specs.declared.replies.Refusal.{Refusal}
 use Rattle.script_checks.specs.declared.scripts.FaultyLine.{FaultyLine}
 use Rattle.script_checks.specs.declared.scripts.LineFault.{LineFault}
-use Rattle.script_checks.specs.declared.scripts.LineFault.TheVariants.{Program}
-use Rattle.script_checks.specs.Scripts.{fault_of_command, fault_of_line, fault_of_program, faults_from, told_of}
+use Rattle.script_checks.specs.declared.scripts.LineFault.TheVariants.{BadFrame, UnknownTenant, Program}
+use Rattle.script_checks.specs.declared.scripts.Found.{Found}
+use Rattle.script_checks.specs.Scripts.{fault_of_command, fault_of_line, fault_of_operator, fault_of_program, faults_from, told_of}
+use Rattle.script_checks.specs.Told.{AreFound, TellLine, line_at}
 
 module _ (config : Rig) (lines : List (List ℕ)) (place : ℕ) (there : place < length lines) where
   abbrev pub line : List ℕ
@@ -51,6 +53,34 @@ module _ (config : Rig) (lines : List (List ℕ)) (place : ℕ) (there : place <
       let here : faults_from config (place + 1) (drop place lines) ≡ told_of faulty ∷ later = rw (front, is, told) refl in
       let more : map told_of after ≡ map told_of before ++ told_of faulty ∷ [] = ap (map told_of) grown ∙ map-append told_of before (faulty ∷ []) in
       ap (λ l. l ++ later) more ∙ append_assoc (map told_of before) (told_of faulty ∷ []) later ∙ (sym (ap (λ l. map told_of before ++ l) here) ∙ h)
+
+-- what was found tells of the faults, and of one more
+found_more : (config : Rig) (lines : List (List ℕ)) (fs : List FaultyLine) (f : FaultyLine) → AreFound config lines fs → TellLine config (line_at lines f.number) f.found → AreFound config lines (fs ++ f ∷ [])
+found_more config lines [] f are tells = (tells, are)
+found_more config lines (g ∷ gs) f are tells = (are.0, found_more config lines gs f are.1 tells)
+
+pub told_further : (config : Rig) (lines : List (List ℕ)) (place : ℕ) (before after : List FaultyLine) (faulty : FaultyLine) (line : List ℕ) {found : Option Found} → get_or lines place [] ≡ line
+    → IfSome found (TellLine config line) → found ≡ Some faulty.found → faulty.number ≡ place + 1 → after ≡ before ++ faulty ∷ [] → AreFound config lines before → AreFound config lines after
+told_further config lines place before after faulty line is tells some number grown are =
+    let at : line ≡ line_at lines faulty.number = sym is ∙ ap (λ (n : ℕ). get_or lines n []) (let n : place ≡ faulty.number - 1 = omega (arith, number) in n) in
+    let told : TellLine config line faulty.found = subst (λ (o : Option Found). IfSome o (TellLine config line)) some tells in
+    subst (λ (fs : List FaultyLine). AreFound config lines fs) (sym grown) (found_more config lines before faulty are (subst (λ (l : List ℕ). TellLine config l faulty.found) at told))
+
+-- an operator's line is at fault for no program
+pub operator_other : (config : Rig) (line : Option OperatorLine) → fault_of_operator config line ≡ Some Program → ⊥
+operator_other config None e = absurd (cc)
+operator_other config (Some (tick values)) e = by (length values == config.lines) e
+  where
+    by : (b : Bool) → (if b then None else Some BadFrame) ≡ Some Program → ⊥
+    by true is = absurd (cc)
+    by false is = absurd (cc)
+operator_other config (Some work) e = absurd (cc)
+operator_other config (Some (work_of name)) e = by (is_some (place_of config name)) e
+  where
+    by : (b : Bool) → (if b then None else Some UnknownTenant) ≡ Some Program → ⊥
+    by true is = absurd (cc)
+    by false is = absurd (cc)
+operator_other config (Some line_values) e = absurd (cc)
 
 -- a text that isn't well-formed
 pub refused_text : (budgets : Budgets) (text : List ℕ) → (IsWellFormed text → ⊥) → Some Program ≡ fault_of_program budgets text

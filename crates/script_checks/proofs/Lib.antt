@@ -1,3 +1,7 @@
 pub mod Cutting
 pub mod Deciding
+pub mod Granting
+pub mod Showing
+pub mod Tellings
 pub mod Texts
+pub mod Wording

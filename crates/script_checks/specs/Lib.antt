@@ -1,1 +1,6 @@
+pub mod Grants
+pub mod inner
+pub mod LineTexts
+pub mod Reports
 pub mod Scripts
+pub mod Told

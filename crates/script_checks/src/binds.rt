@@ -1,12 +1,23 @@
 //! Offers and binds of a script that never grant anything in it.
 
-use crate::line_texts::shown_in_line;
-use crate::scripts::text_of_line;
+ghost use Rattle.std.specs.Prelude.{◌≡◌, ◌++◌, ◌∷◌, [], IfOk, OnOk, map, option_map, string_bytes};
+ghost use Rattle.std.specs.List.{flat_map, list_any};
+ghost use Rattle.giotto_text.specs.ProgramTrees.{actuator_of, sensor_of};
+ghost use Rattle.rig_config.specs.Roster.{name_at, place_of};
+ghost use Rattle.tenant_lines.specs.CommandLine.{command_of_line};
+ghost use Rattle.tenant_lines.specs.Words.{behind_first_word};
+ghost use Rattle.script_checks.specs.LineTexts.{offset_of_word, text_or_none};
+ghost use Rattle.script_checks.specs.Grants.{drives, loaded, loads_actuator, loads_sensor, note_of, note_of_bind, note_of_offer, note_of_sensor, note_of_supplier, note_on, notes_of, offers, place_of_note, said_from, said_in_line, takes, what_of, words_of_no_actuator, words_of_no_offer, words_of_nobody};
+ghost use Rattle.script_checks.specs.Told.{line_at};
+ghost use Rattle.script_checks.specs.inner.Telling.{AddsNotes};
+
+use crate::line_texts::{LineEnd, offset_of_word, shown_in_line, text_or_none};
+use crate::scripts::{line_at, text_of_line};
 use giotto_check::Checked;
 use giotto_faults::findings::{Finding, Severity};
 use giotto_reports::{Examined, examine};
 use giotto_tasks::names::Name;
-use giotto_text::programs::Source;
+use giotto_text::programs::{Actuator, Program, Sensor, Source};
 use rig_config::{Config, TenantId};
 use script_speakers::{Speaker, who_speaks};
 use std::alloc::{AllocError, Global};
@@ -15,93 +26,188 @@ use tenant_lines::commands::Command;
 use tenant_lines::grant_lines::GrantCommand;
 use tenant_lines::words;
 
-// A command of a script, with its tenant and the number of its line.
+/// A command of a script, with its tenant and the number of its line.
 #[derive(Drop)]
-struct Said {
+pub(crate) struct Said {
     tenant: TenantId,
     number: usize,
     what: What,
 }
 
-// What a command has to do with grants.
+/// What a command has to do with grants.
 #[derive(Drop)]
-enum What {
+pub(crate) enum What {
     Program(Checked),
     Grants(GrantCommand),
 }
 
-/// A note for each `bind` of these lines that grants nothing in them, and for each `offer` and `bind` to or from nobody, with the line's
-/// number.
+/// Adds a note for each `bind` of these lines that grants nothing in them, and for each `offer` and `bind` to or from nobody, with the
+/// line's number.
 ///
 /// # Errors
 /// Want of memory.
-pub(crate) fn notes_of_binds(
+pub(crate) fn add_notes(
     alloc: Global,
+    text: &mut String,
     file: &str,
     lines: &[&[u8]],
     config: &Config,
-) -> Result<String, AllocError> {
+) -> Result<(), AllocError>
+    ensures { OnOk result (AddsNotes file.now (notes_of config.now (map (λ line. line.now) lines.now)) (string_bytes text.old) (string_bytes text.new)) }
+{
     let said = said_in(alloc, lines, config)?;
-    let mut text = String::new(alloc);
-    for one in &said {
-        let Some(message) = note_of(alloc, config, &said, one)? else {
-            continue;
-        };
-        let line = lines
-            .get(one.number.saturating_sub(1))
-            .copied()
-            .unwrap_or(b"");
-        let Some(line) = text_of_line(line) else {
-            continue;
-        };
-        let behind = words::behind_first_word(line);
-        let offset = line.len().saturating_sub(behind.trim_start().len());
-        let note = Finding {
-            severity: Severity::Note,
-            offset,
-            len: behind.trim_start().trim_end().len(),
-            message,
-            rule: None,
-            help: None,
-        };
-        text.push_str(shown_in_line(alloc, file, one.number, line, &note)?.as_str())?;
+    let script = Script {
+        config,
+        lines,
+        said: said.as_slice(),
+    };
+    add_notes_on(alloc, text, file, &script, script.said)
+}
+
+// The lines of a script, and what is said of grants in them.
+#[derive(Clone, Copy)]
+struct Script<'a> {
+    config: &'a Config,
+    lines: &'a [&'a [u8]],
+    said: &'a [Said],
+}
+
+// Adds the notes on these commands.
+fn add_notes_on(
+    alloc: Global,
+    text: &mut String,
+    file: &str,
+    script: &Script,
+    commands: &[Said],
+) -> Result<(), AllocError>
+    ensures { OnOk result (AddsNotes file.now (flat_map (note_on script.now.config.now (map (λ line. line.now) script.now.lines.now) script.now.said.now) commands.now) (string_bytes text.old) (string_bytes text.new)) }
+{
+    for one in commands {
+        add_note(alloc, text, file, script, one)?;
     }
-    Ok(text)
+    Ok(())
+}
+
+// Adds the note on a command, if there is one.
+fn add_note(
+    alloc: Global,
+    text: &mut String,
+    file: &str,
+    script: &Script,
+    one: &Said,
+) -> Result<(), AllocError>
+    ensures { OnOk result (AddsNotes file.now (note_on script.now.config.now (map (λ line. line.now) script.now.lines.now) script.now.said.now one.now) (string_bytes text.old) (string_bytes text.new)) }
+{
+    match note_of(alloc, script.config, script.said, one)? {
+        Some(message) => {
+            let line = line_at(script.lines, one.number);
+            add_note_at(alloc, text, file, one.number, line, message)
+        }
+        None => Ok(()),
+    }
+}
+
+// Adds a note at the command of a line with this number.
+fn add_note_at(
+    alloc: Global,
+    text: &mut String,
+    file: &str,
+    number: usize,
+    line: &[u8],
+    message: String,
+) -> Result<(), AllocError>
+    ensures { OnOk result (AddsNotes file.now ((place_of_note number line.now, (Severity.Note, string_bytes message)) ∷ []) (string_bytes text.old) (string_bytes text.new)) }
+{
+    let end = LineEnd {
+        number,
+        line,
+        before: 0,
+    };
+    let note = note_at(line, message);
+    let shown = shown_in_line(alloc, file, &end, &note)?;
+    text.push_str(shown.as_str())?;
+    Ok(())
+}
+
+// A note at the command of a line.
+fn note_at(line: &[u8], message: String) -> Finding
+    ensures severity { result.severity ≡ Severity.Note }
+    ensures offset { result.offset ≡ offset_of_word (text_or_none line.now) (behind_first_word (text_or_none line.now)) }
+    ensures message { result.message ≡ message }
+{
+    let text = text_or_none(line);
+    let command = words::behind_first_word(text);
+    Finding {
+        severity: Severity::Note,
+        offset: offset_of_word(text, command),
+        len: command.trim().len(),
+        message,
+        rule: None,
+        help: None,
+    }
 }
 
 // The commands of these lines that load programs or are about grants, each whole.
-fn said_in(alloc: Global, lines: &[&[u8]], config: &Config) -> Result<Vec<Said>, AllocError> {
+fn said_in(alloc: Global, lines: &[&[u8]], config: &Config) -> Result<Vec<Said>, AllocError>
+    ensures { IfOk result (λ said. said.items ≡ said_from config.now 1 (map (λ line. line.now) lines.now)) }
+{
     let mut said = Vec::new(alloc);
     for (place, line) in lines.iter().enumerate() {
-        let Some(text) = text_of_line(line) else {
-            continue;
-        };
-        if let Speaker::Tenant(tenant) = who_speaks(config, text) {
-            if let Some(what) = what_of(alloc, words::behind_first_word(text))? {
-                said.push(Said {
-                    tenant,
-                    number: place.saturating_add(1),
-                    what,
-                })?;
-            }
-        }
+        add_said(alloc, &mut said, config, place + 1, line)?;
     }
     Ok(said)
 }
 
-// What a command has to do with grants, if anything.
-fn what_of(alloc: Global, line: &str) -> Result<Option<What>, AllocError> {
-    match command_of(alloc, line) {
-        Ok(Command::Load(text)) | Ok(Command::Replace(text)) => {
-            match examine(alloc, text.as_str(), text.as_str())? {
-                Examined::Good(checked) => Ok(Some(What::Program(checked))),
-                Examined::Faulty(_) => Ok(None),
-            }
+// Adds the command of a line, if it is a tenant's and has to do with grants.
+fn add_said(
+    alloc: Global,
+    said: &mut Vec<Said>,
+    config: &Config,
+    number: usize,
+    line: &[u8],
+) -> Result<(), AllocError>
+    ensures { OnOk result (said.new.items ≡ said.old.items ++ said_in_line config.now number line.now) }
+{
+    let Some(text) = text_of_line(line) else {
+        return Ok(());
+    };
+    let Speaker::Tenant(tenant) = who_speaks(config, text) else {
+        return Ok(());
+    };
+    match what_of(alloc, words::behind_first_word(text))? {
+        Some(what) => {
+            said.push(Said {
+                tenant,
+                number,
+                what,
+            })?;
+            Ok(())
         }
+        None => Ok(()),
+    }
+}
+
+// What a command has to do with grants, if anything.
+fn what_of(alloc: Global, line: &str) -> Result<Option<What>, AllocError>
+    ensures { IfOk result (λ what. what ≡ what_of (command_of_line line.now)) }
+{
+    match command_of(alloc, line) {
+        Ok(Command::Load(text)) | Ok(Command::Replace(text)) => loaded(alloc, text.as_str()),
         Ok(Command::Grants(command)) => Ok(Some(What::Grants(command))),
         Ok(_) => Ok(None),
         Err(LineFault::BadCommand) => Ok(None),
         Err(LineFault::Memory) => Err(AllocError),
+    }
+}
+
+// The well-formed program of a text, if it spells one.
+#[tactic(auto, using(crate::proofs::Granting::loaded_program, crate::proofs::Granting::nothing_loaded))]
+fn loaded(alloc: Global, text: &str) -> Result<Option<What>, AllocError>
+    ensures { IfOk result (λ what. what ≡ loaded text.now) }
+{
+    match examine(alloc, text, text)? {
+        Examined::Good(checked) => Ok(Some(What::Program(checked))),
+        Examined::Faulty(_) => Ok(None),
     }
 }
 
@@ -111,35 +217,60 @@ fn note_of(
     config: &Config,
     said: &[Said],
     one: &Said,
-) -> Result<Option<String>, AllocError> {
+) -> Result<Option<String>, AllocError>
+    ensures { IfOk result (λ note. option_map string_bytes note ≡ note_of config.now said.now one.now) }
+{
     match &one.what {
-        What::Grants(GrantCommand::Offer { tenant, .. }) => nobody(alloc, config, tenant),
+        What::Grants(GrantCommand::Offer { tenant, .. }) => note_of_offer(alloc, config, tenant),
         What::Grants(
             GrantCommand::Bind {
                 sensor,
                 tenant,
                 actuator,
             },
-        ) => {
-            if let Some(note) = nobody(alloc, config, tenant)? {
-                return Ok(Some(note));
-            }
-            if let Some(note) = note_of_sensor(alloc, said, one.tenant, sensor)? {
-                return Ok(Some(note));
-            }
-            note_of_supplier(alloc, config, said, one.tenant, (tenant, actuator))
-        }
+        ) => note_of_bind(alloc, config, said, one.tenant, (sensor, tenant, actuator)),
         _ => Ok(None),
     }
 }
 
-fn nobody(alloc: Global, config: &Config, tenant: &Name) -> Result<Option<String>, AllocError> {
-    let name = tenant.as_str();
-    match config.place_of(name) {
+// An offer to a tenant of this name.
+fn note_of_offer(
+    alloc: Global,
+    config: &Config,
+    tenant: &Name,
+) -> Result<Option<String>, AllocError>
+    ensures { IfOk result (λ note. option_map string_bytes note ≡ note_of_offer tenant.now (place_of config.now tenant.now)) }
+{
+    match config.place_of(tenant.as_str()) {
         Some(_) => Ok(None),
-        None => Ok(Some(format!(in alloc;
-            "no tenant has the name `{name}`, so nothing is granted"
-        )?)),
+        None => Ok(Some(words_of_nobody(alloc, tenant)?)),
+    }
+}
+
+fn words_of_nobody(alloc: Global, tenant: &Name) -> Result<String, AllocError>
+    ensures { IfOk result (λ words. string_bytes words ≡ words_of_nobody tenant.now) }
+{
+    let name = tenant.as_str();
+    format!(in alloc; "no tenant has the name `{name}`, so nothing is granted")
+}
+
+// A bind of a tenant, of a sensor to a tenant's actuator.
+fn note_of_bind(
+    alloc: Global,
+    config: &Config,
+    said: &[Said],
+    tenant: TenantId,
+    bind: (&Name, &Name, &Name),
+) -> Result<Option<String>, AllocError>
+    ensures { IfOk result (λ note. option_map string_bytes note ≡ note_of_bind config.now said.now tenant bind.entry.0.now bind.entry.1.now bind.entry.2.now (place_of config.now bind.entry.1.now)) }
+{
+    let (sensor, supplier, actuator) = bind;
+    let Some(place) = config.place_of(supplier.as_str()) else {
+        return Ok(Some(words_of_nobody(alloc, supplier)?));
+    };
+    match note_of_sensor(alloc, said, tenant, sensor)? {
+        Some(note) => Ok(Some(note)),
+        None => note_of_supplier(alloc, config, said, tenant, (place, actuator)),
     }
 }
 
@@ -149,81 +280,178 @@ fn note_of_sensor(
     said: &[Said],
     tenant: TenantId,
     sensor: &Name,
-) -> Result<Option<String>, AllocError> {
-    let name = sensor.as_str();
-    let mut reads_line = false;
-    for one in said {
-        if let What::Program(checked) = &one.what {
-            for declared in checked.program().sensors() {
-                if one.tenant == tenant && declared.name == *sensor {
-                    match declared.source {
-                        Source::Grant => return Ok(None),
-                        Source::Line(_) => reads_line = true,
-                    }
-                }
-            }
-        }
+) -> Result<Option<String>, AllocError>
+    ensures { IfOk result (λ note. option_map string_bytes note ≡ note_of_sensor said.now tenant sensor.now) }
+{
+    if has_sensor(said, true, tenant, sensor) {
+        return Ok(None);
     }
-    let note = if reads_line {
-        format!(in alloc;
+    let name = sensor.as_str();
+    if has_sensor(said, false, tenant, sensor) {
+        return Ok(Some(format!(in alloc;
             "the sensor `{name}` reads a rig line, so nothing is granted to it; declare it with `grant`"
-        )?
-    } else {
-        format!(in alloc; "no program that this tenant loads here has a sensor `{name}`")?
-    };
-    Ok(Some(note))
+        )?));
+    }
+    Ok(Some(format!(in alloc; "no program that this tenant loads here has a sensor `{name}`")?))
 }
 
-// Whether the supplier, by its name, loads a program with this actuator, and offers it to the tenant.
+// Whether the supplier at a place loads a program with this actuator, and offers it to the tenant.
 fn note_of_supplier(
     alloc: Global,
     config: &Config,
     said: &[Said],
     tenant: TenantId,
-    port: (&Name, &Name),
-) -> Result<Option<String>, AllocError> {
-    let (supplier, actuator) = (port.0.as_str(), port.1.as_str());
-    let place = config.place_of(supplier);
-    let has_actuator = said
-        .iter()
-        .any(|one| Some(one.tenant) == place && drives(one, port.1));
-    if !has_actuator {
-        return Ok(Some(format!(in alloc;
-            "no program that `{supplier}` loads here has an actuator `{actuator}`"
-        )?));
+    port: (TenantId, &Name),
+) -> Result<Option<String>, AllocError>
+    ensures { IfOk result (λ note. option_map string_bytes note ≡ note_of_supplier config.now said.now tenant port.entry.0 port.entry.1.now) }
+{
+    let (place, actuator) = port;
+    let (supplier, name, to) = (
+        name_at(config, place),
+        actuator.as_str(),
+        name_at(config, tenant),
+    );
+    if !has_actuator(said, place, actuator) {
+        return Ok(Some(words_of_no_actuator(alloc, supplier, name)?));
     }
-    let name = name_of(config, tenant);
-    let is_offered = said.iter().any(|one| Some(one.tenant) == place && offers(one, port.1, name));
-    if !is_offered {
-        return Ok(Some(format!(in alloc;
-            "`{supplier}` doesn't offer `{actuator}` to `{name}` here"
-        )?));
+    if !has_offer(said, place, actuator, to) {
+        return Ok(Some(words_of_no_offer(alloc, supplier, name, to)?));
     }
     Ok(None)
 }
 
-fn name_of(config: &Config, tenant: TenantId) -> &str {
-    match config.tenants().get(tenant) {
-        Some(tenant) => tenant.name.as_str(),
-        None => "",
-    }
+fn words_of_no_actuator(alloc: Global, supplier: &str, name: &str) -> Result<String, AllocError>
+    ensures { IfOk result (λ words. string_bytes words ≡ words_of_no_actuator supplier.now name.now) }
+{
+    format!(in alloc; "no program that `{supplier}` loads here has an actuator `{name}`")
 }
 
-// Whether it is a program with this actuator.
-fn drives(said: &Said, actuator: &Name) -> bool {
-    match &said.what {
-        What::Program(checked) => checked
-            .program()
-            .actuators()
-            .iter()
-            .any(|declared| declared.name == *actuator),
+fn words_of_no_offer(
+    alloc: Global,
+    supplier: &str,
+    name: &str,
+    to: &str,
+) -> Result<String, AllocError>
+    ensures { IfOk result (λ words. string_bytes words ≡ words_of_no_offer supplier.now name.now to.now) }
+{
+    format!(in alloc; "`{supplier}` doesn't offer `{name}` to `{to}` here")
+}
+
+// Whether the tenant at a place loads a program with this sensor, with `grant`, or else with a line.
+fn has_sensor(said: &[Said], granted: bool, tenant: TenantId, sensor: &Name) -> bool
+    ensures { result ≡ list_any (loads_sensor granted tenant sensor.now) said.now }
+{
+    for one in said {
+        if loads_sensor(one, granted, tenant, sensor) {
+            return true;
+        }
+    }
+    false
+}
+
+fn loads_sensor(one: &Said, granted: bool, tenant: TenantId, sensor: &Name) -> bool
+    ensures { result ≡ loads_sensor granted tenant sensor.now one.now }
+{
+    if one.tenant != tenant {
+        return false;
+    }
+    match &one.what {
+        What::Program(checked) => takes_one(checked.program(), granted, sensor),
         What::Grants(_) => false,
     }
 }
 
-// Whether it is an offer of this actuator to the tenant of this name.
-fn offers(said: &Said, actuator: &Name, to: &str) -> bool {
-    match &said.what {
+// Whether a program has such a sensor.
+fn takes_one(program: &Program, granted: bool, sensor: &Name) -> bool
+    ensures { result ≡ list_any (takes granted sensor.now) program.now.sensors }
+{
+    is_among_sensors(program.sensors(), granted, sensor)
+}
+
+fn is_among_sensors(sensors: &[Sensor], granted: bool, sensor: &Name) -> bool
+    ensures { result ≡ list_any (takes granted sensor.now) (map sensor_of sensors.now) }
+{
+    for declared in sensors {
+        if takes(declared, granted, sensor) {
+            return true;
+        }
+    }
+    false
+}
+
+fn takes(declared: &Sensor, granted: bool, sensor: &Name) -> bool
+    ensures { result ≡ takes granted sensor.now (sensor_of declared.now) }
+{
+    if declared.name != *sensor {
+        return false;
+    }
+    match declared.source {
+        Source::Grant => granted,
+        Source::Line(_) => !granted,
+    }
+}
+
+// Whether the tenant at a place loads a program with this actuator.
+fn has_actuator(said: &[Said], tenant: TenantId, actuator: &Name) -> bool
+    ensures { result ≡ list_any (loads_actuator tenant actuator.now) said.now }
+{
+    for one in said {
+        if loads_actuator(one, tenant, actuator) {
+            return true;
+        }
+    }
+    false
+}
+
+fn loads_actuator(one: &Said, tenant: TenantId, actuator: &Name) -> bool
+    ensures { result ≡ loads_actuator tenant actuator.now one.now }
+{
+    if one.tenant != tenant {
+        return false;
+    }
+    match &one.what {
+        What::Program(checked) => drives_one(checked.program(), actuator),
+        What::Grants(_) => false,
+    }
+}
+
+// Whether a program has such an actuator.
+fn drives_one(program: &Program, actuator: &Name) -> bool
+    ensures { result ≡ list_any (drives actuator.now) program.now.actuators }
+{
+    is_among_actuators(program.actuators(), actuator)
+}
+
+fn is_among_actuators(actuators: &[Actuator], actuator: &Name) -> bool
+    ensures { result ≡ list_any (drives actuator.now) (map actuator_of actuators.now) }
+{
+    for declared in actuators {
+        if declared.name == *actuator {
+            return true;
+        }
+    }
+    false
+}
+
+// Whether the tenant at a place offers this actuator to the tenant of this name.
+fn has_offer(said: &[Said], tenant: TenantId, actuator: &Name, to: &str) -> bool
+    ensures { result ≡ list_any (offers tenant actuator.now to.now) said.now }
+{
+    for one in said {
+        if offers(one, tenant, actuator, to) {
+            return true;
+        }
+    }
+    false
+}
+
+fn offers(one: &Said, tenant: TenantId, actuator: &Name, to: &str) -> bool
+    ensures { result ≡ offers tenant actuator.now to.now one.now }
+{
+    if one.tenant != tenant {
+        return false;
+    }
+    match &one.what {
         What::Grants(
             GrantCommand::Offer {
                 actuator: offered,
@@ -232,5 +460,15 @@ fn offers(said: &Said, actuator: &Name, to: &str) -> bool {
             },
         ) => *offered == *actuator && tenant.as_str() == to,
         _ => false,
+    }
+}
+
+// The name of the tenant at a place.
+fn name_at(config: &Config, tenant: TenantId) -> &str
+    ensures { result.now ≡ name_at config.now tenant }
+{
+    match config.tenants().get(tenant) {
+        Some(tenant) => tenant.name.as_str(),
+        None => "",
     }
 }

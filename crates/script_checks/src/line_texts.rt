@@ -1,7 +1,14 @@
 //! What is told of lines of a script, in the form of a compiler's messages.
 
-use crate::scripts::LineFault;
+ghost use Rattle.std.specs.Prelude.{◌≡◌, ◌≢◌, ◌+◌, IfOk, is_some, min, string_bytes};
+ghost use Rattle.giotto_faults.specs.Findings.{BeginsWith, head_at};
+ghost use Rattle.giotto_tasks.specs.Names.{is_among};
+ghost use Rattle.tenant_lines.specs.Words.{behind_first_word, first_word_of};
+ghost use Rattle.script_checks.specs.LineTexts.{IsErrorAt, column_in, end_with_command, has_forms, offset_of_command, offset_of_fault, offset_of_word, place_in, text_or_none, words_of_bad_command, words_of_command, words_of_fault, words_of_frame, words_of_nobody, words_of_operator, words_of_tenants};
+
+use crate::scripts::{LineFault, text_of_line};
 use giotto_faults::findings::{Finding, Severity};
+use giotto_faults::places::Place;
 use rig_config::Config;
 use std::alloc::{AllocError, Global};
 use tenant_lines::words;
@@ -19,38 +26,31 @@ pub(crate) fn one_finding(
     config: &Config,
     line: &str,
     fault: LineFault,
-) -> Result<Finding, AllocError> {
-    let first = words::first_word(line);
-    let rest = words::behind_first_word(line);
+) -> Result<Finding, AllocError>
+    requires { fault ≢ LineFault.Program }
+    ensures { IfOk result (IsErrorAt (offset_of_fault line.now fault) (words_of_fault config.now line.now fault)) }
+{
     match fault {
         LineFault::TooLong => whole(
             alloc,
             "the line has more than 16384 bytes, and ends the script for all",
         ),
         LineFault::NotText => whole(alloc, "the line isn't UTF-8, and ends the script for all"),
-        LineFault::UnknownSpeaker => {
-            let message = format!(in alloc; "no tenant has the name `{first}`")?;
-            at_word(line, line, message, Some(names(alloc, config)?))
-        }
+        LineFault::UnknownSpeaker => unknown_name(alloc, config, line, line),
         LineFault::UnknownTenant => {
-            let behind = words::behind_first_word(rest);
-            let name = words::first_word(behind);
-            let message = format!(in alloc; "no tenant has the name `{name}`")?;
-            at_word(line, behind, message, Some(names(alloc, config)?))
+            let rest = words::behind_first_word(line);
+            unknown_name(alloc, config, line, words::behind_first_word(rest))
         }
-        LineFault::BadFrame => {
-            let lines = config.lines();
-            let message = format!(in alloc;
-                "a tick has a value for each rig line, and these are {lines}"
-            )?;
-            at_word(line, rest, message, None)
-        }
-        LineFault::BadCommand | LineFault::Program => bad_command(alloc, line),
+        LineFault::BadFrame => bad_frame(alloc, config, line),
+        LineFault::BadCommand => bad_command(alloc, line),
+        LineFault::Program => unreachable!(),
     }
 }
 
 // A finding at the front of a line.
-fn whole(alloc: Global, message: &str) -> Result<Finding, AllocError> {
+fn whole(alloc: Global, message: &str) -> Result<Finding, AllocError>
+    ensures { IfOk result (IsErrorAt 0 message.now) }
+{
     Ok(Finding {
         severity: Severity::Error,
         offset: 0,
@@ -61,23 +61,52 @@ fn whole(alloc: Global, message: &str) -> Result<Finding, AllocError> {
     })
 }
 
-// A finding at the first word of what stands behind in the line.
-fn at_word(
-    line: &str,
-    behind: &str,
-    message: String,
-    help: Option<String>,
-) -> Result<Finding, AllocError> {
-    let blanks = behind.len().saturating_sub(behind.trim_start().len());
-    let offset = line.len().saturating_sub(behind.len());
-    Ok(Finding {
+// A finding at the first word of what a line ends with.
+fn at_word(line: &str, end: &str, message: String, help: Option<String>) -> Finding
+    ensures { IsErrorAt (offset_of_word line.now end.now) (string_bytes message) result }
+{
+    Finding {
         severity: Severity::Error,
-        offset: offset.saturating_add(blanks),
-        len: words::first_word(behind).len(),
+        offset: offset_of_word(line, end),
+        len: words::first_word(end).len(),
         message,
         rule: None,
         help,
-    })
+    }
+}
+
+/// Where the first word of what a line ends with begins.
+pub(crate) fn offset_of_word(line: &str, end: &str) -> usize
+    ensures { result ≡ offset_of_word line.now end.now }
+{
+    let (word, behind) = words::cut(end);
+    line.len()
+        .saturating_sub(behind.len())
+        .saturating_sub(word.len())
+}
+
+// The first word of what a line ends with is no tenant's name.
+fn unknown_name(
+    alloc: Global,
+    config: &Config,
+    line: &str,
+    end: &str,
+) -> Result<Finding, AllocError>
+    ensures { IfOk result (IsErrorAt (offset_of_word line.now end.now) (words_of_nobody (first_word_of end.now))) }
+{
+    let name = words::first_word(end);
+    let message = format!(in alloc; "no tenant has the name `{name}`")?;
+    let names = names(alloc, config)?;
+    Ok(at_word(line, end, message, Some(names)))
+}
+
+// A tick has another number of values.
+fn bad_frame(alloc: Global, config: &Config, line: &str) -> Result<Finding, AllocError>
+    ensures { IfOk result (IsErrorAt (offset_of_word line.now (behind_first_word line.now)) (words_of_frame config.now)) }
+{
+    let lines = config.lines();
+    let message = format!(in alloc; "a tick has a value for each rig line, and these are {lines}")?;
+    Ok(at_word(line, words::behind_first_word(line), message, None))
 }
 
 // Who may speak.
@@ -92,37 +121,82 @@ fn names(alloc: Global, config: &Config) -> Result<String, AllocError> {
 }
 
 // A line that has no form of a command.
-fn bad_command(alloc: Global, line: &str) -> Result<Finding, AllocError> {
-    let first = words::first_word(line);
-    let rest = words::behind_first_word(line);
+fn bad_command(alloc: Global, line: &str) -> Result<Finding, AllocError>
+    ensures { IfOk result (IsErrorAt (offset_of_command line.now) (words_of_bad_command line.now)) }
+{
+    let (speaker, rest) = words::cut(line);
     let word = words::first_word(rest);
-    let forms = if first == "op" {
-        forms_of_operator(word)
-    } else {
-        forms_of(word)
-    };
-    let message = match (word.is_empty(), forms) {
-        (true, _) => format!(in alloc; "there is no command behind `{first}`")?,
-        (_, None) => format!(in alloc; "`{word}` is no command")?,
-        (_, Some(_)) => format!(in alloc; "this is none of the forms of `{word}`")?,
-    };
-    let help = match (first == "op", forms) {
-        (_, Some(forms)) => String::from_str(alloc, forms)?,
-        (true, None) => String::from_str(
-            alloc,
-            "an operator's line is `op tick V ..`, `op work`, `op work TENANT` or `op lines`",
-        )?,
-        (false, None) => String::from_str(
-            alloc,
-            "the commands are load, replace, start, stop, show, trace, offer, unoffer, bind, unbind and rows",
-        )?,
-    };
-    let at = if word.is_empty() { line } else { rest };
-    at_word(line, at, message, Some(help))
+    let forms = forms_of(speaker, word);
+    let message = words_of_command(alloc, speaker, word, forms.is_some())?;
+    let help = help_on_forms(alloc, speaker, forms)?;
+    Ok(at_word(line, end_with_command(line, rest), message, Some(help)))
 }
 
-// The forms of a tenant's command that begins with this word.
-fn forms_of(word: &str) -> Option<&'static str> {
+// What stands behind the first word, where there is a word, or else the line.
+fn end_with_command<'a>(line: &'a str, rest: &'a str) -> &'a str
+    requires { rest.now ≡ behind_first_word line.now }
+    ensures { result.now ≡ end_with_command line.now }
+{
+    if words::first_word(rest).is_empty() {
+        line
+    } else {
+        rest
+    }
+}
+
+// What is said of a command that begins with this word, where `is_known` is whether its forms are.
+fn words_of_command(
+    alloc: Global,
+    speaker: &str,
+    word: &str,
+    is_known: bool,
+) -> Result<String, AllocError>
+    requires { is_known ≡ has_forms speaker.now word.now }
+    ensures { IfOk result (λ words. string_bytes words ≡ words_of_command speaker.now word.now) }
+{
+    if word.is_empty() {
+        return format!(in alloc; "there is no command behind `{speaker}`");
+    }
+    if is_known {
+        format!(in alloc; "this is none of the forms of `{word}`")
+    } else {
+        format!(in alloc; "`{word}` is no command")
+    }
+}
+
+// How a command is mended: the forms of its word, or else the words that there are.
+fn help_on_forms(
+    alloc: Global,
+    speaker: &str,
+    forms: Option<&'static str>,
+) -> Result<String, AllocError> {
+    match forms {
+        Some(forms) => String::from_str(alloc, forms),
+        None => String::from_str(
+            alloc,
+            if speaker == "op" {
+                "an operator's line is `op tick V ..`, `op work`, `op work TENANT` or `op lines`"
+            } else {
+                "the commands are load, replace, start, stop, show, trace, offer, unoffer, bind, unbind and rows"
+            },
+        ),
+    }
+}
+
+// The forms of a command of who speaks that begins with this word.
+fn forms_of(speaker: &str, word: &str) -> Option<&'static str>
+    ensures { is_some result ≡ has_forms speaker.now word.now }
+{
+    if words::is_word(speaker, "op") {
+        forms_of_operator(word)
+    } else {
+        forms_of_tenant(word)
+    }
+}
+
+fn forms_of_tenant(word: &str) -> Option<&'static str>
+    ensures { is_some result ≡ is_among words_of_tenants word.now }
+{
     match word {
         "start" | "stop" | "trace" | "rows" => Some("nothing stands behind this word"),
         "show" => Some("`show mode`, `show all`, `show port NAME` or `show port TASK.NAME`"),
@@ -136,7 +210,9 @@ fn forms_of(word: &str) -> Option<&'static str> {
     }
 }
 
-fn forms_of_operator(word: &str) -> Option<&'static str> {
+fn forms_of_operator(word: &str) -> Option<&'static str>
+    ensures { is_some result ≡ is_among words_of_operator word.now }
+{
     match word {
         "tick" => Some("`op tick V ..`, a whole number for each rig line"),
         "work" => Some("`op work` or `op work TENANT`"),
@@ -145,11 +221,8 @@ fn forms_of_operator(word: &str) -> Option<&'static str> {
     }
 }
 
-/// The text of a line. Where it isn't UTF-8, a `?` stands for each byte that isn't ASCII.
-///
-/// # Errors
-/// Want of memory.
-pub(crate) fn lossy(alloc: Global, line: &[u8]) -> Result<String, AllocError> {
+// The text of a line as it is shown. Where it isn't UTF-8, a `?` stands for each byte that isn't ASCII.
+fn lossy(alloc: Global, line: &[u8]) -> Result<String, AllocError> {
     if let Ok(text) = std::str::from_utf8(line) {
         return String::from_str(alloc, text.trim_end_matches('\r'));
     }
@@ -160,33 +233,91 @@ pub(crate) fn lossy(alloc: Global, line: &[u8]) -> Result<String, AllocError> {
     Ok(text)
 }
 
-/// The finding as text: the file, the line's number and the column, what is found, and the line with carets below, or what of a long line
-/// stands around it.
+/// The end of a line of a script, about which findings are.
+#[derive(Clone, Copy)]
+pub(crate) struct LineEnd<'a> {
+    /// The line's number, counted from 1.
+    pub(crate) number: usize,
+    /// The line's bytes.
+    pub(crate) line: &'a [u8],
+    /// How many bytes of its text stand before.
+    pub(crate) before: usize,
+}
+
+/// A finding about the end of a line as text: the file, the line's number and the column, what is found, and the line with carets below,
+/// or what of a long line stands around it.
 ///
 /// # Errors
 /// Want of memory.
 pub(crate) fn shown_in_line(
     alloc: Global,
     file: &str,
-    number: usize,
-    line: &str,
+    end: &LineEnd,
     finding: &Finding,
-) -> Result<String, AllocError> {
-    let before = line.get(..finding.offset).unwrap_or(line);
-    let column = before.chars().count().saturating_add(1);
-    let (severity, message) = (finding.severity, finding.message.as_str());
-    let mut text = format!(in alloc; "{file}:{number}:{column}: {severity}: {message}\n")?;
-    let number = format!(in alloc; "{number}")?;
+) -> Result<String, AllocError>
+    ensures { IfOk result (λ shown. BeginsWith (head_at finding.now file.now (place_in end.now.number end.now.line.now (end.now.before + finding.now.offset))) (string_bytes shown)) }
+{
+    let head = head_of(alloc, file, end, finding)?;
+    let below = below(alloc, end, finding)?;
+    format!(in alloc; "{head}{below}")
+}
+
+// The first line: the file, the place and what is found.
+fn head_of(
+    alloc: Global,
+    file: &str,
+    end: &LineEnd,
+    finding: &Finding,
+) -> Result<String, AllocError>
+    ensures { IfOk result (λ head. string_bytes head ≡ head_at finding.now file.now (place_in end.now.number end.now.line.now (end.now.before + finding.now.offset))) }
+{
+    let (number, severity) = (end.number, finding.severity);
+    let column = column_of(end.line, end.before, finding.offset);
+    let message = finding.message.as_str();
+    format!(in alloc; "{file}:{number}:{column}: {severity}: {message}\n")
+}
+
+// The column of a byte of a line, so many bytes behind these.
+fn column_of(line: &[u8], before: usize, offset: usize) -> usize
+    ensures { result ≡ column_in line.now (before + offset) }
+{
+    let text = text_or_none(line);
+    Place::of(text, offset_within(before, offset, text.len())).column
+}
+
+// So many bytes behind these, and within this length.
+fn offset_within(before: usize, offset: usize, len: usize) -> usize
+    ensures { result ≡ min (before + offset) len }
+{
+    before.saturating_add(offset).min(len)
+}
+
+/// The text of a line; none of it where it is no text.
+pub(crate) fn text_or_none(line: &[u8]) -> &str
+    ensures { result.now ≡ text_or_none line.now }
+{
+    match text_of_line(line) {
+        Some(text) => text,
+        None => "",
+    }
+}
+
+// What stands below it: the line with carets, the rule and the help.
+fn below(alloc: Global, end: &LineEnd, finding: &Finding) -> Result<String, AllocError> {
+    let source = lossy(alloc, end.line)?;
+    let line = source.as_str();
+    let offset = end.before.saturating_add(finding.offset);
+    let number = format!(in alloc; "{}", end.number)?;
     let margin = repeated(alloc, " ", number.len())?;
-    let begin = begin_of(line, finding.offset);
-    let excerpt = excerpt_of(alloc, line, begin, finding.offset)?;
-    let left = without_tabs(alloc, line.get(begin..finding.offset).unwrap_or(""))?;
+    let begin = begin_of(line, offset);
+    let excerpt = excerpt_of(alloc, line, begin, offset)?;
+    let left = without_tabs(alloc, line.get(begin..offset).unwrap_or(""))?;
     let dots = if begin == 0 { 0 } else { 3 };
     let indent = repeated(alloc, " ", left.as_str().width().saturating_add(dots))?;
-    let carets = repeated(alloc, "^", width_of(line, finding))?;
+    let carets = repeated(alloc, "^", width_of(line, offset, finding.len))?;
     let (margin, number) = (margin.as_str(), number.as_str());
     let (excerpt, indent, carets) = (excerpt.as_str(), indent.as_str(), carets.as_str());
-    text.push_str(format!(in alloc; "{margin} |\n{number} | {excerpt}\n")?.as_str())?;
+    let mut text = format!(in alloc; "{margin} |\n{number} | {excerpt}\n")?;
     text.push_str(format!(in alloc; "{margin} | {indent}{carets}\n")?.as_str())?;
     if let Some(rule) = &finding.rule {
         text.push_str(format!(in alloc; "{margin} = {}\n", rule.as_str())?.as_str())?;
@@ -232,9 +363,9 @@ fn excerpt_of(
 }
 
 // How many carets show what is told: one at least.
-fn width_of(line: &str, finding: &Finding) -> usize {
-    let end = finding.offset.saturating_add(finding.len).min(line.len());
-    let piece = line.get(finding.offset..end).unwrap_or("");
+fn width_of(line: &str, offset: usize, len: usize) -> usize {
+    let end = offset.saturating_add(len).min(line.len());
+    let piece = line.get(offset..end).unwrap_or("");
     piece.width().max(1).min(SIDE)
 }
 

@@ -1,14 +1,17 @@
 //! Which lines of a script are at fault, whatever comes of the others.
 
-ghost use Rattle.std.specs.Prelude.{◌≡◌, ◌==◌, ◌+◌, ◌-◌, ◌<◌, ◌≤◌, true, false, Some, IfOk, drop, get_or, length, map, option_map, take};
+ghost use Rattle.std.specs.Prelude.{◌≡◌, ◌≢◌, ◌==◌, ◌+◌, ◌-◌, ◌<◌, ◌≤◌, true, false, Some, IfOk, IfSome, OnOk, drop, get_or, length, map, option_map, string_bytes, take};
 ghost use Rattle.std.specs.List.{position_or_len};
 ghost use Rattle.rig_model.specs.TextLines.{cut, text_of_line, without_last_cr};
 ghost use Rattle.tenant_lines.specs.CommandLine.{command_of_line};
 ghost use Rattle.tenant_lines.specs.Words.{behind_first_word};
 ghost use Rattle.script_checks.specs.Scripts.{AreTold, IsFound, fault_of_command, fault_of_line, fault_of_program, faults_from, faults_of, is_good};
+ghost use Rattle.script_checks.specs.Reports.{IsToldOf, told_first};
+ghost use Rattle.script_checks.specs.Told.{AreFound, IsOneFinding, TellLine, TellProgram, findings_in, findings_of, line_at};
+ghost use Rattle.script_checks.specs.inner.Telling.{Adds, TellCommand};
 
-use crate::binds::notes_of_binds;
-use crate::line_texts::{lossy, one_finding, shown_in_line};
+use crate::binds::add_notes;
+use crate::line_texts::{LineEnd, one_finding, shown_in_line};
 use crate::operators::fault_of_operator;
 use giotto_faults::findings::Finding;
 use giotto_reports::{Examined, Report, examine};
@@ -44,7 +47,9 @@ pub enum LineFault {
 #[derive(Drop)]
 pub struct Found {
     pub fault: LineFault,
-    /// Offsets count from the line's first byte.
+    /// How many bytes of the line's text stand before what the findings are about, from which their offsets count.
+    pub before: usize,
+    /// In their order.
     pub findings: Vec<Finding>,
 }
 
@@ -67,39 +72,75 @@ pub fn check_script(
     bytes: &[u8],
     config: &Config,
 ) -> Result<Report, AllocError>
-    ensures { IfOk result (λ report. report.is_good ≡ is_good (faults_of config.now bytes.now)) }
+    ensures good { IfOk result (λ report. report.is_good ≡ is_good (faults_of config.now bytes.now)) }
+    ensures told { IfOk result (λ report. IsToldOf config.now file.now bytes.now (string_bytes report.text)) }
 {
     let lines = lines_of(alloc, bytes)?;
     let faulty = faulty_lines(alloc, config, lines.as_slice())?;
     let is_good = faulty.is_empty();
-    let mut text = text_of_faults(alloc, file, lines.as_slice(), faulty.as_slice())?;
-    if is_good {
-        let count = lines.len();
-        text = format!(in alloc; "{file}: lines {count}\n")?;
-    }
-    text.push_str(notes_of_binds(alloc, file, lines.as_slice(), config)?.as_str())?;
+    let mut text = told_first(alloc, file, lines.len(), is_good)?;
+    add_faults(alloc, &mut text, file, lines.as_slice(), faulty.as_slice())?;
+    add_notes(alloc, &mut text, file, lines.as_slice(), config)?;
     Ok(Report { is_good, text })
 }
 
-fn text_of_faults(
+// How many lines a script has, where none is at fault.
+fn told_first(alloc: Global, file: &str, lines: usize, is_good: bool) -> Result<String, AllocError>
+    ensures { IfOk result (λ text. string_bytes text ≡ told_first file.now lines is_good) }
+{
+    if is_good {
+        format!(in alloc; "{file}: lines {lines}\n")
+    } else {
+        Ok(String::new(alloc))
+    }
+}
+
+// Adds what was found at lines at fault.
+fn add_faults(
     alloc: Global,
+    text: &mut String,
     file: &str,
     lines: &[&[u8]],
     faulty: &[FaultyLine],
-) -> Result<String, AllocError> {
-    let mut text = String::new(alloc);
+) -> Result<(), AllocError>
+    ensures { OnOk result (Adds file.now (findings_of (map (λ line. line.now) lines.now) faulty.now) (string_bytes text.old) (string_bytes text.new)) }
+{
     for line in faulty {
-        let bytes = lines
-            .get(line.number.saturating_sub(1))
-            .copied()
-            .unwrap_or(b"");
-        let source = lossy(alloc, bytes)?;
-        for finding in &line.found.findings {
-            let told = shown_in_line(alloc, file, line.number, source.as_str(), finding)?;
-            text.push_str(told.as_str())?;
-        }
+        let end = LineEnd {
+            number: line.number,
+            line: line_at(lines, line.number),
+            before: line.found.before,
+        };
+        add_findings(alloc, text, file, &end, line.found.findings.as_slice())?;
     }
-    Ok(text)
+    Ok(())
+}
+
+/// The line with this number, counted from 1.
+pub(crate) fn line_at<'a>(lines: &[&'a [u8]], number: usize) -> &'a [u8]
+    ensures { result.now ≡ line_at (map (λ line. line.now) lines.now) number }
+{
+    match lines.get(number.saturating_sub(1)) {
+        Some(line) => line,
+        None => b"",
+    }
+}
+
+// Adds findings about what a line ends with.
+fn add_findings(
+    alloc: Global,
+    text: &mut String,
+    file: &str,
+    end: &LineEnd,
+    findings: &[Finding],
+) -> Result<(), AllocError>
+    ensures { OnOk result (Adds file.now (findings_in end.now.number end.now.line.now end.now.before findings.now) (string_bytes text.old) (string_bytes text.new)) }
+{
+    for finding in findings {
+        let told = shown_in_line(alloc, file, end, finding)?;
+        text.push_str(told.as_str())?;
+    }
+    Ok(())
 }
 
 /// Those of these lines of a script that are at fault, in their order. The first line has the number 1.
@@ -111,7 +152,8 @@ pub fn faulty_lines(
     config: &Config,
     lines: &[&[u8]],
 ) -> Result<Vec<FaultyLine>, AllocError>
-    ensures { IfOk result (λ faulty. AreTold faulty.items (faults_from config.now 1 (map (λ line. line.now) lines.now))) }
+    ensures lines { IfOk result (λ faulty. AreTold faulty.items (faults_from config.now 1 (map (λ line. line.now) lines.now))) }
+    ensures told { IfOk result (λ faulty. AreFound config.now (map (λ line. line.now) lines.now) faulty.items) }
 {
     let mut faulty = Vec::new(alloc);
     for (place, line) in lines.iter().enumerate() {
@@ -186,7 +228,8 @@ pub fn examine_line(
     config: &Config,
     line: &[u8],
 ) -> Result<Option<Found>, AllocError>
-    ensures { IfOk result (λ found. IsFound found (fault_of_line config.now line.now)) }
+    ensures fault { IfOk result (λ found. IsFound found (fault_of_line config.now line.now)) }
+    ensures told { IfOk result (λ found. IfSome found (TellLine config.now line.now)) }
 {
     let Some(text) = text_of_line(line) else {
         let fault = if line.len() > MAX_LINE {
@@ -251,7 +294,8 @@ fn examine_command(
     tenant: &TenantConfig,
     line: &str,
 ) -> Result<Option<Found>, AllocError>
-    ensures { IfOk result (λ found. IsFound found (fault_of_command tenant.now.budgets (command_of_line (behind_first_word line.now)))) }
+    ensures fault { IfOk result (λ found. IsFound found (fault_of_command tenant.now.budgets (command_of_line (behind_first_word line.now)))) }
+    ensures told { IfOk result (λ found. IfSome found (TellCommand config.now tenant.now line.now)) }
 {
     match command_of(alloc, words::behind_first_word(line)) {
         Ok(Command::Load(text)) | Ok(Command::Replace(text)) => examine_program(
@@ -274,7 +318,8 @@ fn examine_program(
     line: &str,
     text: &str,
 ) -> Result<Option<Found>, AllocError>
-    ensures { IfOk result (λ found. IsFound found (fault_of_program tenant.now.budgets text.now)) }
+    ensures fault { IfOk result (λ found. IsFound found (fault_of_program tenant.now.budgets text.now)) }
+    ensures told { IfOk result (λ found. IfSome found (TellProgram tenant.now line.now text.now)) }
 {
     match examine(alloc, text, text)? {
         Examined::Faulty(findings) => Ok(Some(found_behind(line, text, findings))),
@@ -294,22 +339,13 @@ fn examine_program(
 
 // The findings of the text with which a line ends.
 fn found_behind(line: &str, text: &str, findings: Vec<Finding>) -> Found
-    ensures { result.fault ≡ LineFault.Program }
+    ensures { result ≡ record { fault = LineFault.Program; before = length line.now - length text.now; findings = findings } }
 {
-    let before = line.len().saturating_sub(text.len());
     Found {
         fault: LineFault::Program,
-        findings: behind(findings, before),
+        before: line.len().saturating_sub(text.len()),
+        findings,
     }
-}
-
-// The findings, where so many bytes stand before their text.
-fn behind(findings: Vec<Finding>, before: usize) -> Vec<Finding> {
-    let mut findings = findings;
-    for finding in findings.iter_mut() {
-        finding.offset = finding.offset.saturating_add(before);
-    }
-    findings
 }
 
 // This fault of a line, with what is told of it.
@@ -319,9 +355,15 @@ fn one_found(
     line: &str,
     fault: LineFault,
 ) -> Result<Option<Found>, AllocError>
-    ensures { IfOk result (λ found. IsFound found (Some fault)) }
+    requires { fault ≢ LineFault.Program }
+    ensures fault { IfOk result (λ found. IsFound found (Some fault)) }
+    ensures told { IfOk result (λ found. IfSome found (IsOneFinding config.now line.now)) }
 {
     let mut findings = Vec::new(alloc);
     findings.push(one_finding(alloc, config, line, fault)?)?;
-    Ok(Some(Found { fault, findings }))
+    Ok(Some(Found {
+        fault,
+        before: 0,
+        findings,
+    }))
 }

@@ -1,0 +1,135 @@
+-- The fault of a configuration, in words.
+use Rattle.std.specs.Prelude.{◌≡◌, ℕ, ◌+◌, Bool, false, List, [], ◌∷◌, ◌++◌, Option, Some, None, IfSome, codes, string_bytes}
+use Rattle.std.specs.Fmt.{decimal}
+use Rattle.std.specs.List.{find, list_any}
+use Rattle.std.specs.Option.{option_and_then}
+use Rattle.std.specs.Ordering.{int_eq}
+use Rattle.toml.specs.Data.{Data, Members, string, integer, float, boolean, datetime, array, table, Items, no_items, item, as_str, at, get}
+use Rattle.toml.specs.Parse.{parse_document}
+use Rattle.giotto_faults.specs.declared.findings.Finding.{Finding}
+use Rattle.giotto_faults.specs.declared.findings.Severity.TheVariants.{Error}
+use Rattle.giotto_faults.specs.Findings.{BeginsWith}
+use Rattle.giotto_tasks.specs.Names.{same_name}
+use Rattle.rig_config.specs.Fields.{word_of}
+use Rattle.rig_config.specs.Reading.{count_of}
+use Rattle.rig_config.specs.declared.faults.ConfigFault.{ConfigFault}
+use Rattle.rig_config.specs.declared.faults.ConfigFault.TheVariants.{NotToml, Missing, Range, Twice, Memory}
+use Rattle.rig_config.specs.declared.faults.Field.{Field}
+use Rattle.rig_config.specs.declared.faults.Field.TheVariants as field
+use Rattle.rig_config.specs.declared.faults.FieldPlace.{FieldPlace}
+use Rattle.config_checks.specs.Values.{IsValue}
+
+-- the tenant at a place of a document, as it is written
+abbrev pub tenant_at : Data → ℕ → Option Data
+tenant_at document t = option_and_then (at t) (get (codes "tenant") document)
+
+-- the name of the tenant at a place, where it has one
+abbrev pub name_of : Data → ℕ → Option (List ℕ)
+name_of document t = option_and_then as_str (option_and_then (get (codes "name")) (tenant_at document t))
+
+-- whose field it is: "the rig", "the tenant `NAME`", or where it has no name "tenant N, counted from 1,"
+abbrev pub owner_of : Data → Option ℕ → List ℕ
+owner_of document None = codes "the rig"
+owner_of document (Some t) = by (name_of document t)
+  where
+    by : Option (List ℕ) → List ℕ
+    by None = codes "tenant " ++ (decimal (t + 1) ++ codes ", counted from 1,")
+    by (Some name) = codes "the tenant `" ++ (name ++ codes "`")
+
+-- the value of a field, of the rig or of the tenant at a place
+abbrev pub value_at : Data → FieldPlace → Option Data
+value_at document place = by place.tenant
+  where
+    by : Option ℕ → Option Data
+    by None = get (word_of place.field) document
+    by (Some t) = option_and_then (get (word_of place.field)) (tenant_at document t)
+
+-- how the value of a field is told: an array of the rig's by how many values it has
+abbrev pub IsValueOf : Option ℕ → Data → List ℕ → Type 0
+IsValueOf (Some t) value text = IsValue value text
+IsValueOf None (array values) text = text ≡ codes "an array of " ++ decimal (count_of values)
+IsValueOf None (string s) text = IsValue (string s) text
+IsValueOf None (integer z) text = IsValue (integer z) text
+IsValueOf None (float x) text = IsValue (float x) text
+IsValueOf None (boolean truth) text = IsValue (boolean truth) text
+IsValueOf None (datetime moment) text = IsValue (datetime moment) text
+IsValueOf None (table fields) text = IsValue (table fields) text
+
+abbrev pub list_of : Items → List Data
+list_of no_items = []
+list_of (item value others) = value ∷ list_of others
+
+-- the values of an array; none of any other value
+abbrev pub items_in : Data → List Data
+items_in (array values) = list_of values
+items_in _ = []
+
+-- the tenants of a document
+abbrev pub tenants_in : Data → List Data
+tenants_in document = by (get (codes "tenant") document)
+  where
+    by : Option Data → List Data
+    by None = []
+    by (Some value) = items_in value
+
+-- the values of a tenant's field: those of its array, or the one that it has
+abbrev pub values_of : Data → List Data
+values_of (array values) = list_of values
+values_of (string s) = string s ∷ []
+values_of (integer z) = integer z ∷ []
+values_of (float x) = float x ∷ []
+values_of (boolean truth) = boolean truth ∷ []
+values_of (datetime moment) = datetime moment ∷ []
+values_of (table fields) = table fields ∷ []
+
+abbrev pub values_in : Field → Data → List Data
+values_in f tenant = by (get (word_of f) tenant)
+  where
+    by : Option Data → List Data
+    by None = []
+    by (Some value) = values_of value
+
+-- both are the same text or the same number
+abbrev pub is_same : Data → Data → Bool
+is_same (string s) (string t) = same_name s t
+is_same (integer y) (integer z) = int_eq y z
+is_same _ _ = false
+
+-- the value is one of this field, of one of these tenants
+abbrev pub has_one : Field → List Data → Data → Bool
+has_one f tenants value = list_any (λ tenant. list_any (is_same value) (values_in f tenant)) tenants
+
+-- the first value that a tenant has and one before it too, where these stand before
+abbrev pub shared_from : Field → List Data → List Data → Option Data
+shared_from f before [] = None
+shared_from f before (tenant ∷ others) = by (find (has_one f before) (values_in f tenant)) (shared_from f (before ++ tenant ∷ []) others)
+  where
+    by : Option Data → Option Data → Option Data
+    by (Some value) later = Some value
+    by None later = later
+
+abbrev pub shared_in : Field → Data → Option Data
+shared_in f document = shared_from f [] (tenants_in document)
+
+-- two tenants have the same name, or may drive the same line
+abbrev pub words_of_shared : Field → List ℕ → List ℕ
+words_of_shared field.Name text = codes "two tenants have the name " ++ text
+words_of_shared _ text = codes "two tenants may drive line " ++ text
+
+-- a fault of this document is told so
+abbrev pub IsFaultTold : Data → ConfigFault → List ℕ → Type 0
+IsFaultTold document (Missing place) words = words ≡ owner_of document place.tenant ++ (codes " has no `" ++ (word_of place.field ++ codes "`"))
+IsFaultTold document (Range place) words =
+    (value : List ℕ) × IfSome (value_at document place) (λ d. IsValueOf place.tenant d value)
+    × (words ≡ codes "`" ++ (word_of place.field ++ (codes "` of " ++ (owner_of document place.tenant ++ (codes " is " ++ value)))))
+IsFaultTold document (Twice f) words = IfSome (shared_in f document) (λ d. (value : List ℕ) × IsValue d value × (words ≡ words_of_shared f value))
+IsFaultTold document NotToml words = Unit {0}
+IsFaultTold document Memory words = Unit {0}
+
+-- an error that tells of this fault of a text: "this is no TOML: .." where it is none, and else by what its document has
+abbrev pub TellsFault : List ℕ → ConfigFault → Finding → Type 0
+TellsFault text fault f = (f.severity ≡ Error) × by (parse_document text)
+  where
+    by : Option Members → Type 0
+    by None = BeginsWith (codes "this is no TOML: ") (string_bytes f.message)
+    by (Some fields) = IsFaultTold (table fields) fault (string_bytes f.message)

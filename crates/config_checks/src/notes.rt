@@ -1,0 +1,117 @@
+//! Lines that one tenant may drive and another may read.
+
+ghost use Rattle.std.specs.Prelude.{◌≡◌, ◌++◌, IfOk, OnOk, map, string_bytes};
+ghost use Rattle.std.specs.List.{flat_map};
+ghost use Rattle.rig_config.specs.Roster.{may_use, name_at};
+ghost use Rattle.config_checks.specs.Notes.{AreNotes, as_note, driver_of, note_of_line, notes_on, told_of, words_of_line};
+
+use crate::faults::finding;
+use crate::places::{offset_of, place_of};
+use giotto_faults::findings::{Finding, Severity};
+use rig_config::faults::Field;
+use rig_config::{Config, TenantId};
+use std::alloc::{AllocError, Global};
+
+/// A note for each line that one tenant may drive and another may read, at what the other may read.
+///
+/// # Errors
+/// Want of memory.
+pub(crate) fn notes_of(
+    alloc: Global,
+    text: &str,
+    config: &Config,
+) -> Result<Vec<Finding>, AllocError>
+    ensures { IfOk result (λ notes. AreNotes (notes_on config.now) notes.items) }
+{
+    let mut notes = Vec::new(alloc);
+    for (reader, tenant) in config.tenants().iter().enumerate() {
+        let lines = tenant.budgets.reads.as_slice();
+        add_notes(alloc, &mut notes, text, config, reader, lines)?;
+    }
+    Ok(notes)
+}
+
+// Adds the notes on these lines, which the tenant at a place may read.
+fn add_notes(
+    alloc: Global,
+    notes: &mut Vec<Finding>,
+    text: &str,
+    config: &Config,
+    reader: TenantId,
+    lines: &[usize],
+) -> Result<(), AllocError>
+    ensures { OnOk result (map told_of notes.new.items ≡ map told_of notes.old.items ++ map as_note (flat_map (note_of_line config.now reader) lines.now)) }
+{
+    for &line in lines {
+        add_note(alloc, notes, text, config, reader, line)?;
+    }
+    Ok(())
+}
+
+// Adds the note on a line, if there is one.
+fn add_note(
+    alloc: Global,
+    notes: &mut Vec<Finding>,
+    text: &str,
+    config: &Config,
+    reader: TenantId,
+    line: usize,
+) -> Result<(), AllocError>
+    ensures { OnOk result (map told_of notes.new.items ≡ map told_of notes.old.items ++ map as_note (note_of_line config.now reader line)) }
+{
+    let Some(driver) = driver_of(config, line) else {
+        return Ok(());
+    };
+    if driver == reader {
+        return Ok(());
+    }
+    let message = words_of_line(
+        alloc,
+        line,
+        name_at(config, reader),
+        name_at(config, driver),
+    )?;
+    let offset = offset_of(text, place_of(reader, Field::Reads));
+    notes.push(finding(Severity::Note, offset, Field::Reads, message))?;
+    Ok(())
+}
+
+fn words_of_line(
+    alloc: Global,
+    line: usize,
+    reader: &str,
+    driver: &str,
+) -> Result<String, AllocError>
+    ensures { IfOk result (λ words. string_bytes words ≡ words_of_line line reader.now driver.now) }
+{
+    format!(in alloc;
+        "line {line} is read by `{reader}` and driven by `{driver}`: a plant may pass on what is driven"
+    )
+}
+
+// The place of the tenant that may drive a line, if one may.
+fn driver_of(config: &Config, line: usize) -> Option<TenantId>
+    ensures { result ≡ driver_of config.now line }
+{
+    config
+        .tenants()
+        .iter()
+        .position(|tenant| may_use(tenant.budgets.writes.as_slice(), line))
+}
+
+// Whether a line is among these.
+fn may_use(lines: &[usize], line: usize) -> bool
+    ensures { result ≡ may_use lines.now line }
+{
+    lines.iter().any(|&other| line == other)
+}
+
+// The name of the tenant at a place.
+fn name_at(config: &Config, tenant: TenantId) -> &str
+    ensures { result.now ≡ name_at config.now tenant }
+{
+    match config.tenants().get(tenant) {
+        Some(tenant) => tenant.name.as_str(),
+        None => "",
+    }
+}

@@ -1,0 +1,97 @@
+-- In which words a fault of a line of a script is told, and where.
+use Rattle.std.specs.Prelude.{◌≡◌, ℕ, ◌-◌, min, Bool, if◌then◌else◌, List, [], ◌∷◌, ◌++◌, length, Option, Some, None, codes, string_bytes}
+use Rattle.std.specs.Fmt.{decimal}
+use Rattle.giotto_faults.specs.Places.{place_of}
+use Rattle.giotto_faults.specs.declared.findings.Finding.{Finding}
+use Rattle.giotto_faults.specs.declared.findings.Severity.TheVariants.{Error}
+use Rattle.giotto_faults.specs.declared.places.Place.{Place}
+use Rattle.giotto_tasks.specs.Names.{is_among, same_name}
+use Rattle.rig_config.specs.Roster.{Rig}
+use Rattle.rig_model.specs.Script.{operator}
+use Rattle.rig_model.specs.TextLines.{text_of_line}
+use Rattle.tenant_lines.specs.Words.{behind_first_word, first_word_of}
+use Rattle.script_checks.specs.declared.scripts.LineFault.{LineFault}
+use Rattle.script_checks.specs.declared.scripts.LineFault.TheVariants.{TooLong, NotText, UnknownSpeaker, BadCommand, BadFrame, UnknownTenant, Program}
+
+-- "no tenant has the name `NAME`"
+abbrev pub words_of_nobody : List ℕ → List ℕ
+words_of_nobody name = codes "no tenant has the name `" ++ (name ++ codes "`")
+
+-- "a tick has a value for each rig line, and these are LINES"
+abbrev pub words_of_frame : Rig → List ℕ
+words_of_frame config = codes "a tick has a value for each rig line, and these are " ++ decimal config.lines
+
+-- the words behind `op` with which lines begin that have forms, and those behind a tenant's name; `load` and `replace` take any text
+abbrev pub words_of_operator : List (List ℕ)
+words_of_operator = codes "tick" ∷ codes "work" ∷ codes "lines" ∷ []
+
+abbrev pub words_of_tenants : List (List ℕ)
+words_of_tenants = codes "start" ∷ codes "stop" ∷ codes "trace" ∷ codes "rows" ∷ codes "show" ∷ codes "offer" ∷ codes "unoffer" ∷ codes "bind" ∷ codes "unbind" ∷ []
+
+abbrev pub has_forms : List ℕ → List ℕ → Bool
+has_forms speaker word = if same_name speaker operator then is_among words_of_operator word else is_among words_of_tenants word
+
+-- what is said of a line that is no command, by who speaks and the word behind
+abbrev pub words_of_command : List ℕ → List ℕ → List ℕ
+words_of_command speaker [] = codes "there is no command behind `" ++ (speaker ++ codes "`")
+words_of_command speaker (c ∷ cs) =
+    if has_forms speaker (c ∷ cs) then codes "this is none of the forms of `" ++ ((c ∷ cs) ++ codes "`")
+    else codes "`" ++ ((c ∷ cs) ++ codes "` is no command")
+
+abbrev pub words_of_bad_command : List ℕ → List ℕ
+words_of_bad_command text = words_of_command (first_word_of text) (first_word_of (behind_first_word text))
+
+-- what is wrong with a line of this text, in words; of a program its own findings tell
+abbrev pub words_of_fault : Rig → List ℕ → LineFault → List ℕ
+words_of_fault config text TooLong = codes "the line has more than 16384 bytes, and ends the script for all"
+words_of_fault config text NotText = codes "the line isn't UTF-8, and ends the script for all"
+words_of_fault config text UnknownSpeaker = words_of_nobody (first_word_of text)
+words_of_fault config text UnknownTenant = words_of_nobody (first_word_of (behind_first_word (behind_first_word text)))
+words_of_fault config text BadFrame = words_of_frame config
+words_of_fault config text BadCommand = words_of_bad_command text
+words_of_fault config text Program = []
+
+-- where the first word of what a text ends with begins: the text without what stands behind that word, and without the word
+abbrev pub offset_of_word : List ℕ → List ℕ → ℕ
+offset_of_word text end = length text - length (behind_first_word end) - length (first_word_of end)
+
+-- what stands behind who speaks, where that is a word at least, or else the line
+abbrev pub end_with_command : List ℕ → List ℕ
+end_with_command text = by (first_word_of (behind_first_word text))
+  where
+    by : List ℕ → List ℕ
+    by [] = text
+    by (c ∷ cs) = behind_first_word text
+
+abbrev pub offset_of_command : List ℕ → ℕ
+offset_of_command text = offset_of_word text (end_with_command text)
+
+-- where the fault of a line of this text is shown: at the word that is wrong, or of the line as a whole at its front
+abbrev pub offset_of_fault : List ℕ → LineFault → ℕ
+offset_of_fault text TooLong = 0
+offset_of_fault text NotText = 0
+offset_of_fault text UnknownSpeaker = offset_of_word text text
+offset_of_fault text UnknownTenant = offset_of_word text (behind_first_word (behind_first_word text))
+offset_of_fault text BadFrame = offset_of_word text (behind_first_word text)
+offset_of_fault text BadCommand = offset_of_command text
+offset_of_fault text Program = 0
+
+-- an error at this offset, in these words
+abbrev pub IsErrorAt : ℕ → List ℕ → Finding → Type 0
+IsErrorAt offset words f = (f.severity ≡ Error) × (f.offset ≡ offset) × (string_bytes f.message ≡ words)
+
+-- the text of a line, and none of it where it is no text
+abbrev pub text_or_none : List ℕ → List ℕ
+text_or_none line = by (text_of_line line)
+  where
+    by : Option (List ℕ) → List ℕ
+    by None = []
+    by (Some text) = text
+
+-- the column of a byte of a line's text, in characters
+abbrev pub column_in : List ℕ → ℕ → ℕ
+column_in line offset = (place_of (text_or_none line) (min offset (length (text_or_none line)))).column
+
+-- the place of that byte, where this is the line's number
+abbrev pub place_in : ℕ → List ℕ → ℕ → Place
+place_in number line offset = record { line = number; column = column_in line offset }
