@@ -304,28 +304,60 @@ pub(crate) fn text_or_none(line: &[u8]) -> &str
 
 // What stands below it: the line with carets, the rule and the help.
 fn below(alloc: Global, end: &LineEnd, finding: &Finding) -> Result<String, AllocError> {
+    let number = format!(in alloc; "{}", end.number)?;
+    let margin = repeated(alloc, " ", number.len())?;
+    let mut text = marked(alloc, end, finding, number.as_str(), margin.as_str())?;
+    add_remark(alloc, &mut text, margin.as_str(), "", &finding.rule)?;
+    add_remark(alloc, &mut text, margin.as_str(), "help: ", &finding.help)?;
+    Ok(text)
+}
+
+// The line, and carets below.
+fn marked(
+    alloc: Global,
+    end: &LineEnd,
+    finding: &Finding,
+    number: &str,
+    margin: &str,
+) -> Result<String, AllocError> {
     let source = lossy(alloc, end.line)?;
     let line = source.as_str();
     let offset = end.before.saturating_add(finding.offset);
-    let number = format!(in alloc; "{}", end.number)?;
-    let margin = repeated(alloc, " ", number.len())?;
     let begin = begin_of(line, offset);
     let excerpt = excerpt_of(alloc, line, begin, offset)?;
+    let carets = carets_of(alloc, line, begin, offset, finding.len)?;
+    let (excerpt, carets) = (excerpt.as_str(), carets.as_str());
+    format!(in alloc; "{margin} |\n{number} | {excerpt}\n{margin} | {carets}\n")
+}
+
+// The carets below what is told, where the line is shown from a byte on.
+fn carets_of(
+    alloc: Global,
+    line: &str,
+    begin: usize,
+    offset: usize,
+    len: usize,
+) -> Result<String, AllocError> {
     let left = without_tabs(alloc, line.get(begin..offset).unwrap_or(""))?;
     let dots = if begin == 0 { 0 } else { 3 };
     let indent = repeated(alloc, " ", left.as_str().width().saturating_add(dots))?;
-    let carets = repeated(alloc, "^", width_of(line, offset, finding.len))?;
-    let (margin, number) = (margin.as_str(), number.as_str());
-    let (excerpt, indent, carets) = (excerpt.as_str(), indent.as_str(), carets.as_str());
-    let mut text = format!(in alloc; "{margin} |\n{number} | {excerpt}\n")?;
-    text.push_str(format!(in alloc; "{margin} | {indent}{carets}\n")?.as_str())?;
-    if let Some(rule) = &finding.rule {
-        text.push_str(format!(in alloc; "{margin} = {}\n", rule.as_str())?.as_str())?;
+    let carets = repeated(alloc, "^", width_of(line, offset, len))?;
+    format!(in alloc; "{}{}", indent.as_str(), carets.as_str())
+}
+
+// Adds a rule or a help, if there is one.
+fn add_remark(
+    alloc: Global,
+    text: &mut String,
+    margin: &str,
+    what: &str,
+    remark: &Option<String>,
+) -> Result<(), AllocError> {
+    if let Some(remark) = remark {
+        let row = format!(in alloc; "{margin} = {what}{}\n", remark.as_str())?;
+        text.push_str(row.as_str())?;
     }
-    if let Some(help) = &finding.help {
-        text.push_str(format!(in alloc; "{margin} = help: {}\n", help.as_str())?.as_str())?;
-    }
-    Ok(text)
+    Ok(())
 }
 
 // From which byte on a line is shown.
