@@ -326,6 +326,7 @@ fn add_values(text: &mut String, host: &Host) -> Result<(), AllocError>
 }
 
 // The reply to an instant of this number.
+#[inline(always)]
 fn tick_reply(text: &mut String, number: u64) -> Result<(), AllocError>
     ensures { OnOk result (string_bytes text.new ≡ string_bytes text.old ++ reply_line operator (codes "ok tick " ++ decimal number)) }
 {
@@ -336,6 +337,7 @@ fn tick_reply(text: &mut String, number: u64) -> Result<(), AllocError>
 }
 
 // The reply to `work` that completed so many jobs.
+#[inline(always)]
 fn work_reply(text: &mut String, number: u128) -> Result<(), AllocError>
     ensures { OnOk result (string_bytes text.new ≡ string_bytes text.old ++ reply_line operator (codes "ok work " ++ decimal number)) }
 {
