@@ -1,5 +1,5 @@
 -- A script that is told begins with a new host.
-use Rattle.std.proofs.Common.{◌≡◌, ◌-◌, ◌^◌, ℕ, min, List, [], ◌++◌, length, Option, Some, None, IfSome, refl, ap, ◌∙◌}
+use Rattle.std.proofs.Common.{◌≡◌, ◌-◌, ◌^◌, ℕ, min, List, [], ◌++◌, length, Option, Some, None, IfSome, refl, ap, inl, inr, ◌∙◌}
 use Rattle.host_core.specs.HostStanding.{HostStanding, Stands}
 use Rattle.rig_config.specs.Roster.{Rig}
 use Rattle.rig_model.specs.Answered.{IsText}
@@ -7,13 +7,15 @@ use Rattle.rig_model.specs.Base.{Setting, new_base}
 use Rattle.rig_model.specs.Plays.{IsSettingOf}
 use Rattle.rig_model.specs.Script.{past_after, script_from, script_text_of}
 use Rattle.rig_model.specs.TextLines.{cut}
-use Rattle.rig_reports.specs.inner.Reported.{heard_of, replies_of, reply_to_bad_line, report_of, told_of_bad_line}
+use Rattle.rig_reports.specs.inner.Reported.{IsReportBrokenOff, heard_of, replies_of, reply_to_bad_line, report_of, told_of_bad_line}
 use Rattle.rig_reports.specs.inner.Telling.{IsTelling}
 use Rattle.rig_script.proofs.cited.Ends.{none_bad}
 use Rattle.rig_script.proofs.cited.NewScript.{starts}
-use Rattle.rig_script.specs.BrokenOff.{ForNewHostReading}
+use Rattle.rig_script.specs.BrokenOff.{AreBrokenOff, ForNewHostReading, IsScriptBrokenOff}
 use Rattle.rig_script.specs.Given.{IsEndOf, texts_of}
 use Rattle.rig_script.specs.cited.Past.{ForEachPastReading}
+use Rattle.rig_script.specs.declared.faults.ScriptFault.{ScriptFault}
+use Rattle.rig_script.specs.declared.faults.ScriptFault.TheVariants.{Memory}
 use Rattle.script_reports.specs.cited.Heard.{HeardLine}
 use Rattle.script_reports.specs.cited.Runs.{line_in}
 use Rattle.script_reports.specs.cited.Told.{told_of_lines}
@@ -45,6 +47,13 @@ module _ (host later : HostStanding) (config : Rig) (begins : (setting : Setting
   written_at_start None Written goes = λ setting of. tt
   written_at_start (Some bytes) Written goes = λ setting of. goes setting [] [] (telling setting of)
 
+  -- how it is broken off
+  pub broken_at_start : (fault : ScriptFault) (known left : Option (List ℕ)) (Written : List ℕ → Type 0)
+      → ForEachPastReading (λ setting texts past. IsTelling setting host 0 Before texts past) known (λ setting texts past bytes. AreBrokenOff left Written fault setting past bytes)
+      → ForNewHostReading config known (IsScriptBrokenOff left Written fault)
+  broken_at_start fault None left Written goes = λ setting of. tt
+  broken_at_start fault (Some bytes) left Written goes = λ setting of. inr (goes setting [] [] (telling setting of))
+
 -- the report of a script, with its end
 pub reported_from_start : (config : Rig) (known left : Option (List ℕ)) (listener report : List ℕ) (end : Option ℕ) → report ≡ listener ++ told_of_bad_line end
     → ForNewHostReading config known (λ setting bytes. listener ≡ told_of_lines (heard_of setting bytes)) → IfSome known (λ bytes. IsEndOf bytes left end)
@@ -52,6 +61,18 @@ pub reported_from_start : (config : Rig) (known left : Option (List ℕ)) (liste
 reported_from_start config None left listener report end is told ends = λ setting of. tt
 reported_from_start config (Some bytes) left listener report end is told ends = λ setting of.
     is ∙ (ap (λ t. t ++ told_of_bad_line end) (told setting of) ∙ ap (λ (e : Option ℕ). told_of_lines (heard_of setting bytes) ++ told_of_bad_line e) ends.0)
+
+-- a script with a report is broken off as one without
+pub broken_with_report : (config : Rig) (known left : Option (List ℕ)) (Written : List ℕ → Type 0) (fault : ScriptFault)
+    → ForNewHostReading config known (IsScriptBrokenOff left Written fault) → ForNewHostReading config known (IsReportBrokenOff left Written fault)
+broken_with_report config None left Written fault broken = λ setting of. tt
+broken_with_report config (Some bytes) left Written fault broken = λ setting of. inl (broken setting of)
+
+-- all was answered, and there was no memory to tell its end
+pub broken_at_end : (config : Rig) (known left : Option (List ℕ)) (Written : List ℕ → Type 0)
+    → ForNewHostReading config known (λ setting bytes. Written (script_text_of setting bytes)) → ForNewHostReading config known (IsReportBrokenOff left Written Memory)
+broken_at_end config None left Written written = λ setting of. tt
+broken_at_end config (Some bytes) left Written written = λ setting of. inr (refl, written setting of)
 
 -- what its reader has left
 pub left_at_end : (known left : Option (List ℕ)) (end : Option ℕ) → IfSome known (λ bytes. IsEndOf bytes left end) → IfSome known (λ bytes. All IsText (cut bytes) → left ≡ Some [])

@@ -1,12 +1,12 @@
 //! A script that is told: a host answers it, and who listens is told each line as it is answered.
 
-ghost use Rattle.std.specs.Prelude.{◌≡◌, [], ◌+◌, ◌-◌, ◌^◌, min, List, IfOk, IfSome, OnOk};
+ghost use Rattle.std.specs.Prelude.{◌≡◌, [], ◌+◌, ◌-◌, ◌^◌, min, List, IfErr, IfOk, IfSome, OnOk};
 ghost use Rattle.std.specs.Io.KnownBytes.{Appends};
 ghost use Rattle.rig_model.specs.Script.{script_text_of};
 ghost use Rattle.rig_model.specs.declared.events.Event.{Event};
 ghost use Rattle.rig_reports.specs.inner.Reported.{heard_of, overruns_between};
 ghost use Rattle.rig_reports.specs.inner.Telling.{ForEachPastOf, IsBefore};
-ghost use Rattle.rig_script.specs.BrokenOff.{ForNewHostReading};
+ghost use Rattle.rig_script.specs.BrokenOff.{AreFewRead, ForNewHostReading, IsScriptBrokenOff};
 ghost use Rattle.rig_script.specs.Given.{IsEndOf};
 ghost use Rattle.rig_script.specs.cited.Ended.{end_behind};
 ghost use Rattle.script_reports.specs.cited.Heard.{IsHeard};
@@ -46,6 +46,9 @@ pub fn told_script<R: Read, W: Write, L: Listener + Drop>(
         Appends (W.contents writer.old) (W.contents writer.new) (script_text_of setting bytes))) }
     ensures heard { IfOk result (λ told. ForNewHostReading config.now (R.remaining reader.old) (λ setting bytes. L.heard told.listener (heard_of setting bytes))) }
     ensures end { IfOk result (λ told. IfSome (R.remaining reader.old) (λ bytes. IsEndOf bytes (R.remaining reader.new) told.bad_line)) }
+    ensures fault { IfErr result (λ fault. ForNewHostReading config.now (R.remaining reader.old)
+        (IsScriptBrokenOff (R.remaining reader.new) (Appends (W.contents writer.old) (W.contents writer.new)) fault)) }
+    ensures reads { AreFewRead result (R.remaining reader.old) (R.remaining reader.new) }
 {
     let host = Host::new(alloc, config, 0)?;
     let mut telling = Telling {

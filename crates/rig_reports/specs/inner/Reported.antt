@@ -1,5 +1,5 @@
 -- What is told of the lines of a script: each with its reply, and with the overruns at the instant that it gave.
-use Rattle.std.specs.Prelude.{ℕ, zero, suc, ◌+◌, ◌==◌, if◌then◌else◌, List, [], ◌∷◌, ◌++◌, length, map, Option, Some, None, codes}
+use Rattle.std.specs.Prelude.{◌≡◌, ◌⊎◌, ℕ, zero, suc, ◌+◌, ◌==◌, if◌then◌else◌, List, [], ◌∷◌, ◌++◌, length, map, Option, Some, None, codes}
 use Rattle.std.specs.Option.{option_map}
 use Rattle.giotto_tasks.specs.declared.names.Name.{Name}
 use Rattle.rig_config.specs.Roster.{name_at}
@@ -8,9 +8,12 @@ use Rattle.rig_model.specs.Host.{host_after}
 use Rattle.rig_model.specs.HostState.{row_at}
 use Rattle.rig_model.specs.Legal.{next_tick}
 use Rattle.rig_model.specs.Row.{Row, TenantState, StopReason, empty, loaded, running, stopped, asked, overrun, is_running}
-use Rattle.rig_model.specs.Script.{past_behind, reply_to_line}
+use Rattle.rig_model.specs.Script.{past_behind, reply_to_line, script_text_of}
 use Rattle.rig_model.specs.TextLines.{cut}
 use Rattle.rig_model.specs.declared.events.Event.{Event}
+use Rattle.rig_script.specs.BrokenOff.{IsScriptBrokenOff}
+use Rattle.rig_script.specs.declared.faults.ScriptFault.{ScriptFault}
+use Rattle.rig_script.specs.declared.faults.ScriptFault.TheVariants.{Memory}
 use Rattle.rig_script.specs.Given.{bad_line_of, number_behind, texts_of}
 use Rattle.script_reports.specs.cited.Heard.{HeardLine}
 use Rattle.script_reports.specs.cited.Runs.{line_in}
@@ -86,3 +89,9 @@ report_of setting bytes = told_of_lines (heard_of setting bytes) ++ told_of_bad_
 -- the replies to the lines of a script, each without its LF, and that to the one that ends it
 abbrev pub replies_of : Setting → List ℕ → List (List ℕ)
 replies_of setting bytes = map (λ (l : HeardLine). line_in l.reply) (heard_of setting bytes) ++ reply_to_bad_line (bad_line_of (cut bytes))
+
+-- What was written before a fault of a script with a report, as of one without. There is want of memory also where the script was answered
+-- whole, for the line that ended it.
+abbrev pub IsReportBrokenOff : Option (List ℕ) → (List ℕ → Type 0) → ScriptFault → Setting → List ℕ → Type 0
+IsReportBrokenOff left Written fault setting bytes =
+    IsScriptBrokenOff left Written fault setting bytes ⊎ ((fault ≡ Memory) × Written (script_text_of setting bytes))
