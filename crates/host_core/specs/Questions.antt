@@ -1,5 +1,5 @@
 -- Which commands are questions, and the reply to one of them.
-use Rattle.std.specs.Prelude.{Bool, true, false, ℤ, Result, Ok, Err}
+use Rattle.std.specs.Prelude.{◌≡◌, Bool, true, false, ℤ, Result, Ok, Err}
 use Rattle.tenant_lines.specs.declared.commands.Command.{Command}
 use Rattle.tenant_lines.specs.declared.commands.Command.TheVariants.{Load, Replace, Start, Stop, ShowMode, ShowPort, ShowAll, Grants}
 use Rattle.tenant_lines.specs.declared.commands.Command.TheVariants as command
@@ -9,6 +9,8 @@ use Rattle.tenant_lines.specs.declared.ports.PortName.{PortName}
 use Rattle.tenant_lines.specs.declared.replies.Refusal.{Refusal}
 use Rattle.tenant_lines.specs.declared.replies.Reply.{Reply}
 use Rattle.tenant_lines.specs.declared.replies.Reply.TheVariants.{Port, Refused}
+use Rattle.rig_model.specs.Commands.{commanded}
+use Rattle.tenant_state.specs.Standing.{Standing}
 
 -- a command about grants asks for the rows
 abbrev pub asks_for_rows : GrantCommand → Bool
@@ -29,6 +31,10 @@ is_question (ShowPort x) = true
 is_question ShowAll = true
 is_question command.Trace = true
 is_question (Grants c) = asks_for_rows c
+
+-- behind this command the tenant's row is as it was: it is a question, or it is refused
+abbrev pub LeavesRow : Standing → Command → Type 0
+LeavesRow tenant c = (commanded tenant.tenancy c tenant.row).row ≡ tenant.row
 
 -- the reply to "show port", by the port's value, or why there is none
 abbrev pub reply_of_port : PortName → Result ℤ Refusal → Reply

@@ -20,7 +20,7 @@ ghost use Rattle.tenant_jobs.specs.Finished.{has_result};
 ghost use Rattle.tenant_jobs.specs.cited.Finished.{is_entered};
 ghost use Rattle.rig_model.specs.declared.jobs.JobId.{JobId};
 ghost use Rattle.host_core.specs.ListReplies.{is_list};
-ghost use Rattle.host_core.specs.Questions.{is_question, reply_of_port};
+ghost use Rattle.host_core.specs.Questions.{LeavesRow, is_question, reply_of_port};
 ghost use Rattle.tenant_lines.specs.declared.commands.Command.{Command};
 ghost use Rattle.tenant_lines.specs.declared.replies.Refusal.{Refusal};
 ghost use Rattle.tenant_lines.specs.declared.replies.Reply.{Reply};
@@ -140,6 +140,7 @@ impl Host {
         ensures config { self.new.config ≡ self.old.config }
         ensures listed { IsTrue (is_list result) → self.new ≡ self.old }
         ensures asked { IsTrue (is_question command) → self.new ≡ self.old }
+        ensures unchanged { LeavesRow (tenant_at self.old.tenants tenant) command → self.new ≡ self.old }
         ensures outstanding { outstanding_count self.new ≤ outstanding_count self.old }
         ensures reply { result ≢ Reply.Refused Refusal.Memory
             → ForEachState self.old (λ setting state. result ≡ (after_command setting tenant command (row_at state tenant)).reply) }
@@ -151,7 +152,7 @@ impl Host {
     }
 
     /// Carries out a tenant's command that is prepared. The program whose place is taken, or which isn't taken itself, is left in `left`. A refusal changes nothing, want of memory included, and no command changes another
-    /// tenant, nor makes more jobs outstanding; a question changes nothing, nor does what is answered by a list. Only `load`, `replace`, `show all` of a program with a port, `trace` where there is a record, `offer` and `bind` where the row may be
+    /// tenant, nor makes more jobs outstanding; one that leaves its tenant's row changes nothing, as a question and what is answered by a list do. Only `load`, `replace`, `show all` of a program with a port, `trace` where there is a record, `offer` and `bind` where the row may be
     /// made, and `rows` where there is one, are ever refused for want of memory.
     pub fn carry_out(
         &mut self,
@@ -165,6 +166,7 @@ impl Host {
         ensures config { self.new.config ≡ self.old.config }
         ensures listed { IsTrue (is_list result) → self.new ≡ self.old }
         ensures asked { IsTrue (is_question prepared) → self.new ≡ self.old }
+        ensures unchanged { LeavesRow (tenant_at self.old.tenants tenant) prepared → self.new ≡ self.old }
         ensures outstanding { outstanding_count self.new ≤ outstanding_count self.old }
         ensures reply { result ≢ Reply.Refused Refusal.Memory
             → ForEachState self.old (λ setting state. result ≡ (after_command setting tenant prepared (row_at state tenant)).reply) }

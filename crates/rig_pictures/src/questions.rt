@@ -2,7 +2,8 @@
 
 ghost use Rattle.std.specs.Prelude.{◌≡◌, ◌<◌, length, IfOk, IsTrue};
 ghost use Rattle.host_core.specs.HostStanding.{ForEachState};
-ghost use Rattle.host_core.specs.Questions.{is_question};
+ghost use Rattle.host_core.specs.Questions.{LeavesRow, is_question};
+ghost use Rattle.instant_engine.specs.Tenants.{tenant_at};
 ghost use Rattle.rig_model.specs.HostState.{row_at};
 ghost use Rattle.rig_model.specs.Views.{after_command};
 
@@ -50,13 +51,14 @@ fn ports_of(alloc: Global, reply: Reply) -> List<PortValue> {
     }
 }
 
-/// The reply of the tenant at this place to a command. A question, as `show mode`, leaves the host as it was.
+/// The reply of the tenant at this place to a command. One that leaves the tenant's row, as the question `show mode` does, leaves the host as it was.
 ///
 /// # Errors
 /// Want of memory.
 pub fn ask(host: &mut Host, tenant: TenantId, question: Command) -> Result<Reply, AllocError>
     requires { tenant < length host.old.config.tenants }
     ensures same { IsTrue (is_question question) → host.new ≡ host.old }
+    ensures unchanged { LeavesRow (tenant_at host.old.tenants tenant) question → host.new ≡ host.old }
     ensures reply { IfOk result (λ reply. ForEachState host.old (λ setting state. reply ≡ (after_command setting tenant question (row_at state tenant)).reply)) }
 {
     let reply = host.command(tenant, question);

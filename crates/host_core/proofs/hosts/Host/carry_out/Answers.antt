@@ -4,6 +4,7 @@ use Rattle.rig_model.specs.Host.{after_event}
 use Rattle.rig_model.specs.declared.events.Event.TheVariants.{Own}
 use Rattle.host_core.specs.HostStanding.{HostStanding, Stands, outstanding_count, outstanding_from}
 use Rattle.host_core.specs.inner.HostStanding.{IsWhole}
+use Rattle.host_core.specs.Questions.{LeavesRow}
 use Rattle.instant_engine.specs.Tenants.{tenant_at}
 use Rattle.tenant_jobs.specs.Finished.{TaskTable}
 use Rattle.tenant_state.specs.Memory.{takes_memory}
@@ -107,3 +108,8 @@ returns-clause-listed c = λ listed. same_behind c (listed_leaves (old_of c) (ne
 
 pub returns-clause-asked : goal.returns-clause-asked
 returns-clause-asked c = λ question. same_behind c (asked_leaves (old_of c) (new_of c) c.args.prepared c.carry_out-reply.result c.carry_out-reply.ensures.memory question)
+
+pub returns-clause-unchanged : goal.returns-clause-unchanged
+returns-clause-unchanged c = λ leaves.
+    let here_of = here_at_rest (standing c.self.inside) c.args.self.now c.args.tenant c.index_mut-tenant.result.now c.self.view_is (among c) c.index_mut-tenant.ensures.value in
+    same_behind c (λ other same. subst (λ (s : Standing). LeavesRow s c.args.prepared) here_of leaves, c.carry_out-reply.ensures.memory)
