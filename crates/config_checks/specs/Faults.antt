@@ -44,16 +44,20 @@ value_at document place = by place.tenant
     by None = get (word_of place.field) document
     by (Some t) = option_and_then (get (word_of place.field)) (tenant_at document t)
 
--- how the value of a field is told: an array of the rig's by how many values it has
-abbrev pub IsValueOf : Option ℕ → Data → List ℕ → Type 0
-IsValueOf (Some t) value text = IsValue value text
-IsValueOf None (array values) text = text ≡ codes "an array of " ++ decimal (count_of values)
-IsValueOf None (string s) text = IsValue (string s) text
-IsValueOf None (integer z) text = IsValue (integer z) text
-IsValueOf None (float x) text = IsValue (float x) text
-IsValueOf None (boolean truth) text = IsValue (boolean truth) text
-IsValueOf None (datetime moment) text = IsValue (datetime moment) text
-IsValueOf None (table fields) text = IsValue (table fields) text
+-- how many tenants there are, where their field has an array; else its value
+abbrev pub AreCounted : Data → List ℕ → Type 0
+AreCounted (array values) text = text ≡ codes "an array of " ++ decimal (count_of values)
+AreCounted (string s) text = IsValue (string s) text
+AreCounted (integer z) text = IsValue (integer z) text
+AreCounted (float x) text = IsValue (float x) text
+AreCounted (boolean truth) text = IsValue (boolean truth) text
+AreCounted (datetime moment) text = IsValue (datetime moment) text
+AreCounted (table fields) text = IsValue (table fields) text
+
+-- how the value of a field is told: the tenants by how many they are
+abbrev pub IsValueOf : Field → Data → List ℕ → Type 0
+IsValueOf field.Tenant value text = AreCounted value text
+IsValueOf _ value text = IsValue value text
 
 abbrev pub list_of : Items → List Data
 list_of no_items = []
@@ -120,7 +124,7 @@ words_of_shared _ text = codes "two tenants may drive line " ++ text
 abbrev pub IsFaultTold : Data → ConfigFault → List ℕ → Type 0
 IsFaultTold document (Missing place) words = words ≡ owner_of document place.tenant ++ (codes " has no `" ++ (word_of place.field ++ codes "`"))
 IsFaultTold document (Range place) words =
-    (value : List ℕ) × IfSome (value_at document place) (λ d. IsValueOf place.tenant d value)
+    (value : List ℕ) × IfSome (value_at document place) (λ d. IsValueOf place.field d value)
     × (words ≡ codes "`" ++ (word_of place.field ++ (codes "` of " ++ (owner_of document place.tenant ++ (codes " is " ++ value)))))
 IsFaultTold document (Twice f) words = IfSome (shared_in f document) (λ d. (value : List ℕ) × IsValue d value × (words ≡ words_of_shared f value))
 IsFaultTold document NotToml words = Unit {0}

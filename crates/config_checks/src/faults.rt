@@ -7,7 +7,7 @@ ghost use Rattle.std.specs.Option.{option_copied};
 ghost use Rattle.toml.specs.View.{items_view, view};
 ghost use Rattle.rig_config.specs.Reading.{count_of};
 ghost use Rattle.giotto_faults.specs.Findings.{BeginsWith};
-ghost use Rattle.config_checks.specs.Faults.{IsFaultTold, TellsFault, IsValueOf, has_one, is_same, items_in, name_of, owner_of, shared_in, tenant_at, tenants_in, value_at, values_in, values_of, words_of_shared};
+ghost use Rattle.config_checks.specs.Faults.{AreCounted, IsFaultTold, IsValueOf, TellsFault, has_one, is_same, items_in, name_of, owner_of, shared_in, tenant_at, tenants_in, value_at, values_in, values_of, words_of_shared};
 
 use crate::places::{offset_of, place_of};
 use crate::values::text_of_value;
@@ -190,32 +190,28 @@ fn value_at(document: &Value, at: FieldPlace) -> Option<&Value>
     }
 }
 
-// The value of a field, as it is written; how many values there are in an array of the rig's.
+// The value of a field, as it is written; how many tenants there are where it is they.
 fn text_at(alloc: Global, document: &Value, at: FieldPlace) -> Result<String, AllocError>
-    ensures { IfOk result (λ text. IfSome (value_at (view document.now) at) (λ value. IsValueOf at.tenant value (string_bytes text))) }
+    ensures { IfOk result (λ text. IfSome (value_at (view document.now) at) (λ value. IsValueOf at.field value (string_bytes text))) }
 {
     match value_at(document, at) {
-        Some(value) => text_of_field(alloc, at.tenant, value),
+        Some(value) => text_of_field(alloc, at.field, value),
         None => String::from_str(alloc, "missing"),
     }
 }
 
-fn text_of_field(
-    alloc: Global,
-    tenant: Option<TenantId>,
-    value: &Value,
-) -> Result<String, AllocError>
-    ensures { IfOk result (λ text. IsValueOf tenant (view value.now) (string_bytes text)) }
+fn text_of_field(alloc: Global, field: Field, value: &Value) -> Result<String, AllocError>
+    ensures { IfOk result (λ text. IsValueOf field (view value.now) (string_bytes text)) }
 {
-    match tenant {
-        Some(_) => text_of_value(alloc, value),
-        None => text_of_rig(alloc, value),
+    match field {
+        Field::Tenant => text_of_tenants(alloc, value),
+        _ => text_of_value(alloc, value),
     }
 }
 
-// The value of a field of the rig.
-fn text_of_rig(alloc: Global, value: &Value) -> Result<String, AllocError>
-    ensures { IfOk result (λ text. IsValueOf None (view value.now) (string_bytes text)) }
+// How many tenants there are, or what stands in place of their array.
+fn text_of_tenants(alloc: Global, value: &Value) -> Result<String, AllocError>
+    ensures { IfOk result (λ text. AreCounted (view value.now) (string_bytes text)) }
 {
     match value {
         Value::Array(values) => text_of_count(alloc, values.as_slice()),

@@ -2,8 +2,8 @@
 
 ghost use Rattle.std.specs.Prelude.{◌≡◌, ◌++◌, ◌∷◌, [], IfOk, IfSome, OnOk, codes, length, option_map, string_bytes};
 ghost use Rattle.std.specs.List.{flat_map};
-ghost use Rattle.giotto_summaries.specs.Parts.{body, drivers_of, invocation, part_of, parts_of, switch, update};
-ghost use Rattle.giotto_text.specs.ProgramTrees.{actuator_of, invocation_of, mode_of, sensor_of, switch_of, task_of, update_of};
+ghost use Rattle.giotto_summaries.specs.Parts.{body, drivers_of, part_of, parts_of};
+ghost use Rattle.giotto_text.specs.ProgramTrees.{actuator_of, mode_of, sensor_of, task_of};
 ghost use Rattle.giotto_text.specs.declared.programs.Actuator.{Actuator as AnyActuator};
 ghost use Rattle.giotto_text.specs.declared.programs.Invocation.{Invocation as AnyInvocation};
 ghost use Rattle.giotto_text.specs.declared.programs.Mode.{Mode as AnyMode};
@@ -15,7 +15,7 @@ ghost use Rattle.rig_config.specs.Roster.{may_use};
 ghost use Rattle.rig_model.specs.Admission.{broken_budget};
 ghost use Rattle.program_checks.specs.Budgets.{heading_of, row_of, row_of_lines, text_of_budgets};
 ghost use Rattle.program_checks.specs.Excess.{AreOver, words_of_actuator, words_of_cost, words_of_line, words_of_number, words_of_part, words_of_sensor, words_over, rule_of_budget};
-ghost use Rattle.program_checks.specs.inner.Telling.{AreTold};
+ghost use Rattle.program_checks.specs.inner.Telling.{AreTold, invocation_in, switch_in, update_in};
 ghost use Rattle.program_checks.specs.declared.budgets.OverBudget.{OverBudget as AnyOverBudget};
 
 use crate::numbers::text_of_numbers;
@@ -333,7 +333,7 @@ impl Over<'_> {
         place: usize,
         spots: &Spots,
     ) -> Result<(), AllocError>
-        ensures { OnOk result (AreTold self.now.budget (flat_map (λ (u : AnyUpdate). words_of_part self.now.held.tenant.now (update (mode_of mode.now) (update_of u))) mode.now.updates) findings.old.items findings.new.items) }
+        ensures { OnOk result (AreTold self.now.budget (flat_map (λ (u : AnyUpdate). words_of_part self.now.held.tenant.now (update_in mode.now u)) mode.now.updates) findings.old.items findings.new.items) }
     {
         let updates = mode.updates.as_slice();
         for (one, update) in updates.iter().enumerate() {
@@ -350,7 +350,7 @@ impl Over<'_> {
         place: usize,
         spots: &Spots,
     ) -> Result<(), AllocError>
-        ensures { OnOk result (AreTold self.now.budget (flat_map (λ (s : AnySwitch). words_of_part self.now.held.tenant.now (switch (mode_of mode.now) (switch_of s))) mode.now.switches) findings.old.items findings.new.items) }
+        ensures { OnOk result (AreTold self.now.budget (flat_map (λ (s : AnySwitch). words_of_part self.now.held.tenant.now (switch_in mode.now s)) mode.now.switches) findings.old.items findings.new.items) }
     {
         let switches = mode.switches.as_slice();
         for (one, switch) in switches.iter().enumerate() {
@@ -367,7 +367,7 @@ impl Over<'_> {
         place: usize,
         spots: &Spots,
     ) -> Result<(), AllocError>
-        ensures { OnOk result (AreTold self.now.budget (flat_map (λ (i : AnyInvocation). words_of_part self.now.held.tenant.now (invocation (mode_of mode.now) (invocation_of i))) mode.now.invocations) findings.old.items findings.new.items) }
+        ensures { OnOk result (AreTold self.now.budget (flat_map (λ (i : AnyInvocation). words_of_part self.now.held.tenant.now (invocation_in mode.now i)) mode.now.invocations) findings.old.items findings.new.items) }
     {
         let invocations = mode.invocations.as_slice();
         for (one, invocation) in invocations.iter().enumerate() {

@@ -1,9 +1,25 @@
 -- Findings about a budget, and some more.
 use Rattle.std.specs.Prelude.{ℕ, List, ◌++◌}
 use Rattle.giotto_faults.specs.declared.findings.Finding.{Finding}
+use Rattle.giotto_summaries.specs.Parts.{ProgramPart, invocation, switch, update}
+use Rattle.giotto_text.specs.ProgramTrees.{invocation_of, mode_of, switch_of, update_of}
+use Rattle.giotto_text.specs.declared.programs.Invocation.{Invocation}
+use Rattle.giotto_text.specs.declared.programs.Mode.{Mode}
+use Rattle.giotto_text.specs.declared.programs.Switch.{Switch}
+use Rattle.giotto_text.specs.declared.programs.Update.{Update}
 use Rattle.program_checks.specs.Excess.{AreOver}
 use Rattle.tenant_lines.specs.declared.replies.Budget.{Budget}
 
 -- behind findings with whatever words about a budget there are now others with these words more
 abbrev pub AreTold : Budget → List (List ℕ) → List Finding → List Finding → Type 0
 AreTold budget more before after = (words : List (List ℕ)) → AreOver budget words before → AreOver budget (words ++ more) after
+
+-- an update, a switch or an invocation of a mode, as a part of its program
+abbrev pub update_in : Mode → Update → ProgramPart
+update_in m u = update (mode_of m) (update_of u)
+
+abbrev pub switch_in : Mode → Switch → ProgramPart
+switch_in m s = switch (mode_of m) (switch_of s)
+
+abbrev pub invocation_in : Mode → Invocation → ProgramPart
+invocation_in m i = invocation (mode_of m) (invocation_of i)
