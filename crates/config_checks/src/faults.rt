@@ -9,6 +9,7 @@ ghost use Rattle.rig_config.specs.Reading.{count_of};
 ghost use Rattle.giotto_faults.specs.Findings.{BeginsWith};
 ghost use Rattle.config_checks.specs.Faults.{AreCounted, IsFaultTold, IsValueOf, TellsFault, has_one, is_same, items_in, name_of, owner_of, shared_in, tenant_at, tenants_in, value_at, values_in, values_of, words_of_shared};
 
+use crate::helps::help_on;
 use crate::places::{offset_of, place_of};
 use crate::values::text_of_value;
 use giotto_faults::findings::{Finding, Severity};
@@ -90,7 +91,7 @@ fn finding_in(
     ensures words { IfOk result (λ f. IsFaultTold (view document.now) fault (string_bytes f.message)) }
 {
     let message = words_of_fault(alloc, document, fault)?;
-    let help = help_on_fault(alloc, fault)?;
+    let help = help_on(alloc, document, fault)?;
     Ok(Finding {
         severity: Severity::Error,
         offset: offset_of_fault(text, document, fault),
@@ -153,8 +154,8 @@ fn counted(alloc: Global, tenant: TenantId) -> Result<String, AllocError>
     format!(in alloc; "tenant {number}, counted from 1,")
 }
 
-// The name of the tenant at a place, where it has one.
-fn name_of(document: &Value, tenant: TenantId) -> Option<&str>
+/// The name of the tenant at a place, where it has one.
+pub(crate) fn name_of(document: &Value, tenant: TenantId) -> Option<&str>
     ensures { option_copied result ≡ name_of (view document.now) tenant }
 {
     match tenant_at(document, tenant) {
@@ -166,8 +167,8 @@ fn name_of(document: &Value, tenant: TenantId) -> Option<&str>
     }
 }
 
-// The tenant at a place of a document.
-fn tenant_at(document: &Value, tenant: TenantId) -> Option<&Value>
+/// The tenant at a place of a document.
+pub(crate) fn tenant_at(document: &Value, tenant: TenantId) -> Option<&Value>
     ensures { option_map (λ fields. view fields.now) result ≡ tenant_at (view document.now) tenant }
 {
     match document.get("tenant") {
@@ -248,15 +249,15 @@ fn words_of_shared(alloc: Global, field: Field, value: &str) -> Result<String, A
     }
 }
 
-// A value that a tenant has and one before it too, and the place of the later one.
+/// A value that a tenant has and one before it too, and the place of the later one.
 #[derive(Clone, Copy)]
-struct Shared<'a> {
-    tenant: TenantId,
-    value: &'a Value,
+pub(crate) struct Shared<'a> {
+    pub(crate) tenant: TenantId,
+    pub(crate) value: &'a Value,
 }
 
-// The first such value of this field.
-fn shared_in(document: &Value, field: Field) -> Option<Shared>
+/// The first such value of this field.
+pub(crate) fn shared_in(document: &Value, field: Field) -> Option<Shared>
     ensures { option_map (λ shared. view shared.value.now) result ≡ shared_in field (view document.now) }
 {
     let tenants = tenants_in(document);
@@ -302,8 +303,8 @@ fn has_one(tenants: &[Value], field: Field, value: &Value) -> bool
     false
 }
 
-// Whether a value is among these.
-fn is_among(values: &[Value], value: &Value) -> bool
+/// Whether a value is among these.
+pub(crate) fn is_among(values: &[Value], value: &Value) -> bool
     ensures { result ≡ list_any (is_same (view value.now)) (map view values.now) }
 {
     for other in values {
@@ -314,8 +315,8 @@ fn is_among(values: &[Value], value: &Value) -> bool
     false
 }
 
-// The tenants of a document.
-fn tenants_in(document: &Value) -> &[Value]
+/// The tenants of a document.
+pub(crate) fn tenants_in(document: &Value) -> &[Value]
     ensures { map view result.now ≡ tenants_in (view document.now) }
 {
     match document.get("tenant") {
@@ -334,8 +335,8 @@ fn items_in(value: &Value) -> &[Value]
     }
 }
 
-// The values of a field: those of its array, or the one that it has.
-fn values_in(tenant: &Value, field: Field) -> &[Value]
+/// The values of a field: those of its array, or the one that it has.
+pub(crate) fn values_in(tenant: &Value, field: Field) -> &[Value]
     ensures { map view result.now ≡ values_in field (view tenant.now) }
 {
     match tenant.get(field.word()) {
@@ -381,36 +382,5 @@ fn len_of_fault(fault: ConfigFault) -> usize {
     match fault.field() {
         Some(field) => field.word().len(),
         None => 0,
-    }
-}
-
-// What the field may be.
-fn help_on_fault(alloc: Global, fault: ConfigFault) -> Result<Option<String>, AllocError> {
-    match fault {
-        ConfigFault::Missing(at) | ConfigFault::Range(at) => {
-            let (word, may) = (at.field.word(), words_of_field(at.field));
-            Ok(Some(format!(in alloc; "`{word}` is {may}")?))
-        }
-        ConfigFault::Twice(_) | ConfigFault::NotToml | ConfigFault::Memory => Ok(None),
-    }
-}
-
-// What a field may be.
-fn words_of_field(field: Field) -> &'static str {
-    match field {
-        Field::Version => "1 or 2",
-        Field::Lines => "1 to 64",
-        Field::Tenant => "an array of 1 to 16 tables, each written as `[[tenant]]`",
-        Field::Name =>
-            "a text of 1 to 32 of a to z, 0 to 9 and `_`, a letter first; neither `op` nor `host`",
-        Field::Key => "a text of 1 to 64 characters, with no blank and in ASCII",
-        Field::Reads | Field::Writes => "an array of numbers of lines, each below `lines`",
-        Field::Bytes => "1 to 16000",
-        Field::Ports => "1 to 1024",
-        Field::Tasks | Field::Modes | Field::Offers | Field::Binds => "1 to 64",
-        Field::Steps => "1 to 1000000",
-        Field::Trace => "1 to 4096",
-        Field::Low => "a whole number",
-        Field::High => "a whole number that isn't below `low`",
     }
 }

@@ -5,7 +5,7 @@
 //!    |
 //! 25 | steps = 0
 //!    | ^^^^^
-//!    = help: `steps` is 1 to 1000000
+//!    = help: `steps` is a number from 1 to 1000000
 //! ```
 //!
 //! It is `rig_config` that finds the fault; only whose it is and where it stands is looked up here. `specs/Configurations.antt` says
@@ -17,6 +17,7 @@ ghost use Rattle.rig_config.specs.Reading.{config_of};
 ghost use Rattle.config_checks.specs.Configurations.{IsToldOf};
 
 mod faults;
+mod helps;
 mod notes;
 mod places;
 mod summaries;

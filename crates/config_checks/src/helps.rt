@@ -1,0 +1,121 @@
+//! What helps with the fault of a configuration: what a field may be, a key that is misspelled, or which two tenants share a line.
+
+use crate::faults::{is_among, name_of, shared_in, tenant_at, tenants_in, values_in};
+use rig_config::faults::{ConfigFault, Field, FieldPlace};
+use std::alloc::{AllocError, Global};
+use strsim::osa_distance;
+use toml::{Table, Value};
+
+/// What helps with the fault of a document, if anything does.
+///
+/// # Errors
+/// Want of memory.
+pub(crate) fn help_on(
+    alloc: Global,
+    document: &Value,
+    fault: ConfigFault,
+) -> Result<Option<String>, AllocError> {
+    match fault {
+        ConfigFault::Missing(at) => Ok(Some(help_on_missing(alloc, document, at)?)),
+        ConfigFault::Range(at) => Ok(Some(help_on_field(alloc, document, at.field)?)),
+        ConfigFault::Twice(field) => help_on_twice(alloc, document, field),
+        ConfigFault::NotToml | ConfigFault::Memory => Ok(None),
+    }
+}
+
+// Which key of the table may be meant for the field that isn't there, or else what the field may be.
+fn help_on_missing(alloc: Global, document: &Value, at: FieldPlace) -> Result<String, AllocError> {
+    let word = at.field.word();
+    if let Some(fields) = fields_of(document, at)
+        && let Some(key) = misspelled_in(alloc, fields, word)?
+    {
+        return format!(in alloc; "`{key}` is no field here: did you mean `{word}`?");
+    }
+    help_on_field(alloc, document, at.field)
+}
+
+// The table in which the field has its place.
+fn fields_of(document: &Value, at: FieldPlace) -> Option<&Table> {
+    match at.tenant {
+        None => document.as_table(),
+        Some(tenant) => match tenant_at(document, tenant) {
+            Some(fields) => fields.as_table(),
+            None => None,
+        },
+    }
+}
+
+// A key of the table that is near a field which the table hasn't. No other field is: any two are further from each other.
+fn misspelled_in<'a>(
+    alloc: Global,
+    fields: &'a Table,
+    word: &str,
+) -> Result<Option<&'a str>, AllocError> {
+    for key in fields.keys() {
+        if is_near(alloc, key.as_str(), word)? {
+            return Ok(Some(key.as_str()));
+        }
+    }
+    Ok(None)
+}
+
+// Whether a key is a field's word in capitals, or misspelled by a letter in three at most.
+fn is_near(alloc: Global, key: &str, word: &str) -> Result<bool, AllocError> {
+    if key.eq_ignore_ascii_case(word) {
+        return Ok(true);
+    }
+    Ok(osa_distance(alloc, key, word)? <= word.len() / 3)
+}
+
+// What a field may be.
+fn help_on_field(alloc: Global, document: &Value, field: Field) -> Result<String, AllocError> {
+    let (word, may) = (field.word(), words_of_field(field));
+    match (field, document.get("lines")) {
+        (Field::Reads | Field::Writes, Some(Value::Integer(lines))) => format!(in alloc;
+            "`{word}` is {may}, which is {lines}"
+        ),
+        _ => format!(in alloc; "`{word}` is {may}"),
+    }
+}
+
+fn words_of_field(field: Field) -> &'static str {
+    match field {
+        Field::Version => "the number 1 or 2",
+        Field::Lines => "a number from 1 to 64",
+        Field::Tenant => "an array of 1 to 16 tables, each written as `[[tenant]]`",
+        Field::Name =>
+            "a text of 1 to 32 of a to z, 0 to 9 and `_`, a letter first; neither `op` nor `host`",
+        Field::Key => "a text of 1 to 64 characters, with no blank and in ASCII",
+        Field::Reads | Field::Writes => "an array of numbers of lines, each below `lines`",
+        Field::Bytes => "a number from 1 to 16000",
+        Field::Ports => "a number from 1 to 1024",
+        Field::Tasks | Field::Modes | Field::Offers | Field::Binds => "a number from 1 to 64",
+        Field::Steps => "a number from 1 to 1000000",
+        Field::Trace => "a number from 1 to 4096",
+        Field::Low => "a whole number",
+        Field::High => "a whole number that isn't below `low`",
+    }
+}
+
+// Which two tenants may drive the same line. Of two with one name nothing more is told.
+fn help_on_twice(
+    alloc: Global,
+    document: &Value,
+    field: Field,
+) -> Result<Option<String>, AllocError> {
+    let (Field::Writes, Some(shared)) = (field, shared_in(document, field)) else {
+        return Ok(None);
+    };
+    let first = tenants_in(document)
+        .iter()
+        .position(|tenant| is_among(values_in(tenant, field), shared.value));
+    let Some(first) = first else {
+        return Ok(None);
+    };
+    match (name_of(document, first), name_of(document, shared.tenant)) {
+        (Some(one), Some(other)) => Ok(Some(format!(in alloc;
+            "the tenants `{one}` and `{other}` have it among their `writes`"
+        )?)),
+        _ => Ok(None),
+    }
+}
