@@ -4,14 +4,16 @@ ghost use Rattle.std.specs.Prelude.{◌≡◌, true, false, IsOk, Err};
 
 use crate::Failure;
 use crate::command_line::check_arguments;
-use crate::configuration::read_configuration;
+use crate::configuration::{ConfigurationFault, read_configuration, read_text};
 use crate::outputs::print;
+use crate::tenants::place_of;
 use clap::ArgMatches;
 use clap::error::ErrorKind;
 use config_checks::check_configuration;
 use giotto_reports::{Report, Wish, report_on};
 use program_checks::programs::check_program;
-use rig_config::{Config, TenantConfig};
+use rig_config::faults::ConfigFault;
+use rig_config::{Config, TenantConfig, read_config};
 use rig_script::faults::ScriptFault;
 use script_checks::scripts::check_script;
 use std::alloc::{AllocError, Global};
@@ -57,13 +59,13 @@ pub fn check_of<'a>(
 
 /// Checks the files, in their order. What is wrong stands on standard output, and so does what they have; where the text of programs is
 /// wanted, what is wrong stands on standard error, and nothing else is written unless all are good. What can't be read is told on standard
-/// error.
+/// error. Where something is wrong with the configuration's own file, that is told as of a file that is checked, and no file is.
 ///
 /// # Errors
 /// The arguments, where a name is no tenant's, or the text of what is no program is wanted; the faults of the configuration; `Unread` where a
 /// file can't be read or isn't UTF-8, and else `Faulty` where something is wrong with one.
 pub fn check_files(rt: &HostRuntime, request: &CheckRequest<'_>) -> Result<(), Failure> {
-    let config = read_configuration(rt, request.config)?;
+    let config = configuration_of(rt, request)?;
     let tenant = tenant_of(rt.alloc(), &config, request)?;
     if request.wish != Wish::Summary
         && !request
@@ -93,6 +95,30 @@ pub fn check_files(rt: &HostRuntime, request: &CheckRequest<'_>) -> Result<(), F
     outcome(all_read, all_good)
 }
 
+// The configuration for which files are checked. Where something is wrong with its file, that is told in whole.
+fn configuration_of(rt: &HostRuntime, request: &CheckRequest<'_>) -> Result<Config, Failure> {
+    let Some(path) = request.config else {
+        return Ok(read_configuration(rt, None)?);
+    };
+    let text = read_text(rt, path)?;
+    match read_config(rt.alloc(), text.as_str()) {
+        Ok(config) => Ok(config),
+        Err(fault) => {
+            if fault != ConfigFault::Memory {
+                // where it can't be told in whole, the line of standard error and the status tell
+                let _ = tell_configuration(rt, path, text.as_str(), request.wish);
+            }
+            Err(Failure::Configuration(ConfigurationFault::Refused(fault)))
+        }
+    }
+}
+
+// Tells what is wrong with the file of a configuration.
+fn tell_configuration(rt: &HostRuntime, path: &str, text: &str, wish: Wish) -> Result<(), Failure> {
+    let report = check_configuration(rt.alloc(), path, text)?;
+    write_report(rt, report.text.as_str(), wish)
+}
+
 // How the check of files ends of which all were read, and all are good.
 fn outcome(all_read: bool, all_good: bool) -> Result<(), Failure>
     ensures good { IsOk result → (all_read ≡ true) × (all_good ≡ true) }
@@ -111,15 +137,19 @@ fn outcome(all_read: bool, all_good: bool) -> Result<(), Failure>
 // Tells a report: what was wanted of a program is kept until all are known.
 fn tell(rt: &HostRuntime, texts: &mut String, report: &Report, wish: Wish) -> Result<(), Failure> {
     let text = report.text.as_str();
+    if wish != Wish::Summary && report.is_good {
+        return Ok(texts.push_str(text)?);
+    }
+    write_report(rt, text, wish)
+}
+
+// Writes a report to standard output, or to standard error where standard output is for the text of programs.
+fn write_report(rt: &HostRuntime, text: &str, wish: Wish) -> Result<(), Failure> {
     if wish == Wish::Summary {
         return Ok(print(rt, text)?);
     }
-    if report.is_good {
-        texts.push_str(text)?;
-    } else {
-        // where standard error is closed, the status alone tells
-        let _ = eprint!(rt; "{text}");
-    }
+    // where standard error is closed, the status alone tells
+    let _ = eprint!(rt; "{text}");
     Ok(())
 }
 
@@ -199,17 +229,9 @@ fn tenant_of<'a>(
         (_, Some(name)) => name,
         (_, None) => return Ok(None),
     };
-    let found = config
-        .tenants()
-        .iter()
-        .find(|tenant| tenant.name.as_str() == name);
-    match found {
-        Some(tenant) => Ok(Some(tenant)),
-        None => {
-            let text = format!(in alloc; "the configuration has no tenant of the name '{name}'")?;
-            Err(wrong(alloc, text.as_str())?)
-        }
-    }
+    let words = check_arguments(alloc)?;
+    let place = place_of(alloc, words, config, request.config, name)?;
+    Ok(config.tenants().get(place))
 }
 
 // Arguments that are wrong in this way.

@@ -12,7 +12,7 @@ A file whose name ends with .toml is a configuration, one with .script a script,
 
 Example: rig_host check examples/first/adder.giotto
          rig_host check --config rig.toml --tenant pump pump.giotto
-         (rig_host check --load alpha examples/first/adder.giotto; cat rest.script) | rig_host script
+         (rig_host check --load alpha examples/first/adder.giotto && cat rest.script) | rig_host script
 What is wrong is told as compilers do, `FILE:LINE:COLUMN: error: ..`, and the status is 4.";
 
 // What stands below the help of `script`.

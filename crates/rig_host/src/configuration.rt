@@ -71,6 +71,14 @@ pub fn read_configuration(
             Err(_) => Err(ConfigurationFault::Refused(ConfigFault::Memory)),
         };
     };
-    let text = fs::read_to_string(rt, path)?;
+    let text = read_text(rt, path)?;
     Ok(read_config(rt.alloc(), text.as_str())?)
+}
+
+/// The text of the file of this path.
+///
+/// # Errors
+/// `Unreadable`, and want of memory.
+pub fn read_text(rt: &HostRuntime, path: &str) -> Result<String, ConfigurationFault> {
+    Ok(fs::read_to_string(rt, path)?)
 }

@@ -88,7 +88,7 @@ pub fn run_timeline(rt: &HostRuntime, request: &TimelineRequest<'_>) -> Result<(
     let tenant = match request.tenant {
         Some(name) => {
             let words = timeline_arguments(rt.alloc())?;
-            Some(place_of(rt.alloc(), words, &config, name)?)
+            Some(place_of(rt.alloc(), words, &config, request.config, name)?)
         }
         None => None,
     };

@@ -78,7 +78,7 @@ fn print_retests(
 pub fn run_trial(rt: &HostRuntime, request: &TrialRequest<'_>) -> Result<(), Failure> {
     let config = read_configuration(rt, request.config)?;
     let words = trial_arguments(rt.alloc())?;
-    let tenant = place_of(rt.alloc(), words, &config, request.tenant)?;
+    let tenant = place_of(rt.alloc(), words, &config, request.config, request.tenant)?;
     let form = if request.is_summary {
         TrialForm::Summary
     } else {
