@@ -65,12 +65,21 @@ pub fn next_due(checked: &Checked, mode: usize, time: u64) -> u64
     let mut next = u64::MAX;
     for update in checked.updates(mode) {
         next = next.min(next_multiple(time, update.interval));
+        if next == time {
+            return time;
+        }
     }
     for exit in checked.exits(mode) {
         next = next.min(next_multiple(time, exit.interval));
+        if next == time {
+            return time;
+        }
     }
     for invocation in checked.invocations(mode) {
         next = next.min(next_multiple(time, invocation.interval));
+        if next == time {
+            return time;
+        }
     }
     next
 }

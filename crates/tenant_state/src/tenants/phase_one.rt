@@ -11,7 +11,7 @@ ghost use Rattle.tenant_slots.specs.Places.{name_of_task};
 ghost use Rattle.tenant_jobs.specs.cited.Finished.{is_entered};
 ghost use Rattle.tenant_state.specs.declared.tenants.Active.{Active};
 ghost use Rattle.rig_model.specs.Jobs.{job_of};
-ghost use Rattle.tenant_slots.specs.cited.Due.{is_among_due};
+ghost use Rattle.tenant_slots.specs.cited.Due.{MarksDue, is_among_due};
 ghost use Rattle.tenant_state.specs.inner.EntryTable.{IsTableOf, AreDueEnded, AreEndsNoted, ends_noted, entries_at, is_left_open, is_task_open};
 ghost use Rattle.rig_model.specs.FirstHalf.{all_ended, due_tasks};
 ghost use Rattle.tenant_state.specs.cited.Halves.{IsFirstHalf};
@@ -289,19 +289,11 @@ fn drop_due(invocations: &[SlotInvocation], time: u64, active: &mut ActiveTasks)
     ensures room { active.old.room ≤ active.new.room }
 {
     let mut marks = [false; TABLED_TASKS];
-    let is_marked = active.count >= FEW;
-    if is_marked {
-        mark_due(invocations, time, &mut marks);
-    }
+    let is_marked = mark_many(invocations, time, active.count, &mut marks);
     let mut kept = 0;
     for i in 0..active.count {
         let task = active.entries[i].task;
-        let is_due = if is_marked {
-            is_task_due(invocations, time, &marks, task)
-        } else {
-            ends_at(invocations, time, task)
-        };
-        if !is_due {
+        if !is_ending(invocations, time, is_marked, &marks, task) {
             if kept < i {
                 active.entries.swap(kept, i);
             }
@@ -310,4 +302,42 @@ fn drop_due(invocations: &[SlotInvocation], time: u64, active: &mut ActiveTasks)
     }
     active.ended = active.count - kept;
     active.count = kept;
+}
+
+// Marks the tasks that are due, where there are many active ones. Whether it did.
+#[inline(always)]
+fn mark_many(
+    invocations: &[SlotInvocation],
+    time: u64,
+    count: usize,
+    marks: &mut [bool; TABLED_TASKS],
+) -> bool
+    requires { AllByRecursion (λ i. 0 < i.interval) invocations.now }
+    ensures { result ≡ true → MarksDue invocations.now time marks.new }
+{
+    if count < FEW {
+        return false;
+    }
+    mark_due(invocations, time, marks);
+    true
+}
+
+// Whether the task at this place is due, by the marks where there are some.
+#[inline(always)]
+fn is_ending(
+    invocations: &[SlotInvocation],
+    time: u64,
+    is_marked: bool,
+    marks: &[bool; TABLED_TASKS],
+    task: usize,
+) -> bool
+    requires positive { AllByRecursion (λ i. 0 < i.interval) invocations.now }
+    requires marks { is_marked ≡ true → MarksDue invocations.now time marks.now }
+    ensures { result ≡ is_among_due time task invocations.now }
+{
+    if is_marked {
+        is_task_due(invocations, time, marks, task)
+    } else {
+        ends_at(invocations, time, task)
+    }
 }
