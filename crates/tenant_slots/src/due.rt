@@ -65,12 +65,21 @@ pub fn next_due(checked: &Checked, mode: usize, time: u64) -> u64
     let mut next = u64::MAX;
     for update in checked.updates(mode) {
         next = next.min(next_multiple(time, update.interval));
+        if next == time {
+            return time;
+        }
     }
     for exit in checked.exits(mode) {
         next = next.min(next_multiple(time, exit.interval));
+        if next == time {
+            return time;
+        }
     }
     for invocation in checked.invocations(mode) {
         next = next.min(next_multiple(time, invocation.interval));
+        if next == time {
+            return time;
+        }
     }
     next
 }
@@ -104,22 +113,21 @@ pub fn due_behind(checked: &Checked, mode: usize, time: u64, behind: u64, next: 
 /// How many tasks of a program, from its first on, have a place in the tables by task.
 pub const TABLED_TASKS: usize = 64;
 
-/// For each of the tasks that have a place in tables whether one of these invocations of it is due at this mode time.
-pub fn due_marks(invocations: &[SlotInvocation], time: u64) -> [bool; TABLED_TASKS]
+/// Marks, for each of the tasks that have a place in tables, whether one of these invocations of it is due at this mode time.
+pub fn mark_due(invocations: &[SlotInvocation], time: u64, marks: &mut [bool; TABLED_TASKS])
     requires { AllByRecursion (λ i. 0 < i.interval) invocations.now }
-    ensures { MarksDue invocations.now time result }
+    ensures { MarksDue invocations.now time marks.new }
 {
     let mut due = Due::at(time);
-    let mut marks = [false; TABLED_TASKS];
+    *marks = [false; TABLED_TASKS];
     for i in invocations {
         if i.task < TABLED_TASKS && due.is_due(i.interval) {
             marks[i.task] = true;
         }
     }
-    marks
 }
 
-/// Whether one of these invocations of the task at this place is due at this mode time. `marks` are those of `due_marks`.
+/// Whether one of these invocations of the task at this place is due at this mode time. `marks` are those of `mark_due`.
 pub fn is_task_due(
     invocations: &[SlotInvocation],
     time: u64,

@@ -1,2 +1,3 @@
 pub mod Trace
 pub mod cited
+pub mod inner

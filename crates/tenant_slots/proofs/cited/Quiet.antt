@@ -1,10 +1,10 @@
 -- Intervals of which none ends for a while.
-use Rattle.std.proofs.Common.{◌≡◌, ℕ, ◌+◌, ◌<◌, ◌≤◌, ◌-◌, ◌^◌, ◌%◌, ◌==◌, Bool, false, List, [], ◌∷◌, ◌++◌, length, take, get_or, Some, ⊎_elim, sym, ap, subst, ◌∙◌, arith}
+use Rattle.std.proofs.Common.{◌≡◌, ℕ, ◌+◌, ◌<◌, ◌≤◌, ◌-◌, ◌^◌, ◌%◌, ◌==◌, Bool, false, List, [], ◌∷◌, ◌++◌, length, take, drop, get_or, Some, ⊎_elim, sym, ap, subst, ◌∙◌, arith}
 use Rattle.std.specs.Prelude.{min, slice_get}
 use Rattle.std.specs.List.{AllByRecursion}
 use Rattle.std.proofs.Math.Nat.{min-eq_left, min-eq_right, min-le_left, min-le_right}
 use Rattle.std.proofs.lemmas.Bool.{cases_lt}
-use Rattle.std.proofs.lemmas.List.{take_more}
+use Rattle.std.proofs.lemmas.List.{take-append-drop, take_more}
 use Rattle.std.proofs.lemmas.Option.{slice_get_cases}
 use Rattle.giotto_text.specs.Program.{ActuatorUpdate, ModeSwitch, TaskInvocation, ModeDeclaration, GiottoProgram}
 use Rattle.giotto_check.specs.cited.Facts.{ProgramFits}
@@ -14,7 +14,7 @@ use Rattle.giotto_check.specs.declared.timetables.SlotExit.{SlotExit}
 use Rattle.giotto_check.specs.declared.timetables.SlotInvocation.{SlotInvocation}
 use Rattle.giotto_tasks.proofs.cited.ListLemmas.{all_and_one, all_middle}
 use Rattle.rig_model.specs.Due.{is_due_at}
-use Rattle.tenant_slots.specs.cited.Due.{IsQuietAt, IsQuietUntil}
+use Rattle.tenant_slots.specs.cited.Due.{IsNextDue, IsQuietAt, IsQuietUntil}
 use Rattle.tenant_slots.proofs.cited.Numbered.{mode_fits_at, update_due, exit_due, invocation_due, update_intervals, exit_intervals, invocation_intervals}
 
 -- from this time on and before the next
@@ -46,6 +46,16 @@ due_more {E = E} interval es i x last next more least lt is due one small e quie
     (λ not_less. let same : least ≡ next = e ∙ min-eq_left not_less in same ∙ due (subst (λ t. AllByRecursion (P t) (take i es)) same (all_front (P least) (take i es) (x ∷ []) all)))
     (cases_lt more next)
 
+-- what the first of them tell, all do
+pub due_front : {E : Type 0} (interval : E → ℕ) (es : List E) (n last next : ℕ) → AreDue interval (take n es) last next → AreDue interval es last next
+due_front {E = E} interval es n last next due all =
+    let P : E → Type 0 = λ e. (next % interval e == 0) ≡ false in
+    due (all_front P (take n es) (drop n es) (subst (AllByRecursion P) (sym (take-append-drop n es)) all))
+
+-- nothing comes before this mode time, where something is due at it
+pub due_now : (m : ModeDeclaration) (time : ℕ) → (IsQuietAt m time → time ≡ 2 ^ 64 - 1) → IsNextDue m time time
+due_now m time due = record { from = omega arith; quiet = λ t from before. absurd (omega (arith, from, before)); due = due }
+
 -- entries are quiet where the lines of the mode are
 pub quiet_entries : {L E : Type 0} (R : L → E → Type 0) (interval : E → ℕ) (due : L → Bool) (t : ℕ) → ((x : L) (e : E) → R x e → (t % interval e == 0) ≡ due x) → (xs : List L) (es : List E)
     → AreEach R xs es → AllByRecursion (λ x. due x ≡ false) xs → AllByRecursion (λ e. (t % interval e == 0) ≡ false) es
@@ -74,15 +84,22 @@ module _ (p : GiottoProgram) (fits : ProgramFits p) (mode : ℕ) where
   }
 
   -- where nothing of the mode is due at the end, it is the last
+  pub updates_due : (m : ModeDeclaration) (us : List SlotUpdate) (next : ℕ) → AreEach (IsUpdate p m) m.updates us → AreDue (λ (e : SlotUpdate). e.interval) us (2 ^ 64 - 1) next → IsQuietAt m next → next ≡ 2 ^ 64 - 1
+  updates_due m us next each due quiet =
+      due (quiet_entries (IsUpdate p m) (λ (e : SlotUpdate). e.interval) (λ (u : ActuatorUpdate). is_due_at next m u.frequency) next (update_due p fits next m) m.updates us each quiet.no_update)
+
+  pub exits_due : (m : ModeDeclaration) (us : List SlotUpdate) (ss : List SlotExit) (first next : ℕ) → AreEach (IsUpdate p m) m.updates us → AreEach (IsExit p m) m.switches ss
+      → AreDue (λ (e : SlotUpdate). e.interval) us (2 ^ 64 - 1) first → AreDue (λ (e : SlotExit). e.interval) ss first next → IsQuietAt m next → next ≡ 2 ^ 64 - 1
+  exits_due m us ss first next each_u each_s due_u due_s quiet =
+      let before : next ≡ first = due_s (quiet_entries (IsExit p m) (λ (e : SlotExit). e.interval) (λ (s : ModeSwitch). is_due_at next m s.frequency) next (exit_due p fits next m) m.switches ss each_s quiet.no_switch) in
+      before ∙ updates_due m us first each_u due_u (subst (IsQuietAt m) before quiet)
+
   pub due_at : (m : ModeDeclaration) (us : List SlotUpdate) (ss : List SlotExit) (is : List SlotInvocation) (first second next : ℕ) → AreEach (IsUpdate p m) m.updates us
       → AreEach (IsExit p m) m.switches ss → AreEach (IsInvocation p m) m.invocations is → AreDue (λ (e : SlotUpdate). e.interval) us (2 ^ 64 - 1) first → AreDue (λ (e : SlotExit). e.interval) ss first second
       → AreDue (λ (e : SlotInvocation). e.interval) is second next → IsQuietAt m next → next ≡ 2 ^ 64 - 1
   due_at m us ss is first second next each_u each_s each_i due_u due_s due_i quiet =
       let third : next ≡ second = due_i (quiet_entries (IsInvocation p m) (λ (e : SlotInvocation). e.interval) (λ (i : TaskInvocation). is_due_at next m i.frequency) next (invocation_due p fits next m) m.invocations is each_i quiet.no_invocation) in
-      let at_second = subst (IsQuietAt m) third quiet in
-      let before : second ≡ first = due_s (quiet_entries (IsExit p m) (λ (e : SlotExit). e.interval) (λ (s : ModeSwitch). is_due_at second m s.frequency) second (exit_due p fits second m) m.switches ss each_s at_second.no_switch) in
-      let at_first = subst (IsQuietAt m) before at_second in
-      third ∙ before ∙ due_u (quiet_entries (IsUpdate p m) (λ (e : SlotUpdate). e.interval) (λ (u : ActuatorUpdate). is_due_at first m u.frequency) first (update_due p fits first m) m.updates us each_u at_first.no_update)
+      third ∙ exits_due m us ss first second each_u each_s due_u due_s (subst (IsQuietAt m) third quiet)
 
   -- the intervals of a mode's entries are positive
   pub updates_positive : (es : List SlotUpdate) → ((m : ModeDeclaration) → slice_get p.modes mode ≡ Some m → AreEach (IsUpdate p m) m.updates es) → (length p.modes ≤ mode → es ≡ [])

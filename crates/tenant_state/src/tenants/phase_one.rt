@@ -11,7 +11,7 @@ ghost use Rattle.tenant_slots.specs.Places.{name_of_task};
 ghost use Rattle.tenant_jobs.specs.cited.Finished.{is_entered};
 ghost use Rattle.tenant_state.specs.declared.tenants.Active.{Active};
 ghost use Rattle.rig_model.specs.Jobs.{job_of};
-ghost use Rattle.tenant_slots.specs.cited.Due.{is_among_due};
+ghost use Rattle.tenant_slots.specs.cited.Due.{MarksDue, is_among_due};
 ghost use Rattle.tenant_state.specs.inner.EntryTable.{IsTableOf, AreDueEnded, AreEndsNoted, ends_noted, entries_at, is_left_open, is_task_open};
 ghost use Rattle.rig_model.specs.FirstHalf.{all_ended, due_tasks};
 ghost use Rattle.tenant_state.specs.cited.Halves.{IsFirstHalf};
@@ -28,7 +28,7 @@ use giotto_check::timetables::SlotInvocation;
 use rig_config::TenantId;
 use tenant_jobs::finished::Finished;
 use tenant_slots::actuators::update_due;
-use tenant_slots::due::{Due, TABLED_TASKS, due_marks, is_task_due};
+use tenant_slots::due::{Due, TABLED_TASKS, ends_at, is_task_due, mark_due};
 use tenant_slots::names::task_name;
 use tenant_slots::tasks::write_results;
 use tenant_trace::traces::Trace;
@@ -83,7 +83,11 @@ impl Tenant {
         };
         let invocations = checked.invocations(self.mode);
         let active = self.active.as_slice();
-        let table = entry_table(active);
+        let mut table = EntryTable {
+            numbers: [0; TABLED_TASKS],
+            is_whole: false,
+        };
+        table.fill(active);
         if let Some(task) = first_unfinished(&ending, invocations, active, &table) {
             let name = task_name(checked, task);
             self.stop_with(Reason::Overrun(name));
@@ -125,40 +129,50 @@ fn is_unfinished(ending: &Ending, active: &[Active], task: usize) -> bool
     false
 }
 
-// The number of each task's one active entry, from 1, or 0 where it has none. Nothing where a task has two, or there are few, or many.
-fn entry_table(active: &[Active]) -> Option<[u8; TABLED_TASKS]>
-    ensures { IfSome result (IsTableOf (length active.now) active.now) }
-{
-    if active.len() < 4 {
-        return None; // A few are looked through at once.
-    }
-    let mut table = [0u8; TABLED_TASKS];
-    for i in 0..active.len() {
-        let task = active[i].task;
-        if i >= TABLED_TASKS || task >= TABLED_TASKS || table[task] != 0 {
-            return None;
+// Fewer active tasks than this are looked through at once.
+const FEW: usize = 4;
+
+// The number of each task's one active entry, from 1, or 0 where it has none. It isn't whole where a task has two, or there are few, or many.
+#[derive(Drop)]
+struct EntryTable {
+    numbers: [u8; TABLED_TASKS],
+    is_whole: bool,
+}
+
+impl EntryTable {
+    // Is that of these entries from now on.
+    fn fill(&mut self, active: &[Active])
+        requires { self.old.is_whole ≡ false }
+        ensures { self.new.is_whole ≡ true → IsTableOf (length active.now) active.now self.new.numbers }
+    {
+        if active.len() < FEW {
+            return;
         }
-        table[task] = i as u8 + 1;
+        self.numbers = [0; TABLED_TASKS];
+        for i in 0..active.len() {
+            let task = active[i].task;
+            if i >= TABLED_TASKS || task >= TABLED_TASKS || self.numbers[task] != 0 {
+                return;
+            }
+            self.numbers[task] = i as u8 + 1;
+        }
+        self.is_whole = true;
     }
-    Some(table)
 }
 
 // Active entries, among which are all of the task at this place. By the table only these.
 fn entries_of<'a>(
     active: &'a [Active],
-    table: &Option<[u8; TABLED_TASKS]>,
+    table: &EntryTable,
     task: usize,
 ) -> &'a [Active]
-    requires { IfSome table.now (IsTableOf (length active.now) active.now) }
+    requires { table.now.is_whole ≡ true → IsTableOf (length active.now) active.now table.now.numbers }
     ensures { (result.now ≡ active.now) ⊎ (result.now ≡ entries_at task active.now) }
 {
-    let Some(table) = table else {
-        return active;
-    };
-    if task >= TABLED_TASKS {
+    if !table.is_whole || task >= TABLED_TASKS {
         return active;
     }
-    let end = usize::from(table[task]);
+    let end = usize::from(table.numbers[task]);
     &active[end.saturating_sub(1)..end]
 }
 
@@ -167,13 +181,13 @@ fn first_unfinished(
     ending: &Ending,
     invocations: &[SlotInvocation],
     active: &[Active],
-    table: &Option<[u8; TABLED_TASKS]>,
+    table: &EntryTable,
 ) -> Option<usize>
     requires positive { AllByRecursion (λ i. 0 < i.interval) invocations.now }
     requires active { AllByRecursion (IsActiveOf ending.now.checked.now) active.now }
     requires entered { AllByRecursion (λ a. is_entered ending.now.finished.now.entries (job_of ending.now.tenant (active_of ending.now.checked.now a)) ≡ true)
         active.now }
-    requires table { IfSome table.now (IsTableOf (length active.now) active.now) }
+    requires table { table.now.is_whole ≡ true → IsTableOf (length active.now) active.now table.now.numbers }
     ensures { result ≡ option_map (λ i. i.task)
         (find (is_left_open ending.now.time (is_done ending.now.finished.now.entries ending.now.tenant ending.now.checked.now) active.now) invocations.now) }
 {
@@ -196,7 +210,7 @@ fn end_due(
     ending: &Ending,
     invocations: &[SlotInvocation],
     active: &[Active],
-    table: &Option<[u8; TABLED_TASKS]>,
+    table: &EntryTable,
     values: &mut [i64],
     trace: &mut Trace,
 )
@@ -204,7 +218,7 @@ fn end_due(
     requires active { AllByRecursion (IsActiveOf ending.now.checked.now) active.now }
     requires positive { AllByRecursion (λ i. 0 < i.interval) invocations.now }
     requires there { AllByRecursion (λ i. i.task < length ending.now.checked.now.tasks) invocations.now }
-    requires table { IfSome table.now (IsTableOf (length active.now) active.now) }
+    requires table { table.now.is_whole ≡ true → IsTableOf (length active.now) active.now table.now.numbers }
     requires right { AllByRecursion (IsResultRight ending.now.finished.now.entries ending.now.tenant ending.now.checked.now) active.now }
     requires done { find (is_left_open ending.now.time (is_done ending.now.finished.now.entries ending.now.tenant ending.now.checked.now) active.now) invocations.now
         ≡ None }
@@ -274,10 +288,12 @@ fn drop_due(invocations: &[SlotInvocation], time: u64, active: &mut ActiveTasks)
     ensures ended { (test : Active → Bool) → list_any test active.new.ended ≡ list_any test (filter (λ a. is_among_due time a.task invocations.now) active.old.items) }
     ensures room { active.old.room ≤ active.new.room }
 {
-    let marks = due_marks(invocations, time);
+    let mut marks = [false; TABLED_TASKS];
+    let is_marked = mark_many(invocations, time, active.count, &mut marks);
     let mut kept = 0;
     for i in 0..active.count {
-        if !is_task_due(invocations, time, &marks, active.entries[i].task) {
+        let task = active.entries[i].task;
+        if !is_ending(invocations, time, is_marked, &marks, task) {
             if kept < i {
                 active.entries.swap(kept, i);
             }
@@ -286,4 +302,42 @@ fn drop_due(invocations: &[SlotInvocation], time: u64, active: &mut ActiveTasks)
     }
     active.ended = active.count - kept;
     active.count = kept;
+}
+
+// Marks the tasks that are due, where there are many active ones. Whether it did.
+#[inline(always)]
+fn mark_many(
+    invocations: &[SlotInvocation],
+    time: u64,
+    count: usize,
+    marks: &mut [bool; TABLED_TASKS],
+) -> bool
+    requires { AllByRecursion (λ i. 0 < i.interval) invocations.now }
+    ensures { result ≡ true → MarksDue invocations.now time marks.new }
+{
+    if count < FEW {
+        return false;
+    }
+    mark_due(invocations, time, marks);
+    true
+}
+
+// Whether the task at this place is due, by the marks where there are some.
+#[inline(always)]
+fn is_ending(
+    invocations: &[SlotInvocation],
+    time: u64,
+    is_marked: bool,
+    marks: &[bool; TABLED_TASKS],
+    task: usize,
+) -> bool
+    requires positive { AllByRecursion (λ i. 0 < i.interval) invocations.now }
+    requires marks { is_marked ≡ true → MarksDue invocations.now time marks.now }
+    ensures { result ≡ is_among_due time task invocations.now }
+{
+    if is_marked {
+        is_task_due(invocations, time, marks, task)
+    } else {
+        ends_at(invocations, time, task)
+    }
 }

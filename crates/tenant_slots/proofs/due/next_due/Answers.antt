@@ -1,4 +1,4 @@
-use Rattle.std.proofs.Common.{◌≡◌, ◌<◌, ◌≤◌, ◌-◌, ◌^◌, ℕ, zero, suc, List, [], take, sym, subst, ◌∙◌, arith}
+use Rattle.std.proofs.Common.{◌≡◌, ◌+◌, ◌<◌, ◌≤◌, ◌-◌, ◌^◌, ℕ, zero, suc, List, [], take, sym, subst, ◌∙◌, arith}
 use Rattle.std.proofs.Math.Nat.{min-le_left, le-min}
 use Rattle.std.specs.List.{AllByRecursion}
 use Rattle.std.proofs.lemmas.List.{take_all}
@@ -6,7 +6,7 @@ use Rattle.giotto_check.specs.declared.timetables.SlotUpdate.{SlotUpdate}
 use Rattle.giotto_check.specs.declared.timetables.SlotExit.{SlotExit}
 use Rattle.giotto_check.specs.declared.timetables.SlotInvocation.{SlotInvocation}
 use Rattle.giotto_tasks.proofs.cited.ListLemmas.{all_at}
-use Rattle.tenant_slots.proofs.cited.Quiet.{AreQuiet, AreDue, quiet_more, due_more, due_at, quiet_until, updates_positive, exits_positive, invocations_positive}
+use Rattle.tenant_slots.proofs.cited.Quiet.{AreQuiet, AreDue, quiet_more, due_more, due_at, due_front, due_now, exits_due, quiet_until, updates_due, updates_positive, exits_positive, invocations_positive}
 use Rattle.tenant_slots.proofs.due.next_due.Goals as goal
 
 pub next_multiple-requires : goal.next_multiple-requires
@@ -55,6 +55,43 @@ loop-invocation-preserved c = record {
   due = due_more (λ (e : SlotInvocation). e.interval) _ c.loop-invocation.invocation-index c.invocation-item.result c.loop-exit.next c.loop-invocation.next c.next_multiple-in-loop-invocation.result
       c.min-next-in-loop-invocation.result c.loop-invocation-test.true c.invocation-item.is c.loop-invocation.invariant.due c.next_multiple-in-loop-invocation.ensures.due c.loop-invocation.invariant.small c.min-next-in-loop-invocation.ensures;
 }
+
+pub returns-then-next-time-clause-there : goal.returns-then-next-time-clause-there
+returns-then-next-time-clause-there c =
+    let us = c.updates-update-items.result.now in
+    let more = due_more (λ (e : SlotUpdate). e.interval) us c.loop-update.update-index c.update-item.result (2 ^ 64 - 1) c.loop-update.next c.next_multiple.result c.args.time c.loop-update-test.true c.update-item.is
+    c.loop-update.invariant.due c.next_multiple.ensures.due c.loop-update.invariant.small (sym c.if-next-time.true ∙ c.min-next.ensures) in
+    λ m at. due_now m c.args.time
+    (updates_due c.args.checked.now c.known.ensures.fits c.args.mode m us c.args.time (c.updates-update-items.ensures.there m at)
+    (due_front (λ (e : SlotUpdate). e.interval) us (c.loop-update.update-index + 1) (2 ^ 64 - 1) c.args.time more))
+
+pub returns-then-next-time-2-clause-there : goal.returns-then-next-time-2-clause-there
+returns-then-next-time-2-clause-there c =
+    let us = c.updates-update-items.result.now in
+    let ss = c.exits-exit-items.result.now in
+    let first = c.loop-update.next in
+    let more = due_more (λ (e : SlotExit). e.interval) ss c.loop-exit.exit-index c.exit-item.result first c.loop-exit.next c.next_multiple-in-loop-exit.result c.args.time c.loop-exit-test.true c.exit-item.is
+    c.loop-exit.invariant.due c.next_multiple-in-loop-exit.ensures.due c.loop-exit.invariant.small (sym c.if-next-time-2.true ∙ c.min-next-in-loop-exit.ensures) in
+    λ m at. due_now m c.args.time
+    (exits_due c.args.checked.now c.known.ensures.fits c.args.mode m us ss first c.args.time (c.updates-update-items.ensures.there m at) (c.exits-exit-items.ensures.there m at)
+    (subst (λ es. AreDue (λ (e : SlotUpdate). e.interval) es (2 ^ 64 - 1) first) (take_all c.loop-update.update-index us c.loop-update-test.false) c.loop-update.invariant.due)
+    (due_front (λ (e : SlotExit). e.interval) ss (c.loop-exit.exit-index + 1) first c.args.time more))
+
+pub returns-then-next-time-3-clause-there : goal.returns-then-next-time-3-clause-there
+returns-then-next-time-3-clause-there c =
+    let us = c.updates-update-items.result.now in
+    let ss = c.exits-exit-items.result.now in
+    let is = c.invocations-invocation-items.result.now in
+    let first = c.loop-update.next in
+    let second = c.loop-exit.next in
+    let more = due_more (λ (e : SlotInvocation). e.interval) is c.loop-invocation.invocation-index c.invocation-item.result second c.loop-invocation.next c.next_multiple-in-loop-invocation.result c.args.time c.loop-invocation-test.true
+    c.invocation-item.is c.loop-invocation.invariant.due c.next_multiple-in-loop-invocation.ensures.due c.loop-invocation.invariant.small (sym c.if-next-time-3.true ∙ c.min-next-in-loop-invocation.ensures) in
+    λ m at. due_now m c.args.time
+    (due_at c.args.checked.now c.known.ensures.fits c.args.mode m us ss is first second c.args.time (c.updates-update-items.ensures.there m at) (c.exits-exit-items.ensures.there m at)
+    (c.invocations-invocation-items.ensures.there m at)
+    (subst (λ es. AreDue (λ (e : SlotUpdate). e.interval) es (2 ^ 64 - 1) first) (take_all c.loop-update.update-index us c.loop-update-test.false) c.loop-update.invariant.due)
+    (subst (λ es. AreDue (λ (e : SlotExit). e.interval) es first second) (take_all c.loop-exit.exit-index ss c.loop-exit-test.false) c.loop-exit.invariant.due)
+    (due_front (λ (e : SlotInvocation). e.interval) is (c.loop-invocation.invocation-index + 1) second c.args.time more))
 
 pub returns-clause-there : goal.returns-clause-there
 returns-clause-there c =

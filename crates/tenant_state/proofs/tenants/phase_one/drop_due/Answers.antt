@@ -6,7 +6,7 @@ use Rattle.tenant_state.specs.ActiveTasks.{TaskList}
 use Rattle.tenant_slots.specs.cited.Due.{is_among_due}
 use Rattle.tenant_state.proofs.Dropped.{all_behind, behind_here, behind_more, behind_swap}
 use Rattle.tenant_state.proofs.tenants.phase_one.drop_due.Goals as goal
-use Rattle.tenant_state.proofs.tenants.phase_one.drop_due.Goals.{then-not-is_task_due, then-kept-i, else-kept-i, else-not-is_task_due}
+use Rattle.tenant_state.proofs.tenants.phase_one.drop_due.Goals.{then-not-is_ending, then-kept-i, else-kept-i, else-not-is_ending}
 
 pub loop-i-preserved : goal.loop-i-preserved
 loop-i-preserved c =
@@ -19,9 +19,9 @@ loop-i-preserved c =
     let i = c.loop-i.i in
     let a = c.index.result.now in
     let lt : c.loop-i.i < length c.loop-i.active-inside.entries.items = omega arith in
-    elim c.if-not-is_task_due.branch [
-      | then-not-is_task_due w ↦
-          let late = sym c.is_task_due.ensures ∙ w.if-not-is_task_due.true in
+    elim c.if-not-is_ending.branch [
+      | then-not-is_ending w ↦
+          let late = sym c.is_ending.ensures ∙ w.if-not-is_ending.true in
           let stays = ap not late in
           elim w.if-kept-i.branch [
             | then-kept-i u ↦ rw (w.active-inside-is, u.active-inside-is, w.kept-is) (record {
@@ -37,8 +37,8 @@ loop-i-preserved c =
                   behind = behind_here due xs ys k i a h lt c.index.ensures before.behind late here;
                 })
           ]
-      | else-not-is_task_due w ↦
-          let late = sym c.is_task_due.ensures ∙ w.if-not-is_task_due.false in
+      | else-not-is_ending w ↦
+          let late = sym c.is_ending.ensures ∙ w.if-not-is_ending.false in
           rw (w.active-inside-is, w.kept-is) (record {
             count = before.count;
             stay = FiltersInPlace-more_no h lt (ap not late) c.index.ensures;

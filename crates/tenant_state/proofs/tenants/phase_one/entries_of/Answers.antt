@@ -7,5 +7,5 @@ pub returns : goal.returns
 returns c =
     let items = c.args.active.now in
     let all = take_all (length items) items (omega (arith)) in
-    let table = subst (λ o. IfSome o (IsTableOf (length items) items)) c.in-Some.is c.requires in
+    let table : IsTableOf (length items) items c.args.table.now.numbers = c.requires c.if-not-table.false in
     inr (sym (ap (filter (λ a. nat_eq a.task c.args.task)) (sym all) ∙ (table c.args.task c.if-task-ge-TABLED_TASKS.false).1 ∙ sym (ap (λ n. take (c.from-end.result - n) (drop n items)) c.saturating_sub.ensures ∙ ap (λ n. take (n - (n - 1)) (drop (n - 1) items)) c.from-end.ensures)))

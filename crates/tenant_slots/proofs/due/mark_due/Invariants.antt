@@ -2,7 +2,7 @@ use Rattle.std.proofs.Common.{◌≡◌, ◌<◌, ◌||◌, ℕ, false, drop, ge
 use Rattle.std.specs.List.{AllByRecursion}
 use Rattle.giotto_check.specs.declared.timetables.SlotInvocation.{SlotInvocation}
 use Rattle.tenant_slots.specs.cited.Due.{is_among_due}
-use Rattle.tenant_slots.proofs.due.due_marks.Given as goal
+use Rattle.tenant_slots.proofs.due.mark_due.Given as goal
 use Rattle.tenant_slots.specs.declared.due.TheConstants.{TABLED_TASKS}
 
 abbrev pub invariant-loop-i : goal.invariant-loop-i

@@ -1,7 +1,7 @@
 use Rattle.std.proofs.Common.{◌||◌, false, refl, ap}
 use Rattle.std.proofs.lemmas.List.{get_or-replicate}
 use Rattle.tenant_slots.specs.cited.Due.{is_among_due}
-use Rattle.tenant_slots.proofs.due.due_marks.Goals as goal
+use Rattle.tenant_slots.proofs.due.mark_due.Goals as goal
 use Rattle.tenant_slots.specs.declared.due.TheConstants.{TABLED_TASKS}
 
 pub loop-i-init : goal.loop-i-init
