@@ -177,7 +177,21 @@ impl Finished {
     pub fn result(&self, id: &JobId, key: &Key) -> Option<&JobResult>
         ensures { option_copied result ≡ result_in self.now.entries id.now }
     {
-        let key = entry_key(&self.entries, id, key)?;
+        if let Some(entry) = self.entries.get(key.place()) {
+            if entry.is_named(id) {
+                return entry.result();
+            }
+        }
+        self.searched_result(id)
+    }
+
+    // The result of this name, if it came, from a search of the whole table.
+    #[cold]
+    #[inline(never)]
+    fn searched_result(&self, id: &JobId) -> Option<&JobResult>
+        ensures { option_copied result ≡ result_in self.now.entries id.now }
+    {
+        let key = searched_key(&self.entries, id.copy())?;
         self.entries[key].result()
     }
 
@@ -236,6 +250,7 @@ fn entry_key(entries: &Slab<Entry>, id: &JobId, hint: &Key) -> Option<usize>
 
 // The key of the entry of this name, from a search of the whole table.
 #[cold]
+#[inline(never)]
 fn searched_key(entries: &Slab<Entry>, id: JobId) -> Option<usize>
     ensures found { IfSome result (λ key. IsSomeAnd (get entries.now key) (λ e. same_job e.id id ≡ true)) }
     ensures absent { IfNone result (find (λ e. same_job e.id id) (values entries.now) ≡ None) }

@@ -19,13 +19,12 @@ pub struct Trace {
 }
 
 impl Model for Trace {
-    ghost use Rattle.std.specs.Prelude.{◌≡◌, ◌<◌, ◌≤◌, length, reverse, vec_capacity};
+    ghost use Rattle.std.specs.Prelude.{◌≡◌, ◌<◌, ◌≤◌, ◌++◌, drop, length, reverse, take, vec_capacity};
     ghost use Rattle.tenant_trace.specs.Trace.{LastRecords};
-    ghost use Rattle.tenant_trace.specs.inner.Rings.{from_place};
 
     ghost Value = { LastRecords };
 
-    ghost view = { λ t. record { most = t.most; records = reverse (from_place t.oldest t.records.items) } };
+    ghost view = { λ t. record { most = t.most; records = reverse (drop t.oldest t.records.items ++ take t.oldest t.records.items) } };
 
     ghost invariant = { λ t. (length t.records.items ≤ t.most) × (t.most ≤ vec_capacity t.records)
         × (t.oldest ≤ length t.records.items) × (length t.records.items < t.most → t.oldest ≡ 0) };

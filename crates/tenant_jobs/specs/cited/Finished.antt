@@ -1,5 +1,5 @@
 -- What is known of the table of active tasks, and of jobs that are entered.
-use Rattle.std.specs.Prelude.{◌≡◌, ◌≤◌, ℕ, ℤ, Bool, List, Option, Some, is_some, if◌then◌else◌, count_by}
+use Rattle.std.specs.Prelude.{◌≤◌, ℕ, ℤ, Bool, List, Option, Some, is_some, if◌then◌else◌, count_by}
 use Rattle.std.specs.List.{list_all}
 use Rattle.giotto_tasks.specs.Meaning.{outputs_of, states_of}
 use Rattle.giotto_tasks.specs.Syntax.{TaskBody}
