@@ -411,7 +411,7 @@ impl Over<'_> {
         }
         Ok(Some(String::from_str(
             self.alloc,
-            "an assignment costs a step, and each operator one; an `if` costs its condition and its dearer block, a `repeat` its block and a step as often as it repeats",
+            "an assignment costs 1, and each operator 1; an `if` costs 1, its condition and its dearer block; a `repeat` costs 1, and as often as it repeats 1 and its block",
         )?))
     }
 
