@@ -161,11 +161,7 @@ impl EntryTable {
 }
 
 // Active entries, among which are all of the task at this place. By the table only these.
-fn entries_of<'a>(
-    active: &'a [Active],
-    table: &EntryTable,
-    task: usize,
-) -> &'a [Active]
+fn entries_of<'a>(active: &'a [Active], table: &EntryTable, task: usize) -> &'a [Active]
     requires { table.now.is_whole ≡ true → IsTableOf (length active.now) active.now table.now.numbers }
     ensures { (result.now ≡ active.now) ⊎ (result.now ≡ entries_at task active.now) }
 {
