@@ -39,6 +39,7 @@ pub fn reset_actuators(checked: &Checked, values: &mut [i64])
 
 /// Updates the actuators that are due in the mode at this place, at this mode time, and whose guards hold, in text order. The
 /// trace is told each update as it is made, at this tick. Where there is no such mode it leaves all as it is. Takes no memory.
+#[inline(never)]
 pub fn update_due(
     checked: &Checked,
     mode: usize,
