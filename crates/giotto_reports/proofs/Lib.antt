@@ -1,2 +1,8 @@
+pub mod CommentRows
+pub mod Commented
+pub mod LinesOfText
 pub mod Refusing
+pub mod Searching
 pub mod Showing
+pub mod SummaryExamples
+pub mod Writing

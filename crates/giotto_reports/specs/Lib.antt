@@ -1,1 +1,4 @@
+pub mod Comments
+pub mod Parts
 pub mod Reports
+pub mod Summaries

@@ -5,7 +5,7 @@ use Rattle.giotto_faults.specs.declared.faults.ProgramFault.TheVariants.{Memory}
 use Rattle.giotto_faults.specs.declared.findings.Finding.{Finding}
 use Rattle.giotto_faults.specs.Faults as faults
 use Rattle.giotto_faults.specs.Findings.{BeginsWith, IsErrorAt, TellFault, head_of, offset_told}
-use Rattle.giotto_files.specs.Comments.{one_line}
+use Rattle.giotto_reports.specs.Comments.{one_line}
 use Rattle.giotto_rules.specs.Rules.{first_broken_rule}
 use Rattle.giotto_text.specs.Canonical.{canonical_of}
 use Rattle.giotto_text.specs.Parsing.{parsed}
@@ -15,7 +15,7 @@ use Rattle.giotto_reports.specs.declared.Examined.TheVariants.{Good, Faulty}
 use Rattle.giotto_reports.specs.declared.Report.{Report}
 use Rattle.giotto_reports.specs.declared.Wish.{Wish}
 use Rattle.giotto_reports.specs.declared.Wish.TheVariants.{Summary, Load, Print, Pretty}
-use Rattle.giotto_summaries.specs.Summaries.{summary_of}
+use Rattle.giotto_reports.specs.Summaries.{summary_of}
 
 -- the text spells a program that breaks no rule
 abbrev pub IsWellFormed : List ℕ → Type 0

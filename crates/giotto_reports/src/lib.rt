@@ -12,19 +12,25 @@
 #![tactic(auto)]
 
 ghost use Rattle.std.specs.Prelude.{◌≡◌, ◌++◌, ◌∷◌, [], IfOk, Ok, None, string_bytes};
-ghost use Rattle.giotto_files.specs.Comments.{one_line};
+ghost use Rattle.giotto_reports.specs.Comments.{one_line};
 ghost use Rattle.giotto_rules.specs.Rules.{first_broken_rule};
 ghost use Rattle.giotto_text.specs.Parsing.{parsed};
 ghost use Rattle.giotto_reports.specs.Reports.{AreShown, IsExamined, IsWritten, Tells};
+
+pub mod files;
+mod layout;
+pub mod parts;
+pub mod summary;
+pub mod texts;
 
 use giotto_breaks::broken_rule;
 use giotto_check::{CheckFault, Checked, check};
 use giotto_faults::faults::{ProgramFault, read_or_tell};
 use giotto_faults::findings::Finding;
-use giotto_files::one_line;
-use giotto_layouts::{load_line, pretty};
+use crate::files::one_line;
+use crate::texts::{load_line, pretty};
 use giotto_read::{Program, print};
-use giotto_summaries::summary::summary_of;
+use crate::summary::summary_of;
 use std::alloc::{AllocError, Global};
 
 /// What is wanted of a good program.

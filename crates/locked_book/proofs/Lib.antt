@@ -1,3 +1,4 @@
+pub mod Adding
 pub mod Comparisons
 pub mod Copied
 pub mod Instants
@@ -6,6 +7,7 @@ pub mod MarkBits
 pub mod NextStarts
 pub mod Numbers
 pub mod Places
+pub mod Prefixes
 pub mod Steps
 pub mod Together
 pub mod WindowMarks

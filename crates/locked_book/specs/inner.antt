@@ -1,3 +1,4 @@
 pub mod Books
 pub mod Carried
 pub mod Places
+pub mod Rules

@@ -11,7 +11,7 @@ use crate::faults::CloseFault;
 use crate::known::is_known;
 use crate::passes::Pass;
 use crate::seats::Seat;
-use call_history::naming::Naming;
+use crate::naming::Naming;
 use rig_model::logged::{Logged, SeatId};
 
 /// Why a book of these can't be closed with these passes. There is a mark for each seat. Takes no memory. Costs as much as the log,

@@ -9,7 +9,7 @@ use crate::bases::Base;
 use crate::passes::Pass;
 use crate::same::Same;
 use crate::seats::Seat;
-use call_history::naming::Naming;
+use crate::naming::Naming;
 use rig_model::logged::{KeptCall, Logged};
 
 /// Whether the pass is known to the book of these: its seat was given, its calls behind the base are the log's of this seat, and it

@@ -4,8 +4,8 @@ ghost use Rattle.std.specs.Prelude.{◌≡◌, ◌+◌, ◌<◌, ◌≤◌, ◌^
 ghost use mathlib.Core.List.{IsPrefix};
 ghost use Rattle.locked_book.specs.Logs.{LogValue};
 
-use call_history::histories::{Front, History, NewHistory};
-use call_history::naming::Naming;
+use crate::histories::{Front, History, NewHistory};
+use crate::naming::Naming;
 use rig_model::logged::Logged;
 use std::alloc::{AllocError, Global};
 use std::marker::Model;

@@ -2,8 +2,8 @@
 
 ghost use Rattle.std.specs.Prelude.{◌≡◌, ◌<◌, ◌↔◌, ◌≤◌, [], ◌∷◌, ◌++◌, length, IsTrue, OnOk, OnErr};
 
-use call_history::histories::Front;
-use call_history::naming::Naming;
+use crate::histories::Front;
+use crate::naming::Naming;
 use rig_config::TenantId;
 use rig_model::logged::{Call, KeptCall, SeatId};
 use std::alloc::{AllocError, Global};

@@ -4,8 +4,8 @@ ghost use Rattle.std.specs.Prelude.{◌≡◌};
 
 use crate::instants::roster;
 use crate::texts::program_of;
-use call_history::histories::NewHistory;
-use call_history::naming::Naming;
+use locked_book::histories::NewHistory;
+use locked_book::naming::Naming;
 use locked_book::desks::Desk;
 use locked_book::passes::Pass;
 use rig_config::{Config, TenantId};

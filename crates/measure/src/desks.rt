@@ -4,8 +4,8 @@
 ghost use Rattle.std.specs.Prelude.{◌≡◌};
 
 use crate::instants::{host_of, roster};
-use call_history::histories::NewHistory;
-use call_history::naming::Naming;
+use locked_book::histories::NewHistory;
+use locked_book::naming::Naming;
 use host_core::hosts::Host;
 use locked_book::desks::Desk;
 use locked_book::passes::Pass;

@@ -4,8 +4,8 @@
 ghost use Rattle.std.specs.Prelude.{◌≡◌};
 
 use crate::voices::{Heard, THREADS, Table, Voice, speak};
-use call_history::histories::NewHistory;
-use call_history::naming::Naming;
+use locked_book::histories::NewHistory;
+use locked_book::naming::Naming;
 use host_core::events::Event;
 use host_core::plays::play;
 use locked_book::books::Book;

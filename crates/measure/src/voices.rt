@@ -2,7 +2,7 @@
 
 ghost use Rattle.std.specs.Prelude.{◌≡◌, ◌<◌};
 
-use call_history::naming::Naming;
+use locked_book::naming::Naming;
 use giotto_tasks::lists::List;
 use host_core::hosts::Counted;
 use instant_engine::{Job, Jobs, run_job};

@@ -5,7 +5,7 @@ use Rattle.std.proofs.lemmas.Bool.Decides.{nat_tests}
 use Rattle.std.proofs.lemmas.List.{flat_map_more, map-append, take_more}
 use Rattle.std.proofs.lemmas.List.Concat.{flat_map-append}
 use Rattle.std.proofs.lemmas.List.Folds.{flat_map-map}
-use Rattle.giotto_summaries.specs.Parts.{ProgramPart, body, drivers_of, invocation, parts_of, steps_of_part, switch, update}
+use Rattle.giotto_reports.specs.Parts.{ProgramPart, body, drivers_of, invocation, parts_of, steps_of_part, switch, update}
 use Rattle.giotto_text.specs.Program.{GiottoProgram}
 use Rattle.giotto_text.specs.ProgramTrees.{invocation_of, mode_of, switch_of, task_of, update_of}
 use Rattle.giotto_text.specs.declared.programs.Invocation.{Invocation}

@@ -6,7 +6,7 @@ use Rattle.giotto_faults.specs.declared.findings.Finding.{Finding}
 use Rattle.giotto_faults.specs.declared.findings.Severity.{Severity}
 use Rattle.giotto_faults.specs.declared.findings.Severity.TheVariants.{Error}
 use Rattle.giotto_rules.specs.Ports.{ports_of}
-use Rattle.giotto_summaries.specs.Parts.{ProgramPart, parts_of, steps_of_part, text_of_part}
+use Rattle.giotto_reports.specs.Parts.{ProgramPart, parts_of, steps_of_part, text_of_part}
 use Rattle.giotto_text.specs.Program.{Source, from_line, from_grant, SensorDeclaration, ActuatorDeclaration, GiottoProgram}
 use Rattle.rig_config.specs.Roster.{may_use}
 use Rattle.rig_config.specs.declared.TenantConfig.{TenantConfig}

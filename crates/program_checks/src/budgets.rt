@@ -2,7 +2,7 @@
 
 ghost use Rattle.std.specs.Prelude.{◌≡◌, ◌++◌, ◌∷◌, [], IfOk, IfSome, OnOk, codes, length, option_map, string_bytes};
 ghost use Rattle.std.specs.List.{flat_map};
-ghost use Rattle.giotto_summaries.specs.Parts.{body, drivers_of, part_of, parts_of};
+ghost use Rattle.giotto_reports.specs.Parts.{body, drivers_of, part_of, parts_of};
 ghost use Rattle.giotto_text.specs.ProgramTrees.{actuator_of, mode_of, sensor_of, task_of};
 ghost use Rattle.giotto_text.specs.declared.programs.Actuator.{Actuator as AnyActuator};
 ghost use Rattle.giotto_text.specs.declared.programs.Invocation.{Invocation as AnyInvocation};
@@ -22,7 +22,7 @@ use crate::numbers::text_of_numbers;
 use crate::spots::{Spot, Spots};
 use giotto_check::Checked;
 use giotto_faults::findings::{Finding, Severity};
-use giotto_summaries::parts::Part;
+use giotto_reports::parts::Part;
 use giotto_text::programs::{Actuator, Mode, Program, Sensor, Source, Task};
 use giotto_text::tokens::Keyword;
 use rig_config::{Budgets, TenantConfig};

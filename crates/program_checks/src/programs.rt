@@ -1,7 +1,7 @@
 //! What is told of a program that is held against a tenant's budgets.
 
 ghost use Rattle.std.specs.Prelude.{◌≡◌, IfOk, Ok, length, string_bytes};
-ghost use Rattle.giotto_files.specs.Comments.{one_line};
+ghost use Rattle.giotto_reports.specs.Comments.{one_line};
 ghost use Rattle.giotto_rules.specs.Rules.{first_broken_rule};
 ghost use Rattle.giotto_text.specs.Parsing.{parsed};
 ghost use Rattle.rig_model.specs.Admission.{program_of};
@@ -9,7 +9,7 @@ ghost use Rattle.program_checks.specs.Programs.{IsWrittenFor, TellsFor, bytes_wa
 
 use crate::budgets::{Held, over_budget, text_of_budgets};
 use giotto_check::Checked;
-use giotto_files::one_line;
+use giotto_reports::files::one_line;
 use giotto_read::print;
 use giotto_reports::{Examined, Report, Wish, examine, shown, written};
 use rig_config::TenantConfig;

@@ -1,6 +1,6 @@
 -- The bytes of the lines that a client sends.
 use Rattle.std.specs.Prelude.{ℕ, List, ◌++◌, codes}
-use Rattle.giotto_files.specs.Comments.{one_line}
+use Rattle.giotto_reports.specs.Comments.{one_line}
 use Rattle.rig_client.specs.declared.user_lines.FileCommand.{FileCommand}
 use Rattle.rig_client.specs.declared.user_lines.FileCommand.TheVariants.{Load, Replace}
 

@@ -6,7 +6,7 @@ ghost use Rattle.rig_model.specs.declared.limits.TheConstants.{MAX_LINE};
 ghost use Rattle.rig_client.specs.Requests.{line_of_file, word_of_command};
 
 use crate::user_lines::FileCommand;
-use giotto_files::one_line;
+use giotto_reports::files::one_line;
 use rig_model::limits::MAX_LINE;
 use std::alloc::{AllocError, Global};
 use thiserror::Error;

@@ -1,1 +1,2 @@
 pub mod JobNames
+pub mod OperatorWords

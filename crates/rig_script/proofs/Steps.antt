@@ -27,7 +27,7 @@ use Rattle.rig_script.specs.cited.HostAnswers.{IsHostAfter}
 use Rattle.rig_model.specs.Script.{Step, line_values, work_of, operator, operator_line_of, operator_step, lines_step, text_of_lines, work_step, work_step_of, outstanding_at, tenant_step, only_answered}
 use Rattle.rig_script.specs.inner.Script.{IsCarriedOut}
 use Rattle.rig_script.specs.inner.Records.{AreNone, IsTold}
-pub use Rattle.script_speakers.proofs.cited.OperatorWords.{words_with, other_line, lines_with_more, work_with_name, work_with_no_name, work_with_more}
+pub use Rattle.rig_model.proofs.cited.OperatorWords.{words_with, other_line, lines_with_more, work_with_name, work_with_no_name, work_with_more}
 
 -- this text was answered, the events were told, and they have happened
 pub step_done : (step : Step) (past : List Event) (r : Result (Unit {0}) AllocError) (Before After : List Event → Type 0) (Said : List ℕ → Type 0) (Stands : List Event → Type 0) (text : List ℕ)

@@ -1,3 +1,3 @@
 //! Who speaks in a line of a script.
 
-pub use script_speakers::{Speaker, addressee, who_is, who_speaks};
+pub use rig_model::speakers::{Speaker, addressee, who_is, who_speaks};

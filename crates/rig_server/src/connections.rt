@@ -4,7 +4,7 @@ use crate::clients::{Client, dismiss, prepare, refuse};
 use crate::faults::ServeFault;
 use crate::register::{NotTaken, Register};
 use crate::seats::Seats;
-use call_history::naming::Naming;
+use locked_book::naming::Naming;
 use locked_book::faults::PassFault;
 use locked_book::passes::Pass;
 use rig_config::Config;

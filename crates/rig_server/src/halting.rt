@@ -2,7 +2,7 @@
 
 use crate::connections::Hall;
 use crate::operator_lines::{OperatorLine, operator_line};
-use call_history::naming::Naming;
+use locked_book::naming::Naming;
 use std::alloc::Global;
 use std::io::Read;
 use std::net::{Shutdown, TcpStream};

@@ -5,7 +5,7 @@ ghost use Rattle.std.specs.Prelude.{◌≡◌};
 use crate::faults::ServeFault;
 use crate::operator_lines::{OperatorLine, operator_line};
 use crate::replies::{lines_reply, tick_reply};
-use call_history::naming::Naming;
+use locked_book::naming::Naming;
 use host_core::hosts::TickFault;
 use instant_engine::{Jobs, run_job};
 use locked_book::desks::Desk;

@@ -3,7 +3,7 @@
 ghost use Rattle.std.specs.Prelude.{◌+◌, ◌≤◌, ◌<◌, OnOk, vec_len, vec_capacity};
 ghost use Rattle.slab.specs.Slab.{HasRoomFor, slab_len};
 
-use call_history::naming::Naming;
+use locked_book::naming::Naming;
 use locked_book::passes::Pass;
 use slab::Slab;
 use std::alloc::{AllocError, Global};

@@ -1,6 +1,6 @@
 //! Who gives seats.
 
-use call_history::naming::Naming;
+use locked_book::naming::Naming;
 use locked_book::desks::Desk;
 use locked_book::faults::PassFault;
 use locked_book::passes::Pass;

@@ -3,7 +3,7 @@
 ghost use Rattle.locked_book.specs.Books.{AreCalled};
 ghost use Rattle.std.specs.Prelude.{◌≡◌, [], ◌∷◌, ◌++◌, IfOk, OnErr};
 
-use call_history::naming::Naming;
+use locked_book::naming::Naming;
 use locked_book::desks::Desk;
 use locked_book::faults::DeskFault;
 use locked_book::passes::Pass;

@@ -13,7 +13,7 @@ use crate::faults::TalkFault;
 use crate::sessions::{Session, Step};
 use crate::waiting::{Work, call_and_say, call_waiting};
 use crate::writing::{flush, refuse, say, say_bad_line, say_reply};
-use call_history::naming::Naming;
+use locked_book::naming::Naming;
 use locked_book::faults::DeskFault;
 use locked_book::passes::Pass;
 use rig_config::{Config, TenantId};

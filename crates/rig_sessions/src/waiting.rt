@@ -9,7 +9,7 @@ ghost use Rattle.rig_sessions.specs.inner.Answered.{AreAnswered, AreTaken, AreTo
 use crate::calls::Calls;
 use crate::faults::TalkFault;
 use crate::writing::{refuse, say, say_reply};
-use call_history::naming::Naming;
+use locked_book::naming::Naming;
 use locked_book::faults::DeskFault;
 use locked_book::passes::Pass;
 use rig_config::TenantId;

@@ -2,8 +2,8 @@
 
 ghost use Rattle.std.specs.Prelude.{◌≡◌};
 
-use call_history::histories::NewHistory;
-use call_history::naming::Naming;
+use locked_book::histories::NewHistory;
+use locked_book::naming::Naming;
 use locked_book::books::Book;
 use locked_book::desks::Desk;
 use locked_book::faults::{DeskFault, PassFault};

@@ -3,8 +3,8 @@
 ghost use Rattle.std.specs.Prelude.{◌≡◌};
 
 use crate::desks::{both, entries};
-use call_history::histories::NewHistory;
-use call_history::naming::Naming;
+use locked_book::histories::NewHistory;
+use locked_book::naming::Naming;
 use host_core::hosts::Counted;
 use instant_engine::Jobs;
 use locked_book::desks::Desk;

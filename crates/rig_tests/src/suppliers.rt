@@ -6,8 +6,8 @@ use crate::sessions::{
     ALPHAS, ALPHAS_REPLIES, BETAS, BETAS_REPLIES, THIRDS, THIRDS_REPLIES, talked, talked_on,
 };
 use crate::threads::closed;
-use call_history::histories::NewHistory;
-use call_history::naming::Naming;
+use locked_book::histories::NewHistory;
+use locked_book::naming::Naming;
 use giotto_tasks::lists::List;
 use locked_book::desks::Desk;
 use locked_book::passes::Pass;

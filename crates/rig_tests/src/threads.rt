@@ -3,8 +3,8 @@
 ghost use Rattle.std.specs.Prelude.{◌≡◌};
 
 use crate::desks::{NOBODY, book_of, both, entries, is_refused, other_pass};
-use call_history::histories::NewHistory;
-use call_history::naming::Naming;
+use locked_book::histories::NewHistory;
+use locked_book::naming::Naming;
 use giotto_tasks::lists::List;
 use giotto_tasks::names::Name;
 use host_core::hosts::Counted;

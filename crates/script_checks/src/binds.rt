@@ -19,7 +19,7 @@ use giotto_reports::{Examined, examine};
 use giotto_tasks::names::Name;
 use giotto_text::programs::{Actuator, Program, Sensor, Source};
 use rig_config::{Config, TenantId};
-use script_speakers::{Speaker, who_speaks};
+use rig_model::speakers::{Speaker, who_speaks};
 use std::alloc::{AllocError, Global};
 use tenant_lines::command_lines::{LineFault, command_of};
 use tenant_lines::commands::Command;

@@ -18,7 +18,7 @@ use giotto_reports::{Examined, Report, examine};
 use program_checks::budgets::{Held, over_budget};
 use rig_config::{Config, TenantConfig};
 use rig_model::limits::MAX_LINE;
-use script_speakers::{Speaker, who_speaks};
+use rig_model::speakers::{Speaker, who_speaks};
 use std::alloc::{AllocError, Global};
 use tenant_lines::command_lines::{LineFault as CommandFault, command_of};
 use tenant_lines::commands::Command;

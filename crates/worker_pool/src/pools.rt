@@ -9,7 +9,7 @@ ghost use Rattle.rig_model.specs.declared.logged.Logged.{Logged};
 ghost use Rattle.worker_pool.specs.Unsent.{AreUnsent};
 
 use crate::gates::Gate;
-use call_history::naming::Naming;
+use locked_book::naming::Naming;
 use crossbeam_channel::{Receiver, Sender};
 use host_core::hosts::Counted;
 use instant_engine::{Job, Jobs, run_job};

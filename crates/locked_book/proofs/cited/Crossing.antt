@@ -3,8 +3,8 @@
 use denote.RattleType.{RattleType}
 use denote.Param.Send.{IsSend, IsSync, sendable}
 use Rattle.std.proofs.Crossing.{crosses}
-use Rattle.call_history.proofs.histories.Front.TheSendSync as fronts
-use Rattle.call_history.proofs.histories.History.TheSendSync as histories
+use Rattle.locked_book.proofs.histories.Front.TheSendSync as fronts
+use Rattle.locked_book.proofs.histories.History.TheSendSync as histories
 use Rattle.circular_buffer.proofs.cells.Cells.TheSendSync as cells
 use Rattle.circular_buffer.proofs.cells.Deed.TheSendSync as deed
 use Rattle.giotto_tasks.proofs.bodies.Expr.TheLaws.TheKnot as expr_knot
@@ -49,7 +49,7 @@ use Rattle.tenant_jobs.specs.contracts.jobs.Done as Done
 use Rattle.tenant_jobs.specs.contracts.jobs.Jobs as Jobs
 use Rattle.tenant_state.specs.contracts.tenants.Tenant as Tenant
 use Rattle.host_core.specs.contracts.hosts.Host as Host
-use Rattle.call_history.specs.declared.naming.Naming.{Ghosts}
+use Rattle.locked_book.specs.declared.naming.Naming.{Ghosts}
 use Rattle.locked_book.specs.contracts.books.Book as Book
 use Rattle.locked_book.specs.contracts.logs.Log as Log
 use Rattle.locked_book.specs.contracts.desks.Desk as Desk

@@ -1,7 +1,7 @@
 -- Findings about a budget, and some more.
 use Rattle.std.specs.Prelude.{ℕ, List, ◌++◌}
 use Rattle.giotto_faults.specs.declared.findings.Finding.{Finding}
-use Rattle.giotto_summaries.specs.Parts.{ProgramPart, invocation, switch, update}
+use Rattle.giotto_reports.specs.Parts.{ProgramPart, invocation, switch, update}
 use Rattle.giotto_text.specs.ProgramTrees.{invocation_of, mode_of, switch_of, update_of}
 use Rattle.giotto_text.specs.declared.programs.Invocation.{Invocation}
 use Rattle.giotto_text.specs.declared.programs.Mode.{Mode}

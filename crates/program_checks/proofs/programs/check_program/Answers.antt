@@ -1,6 +1,6 @@
 use Rattle.std.proofs.Common.{inl}
 use Rattle.program_checks.proofs.cited.WellFormed.{text_of_program}
-use Rattle.giotto_files.specs.Comments.{one_line}
+use Rattle.giotto_reports.specs.Comments.{one_line}
 use Rattle.program_checks.proofs.programs.check_program.Goals as goal
 
 pub returns : goal.returns

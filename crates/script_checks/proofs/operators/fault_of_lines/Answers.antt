@@ -2,7 +2,7 @@ use Rattle.std.proofs.Common.{◌≡◌, ◌<◌, List, ℕ, [], length, refl, a
 use Rattle.std.proofs.lemmas.Bool.Decides.{nat_tests}
 use Rattle.tenant_lines.specs.Words.{words_of, first_word_of}
 use Rattle.tenant_lines.proofs.cited.WordLemmas.{words_none}
-use Rattle.script_speakers.proofs.cited.OperatorWords.{lines_with_more}
+use Rattle.rig_model.proofs.cited.OperatorWords.{lines_with_more}
 use Rattle.script_checks.specs.Scripts.{fault_of_operator}
 use Rattle.script_checks.proofs.operators.fault_of_lines.Goals as goal
 

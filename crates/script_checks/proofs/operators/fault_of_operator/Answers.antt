@@ -1,6 +1,6 @@
 use Rattle.std.proofs.Common.{◌≡◌, ◌∙◌, IfOk, codes, sym, ap, subst, arith}
 use Rattle.rig_model.specs.Script.{operator_line_of}
-use Rattle.script_speakers.proofs.cited.OperatorWords.{words_with, other_line}
+use Rattle.rig_model.proofs.cited.OperatorWords.{words_with, other_line}
 use Rattle.script_checks.specs.Scripts.{fault_of_operator}
 use Rattle.script_checks.proofs.operators.fault_of_operator.Goals as goal
 

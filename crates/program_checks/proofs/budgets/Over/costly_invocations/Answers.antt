@@ -1,4 +1,4 @@
-use Rattle.giotto_summaries.specs.Parts.{invocation}
+use Rattle.giotto_reports.specs.Parts.{invocation}
 use Rattle.giotto_text.specs.ProgramTrees.{mode_of, invocation_of}
 use Rattle.program_checks.specs.Excess.{words_of_part}
 use Rattle.giotto_text.specs.declared.programs.Invocation.{Invocation}

@@ -1,5 +1,5 @@
 use Rattle.std.specs.List.{flat_map}
-use Rattle.giotto_summaries.specs.Parts.{drivers_of}
+use Rattle.giotto_reports.specs.Parts.{drivers_of}
 use Rattle.giotto_text.specs.ProgramTrees.{mode_of}
 use Rattle.program_checks.specs.Excess.{words_of_part}
 use Rattle.giotto_text.specs.declared.programs.Mode.{Mode}

@@ -1,5 +1,5 @@
 use Rattle.std.proofs.Common.{List, ℕ, subst}
-use Rattle.giotto_summaries.specs.Parts.{part_of}
+use Rattle.giotto_reports.specs.Parts.{part_of}
 use Rattle.program_checks.proofs.Telling.{costly}
 use Rattle.program_checks.specs.inner.Telling.{AreTold}
 use Rattle.program_checks.proofs.budgets.Over.costly_part.Goals as goal

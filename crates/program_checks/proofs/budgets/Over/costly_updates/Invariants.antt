@@ -1,6 +1,6 @@
 use Rattle.std.proofs.Common.{take}
 use Rattle.std.specs.List.{flat_map}
-use Rattle.giotto_summaries.specs.Parts.{update}
+use Rattle.giotto_reports.specs.Parts.{update}
 use Rattle.giotto_text.specs.ProgramTrees.{mode_of, update_of}
 use Rattle.program_checks.specs.Excess.{words_of_part}
 use Rattle.giotto_text.specs.declared.programs.Update.{Update}

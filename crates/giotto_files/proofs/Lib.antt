@@ -1,3 +1,0 @@
-pub mod CommentRows
-pub mod Commented
-pub mod LinesOfText

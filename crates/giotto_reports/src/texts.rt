@@ -1,0 +1,72 @@
+//! Programs as texts for files and for scripts.
+//!
+//! [`pretty`] lays a program out over lines, and [`load_line`] gives the line of a script that loads it:
+//!
+//! ```text
+//! task T(i) output o {
+//!     o := i + 1;
+//! }
+//! ```
+//!
+//! What the texts read as is the program again. `pretty` reads back what it laid out before it gives it, so its layout can be changed
+//! without a proof.
+
+ghost use Rattle.std.specs.Prelude.{◌≡◌, ◌++◌, IfOk, Ok, codes, string_bytes, true};
+ghost use Rattle.giotto_text.specs.Canonical.{canonical_of};
+ghost use Rattle.giotto_text.specs.Parsing.{parsed};
+
+use giotto_read::{Program, ReadFault, print, read};
+use giotto_text::lexer;
+use crate::layout::laid_out;
+use std::alloc::{AllocError, Global};
+
+/// The line of a script by which the tenant of this name loads the program: the name, ` load ` and the canonical text.
+///
+/// # Errors
+/// Want of memory.
+pub fn load_line(alloc: Global, tenant: &str, program: &Program) -> Result<String, AllocError>
+    ensures { IfOk result (λ line. string_bytes line ≡ tenant.now ++ codes " load " ++ canonical_of program.now) }
+{
+    let text = print(alloc, program)?;
+    let mut line = String::from_str(alloc, tenant)?;
+    line.push_str(" load ")?;
+    line.push_str(text.as_str())?;
+    Ok(line)
+}
+
+/// The program over many lines: each declaration, each statement of a body and each line of a mode on a line of its own, indented by four
+/// blanks for each block that it stands in, and an LF behind each line. What the text reads as is the program again.
+///
+/// # Errors
+/// Want of memory.
+pub fn pretty(alloc: Global, program: &Program) -> Result<String, AllocError>
+    ensures { IfOk result (λ text. parsed (string_bytes text) ≡ Ok program.now) }
+{
+    let canonical = print(alloc, program)?;
+    let text = laid_out_text(alloc, canonical.as_str())?;
+    if reads_as(alloc, text.as_str(), canonical.as_str())? {
+        return Ok(text);
+    }
+    Ok(canonical)
+}
+
+fn laid_out_text(alloc: Global, canonical: &str) -> Result<String, AllocError> {
+    match lexer::tokens(alloc, canonical.as_bytes()) {
+        Ok(tokens) => laid_out(alloc, &tokens),
+        Err(_) => Err(AllocError),
+    }
+}
+
+// Whether the text reads as a program of this canonical text.
+fn reads_as(alloc: Global, text: &str, canonical: &str) -> Result<bool, AllocError>
+    ensures { IfOk result (λ same. same ≡ true → parsed text.now ≡ parsed canonical.now) }
+{
+    match read(alloc, text) {
+        Ok(program) => {
+            let again = print(alloc, &program)?;
+            Ok(again.as_bytes() == canonical.as_bytes())
+        }
+        Err(ReadFault::Memory) => Err(AllocError),
+        Err(_) => Ok(false),
+    }
+}
