@@ -4,7 +4,7 @@ use Rattle.std.specs.List.{list_any}
 use Rattle.toml.specs.Data.{Data}
 use Rattle.toml.specs.View.{items_of, items_view, view}
 use Rattle.toml.specs.declared.value.Value.{Value}
-use Rattle.rig_config.specs.Reading.{count_of}
+use Rattle.rig_model.specs.config.Reading.{count_of}
 use Rattle.config_checks.specs.Faults.{list_of}
 
 list_of_items : (ds : List Data) → list_of (items_of ds) ≡ ds

@@ -1,12 +1,12 @@
 -- What is told of a configuration.
 use Rattle.std.specs.Prelude.{◌≡◌, ℕ, true, false, List, ◌++◌, Result, Ok, Err, string_bytes}
-use Rattle.giotto_faults.specs.declared.findings.Finding.{Finding}
-use Rattle.giotto_faults.specs.Findings.{BeginsWith, head_of}
-use Rattle.giotto_reports.specs.Reports.{AreShown}
-use Rattle.giotto_reports.specs.declared.Report.{Report}
-use Rattle.rig_config.specs.Reading.{config_of}
-use Rattle.rig_config.specs.Roster.{Rig}
-use Rattle.rig_config.specs.declared.faults.ConfigFault.{ConfigFault}
+use Rattle.program_checks.specs.declared.faults.findings.Finding.{Finding}
+use Rattle.program_checks.specs.faults.Findings.{BeginsWith, head_of}
+use Rattle.program_checks.specs.reports.Reports.{AreShown}
+use Rattle.program_checks.specs.declared.reports.Report.{Report}
+use Rattle.rig_model.specs.config.Reading.{config_of}
+use Rattle.rig_model.specs.config.Roster.{Rig}
+use Rattle.rig_model.specs.declared.config.faults.ConfigFault.{ConfigFault}
 use Rattle.config_checks.specs.Faults.{TellsFault}
 use Rattle.config_checks.specs.Notes.{AreNotes, notes_on}
 use Rattle.config_checks.specs.Summaries.{summary_of}

@@ -6,17 +6,17 @@ use Rattle.std.specs.Option.{option_and_then}
 use Rattle.std.specs.Ordering.{int_eq}
 use Rattle.toml.specs.Data.{Data, Members, string, integer, float, boolean, datetime, array, table, Items, no_items, item, as_str, at, get}
 use Rattle.toml.specs.Parse.{parse_document}
-use Rattle.giotto_faults.specs.declared.findings.Finding.{Finding}
-use Rattle.giotto_faults.specs.declared.findings.Severity.TheVariants.{Error}
-use Rattle.giotto_faults.specs.Findings.{BeginsWith}
+use Rattle.program_checks.specs.declared.faults.findings.Finding.{Finding}
+use Rattle.program_checks.specs.declared.faults.findings.Severity.TheVariants.{Error}
+use Rattle.program_checks.specs.faults.Findings.{BeginsWith}
 use Rattle.giotto_tasks.specs.Names.{same_name}
-use Rattle.rig_config.specs.Fields.{word_of}
-use Rattle.rig_config.specs.Reading.{count_of}
-use Rattle.rig_config.specs.declared.faults.ConfigFault.{ConfigFault}
-use Rattle.rig_config.specs.declared.faults.ConfigFault.TheVariants.{NotToml, Missing, Range, Twice, Memory}
-use Rattle.rig_config.specs.declared.faults.Field.{Field}
-use Rattle.rig_config.specs.declared.faults.Field.TheVariants as field
-use Rattle.rig_config.specs.declared.faults.FieldPlace.{FieldPlace}
+use Rattle.rig_model.specs.config.Fields.{word_of}
+use Rattle.rig_model.specs.config.Reading.{count_of}
+use Rattle.rig_model.specs.declared.config.faults.ConfigFault.{ConfigFault}
+use Rattle.rig_model.specs.declared.config.faults.ConfigFault.TheVariants.{NotToml, Missing, Range, Twice, Memory}
+use Rattle.rig_model.specs.declared.config.faults.Field.{Field}
+use Rattle.rig_model.specs.declared.config.faults.Field.TheVariants as field
+use Rattle.rig_model.specs.declared.config.faults.FieldPlace.{FieldPlace}
 use Rattle.config_checks.specs.Values.{IsValue}
 
 -- the tenant at a place of a document, as it is written

@@ -2,11 +2,11 @@
 use Rattle.std.specs.Prelude.{◌≡◌, ℕ, ◌+◌, ◌==◌, if◌then◌else◌, List, [], ◌∷◌, ◌++◌, map, Option, Some, None, codes, string_bytes}
 use Rattle.std.specs.Fmt.{decimal}
 use Rattle.std.specs.List.{flat_map, position}
-use Rattle.giotto_faults.specs.declared.findings.Finding.{Finding}
-use Rattle.giotto_faults.specs.declared.findings.Severity.{Severity}
-use Rattle.giotto_faults.specs.declared.findings.Severity.TheVariants.{Note}
-use Rattle.rig_config.specs.Roster.{Rig, may_use, name_at}
-use Rattle.rig_config.specs.declared.TenantConfig.{TenantConfig}
+use Rattle.program_checks.specs.declared.faults.findings.Finding.{Finding}
+use Rattle.program_checks.specs.declared.faults.findings.Severity.{Severity}
+use Rattle.program_checks.specs.declared.faults.findings.Severity.TheVariants.{Note}
+use Rattle.rig_model.specs.config.Roster.{Rig, may_use, name_at}
+use Rattle.rig_model.specs.declared.config.TenantConfig.{TenantConfig}
 
 -- the place of the tenant that may drive a line, if one may
 abbrev pub driver_of : Rig → ℕ → Option ℕ

@@ -3,10 +3,10 @@ use Rattle.std.specs.Prelude.{ℕ, List, [], ◌∷◌, ◌++◌, length, codes}
 use Rattle.std.specs.Fmt.{decimal, signed_decimal}
 use Rattle.std.specs.List.{flat_map}
 use Rattle.program_checks.specs.Numbers.{text_of_numbers}
-use Rattle.rig_config.specs.Intervals.{Interval}
-use Rattle.rig_config.specs.Roster.{Rig}
-use Rattle.rig_config.specs.declared.Budgets.{Budgets}
-use Rattle.rig_config.specs.declared.TenantConfig.{TenantConfig}
+use Rattle.rig_model.specs.config.Intervals.{Interval}
+use Rattle.rig_model.specs.config.Roster.{Rig}
+use Rattle.rig_model.specs.declared.config.Budgets.{Budgets}
+use Rattle.rig_model.specs.declared.config.TenantConfig.{TenantConfig}
 
 -- "FILE: rig lines LINES, tenants TENANTS" and LF
 abbrev pub heading_of : List ℕ → Rig → List ℕ

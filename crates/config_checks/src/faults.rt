@@ -5,16 +5,16 @@ ghost use Rattle.std.specs.Fmt.{decimal};
 ghost use Rattle.std.specs.List.{find, list_any};
 ghost use Rattle.std.specs.Option.{option_copied};
 ghost use Rattle.toml.specs.View.{items_view, view};
-ghost use Rattle.rig_config.specs.Reading.{count_of};
-ghost use Rattle.giotto_faults.specs.Findings.{BeginsWith};
+ghost use Rattle.rig_model.specs.config.Reading.{count_of};
+ghost use Rattle.program_checks.specs.faults.Findings.{BeginsWith};
 ghost use Rattle.config_checks.specs.Faults.{AreCounted, IsFaultTold, IsValueOf, TellsFault, has_one, is_same, items_in, name_of, owner_of, shared_in, tenant_at, tenants_in, value_at, values_in, values_of, words_of_shared};
 
 use crate::helps::help_on;
 use crate::places::{offset_of, place_of};
 use crate::values::text_of_value;
-use giotto_faults::findings::{Finding, Severity};
-use rig_config::TenantId;
-use rig_config::faults::{ConfigFault, Field, FieldPlace};
+use program_checks::faults::findings::{Finding, Severity};
+use rig_model::config::TenantId;
+use rig_model::config::faults::{ConfigFault, Field, FieldPlace};
 use std::alloc::{AllocError, Global};
 use toml::Value;
 

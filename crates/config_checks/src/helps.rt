@@ -1,7 +1,7 @@
 //! What helps with the fault of a configuration: what a field may be, a key that is misspelled, or which two tenants share a line.
 
 use crate::faults::{is_among, name_of, shared_in, tenant_at, tenants_in, values_in};
-use rig_config::faults::{ConfigFault, Field, FieldPlace};
+use rig_model::config::faults::{ConfigFault, Field, FieldPlace};
 use std::alloc::{AllocError, Global};
 use strsim::osa_distance;
 use toml::{Table, Value};

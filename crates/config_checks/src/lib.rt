@@ -13,7 +13,7 @@
 #![tactic(auto)]
 
 ghost use Rattle.std.specs.Prelude.{◌≡◌, Err, IfOk, Ok};
-ghost use Rattle.rig_config.specs.Reading.{config_of};
+ghost use Rattle.rig_model.specs.config.Reading.{config_of};
 ghost use Rattle.config_checks.specs.Configurations.{IsToldOf};
 
 mod faults;
@@ -26,9 +26,11 @@ mod values;
 use crate::faults::finding_of;
 use crate::notes::notes_of;
 use crate::summaries::summary_of;
-use giotto_reports::{Report, shown};
-use rig_config::faults::ConfigFault;
-use rig_config::{Config, read_config};
+pub use program_checks as checked_programs;
+pub use program_checks::reports;
+use program_checks::reports::{Report, shown};
+use rig_model::config::faults::ConfigFault;
+use rig_model::config::{Config, read_config};
 use std::alloc::{AllocError, Global};
 
 /// What is told of a configuration's file with this name and this text: its fault, with the tenant and the value; or what it has, and

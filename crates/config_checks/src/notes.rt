@@ -2,14 +2,14 @@
 
 ghost use Rattle.std.specs.Prelude.{◌≡◌, ◌++◌, IfOk, OnOk, map, string_bytes};
 ghost use Rattle.std.specs.List.{flat_map};
-ghost use Rattle.rig_config.specs.Roster.{may_use, name_at};
+ghost use Rattle.rig_model.specs.config.Roster.{may_use, name_at};
 ghost use Rattle.config_checks.specs.Notes.{AreNotes, as_note, driver_of, note_of_line, notes_on, told_of, words_of_line};
 
 use crate::faults::finding;
 use crate::places::{offset_of, place_of};
-use giotto_faults::findings::{Finding, Severity};
-use rig_config::faults::Field;
-use rig_config::{Config, TenantId};
+use program_checks::faults::findings::{Finding, Severity};
+use rig_model::config::faults::Field;
+use rig_model::config::{Config, TenantId};
 use std::alloc::{AllocError, Global};
 
 /// A note for each line that one tenant may drive and another may read, at what the other may read.

@@ -1,7 +1,7 @@
 //! Where the fields of a configuration stand in its text.
 
-use rig_config::TenantId;
-use rig_config::faults::{Field, FieldPlace};
+use rig_model::config::TenantId;
+use rig_model::config::faults::{Field, FieldPlace};
 
 /// A field of the tenant at this place.
 pub(crate) fn place_of(tenant: TenantId, field: Field) -> FieldPlace {

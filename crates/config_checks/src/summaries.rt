@@ -6,8 +6,8 @@ ghost use Rattle.std.specs.Fmt.{signed_decimal};
 ghost use Rattle.config_checks.specs.Summaries.{heading_of, row_of_grants, row_of_lines, row_of_programs, rows_of_tenant, summary_of, words_of_bounds};
 
 use program_checks::numbers::text_of_numbers;
-use rig_config::intervals::Bounds;
-use rig_config::{Budgets, Config, TenantConfig};
+use rig_model::config::intervals::Bounds;
+use rig_model::config::{Budgets, Config, TenantConfig};
 use std::alloc::{AllocError, Global};
 
 /// The lines of a rig and its tenants, three lines for each.

@@ -9,9 +9,9 @@ use crate::hints::hint;
 use crate::outlines::{Outline, outline_of};
 use crate::words::words_of_rule;
 use giotto_faults::findings::{Finding, Severity};
-use giotto_read::{Program, ReadFault};
+use giotto_faults::reading::{Program, ReadFault};
 use giotto_rules::first_broken;
-use giotto_text::lexer;
+use giotto_rules::text::lexer;
 use std::alloc::{AllocError, Global};
 
 /// A rule that a program breaks, and what is told of each place that breaks it.

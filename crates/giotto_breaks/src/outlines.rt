@@ -1,7 +1,7 @@
 //! Where the names and numbers of a program stand in its text.
 
+use giotto_rules::text::tokens::{Keyword, PlacedToken, Symbol, Token};
 use giotto_tasks::names::Name;
-use giotto_text::tokens::{Keyword, PlacedToken, Symbol, Token};
 use std::alloc::{AllocError, Global};
 
 /// A name, at its place.

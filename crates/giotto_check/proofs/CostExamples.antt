@@ -2,8 +2,8 @@
 use Rattle.std.proofs.Common.{◌≡◌, pos, [], ◌∷◌, map, Some, codes, refl}
 use Rattle.giotto_tasks.specs.Syntax.{number, port, binary, repeat, finished, step, Expression}
 use Rattle.giotto_tasks.specs.declared.operators.BinaryOperator.TheVariants.{Add, Greater}
-use Rattle.giotto_text.specs.Program.{TaskDeclaration, ModeDeclaration, GiottoProgram}
-use Rattle.giotto_text.proofs.cited.Adder.{adder}
+use Rattle.giotto_rules.specs.text.Program.{TaskDeclaration, ModeDeclaration, GiottoProgram}
+use Rattle.giotto_rules.proofs.of_text.Adder.{adder}
 use Rattle.giotto_rules.proofs.cited.ExamplePrograms.{switcher, two_constants}
 use Rattle.giotto_rules.specs.Costs.{greatest_cost_of}
 

@@ -5,7 +5,7 @@ use Rattle.giotto_tasks.specs.declared.names.Name.{Name}
 use Rattle.giotto_tasks.specs.Names.{is_among}
 use Rattle.giotto_tasks.proofs.cited.NameLemmas.{among_first, among_passes, among_second, is_among-append, weaker_all}
 use Rattle.giotto_tasks.proofs.cited.TestLemmas.{either}
-use Rattle.giotto_text.specs.Program.{ModeDeclaration, GiottoProgram}
+use Rattle.giotto_rules.specs.text.Program.{ModeDeclaration, GiottoProgram}
 use Rattle.giotto_rules.specs.Declarations.{sensor_names, actuator_names, output_names, driver_ports, mode_ports}
 use Rattle.giotto_rules.specs.Drivers.{readable_ports}
 use Rattle.giotto_check.specs.cited.Facts.{ModeFits}

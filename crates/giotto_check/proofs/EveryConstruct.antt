@@ -2,9 +2,9 @@
 use Rattle.std.proofs.Common.{◌≡◌, ℕ, ℤ, pos, negsuc, List, [], ◌∷◌, map, None, refl, codes}
 use Rattle.std.specs.Prelude.{Ok, Err, Result}
 use Rattle.giotto_tasks.specs.Meaning.{outputs_of, states_of}
-use Rattle.giotto_text.specs.declared.faults.ReadFault.{ReadFault}
-use Rattle.giotto_text.specs.Parsing.{parsed}
-use Rattle.giotto_text.specs.Program.{TaskDeclaration, GiottoProgram, body_of}
+use Rattle.giotto_rules.specs.declared.text.faults.ReadFault.{ReadFault}
+use Rattle.giotto_rules.specs.text.Parsing.{parsed}
+use Rattle.giotto_rules.specs.text.Program.{TaskDeclaration, GiottoProgram, body_of}
 use Rattle.giotto_rules.specs.Rules.{first_broken_rule}
 use Rattle.giotto_rules.specs.Costs.{greatest_cost_of}
 

@@ -10,9 +10,9 @@ use Rattle.giotto_tasks.specs.Names.{same_name, is_among}
 use Rattle.giotto_tasks.specs.Sound.{all_different, block_reads_only, block_assigns_only, is_small}
 use Rattle.giotto_tasks.proofs.cited.ListLemmas.{all_zip, all_pass, all_with, found_passes}
 use Rattle.giotto_tasks.proofs.cited.NameLemmas.{among_first, among_second, among_turned, apart_from, weaker_all, different_joined}
-use Rattle.giotto_text.specs.Depth.{is_shallow_update, is_shallow_switch, is_shallow_invocation, is_shallow_mode, is_shallow_task, is_shallow_program}
-use Rattle.giotto_text.specs.Program.{TaskDeclaration, ModeSwitch, TaskInvocation, ModeDeclaration, GiottoProgram, body_of, names_of}
-use Rattle.giotto_text.specs.Sound.{IsPrintable}
+use Rattle.giotto_rules.specs.text.Depth.{is_shallow_update, is_shallow_switch, is_shallow_invocation, is_shallow_mode, is_shallow_task, is_shallow_program}
+use Rattle.giotto_rules.specs.text.Program.{TaskDeclaration, ModeSwitch, TaskInvocation, ModeDeclaration, GiottoProgram, body_of, names_of}
+use Rattle.giotto_rules.specs.text.Sound.{IsPrintable}
 use Rattle.giotto_rules.specs.Declarations.{sensor_names, actuator_names, output_names, task_names, mode_names, declared_names, outputs_of_task, destinations_of, invoked_tasks, updated_actuators, mode_ports, task_named, mode_named}
 use Rattle.giotto_rules.specs.Drivers.{readable_ports, ports_of_target, switch_fits, drivers_fit}
 use Rattle.giotto_rules.specs.Frequencies.{divides, frequencies_divide_in}

@@ -4,9 +4,9 @@ use Rattle.std.specs.Prelude.{codes, Ok}
 use Rattle.giotto_tasks.specs.Syntax.{number, port, binary, assign, finished, step}
 use Rattle.giotto_tasks.specs.declared.operators.BinaryOperator.TheVariants.{Add, Greater}
 use Rattle.giotto_tasks.proofs.cited.ListLemmas.{some_same}
-use Rattle.giotto_text.specs.Parsing.{parsed}
-use Rattle.giotto_text.specs.Program.{from_line, TaskDeclaration, ActuatorUpdate, ModeSwitch, TaskInvocation, ModeDeclaration, GiottoProgram}
-use Rattle.giotto_text.proofs.cited.Adder.{adder}
+use Rattle.giotto_rules.specs.text.Parsing.{parsed}
+use Rattle.giotto_rules.specs.text.Program.{from_line, TaskDeclaration, ActuatorUpdate, ModeSwitch, TaskInvocation, ModeDeclaration, GiottoProgram}
+use Rattle.giotto_rules.proofs.of_text.Adder.{adder}
 use Rattle.giotto_rules.specs.Rules.{first_broken_rule}
 use Rattle.giotto_check.specs.Slots.{port_names, valuation_of}
 use Rattle.giotto_rules.specs.Ports.{slot_of}

@@ -5,11 +5,11 @@ use Rattle.std.proofs.lemmas.Bool.{and_parts, and_from, false≢true, eqb-true}
 use Rattle.std.proofs.lemmas.List.Folds.{list_all-append}
 use Rattle.giotto_tasks.specs.declared.names.Name.{Name}
 use Rattle.giotto_tasks.proofs.cited.ListLemmas.{all_wider}
-use Rattle.giotto_text.specs.declared.tokens.Token.{Token}
-use Rattle.giotto_text.specs.Bytes.{is_letter, is_name_byte}
-use Rattle.giotto_text.specs.Canonical.{sensor_tokens, actuator_tokens, output_tokens, task_tokens}
-use Rattle.giotto_text.specs.Program.{SensorDeclaration, ActuatorDeclaration, OutputDeclaration, TaskDeclaration, GiottoProgram}
-use Rattle.giotto_text.specs.Sound.{is_sound_name, is_sound_token, IsPrintable, can_be_printed}
+use Rattle.giotto_rules.specs.declared.text.tokens.Token.{Token}
+use Rattle.giotto_rules.specs.text.Bytes.{is_letter, is_name_byte}
+use Rattle.giotto_rules.specs.text.Canonical.{sensor_tokens, actuator_tokens, output_tokens, task_tokens}
+use Rattle.giotto_rules.specs.text.Program.{SensorDeclaration, ActuatorDeclaration, OutputDeclaration, TaskDeclaration, GiottoProgram}
+use Rattle.giotto_rules.specs.text.Sound.{is_sound_name, is_sound_token, IsPrintable, can_be_printed}
 use Rattle.giotto_rules.specs.Declarations.{sensor_names, actuator_names, output_names, task_names, driver_ports}
 
 -- a name in which no byte is a dot

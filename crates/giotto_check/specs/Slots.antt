@@ -3,7 +3,7 @@ use Rattle.std.specs.Prelude.{ℤ, List, map}
 use Rattle.std.specs.List.{zip}
 use Rattle.giotto_tasks.specs.declared.names.Name.{Name}
 use Rattle.giotto_tasks.specs.Names.{Valuation}
-use Rattle.giotto_text.specs.Program.{GiottoProgram}
+use Rattle.giotto_rules.specs.text.Program.{GiottoProgram}
 use Rattle.giotto_rules.specs.Ports.{shown_name, ports_of}
 
 -- the names of all ports as they are shown, in the order of their numbers

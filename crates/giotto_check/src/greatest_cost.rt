@@ -1,12 +1,12 @@
 //! The greatest cost of a program.
 
 ghost use Rattle.std.specs.Prelude.{◌≡◌, ◌-◌, ◌^◌, min};
-ghost use Rattle.giotto_text.specs.ProgramTrees.{mode_of, update_of, switch_of, invocation_of, guard_of};
+ghost use Rattle.giotto_rules.specs.text.ProgramTrees.{mode_of, update_of, switch_of, invocation_of, guard_of};
 ghost use Rattle.giotto_rules.specs.Costs as costs;
 
+use giotto_rules::text::programs::{Invocation, Mode, Program, Switch, Update};
 use giotto_tasks::bodies::{Body, Expr};
 use giotto_tasks::{cost, driver_cost};
-use giotto_text::programs::{Invocation, Mode, Program, Switch, Update};
 
 /// The greatest cost over the bodies and drivers of a program, in steps, or `u64::MAX` where it is greater.
 pub(crate) fn greatest_cost(program: &Program) -> u64

@@ -6,8 +6,8 @@ ghost use Rattle.std.specs.Prelude.{◌≡◌, ◌+◌, ℕ, ℤ, List, length, 
 ghost use Rattle.giotto_tasks.specs.declared.names.Name.{Name};
 ghost use Rattle.giotto_tasks.specs.cited.Sources.{names_in};
 ghost use Rattle.giotto_tasks.specs.Names.{value_at, with_value};
-ghost use Rattle.giotto_text.specs.PortNames.{with_values};
-ghost use Rattle.giotto_text.specs.Program.{GiottoProgram};
+ghost use Rattle.giotto_rules.specs.text.PortNames.{with_values};
+ghost use Rattle.giotto_rules.specs.text.Program.{GiottoProgram};
 ghost use Rattle.giotto_check.specs.cited.Slots.{AreValuesOf, HasSlot, HaveSlots, PortNamesDiffer, own_values, slots_of, with_own_values, with_range, with_slots};
 ghost use Rattle.giotto_rules.specs.Ports.{ProgramPort, ports_of, shown_name};
 ghost use Rattle.giotto_check.specs.Slots.{port_names, valuation_of};

@@ -19,7 +19,7 @@
 ghost use Rattle.std.specs.Prelude.{◌≡◌, ◌<◌, ◌≤◌, ℕ, ◌-◌, ◌^◌, min, [], Some, None, IsOk, IfOk, IfErr, IsSomeAnd, length};
 ghost use Rattle.std.specs.List.{slice_get};
 ghost use Rattle.std.specs.Option.{option_map};
-ghost use Rattle.giotto_text.specs.Program.{ModeDeclaration};
+ghost use Rattle.giotto_rules.specs.text.Program.{ModeDeclaration};
 ghost use Rattle.giotto_rules.specs.cited.KeepsRules.{KeepsRules};
 ghost use Rattle.giotto_rules.specs.Rules.{first_broken_rule};
 ghost use Rattle.giotto_rules.specs.Costs.{greatest_cost_of};
@@ -39,7 +39,7 @@ use crate::greatest_cost::greatest_cost;
 use crate::numbering::Numbering;
 use crate::timetables::{SlotExit, SlotInvocation, SlotUpdate, TaskSlots, Timetable};
 use giotto_rules::first_broken;
-use giotto_text::programs::Program;
+use giotto_rules::text::programs::Program;
 use std::alloc::{AllocError, Global};
 use std::marker::Model;
 use std::sync::Arc;
@@ -54,8 +54,8 @@ struct Contents {
 }
 
 impl Model for Contents {
-    ghost use Rattle.giotto_text.specs.Program.{GiottoProgram};
-    ghost use Rattle.giotto_text.specs.cited.ProgramCodes.{program_code};
+    ghost use Rattle.giotto_rules.specs.text.Program.{GiottoProgram};
+    ghost use Rattle.giotto_rules.specs.text.cited.ProgramCodes.{program_code};
     ghost use Rattle.giotto_check.specs.inner.Checked.{IsChecked};
 
     ghost Value = { GiottoProgram };
@@ -85,8 +85,8 @@ pub struct Checked {
 
 impl Model for Checked {
     ghost use Rattle.std.specs.Arc.{arc_value};
-    ghost use Rattle.giotto_text.specs.Program.{GiottoProgram};
-    ghost use Rattle.giotto_text.specs.cited.ProgramCodes.{program_code};
+    ghost use Rattle.giotto_rules.specs.text.Program.{GiottoProgram};
+    ghost use Rattle.giotto_rules.specs.text.cited.ProgramCodes.{program_code};
 
     ghost Value = { GiottoProgram };
 
@@ -218,7 +218,7 @@ fn fits(program: &Program)
     ensures fits { ProgramFits program.now }
 {
     program.known();
-    giotto_text::laws::shallow();
+    giotto_rules::text::laws::shallow();
 }
 
 /// The program checked, if it keeps the eleven rules.

@@ -13,7 +13,7 @@ mod updates;
 
 use crate::numbering::numbered::Numbered;
 use crate::timetables::{TaskSlots, Timetable};
-use giotto_text::programs::Program;
+use giotto_rules::text::programs::Program;
 use std::alloc::{AllocError, Global};
 
 /// A program by number.

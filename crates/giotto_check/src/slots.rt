@@ -4,14 +4,14 @@ ghost use Rattle.std.specs.Prelude.{◌≡◌, ◌+◌, ◌<◌, ◌^◌, Some, 
 ghost use Rattle.std.specs.List.{position_from};
 ghost use Rattle.std.specs.Option.{option_map};
 ghost use Rattle.giotto_tasks.specs.Names.{same_name};
-ghost use Rattle.giotto_text.specs.ProgramTrees.{task_of};
+ghost use Rattle.giotto_rules.specs.text.ProgramTrees.{task_of};
 ghost use Rattle.giotto_rules.specs.Declarations.{driver_ports};
 ghost use Rattle.giotto_rules.specs.Ports.{is_port, ports_of_task, slot_of};
 ghost use Rattle.giotto_check.specs.cited.Slots.{slots_of};
 
+use giotto_rules::text::programs::{Program, Task};
 use giotto_tasks::bodies::Body;
 use giotto_tasks::names::Name;
-use giotto_text::programs::{Program, Task};
 
 /// The slot of a port of a task, if one is named, and else of a sensor, an actuator or an output. It goes over the
 /// program's names once.

@@ -7,13 +7,13 @@ use Rattle.std.proofs.lemmas.List.Sums.{take_while-cons}
 use Rattle.std.specs.List.{list_all, take_while, find, starts_with}
 use Rattle.std.specs.Str.Parse.{digits_value}
 use Rattle.std.specs.Prelude.{nat_le}
-use Rattle.giotto_text.specs.Bytes.{is_blank_of_text, is_digit, is_letter, is_name_byte}
-use Rattle.giotto_text.specs.declared.tokens.Keyword.{Keyword}
-use Rattle.giotto_text.specs.declared.tokens.Symbol.{Symbol}
-use Rattle.giotto_text.specs.declared.tokens.Symbol.TheVariants.{Becomes}
-use Rattle.giotto_text.specs.declared.tokens.Token.{Token}
-use Rattle.giotto_text.specs.declared.tokens.PlacedToken.{PlacedToken}
-use Rattle.giotto_text.specs.Tokens.{FoundToken, first_token, word, number, mark, keyword_of, symbol_at, all_symbols, text_of_symbol, Tokens, after_token, tokens_from, tokens_of}
+use Rattle.giotto_read.specs.text.Bytes.{is_blank_of_text, is_digit, is_letter, is_name_byte}
+use Rattle.giotto_read.specs.declared.text.tokens.Keyword.{Keyword}
+use Rattle.giotto_read.specs.declared.text.tokens.Symbol.{Symbol}
+use Rattle.giotto_read.specs.declared.text.tokens.Symbol.TheVariants.{Becomes}
+use Rattle.giotto_read.specs.declared.text.tokens.Token.{Token}
+use Rattle.giotto_read.specs.declared.text.tokens.PlacedToken.{PlacedToken}
+use Rattle.giotto_read.specs.text.Tokens.{FoundToken, first_token, word, number, mark, keyword_of, symbol_at, all_symbols, text_of_symbol, Tokens, after_token, tokens_from, tokens_of}
 
 abbrev pub is_ascii : ℕ → Bool
 is_ascii c = nat_lt c 128

@@ -3,16 +3,16 @@ use Rattle.std.specs.Prelude.{nat_eq, ◌↔◌, Result}
 use Rattle.std.proofs.Common.{◌≡◌, ℕ, ◌<◌, true, false, List, [], ◌∷◌, ◌++◌, length, Ok, refl, sym, subst, arith, append-nil}
 use Rattle.std.proofs.lemmas.Bool.Decides.{nat_tests}
 use Rattle.std.proofs.lemmas.List.{map-append, append_assoc}
-use Rattle.giotto_text.specs.declared.faults.ReadFault.{ReadFault}
-use Rattle.giotto_text.specs.declared.tokens.PlacedToken.{PlacedToken}
-use Rattle.giotto_text.specs.declared.tokens.Token.{Token}
-use Rattle.giotto_text.specs.Grammar.{Part, program}
-use Rattle.giotto_text.specs.Nesting.{nests_too_deep}
-use Rattle.giotto_text.specs.Parsing.{parsed}
-use Rattle.giotto_text.specs.Program.{GiottoProgram}
-use Rattle.giotto_text.specs.Reading.{no_prefix, too_early, ReadsTokens, no_token, too_deep, no_program, too_many_ports, a_program, Reads}
-use Rattle.giotto_text.specs.Spelling.{SpellsParts, BeginsParts, Spells, IsPrefix}
-use Rattle.giotto_text.specs.Tokens.{Tokens, tokens_of, bare}
+use Rattle.giotto_read.specs.declared.text.faults.ReadFault.{ReadFault}
+use Rattle.giotto_read.specs.declared.text.tokens.PlacedToken.{PlacedToken}
+use Rattle.giotto_read.specs.declared.text.tokens.Token.{Token}
+use Rattle.giotto_read.specs.text.Grammar.{Part, program}
+use Rattle.giotto_read.specs.text.Nesting.{nests_too_deep}
+use Rattle.giotto_read.specs.text.Parsing.{parsed}
+use Rattle.giotto_read.specs.text.Program.{GiottoProgram}
+use Rattle.giotto_read.specs.text.Reading.{no_prefix, too_early, ReadsTokens, no_token, too_deep, no_program, too_many_ports, a_program, Reads}
+use Rattle.giotto_read.specs.text.Spelling.{SpellsParts, BeginsParts, Spells, IsPrefix}
+use Rattle.giotto_read.specs.text.Tokens.{Tokens, tokens_of, bare}
 use Rattle.giotto_faults.specs.Expected.{BeginsProgram, begins_if_read, begins_program}
 use Rattle.giotto_faults.proofs.TokenPlaces.{AllBefore, AreBefore, tokens_before, one_before}
 

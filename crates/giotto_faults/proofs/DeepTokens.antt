@@ -1,13 +1,13 @@
 -- Tokens that nest too deep do so somewhere.
 use Rattle.std.specs.Prelude.{nat_le}
 use Rattle.std.proofs.Common.{◌≡◌, ℕ, Bool, true, false, List, [], ◌∷◌, Some, None, Ok, Err, refl, ap, sym, ◌∙◌}
-use Rattle.giotto_text.specs.declared.faults.ReadFault.TheVariants.{TooDeep, TooMany}
-use Rattle.giotto_text.specs.declared.tokens.PlacedToken.{PlacedToken}
-use Rattle.giotto_text.specs.Nesting.{nests_too_deep, nests_too_deep_from, open_behind}
-use Rattle.giotto_text.specs.Parsing.{Outcome, got, stopped, read_program, reading, read_all, parsed_tokens}
-use Rattle.giotto_text.specs.Program.{GiottoProgram}
-use Rattle.giotto_text.specs.Reading.{has_small_tasks}
-use Rattle.giotto_text.specs.Tokens.{tokens_of, bare}
+use Rattle.giotto_read.specs.declared.text.faults.ReadFault.TheVariants.{TooDeep, TooMany}
+use Rattle.giotto_read.specs.declared.text.tokens.PlacedToken.{PlacedToken}
+use Rattle.giotto_read.specs.text.Nesting.{nests_too_deep, nests_too_deep_from, open_behind}
+use Rattle.giotto_read.specs.text.Parsing.{Outcome, got, stopped, read_program, reading, read_all, parsed_tokens}
+use Rattle.giotto_read.specs.text.Program.{GiottoProgram}
+use Rattle.giotto_read.specs.text.Reading.{has_small_tasks}
+use Rattle.giotto_read.specs.text.Tokens.{tokens_of, bare}
 use Rattle.giotto_faults.specs.Nesting.{first_too_deep}
 
 shallow_where_none : (n : ℕ) (ts : List PlacedToken) → first_too_deep n ts ≡ None → nests_too_deep_from n (bare ts) ≡ false

@@ -1,8 +1,8 @@
 -- Each kind of token is tried, and those that pass are kept.
 use Rattle.std.specs.Prelude.{Contains, filter}
 use Rattle.std.proofs.Common.{◌≡◌, zero, suc, Bool, true, false, List, [], ◌∷◌, refl, sym, ◌∙◌, ap, arith, lit<}
-use Rattle.giotto_text.specs.declared.tokens.Keyword.TheVariants as keywords
-use Rattle.giotto_text.specs.declared.tokens.Symbol.TheVariants as symbols
+use Rattle.giotto_read.specs.declared.text.tokens.Keyword.TheVariants as keywords
+use Rattle.giotto_read.specs.declared.text.tokens.Symbol.TheVariants as symbols
 use Rattle.giotto_faults.specs.declared.kinds.TheConstants.{KINDS}
 use Rattle.giotto_faults.specs.declared.kinds.TokenKind.{TokenKind}
 use Rattle.giotto_faults.specs.declared.kinds.TokenKind.TheVariants.{Name, Number, Keyword, Symbol}

@@ -5,12 +5,12 @@ use Rattle.std.proofs.Common.{◌≡◌, ℕ, zero, suc, ◌-◌, ◌<◌, ◌�
 use Rattle.std.proofs.lemmas.Bool.{and_parts}
 use Rattle.std.proofs.lemmas.Bool.Decides.{nat_tests}
 use Rattle.std.proofs.lemmas.Str.{IsCharBoundary-from_take, IsCharBoundary-end, IsUtf8-from_ascii}
-use Rattle.giotto_text.specs.declared.faults.ReadFault.{ReadFault}
-use Rattle.giotto_text.specs.declared.faults.ReadFault.TheVariants.{Syntax}
-use Rattle.giotto_text.specs.Parsing.{parsed}
-use Rattle.giotto_text.specs.Program.{GiottoProgram}
-use Rattle.giotto_text.specs.Reading.{no_prefix, too_early, ReadsTokens, no_token, too_deep, no_program, too_many_ports, a_program, Reads}
-use Rattle.giotto_text.specs.Tokens.{Tokens, tokens_of}
+use Rattle.giotto_read.specs.declared.text.faults.ReadFault.{ReadFault}
+use Rattle.giotto_read.specs.declared.text.faults.ReadFault.TheVariants.{Syntax}
+use Rattle.giotto_read.specs.text.Parsing.{parsed}
+use Rattle.giotto_read.specs.text.Program.{GiottoProgram}
+use Rattle.giotto_read.specs.text.Reading.{no_prefix, too_early, ReadsTokens, no_token, too_deep, no_program, too_many_ports, a_program, Reads}
+use Rattle.giotto_read.specs.text.Tokens.{Tokens, tokens_of}
 use Rattle.giotto_faults.proofs.AsciiFronts.{are_ascii, is_ascii, AsciiUpTo, AsciiUpToEach, AsciiFronts, fronts, one_front}
 use Rattle.giotto_faults.proofs.TokenPlaces.{AllBefore, AreBefore, tokens_before, one_before}
 

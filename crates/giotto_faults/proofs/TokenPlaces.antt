@@ -1,9 +1,9 @@
 -- The tokens of a text, and the fault of one that has none, stand before its end.
 use Rattle.std.proofs.Common.{◌≡◌, ℕ, zero, suc, ◌+◌, ◌-◌, ◌<◌, Bool, true, false, List, [], ◌∷◌, ◌++◌, length, Some, None, Ok, Err, refl, arith}
-use Rattle.giotto_text.specs.declared.tokens.Token.{Token}
-use Rattle.giotto_text.specs.declared.tokens.PlacedToken.{PlacedToken}
-use Rattle.giotto_text.specs.Bytes.{is_blank_of_text}
-use Rattle.giotto_text.specs.Tokens.{FoundToken, first_token, Tokens, after_token, tokens_from, tokens_of}
+use Rattle.giotto_read.specs.declared.text.tokens.Token.{Token}
+use Rattle.giotto_read.specs.declared.text.tokens.PlacedToken.{PlacedToken}
+use Rattle.giotto_read.specs.text.Bytes.{is_blank_of_text}
+use Rattle.giotto_read.specs.text.Tokens.{FoundToken, first_token, Tokens, after_token, tokens_from, tokens_of}
 
 abbrev pub AllBefore : ℕ → List PlacedToken → Type 0
 AllBefore end [] = Unit {0}

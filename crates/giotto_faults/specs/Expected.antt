@@ -1,13 +1,13 @@
 -- What could stand at a place in a text: each kind of token with which the text up to there begins some program.
 use Rattle.std.specs.Prelude.{◌≡◌, ℕ, nat_eq, Bool, true, false, List, ◌∷◌, ◌++◌, length, filter, Result, Ok, Err}
-use Rattle.giotto_text.specs.declared.faults.ReadFault.{ReadFault}
-use Rattle.giotto_text.specs.declared.faults.ReadFault.TheVariants.{Syntax, TooDeep, TooMany, Memory}
-use Rattle.giotto_text.specs.declared.tokens.PlacedToken.{PlacedToken}
-use Rattle.giotto_text.specs.Nesting.{nests_too_deep}
-use Rattle.giotto_text.specs.Parsing.{parsed}
-use Rattle.giotto_text.specs.Program.{GiottoProgram}
-use Rattle.giotto_text.specs.Spelling.{IsPrefix}
-use Rattle.giotto_text.specs.Tokens.{tokens_of, bare}
+use Rattle.giotto_read.specs.declared.text.faults.ReadFault.{ReadFault}
+use Rattle.giotto_read.specs.declared.text.faults.ReadFault.TheVariants.{Syntax, TooDeep, TooMany, Memory}
+use Rattle.giotto_read.specs.declared.text.tokens.PlacedToken.{PlacedToken}
+use Rattle.giotto_read.specs.text.Nesting.{nests_too_deep}
+use Rattle.giotto_read.specs.text.Parsing.{parsed}
+use Rattle.giotto_read.specs.text.Program.{GiottoProgram}
+use Rattle.giotto_read.specs.text.Spelling.{IsPrefix}
+use Rattle.giotto_read.specs.text.Tokens.{tokens_of, bare}
 use Rattle.giotto_faults.specs.declared.kinds.TokenKind.{TokenKind}
 use Rattle.giotto_faults.specs.declared.kinds.TheConstants.{KINDS}
 use Rattle.giotto_faults.specs.Kinds.{sample_of}

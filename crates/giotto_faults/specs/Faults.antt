@@ -1,9 +1,9 @@
 -- What a fault says of the text that has it.
 use Rattle.std.specs.Prelude.{◌≡◌, ℕ, List, take, Some, Ok, Err}
-use Rattle.giotto_text.specs.declared.faults.ReadFault.TheVariants as faults
-use Rattle.giotto_text.specs.declared.tokens.PlacedToken.{PlacedToken}
-use Rattle.giotto_text.specs.Parsing.{parsed}
-use Rattle.giotto_text.specs.Tokens.{tokens_of}
+use Rattle.giotto_read.specs.declared.text.faults.ReadFault.TheVariants as faults
+use Rattle.giotto_read.specs.declared.text.tokens.PlacedToken.{PlacedToken}
+use Rattle.giotto_read.specs.text.Parsing.{parsed}
+use Rattle.giotto_read.specs.text.Tokens.{tokens_of}
 use Rattle.giotto_faults.specs.declared.faults.ProgramFault.{ProgramFault}
 use Rattle.giotto_faults.specs.declared.faults.ProgramFault.TheVariants.{Syntax, TooDeep, TooMany, Memory}
 use Rattle.giotto_faults.specs.Expected.{expected_behind}

@@ -2,7 +2,7 @@
 use Rattle.std.specs.Prelude.{ℕ, List, codes}
 use Rattle.giotto_faults.specs.declared.kinds.TokenKind.{TokenKind}
 use Rattle.giotto_faults.specs.declared.kinds.TokenKind.TheVariants.{Name, Number, Keyword, Symbol}
-use Rattle.giotto_text.specs.Tokens.{text_of_keyword, text_of_symbol}
+use Rattle.giotto_read.specs.text.Tokens.{text_of_keyword, text_of_symbol}
 
 -- a token of this kind, as it is written
 abbrev pub sample_of : TokenKind → List ℕ

@@ -1,7 +1,7 @@
 -- Where parentheses and braces nest too deep.
 use Rattle.std.specs.Prelude.{ℕ, nat_le, if◌then◌else◌, List, [], ◌∷◌, Option, Some, None}
-use Rattle.giotto_text.specs.declared.tokens.PlacedToken.{PlacedToken}
-use Rattle.giotto_text.specs.Nesting.{open_behind}
+use Rattle.giotto_read.specs.declared.text.tokens.PlacedToken.{PlacedToken}
+use Rattle.giotto_read.specs.text.Nesting.{open_behind}
 
 -- the offset of the first token behind which more than 32 are open, where so many are open before
 abbrev pub first_too_deep : ℕ → List PlacedToken → Option ℕ

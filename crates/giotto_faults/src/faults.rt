@@ -1,17 +1,17 @@
 //! Why a text is no program, with what was found and what could stand there.
 
 ghost use Rattle.std.specs.Prelude.{◌≡◌, IfOk, IfErr, Ok, Err};
-ghost use Rattle.giotto_text.specs.Parsing.{parsed};
-ghost use Rattle.giotto_text.specs.declared.faults.ReadFault.{ReadFault};
+ghost use Rattle.giotto_read.specs.text.Parsing.{parsed};
+ghost use Rattle.giotto_read.specs.declared.text.faults.ReadFault.{ReadFault};
 ghost use Rattle.giotto_faults.specs.Faults.{Tells};
 
 use crate::expected::expected_behind;
 use crate::kinds::TokenKind;
 use crate::nesting::first_too_deep;
 use crate::ports::{CrowdedPort, first_crowded};
+use giotto_read::text::{laws, lexer};
 use giotto_read::{Program, ReadFault, read};
 use giotto_tasks::lists::List;
-use giotto_text::{laws, lexer};
 use std::alloc::Global;
 
 /// Why a text is no program. The reasons are looked for in the order of the reader, which are those of `ReadFault`.

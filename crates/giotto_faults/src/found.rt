@@ -1,6 +1,6 @@
 //! What stands at a place of a text.
 
-use giotto_text::name_bytes::{is_digit, is_letter, is_name_byte};
+use giotto_read::text::name_bytes::{is_digit, is_letter, is_name_byte};
 
 /// What stands at this offset: a run of letters and digits behind a letter, a run of digits, a mark, or else one character.
 /// It is empty at the end of the text.

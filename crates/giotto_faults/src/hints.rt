@@ -2,7 +2,7 @@
 
 use crate::kinds::TokenKind;
 use crate::places::Place;
-use giotto_text::tokens::Symbol;
+use giotto_read::text::tokens::Symbol;
 use spot::{Spot, is_keyword};
 use std::alloc::{AllocError, Global};
 

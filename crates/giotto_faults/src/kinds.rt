@@ -3,7 +3,7 @@
 ghost use Rattle.std.specs.Prelude.{◌≡◌};
 ghost use Rattle.giotto_faults.specs.Kinds.{sample_of};
 
-use giotto_text::tokens::{Keyword, Symbol};
+use giotto_read::text::tokens::{Keyword, Symbol};
 use std::fmt;
 
 /// A kind of token: all names are one, all numbers are one, and each keyword and each mark is one of its own.

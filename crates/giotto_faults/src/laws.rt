@@ -4,7 +4,7 @@ ghost use Rattle.std.specs.Prelude.{◌≡◌, ◌↔◌, ℕ, List, Contains, t
 ghost use Rattle.giotto_faults.specs.Expected.{BeginsProgram, begins_program, expected_behind, with_token};
 ghost use Rattle.giotto_faults.specs.declared.kinds.TokenKind.{TokenKind};
 
-use giotto_text::laws;
+use giotto_read::text::laws;
 
 /// A text begins a program, as its reader tells it, exactly where its tokens are a prefix of some program's tokens and nest
 /// at most 32 deep.

@@ -28,3 +28,5 @@ mod messages;
 mod nesting;
 pub mod places;
 pub mod ports;
+
+pub use giotto_read as reading;

@@ -10,7 +10,7 @@ use crate::found::piece_at;
 use crate::hints::hint;
 use crate::kinds::TokenKind;
 use crate::ports::CrowdedPort;
-use giotto_text::lexer;
+use giotto_read::text::lexer;
 use std::alloc::{AllocError, Global};
 use unicode_width::UnicodeWidthStr;
 

@@ -1,10 +1,10 @@
 //! Where parentheses and braces nest too deep.
 
 ghost use Rattle.std.specs.Prelude.{◌≡◌, ◌≤◌};
-ghost use Rattle.giotto_text.specs.Nesting.{open_behind};
+ghost use Rattle.giotto_read.specs.text.Nesting.{open_behind};
 ghost use Rattle.giotto_faults.specs.Nesting.{first_too_deep};
 
-use giotto_text::tokens::{PlacedToken, Symbol, Token};
+use giotto_read::text::tokens::{PlacedToken, Symbol, Token};
 
 /// The offset of the first token behind which more than 32 parentheses and braces are open.
 pub(crate) fn first_too_deep(tokens: &[PlacedToken]) -> Option<usize>

@@ -3,8 +3,8 @@
 ghost use Rattle.std.specs.Prelude.{◌≡◌};
 ghost use Rattle.giotto_faults.specs.Ports.{word_of_group};
 
+use giotto_read::text::tokens::{Keyword, PlacedToken, Symbol, Token};
 use giotto_tasks::names::Name;
-use giotto_text::tokens::{Keyword, PlacedToken, Symbol, Token};
 
 /// A group of a task's ports.
 #[derive(Clone, Copy, Debug, PartialEq, Eq)]

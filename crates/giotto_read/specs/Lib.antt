@@ -1,1 +1,2 @@
 pub mod inner
+pub use Rattle.giotto_text.specs as text

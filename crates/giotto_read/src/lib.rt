@@ -18,6 +18,7 @@ mod printing;
 mod reader;
 mod reading;
 
+pub use giotto_text as text;
 pub use giotto_text::faults::ReadFault;
 pub use giotto_text::programs::Program;
 pub use printing::print;

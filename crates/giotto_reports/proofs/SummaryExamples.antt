@@ -2,7 +2,7 @@
 use Rattle.std.proofs.Common.{◌≡◌, [], Some, pos, codes, refl}
 use Rattle.std.specs.Fmt.{digits}
 use Rattle.giotto_tasks.specs.Syntax.{finished}
-use Rattle.giotto_text.specs.Program.{from_line, from_grant}
+use Rattle.giotto_breaks.specs.text.Program.{from_line, from_grant}
 use Rattle.giotto_reports.specs.Parts.{body}
 use Rattle.giotto_reports.specs.Summaries.{line_of_sensor, line_of_actuator, line_of_dearest}
 

@@ -2,9 +2,9 @@
 use Rattle.std.specs.Prelude.{ℕ, ◌-◌, ◌^◌, ◌==◌, min, List, ◌++◌, map, Option, codes}
 use Rattle.std.specs.List.{find, flat_map}
 use Rattle.giotto_tasks.specs.Cost.{cost_of}
-use Rattle.giotto_text.specs.Program.{TaskDeclaration, ActuatorUpdate, ModeSwitch, TaskInvocation, ModeDeclaration, GiottoProgram}
-use Rattle.giotto_text.specs.ProgramTrees.{task_of, mode_of, update_of, switch_of, invocation_of}
-use Rattle.giotto_rules.specs.Costs.{update_cost, switch_cost, invocation_cost}
+use Rattle.giotto_breaks.specs.text.Program.{TaskDeclaration, ActuatorUpdate, ModeSwitch, TaskInvocation, ModeDeclaration, GiottoProgram}
+use Rattle.giotto_breaks.specs.text.ProgramTrees.{task_of, mode_of, update_of, switch_of, invocation_of}
+use Rattle.giotto_breaks.specs.rules.Costs.{update_cost, switch_cost, invocation_cost}
 use Rattle.giotto_reports.specs.declared.parts.Part.{Part}
 use Rattle.giotto_reports.specs.declared.parts.Part.TheVariants.{Body, Update, Switch, Invocation}
 

@@ -1,15 +1,15 @@
 -- When a text is good, and what is told of it.
 use Rattle.std.specs.Prelude.{◌≡◌, ◌≢◌, ◌⊎◌, ℕ, Bool, true, false, List, [], ◌∷◌, ◌++◌, Ok, None, codes, string_bytes}
-use Rattle.giotto_faults.specs.declared.faults.ProgramFault.{ProgramFault}
-use Rattle.giotto_faults.specs.declared.faults.ProgramFault.TheVariants.{Memory}
-use Rattle.giotto_faults.specs.declared.findings.Finding.{Finding}
-use Rattle.giotto_faults.specs.Faults as faults
-use Rattle.giotto_faults.specs.Findings.{BeginsWith, IsErrorAt, TellFault, head_of, offset_told}
+use Rattle.giotto_breaks.specs.declared.faults.faults.ProgramFault.{ProgramFault}
+use Rattle.giotto_breaks.specs.declared.faults.faults.ProgramFault.TheVariants.{Memory}
+use Rattle.giotto_breaks.specs.declared.faults.findings.Finding.{Finding}
+use Rattle.giotto_breaks.specs.faults.Faults as faults
+use Rattle.giotto_breaks.specs.faults.Findings.{BeginsWith, IsErrorAt, TellFault, head_of, offset_told}
 use Rattle.giotto_reports.specs.Comments.{one_line}
-use Rattle.giotto_rules.specs.Rules.{first_broken_rule}
-use Rattle.giotto_text.specs.Canonical.{canonical_of}
-use Rattle.giotto_text.specs.Parsing.{parsed}
-use Rattle.giotto_text.specs.Program.{GiottoProgram}
+use Rattle.giotto_breaks.specs.rules.Rules.{first_broken_rule}
+use Rattle.giotto_breaks.specs.text.Canonical.{canonical_of}
+use Rattle.giotto_breaks.specs.text.Parsing.{parsed}
+use Rattle.giotto_breaks.specs.text.Program.{GiottoProgram}
 use Rattle.giotto_reports.specs.declared.Examined.{Examined}
 use Rattle.giotto_reports.specs.declared.Examined.TheVariants.{Good, Faulty}
 use Rattle.giotto_reports.specs.declared.Report.{Report}

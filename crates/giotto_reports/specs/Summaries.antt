@@ -2,9 +2,9 @@
 use Rattle.std.specs.Prelude.{ℕ, ◌-◌, ◌^◌, min, List, ◌++◌, ◌∷◌, [], length, Option, Some, None, codes}
 use Rattle.std.specs.Fmt.{decimal}
 use Rattle.std.specs.List.{flat_map}
-use Rattle.giotto_text.specs.Program.{Source, from_line, from_grant, SensorDeclaration, ActuatorDeclaration, OutputDeclaration, TaskDeclaration, ModeDeclaration, GiottoProgram}
-use Rattle.giotto_rules.specs.Costs.{greatest_cost_of}
-use Rattle.giotto_rules.specs.Ports.{ports_of}
+use Rattle.giotto_breaks.specs.text.Program.{Source, from_line, from_grant, SensorDeclaration, ActuatorDeclaration, OutputDeclaration, TaskDeclaration, ModeDeclaration, GiottoProgram}
+use Rattle.giotto_breaks.specs.rules.Costs.{greatest_cost_of}
+use Rattle.giotto_breaks.specs.rules.Ports.{ports_of}
 use Rattle.giotto_reports.specs.Parts.{ProgramPart, body, steps_of_part, parts_of, first_of_cost, text_of_part}
 
 -- a line has its end behind it

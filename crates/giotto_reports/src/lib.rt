@@ -13,8 +13,8 @@
 
 ghost use Rattle.std.specs.Prelude.{◌≡◌, ◌++◌, ◌∷◌, [], IfOk, Ok, None, string_bytes};
 ghost use Rattle.giotto_reports.specs.Comments.{one_line};
-ghost use Rattle.giotto_rules.specs.Rules.{first_broken_rule};
-ghost use Rattle.giotto_text.specs.Parsing.{parsed};
+ghost use Rattle.giotto_breaks.specs.rules.Rules.{first_broken_rule};
+ghost use Rattle.giotto_breaks.specs.text.Parsing.{parsed};
 ghost use Rattle.giotto_reports.specs.Reports.{AreShown, IsExamined, IsWritten, Tells};
 
 pub mod files;
@@ -23,14 +23,16 @@ pub mod parts;
 pub mod summary;
 pub mod texts;
 
-use giotto_breaks::broken_rule;
-use giotto_check::{CheckFault, Checked, check};
-use giotto_faults::faults::{ProgramFault, read_or_tell};
-use giotto_faults::findings::Finding;
 use crate::files::one_line;
-use crate::texts::{load_line, pretty};
-use giotto_read::{Program, print};
 use crate::summary::summary_of;
+use crate::texts::{load_line, pretty};
+use giotto_breaks::broken_rule;
+use giotto_breaks::faults::faults::{ProgramFault, read_or_tell};
+use giotto_breaks::faults::findings::Finding;
+use giotto_breaks::reading::{Program, print};
+pub use giotto_breaks::{faults, reading};
+pub use giotto_check as well_formed;
+use giotto_check::{CheckFault, Checked, check};
 use std::alloc::{AllocError, Global};
 
 /// What is wanted of a good program.

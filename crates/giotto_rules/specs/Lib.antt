@@ -12,3 +12,4 @@ pub mod Switches
 pub mod TaskPorts
 pub mod cited
 pub mod inner
+pub use Rattle.giotto_text.specs as text

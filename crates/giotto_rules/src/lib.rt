@@ -24,4 +24,5 @@ mod reads;
 mod rules;
 mod scopes;
 
+pub use giotto_text as text;
 pub use rules::first_broken;

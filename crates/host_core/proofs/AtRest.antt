@@ -13,10 +13,10 @@ use Rattle.host_core.specs.inner.HostStanding.{IsAt, IsWhole}
 use Rattle.rig_model.specs.HostState.{HostState, row_at}
 use Rattle.host_core.specs.declared.hosts.Host.TheInside.{Inside}
 use Rattle.rig_model.specs.Base.{Setting}
-use Rattle.tenant_jobs.specs.Finished.{TableEntry}
+use Rattle.instant_engine.specs.job_table.Finished.{TableEntry}
 use Rattle.rig_model.specs.Jobs.{job_of}
-use Rattle.tenant_state.specs.Standing.{Standing, with_last, at_rest, no_tenant, outstanding_tasks, awaited_job}
-use Rattle.rig_config.specs.Roster.{Rig}
+use Rattle.instant_engine.specs.state.Standing.{Standing, with_last, at_rest, no_tenant, outstanding_tasks, awaited_job}
+use Rattle.rig_model.specs.config.Roster.{Rig}
 
 -- a host as its code has it
 abbrev pub standing : Inside → HostStanding

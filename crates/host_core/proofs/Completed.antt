@@ -5,9 +5,9 @@ use Rattle.std.proofs.Math.ListN.{get_or-eq_default}
 use Rattle.std.proofs.lemmas.Bool.{cases_eq, cases_lt}
 use Rattle.std.proofs.lemmas.List.Folds.{list_any-append}
 use Rattle.std.proofs.lemmas.Map.Views.{any-filter_same}
-use Rattle.rig_config.specs.declared.TenantConfig.{TenantConfig}
+use Rattle.rig_model.specs.declared.config.TenantConfig.{TenantConfig}
 use Rattle.rig_model.specs.declared.jobs.JobId.{JobId}
-use Rattle.tenant_jobs.specs.Finished.{TableEntry, has_result}
+use Rattle.instant_engine.specs.job_table.Finished.{TableEntry, has_result}
 use Rattle.rig_model.specs.Jobs.{same_job, has_job, job_of, is_active}
 use Rattle.rig_model.proofs.cited.JobNames.{same_job_is, own_jobs_active}
 use Rattle.rig_model.specs.Row.{Row, empty_row}
@@ -23,7 +23,7 @@ use Rattle.giotto_tasks.proofs.cited.ListLemmas.{all_of, all_flat, all_filtered,
 use Rattle.giotto_tasks.proofs.cited.TestLemmas.{absorbed, or_assoc, or_true, or_turned}
 use Rattle.host_core.proofs.HostSteps.{active_alike}
 use Rattle.host_core.proofs.cited.Outstanding.{jobs_at, all_jobs, awaited_at, code_awaits}
-use Rattle.rig_laws.proofs.cited.Places.{first_done}
+use Rattle.instant_engine.proofs.of_laws.Places.{first_done}
 
 moved : (a b c : Bool) → (a || (b || c)) ≡ ((b || a) || c)
 moved a b c = or_assoc a b c ∙ ap (λ x. x || c) (or_turned a b)

@@ -7,11 +7,11 @@ use Rattle.std.proofs.Math.ListN.{get_or-eq_default}
 use Rattle.std.proofs.lemmas.Bool.{cases_lt}
 use Rattle.std.proofs.lemmas.Option.{slice_get_past}
 use Rattle.rig_model.specs.declared.jobs.JobId.{JobId}
-use Rattle.tenant_jobs.specs.Finished.{TableEntry, has_result}
-use Rattle.tenant_jobs.specs.Jobs.{JobValue}
+use Rattle.instant_engine.specs.job_table.Finished.{TableEntry, has_result}
+use Rattle.instant_engine.specs.job_table.Jobs.{JobValue}
 use Rattle.rig_model.specs.Jobs.{is_active}
 use Rattle.rig_model.specs.Row.{Row, empty_row}
-use Rattle.tenant_state.specs.Standing.{Standing, at_rest, awaited_job, no_tenant, released_job}
+use Rattle.instant_engine.specs.state.Standing.{Standing, at_rest, awaited_job, no_tenant, released_job}
 use Rattle.instant_engine.specs.Tenants.{ArePlaced}
 use Rattle.rig_model.specs.declared.events.Event.TheVariants.{Done}
 use Rattle.host_core.specs.declared.hosts.Counted.{Counted}

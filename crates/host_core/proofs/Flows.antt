@@ -11,9 +11,9 @@ use Rattle.std.proofs.lemmas.Bool.Decides.{nat_tests}
 use Rattle.std.proofs.lemmas.List.Folds.{list_any-append}
 use Rattle.giotto_tasks.proofs.cited.TestLemmas.{and_false, or_assoc, or_true, or_turned}
 use Rattle.giotto_tasks.specs.declared.names.Name.{Name}
-use Rattle.tenant_grants.specs.Grants.{bind_at, place_in, with_place}
-use Rattle.tenant_grants.specs.declared.rows.Bind.{Bind}
-use Rattle.rig_config.specs.Roster.{Rig}
+use Rattle.rig_model.specs.grants.Grants.{bind_at, place_in, with_place}
+use Rattle.rig_model.specs.declared.grants.rows.Bind.{Bind}
+use Rattle.rig_model.specs.config.Roster.{Rig}
 use Rattle.rig_model.specs.declared.jobs.JobId.{JobId}
 use Rattle.rig_model.specs.Row.{empty_row}
 use Rattle.rig_model.specs.Host.{host_after}
@@ -27,9 +27,9 @@ use Rattle.rig_model.specs.declared.events.Event.TheVariants.{Own, Tick, Done}
 use Rattle.host_core.specs.declared.trials.Flow.{Flow}
 use Rattle.host_core.specs.inner.Playing.{IsPlayed}
 use Rattle.host_core.specs.inner.Trials.{AreFlows, AreFlowsBefore, LeadBack, has_flow, is_reached}
-use Rattle.rig_laws.proofs.cited.AloneAlong.{same_rows}
-use Rattle.rig_laws.proofs.cited.Releases.{is_within, row_outside}
-use Rattle.rig_laws.proofs.cited.SourceSets.{before_tick}
+use Rattle.instant_engine.proofs.of_laws.AloneAlong.{same_rows}
+use Rattle.instant_engine.proofs.of_laws.Releases.{is_within, row_outside}
+use Rattle.instant_engine.proofs.of_laws.SourceSets.{before_tick}
 
 -- the suppliers that these binds name
 abbrev pub named : List Name → List Bind → List ℕ

@@ -1,9 +1,9 @@
 -- The binds of a host's tenants: by its fields, by its value, and by the state that it stands for.
 use Rattle.std.proofs.Common.{◌≡◌, ◌<◌, ℕ, length, map, get_or, ap, sym, subst}
-use Rattle.rig_config.specs.Roster.{Rig}
+use Rattle.rig_model.specs.config.Roster.{Rig}
 use Rattle.instant_engine.specs.Tenants.{tenant_at}
 use Rattle.rig_model.specs.Row.{Row}
-use Rattle.tenant_state.specs.Standing.{Standing, at_rest}
+use Rattle.instant_engine.specs.state.Standing.{Standing, at_rest}
 use Rattle.host_core.specs.HostStanding.{HostStanding, Stands}
 use Rattle.rig_model.specs.HostState.{HostState, row_at}
 use Rattle.rig_model.specs.Base.{Setting}

@@ -7,9 +7,9 @@ use Rattle.std.proofs.lemmas.Bool.{cases_lt}
 use Rattle.std.proofs.lemmas.List.{get_or_default, length-map}
 use Rattle.std.proofs.lemmas.Option.{slice_get-get_or}
 use Rattle.rig_model.specs.declared.jobs.JobId.{JobId}
-use Rattle.tenant_jobs.specs.Finished.{TableEntry, entry_in, result_in}
+use Rattle.instant_engine.specs.job_table.Finished.{TableEntry, entry_in, result_in}
 use Rattle.rig_model.specs.Tenancies.{Tenancy, roster_of}
-use Rattle.tenant_state.specs.Standing.{Standing, at_rest, no_tenant}
+use Rattle.instant_engine.specs.state.Standing.{Standing, at_rest, no_tenant}
 use Rattle.instant_engine.specs.cited.Instants.{AreInstants}
 use Rattle.instant_engine.specs.cited.Tables.{IsTaskTable}
 use Rattle.instant_engine.specs.Tenants.{tenant_at}
@@ -24,10 +24,10 @@ use Rattle.instant_engine.proofs.cited.AtRest.{same_length}
 use Rattle.instant_engine.proofs.cited.Loops.{sums_within}
 use Rattle.host_core.proofs.AtRest.{kept_at_rest, stands_at_rest, stands_inside, stands_outside}
 use Rattle.host_core.proofs.HostSteps.{stands_after_tick}
-use Rattle.rig_config.specs.Roster.{Rig, budgets_at, no_budgets}
-use Rattle.rig_config.specs.declared.Budgets.{Budgets}
-use Rattle.rig_config.specs.declared.TenantConfig.{TenantConfig}
-use Rattle.rig_laws.proofs.cited.Places.{nobody}
+use Rattle.rig_model.specs.config.Roster.{Rig, budgets_at, no_budgets}
+use Rattle.rig_model.specs.declared.config.Budgets.{Budgets}
+use Rattle.rig_model.specs.declared.config.TenantConfig.{TenantConfig}
+use Rattle.instant_engine.proofs.of_laws.Places.{nobody}
 
 take_front : {X : Type 0} (xs ys : List X) → take (length xs) (xs ++ ys) ≡ xs
 take_front [] ys = refl

@@ -8,15 +8,15 @@ use Rattle.std.proofs.lemmas.List.{get_or_default}
 use Rattle.std.proofs.lemmas.List.Concat.{length-flat_map}
 use Rattle.std.proofs.lemmas.List.Sums.{sum_by-cons}
 use Rattle.giotto_tasks.proofs.cited.ListLemmas.{all_map, same_filter}
-use Rattle.rig_config.specs.Roster.{Rig}
+use Rattle.rig_model.specs.config.Roster.{Rig}
 use Rattle.rig_model.specs.declared.jobs.JobId.{JobId}
 use Rattle.rig_model.specs.Jobs.{job_of}
 use Rattle.rig_model.specs.Row.{ActiveTask, Row}
 use Rattle.rig_model.specs.Tenancies.{Tenancy}
-use Rattle.tenant_jobs.specs.Finished.{TableEntry, entry_in, has_result, result_in}
-use Rattle.tenant_jobs.specs.cited.Finished.{is_entered}
-use Rattle.tenant_state.specs.Jobs.{released_at}
-use Rattle.tenant_state.specs.Standing.{Standing, at_rest, most_released, no_tenant}
+use Rattle.instant_engine.specs.job_table.Finished.{TableEntry, entry_in, has_result, result_in}
+use Rattle.instant_engine.specs.job_table.cited.Finished.{is_entered}
+use Rattle.instant_engine.specs.state.Jobs.{released_at}
+use Rattle.instant_engine.specs.state.Standing.{Standing, at_rest, most_released, no_tenant}
 use Rattle.instant_engine.specs.Tenants.{ArePlaced, most_of, released_from, tenant_at}
 use Rattle.instant_engine.specs.cited.Halves.{last_jobs}
 use Rattle.instant_engine.specs.cited.Instants.{StandForRows, instant_by}

@@ -9,23 +9,23 @@ use Rattle.std.proofs.lemmas.List.{length-map, get_or-map, get_or_default, get_o
 use Rattle.std.proofs.lemmas.List.FromFn.{length-enumerate_from, get_or-enumerate_from}
 use Rattle.std.proofs.lemmas.Map.Views.{any-filter_same}
 use Rattle.std.proofs.lemmas.Option.{slice_get-get_or}
-use Rattle.giotto_text.specs.Program.{GiottoProgram}
-use Rattle.rig_config.specs.Roster.{Rig}
-use Rattle.tenant_lines.specs.declared.commands.Command.{Command}
-use Rattle.tenant_lines.specs.declared.replies.Refusal.TheVariants.{Memory}
-use Rattle.tenant_lines.specs.declared.replies.Reply.{Reply}
-use Rattle.tenant_lines.specs.declared.replies.Reply.TheVariants.{Refused}
+use Rattle.rig_model.specs.text.Program.{GiottoProgram}
+use Rattle.rig_model.specs.config.Roster.{Rig}
+use Rattle.rig_model.specs.declared.lines.commands.Command.{Command}
+use Rattle.rig_model.specs.declared.lines.replies.Refusal.TheVariants.{Memory}
+use Rattle.rig_model.specs.declared.lines.replies.Reply.{Reply}
+use Rattle.rig_model.specs.declared.lines.replies.Reply.TheVariants.{Refused}
 use Rattle.rig_model.specs.declared.jobs.JobId.{JobId}
-use Rattle.tenant_jobs.specs.Finished.{TableEntry, entry_in, has_result, result_in}
-use Rattle.tenant_jobs.specs.Jobs.{JobValue}
+use Rattle.instant_engine.specs.job_table.Finished.{TableEntry, entry_in, has_result, result_in}
+use Rattle.instant_engine.specs.job_table.Jobs.{JobValue}
 use Rattle.rig_model.specs.Jobs.{same_job, has_job, job_of, is_active}
 use Rattle.rig_model.proofs.cited.JobNames.{same_job_is}
 use Rattle.rig_model.specs.Commands.{commanded}
 use Rattle.rig_model.specs.Instants.{after_instant, local_instant}
-use Rattle.tenant_state.specs.Jobs.{job_in}
+use Rattle.instant_engine.specs.state.Jobs.{job_in}
 use Rattle.rig_model.specs.Row.{ActiveTask, Row, empty_row}
-use Rattle.tenant_state.specs.Standing.{Standing, at_rest, no_tenant, IsKnown, StandsFor, awaited_job, outstanding_tasks, released_job}
-use Rattle.tenant_state.specs.cited.Standing.{IsOutcome}
+use Rattle.instant_engine.specs.state.Standing.{Standing, at_rest, no_tenant, IsKnown, StandsFor, awaited_job, outstanding_tasks, released_job}
+use Rattle.instant_engine.specs.state.cited.Standing.{IsOutcome}
 use Rattle.instant_engine.specs.cited.Instants.{AreInstants, instant_by}
 use Rattle.instant_engine.specs.Tenants.{ArePlaced, tenant_at}
 use Rattle.instant_engine.specs.cited.Tenants.{is_active_among}

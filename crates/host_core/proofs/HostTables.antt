@@ -6,22 +6,22 @@ use Rattle.std.specs.Option.{option_and_then, option_map}
 use Rattle.std.proofs.Math.ListN.{get_or-eq_default}
 use Rattle.std.proofs.lemmas.Bool.{and_parts, or_left, or_right, cases_eq, cases_lt, false_from_ne_true, false≢true}
 use Rattle.std.proofs.lemmas.List.{get_or_default, get_or-set_same, get_or-set_other, get_or-take, length-take}
-use Rattle.giotto_text.specs.Program.{GiottoProgram}
+use Rattle.rig_model.specs.text.Program.{GiottoProgram}
 use Rattle.rig_model.specs.declared.jobs.JobId.{JobId}
-use Rattle.tenant_jobs.specs.Finished.{TableEntry, entry_in, has_result, result_in}
-use Rattle.tenant_jobs.specs.cited.Finished.{is_entered, result_of}
-use Rattle.tenant_jobs.specs.Jobs.{JobValue}
+use Rattle.instant_engine.specs.job_table.Finished.{TableEntry, entry_in, has_result, result_in}
+use Rattle.instant_engine.specs.job_table.cited.Finished.{is_entered, result_of}
+use Rattle.instant_engine.specs.job_table.Jobs.{JobValue}
 use Rattle.rig_model.specs.Jobs.{same_job, has_job, job_of}
 use Rattle.rig_model.proofs.cited.JobNames.{same_job_is, same_job_self}
-use Rattle.tenant_state.specs.Jobs.{job_in}
+use Rattle.instant_engine.specs.state.Jobs.{job_in}
 use Rattle.rig_model.specs.Row.{ActiveTask}
-use Rattle.tenant_state.specs.Standing.{Standing, IsKnown, all_different_releases, no_tenant, is_another, released_job}
-use Rattle.tenant_state.specs.cited.Standing.{HasItsEntries, HasItsResults, AreEnded, AreTasksKept, has_active, without_ended}
+use Rattle.instant_engine.specs.state.Standing.{Standing, IsKnown, all_different_releases, no_tenant, is_another, released_job}
+use Rattle.instant_engine.specs.state.cited.Standing.{HasItsEntries, HasItsResults, AreEnded, AreTasksKept, has_active, without_ended}
 use Rattle.instant_engine.specs.cited.Tables.{IsTaskTable}
 use Rattle.instant_engine.specs.Tenants.{ArePlaced, tenant_at}
 use Rattle.instant_engine.specs.cited.Tenants.{is_active_among}
 use Rattle.rig_model.specs.Tenancies.{Tenancy}
-use Rattle.rig_config.specs.Roster.{Rig}
+use Rattle.rig_model.specs.config.Roster.{Rig}
 use Rattle.host_core.specs.inner.HostStanding.{IsAt, IsWhole}
 use Rattle.giotto_tasks.proofs.cited.ListLemmas.{all_map, all_of, all_pass, any_if_all, same_filter}
 use Rattle.instant_engine.proofs.cited.Loops.{sums_within}

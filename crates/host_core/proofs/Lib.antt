@@ -17,3 +17,4 @@ pub mod ReleasedTasks
 pub mod SameMarks
 pub mod Stages
 pub mod cited
+pub use Rattle.instant_engine.proofs.of_laws

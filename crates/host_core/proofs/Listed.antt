@@ -2,8 +2,8 @@
 use Rattle.std.specs.Prelude.{unwrap_or}
 use Rattle.std.proofs.Common.{◌≡◌, ◌≢◌, ◌<◌, ℕ, Bool, true, false, not, ◌&&◌, ◌||◌, cond, List, [], ◌∷◌, map, length, set, Option, Some, None, Result, Ok, Err, refl, sym, ap, ◌∙◌, ◌⊎◌, ⊎_elim, inl, inr, arith, zero, suc}
 use Rattle.std.proofs.Math.ListN.{get_or}
-use Rattle.giotto_text.specs.Program.{GiottoProgram}
-use Rattle.rig_config.specs.declared.Budgets.{Budgets}
+use Rattle.rig_model.specs.text.Program.{GiottoProgram}
+use Rattle.rig_model.specs.declared.config.Budgets.{Budgets}
 use Rattle.rig_model.specs.Admission.{broken_budget, program_of}
 use Rattle.rig_model.specs.Commands.{CommandOutcome, commanded, grant_rows, load_read, load_within, refused, replace_read, replace_within, show_all, show_port, show_value, start_program, with_grants}
 use Rattle.rig_model.specs.GrantCommands.{grants_commanded, with_binds, with_offers}
@@ -12,30 +12,30 @@ use Rattle.rig_model.specs.Ports.{value_of_port}
 use Rattle.rig_model.specs.Row.{ActiveTask, Row, is_running}
 use Rattle.rig_model.specs.Tenancies.{Tenancy}
 use Rattle.rig_model.specs.declared.jobs.JobId.{JobId}
-use Rattle.tenant_grants.specs.Grants.{bound, offered, unbound, unoffered}
-use Rattle.tenant_grants.specs.declared.faults.GrantFault.{GrantFault}
-use Rattle.tenant_grants.specs.declared.rows.Bind as binds
-use Rattle.tenant_grants.specs.declared.rows.Offer as offers
+use Rattle.rig_model.specs.grants.Grants.{bound, offered, unbound, unoffered}
+use Rattle.rig_model.specs.declared.grants.faults.GrantFault.{GrantFault}
+use Rattle.rig_model.specs.declared.grants.rows.Bind as binds
+use Rattle.rig_model.specs.declared.grants.rows.Offer as offers
 use Rattle.host_core.specs.ListReplies.{is_list}
 use Rattle.host_core.specs.Questions.{asks_for_rows, is_question}
-use Rattle.tenant_lines.specs.declared.commands.Command.{Command}
-use Rattle.tenant_lines.specs.declared.commands.Command.TheVariants.{Load, Replace, Start, Stop, ShowMode, ShowPort, ShowAll, Grants}
-use Rattle.tenant_lines.specs.declared.commands.Command.TheVariants as command
-use Rattle.tenant_lines.specs.declared.grant_lines.GrantCommand.{GrantCommand}
-use Rattle.tenant_lines.specs.declared.grant_lines.GrantCommand.TheVariants as about
-use Rattle.tenant_lines.specs.declared.ports.PortName.{PortName}
-use Rattle.tenant_lines.specs.declared.replies.Budget.{Budget}
-use Rattle.tenant_lines.specs.declared.replies.Refusal.{Refusal}
-use Rattle.tenant_lines.specs.declared.replies.Refusal.TheVariants.{BadCommand, Memory, NoPort, NoTenant, NotLoaded, NotRunning, NotThere, OverBudget, Own, Rule, Running, Syntax, TooDeep, TooMany, Twice}
-use Rattle.tenant_lines.specs.declared.replies.Reply.{Reply}
-use Rattle.tenant_lines.specs.declared.replies.Reply.TheVariants.{All, Bound, Loaded, Mode, Offered, Port, Refused, Replaced, Rows, Started, Stopped, Unbound, Unoffered}
-use Rattle.tenant_lines.specs.declared.replies.Reply.TheVariants as replies
+use Rattle.rig_model.specs.declared.lines.commands.Command.{Command}
+use Rattle.rig_model.specs.declared.lines.commands.Command.TheVariants.{Load, Replace, Start, Stop, ShowMode, ShowPort, ShowAll, Grants}
+use Rattle.rig_model.specs.declared.lines.commands.Command.TheVariants as command
+use Rattle.rig_model.specs.declared.lines.grant_lines.GrantCommand.{GrantCommand}
+use Rattle.rig_model.specs.declared.lines.grant_lines.GrantCommand.TheVariants as about
+use Rattle.rig_model.specs.declared.lines.ports.PortName.{PortName}
+use Rattle.rig_model.specs.declared.lines.replies.Budget.{Budget}
+use Rattle.rig_model.specs.declared.lines.replies.Refusal.{Refusal}
+use Rattle.rig_model.specs.declared.lines.replies.Refusal.TheVariants.{BadCommand, Memory, NoPort, NoTenant, NotLoaded, NotRunning, NotThere, OverBudget, Own, Rule, Running, Syntax, TooDeep, TooMany, Twice}
+use Rattle.rig_model.specs.declared.lines.replies.Reply.{Reply}
+use Rattle.rig_model.specs.declared.lines.replies.Reply.TheVariants.{All, Bound, Loaded, Mode, Offered, Port, Refused, Replaced, Rows, Started, Stopped, Unbound, Unoffered}
+use Rattle.rig_model.specs.declared.lines.replies.Reply.TheVariants as replies
 use Rattle.rig_model.specs.FirstHalf.{stopped_with}
 use Rattle.rig_model.specs.Row.{asked}
 use Rattle.rig_model.proofs.cited.JobNames.{same_job_self}
 use Rattle.instant_engine.specs.cited.Instants.{IsBetween}
-use Rattle.tenant_state.specs.Standing.{Standing, StandsFor, at_rest, with_last}
-use Rattle.tenant_state.specs.cited.Standing.{AreEnded, HoldsOfRow, IsOutcome, has_active, without_ended}
+use Rattle.instant_engine.specs.state.Standing.{Standing, StandsFor, at_rest, with_last}
+use Rattle.instant_engine.specs.state.cited.Standing.{AreEnded, HoldsOfRow, IsOutcome, has_active, without_ended}
 
 -- the outcome is a list only if it leaves the row
 abbrev LeavesRow : Row → CommandOutcome → Type 0

@@ -3,15 +3,15 @@ use Rattle.std.proofs.Common.{◌≡◌, ℕ, ◌<◌, List, [], length, map, ge
 use Rattle.std.specs.List.{enumerate_from}
 use Rattle.std.proofs.lemmas.List.{length-map, get_or-map, take_all}
 use Rattle.std.proofs.lemmas.List.FromFn.{length-enumerate_from, get_or-enumerate_from}
-use Rattle.rig_config.specs.declared.TenantConfig.{TenantConfig}
+use Rattle.rig_model.specs.declared.config.TenantConfig.{TenantConfig}
 use Rattle.rig_model.specs.Base.{new_base, Setting}
 use Rattle.instant_engine.specs.Tenants.{tenant_at}
 use Rattle.rig_model.specs.HostState.{row_at}
 use Rattle.host_core.specs.HostStanding.{Stands, new_host, new_tenant}
-use Rattle.rig_config.specs.Roster.{Rig}
+use Rattle.rig_model.specs.config.Roster.{Rig}
 use Rattle.rig_model.specs.Row.{Row, empty_row}
-use Rattle.tenant_state.specs.Standing.{Standing, StandsFor, at_rest, no_tenant}
-use Rattle.rig_laws.proofs.cited.Places.{nobody}
+use Rattle.instant_engine.specs.state.Standing.{Standing, StandsFor, at_rest, no_tenant}
+use Rattle.instant_engine.proofs.of_laws.Places.{nobody}
 
 -- what is made for each place of a roster
 pub at_place : {B : Type 0} (f : ℕ × TenantConfig → B) (tenants : List TenantConfig) (t : ℕ) (d : B) → t < length tenants

@@ -4,16 +4,16 @@ use Rattle.std.specs.List.{enumerate_from}
 use Rattle.std.proofs.Math.ListN.{get_or-eq_default}
 use Rattle.std.proofs.lemmas.Bool.{cases_lt}
 use Rattle.std.proofs.lemmas.List.{take_more, take_all}
-use Rattle.rig_config.specs.declared.TenantConfig.{TenantConfig}
-use Rattle.rig_config.specs.Roster.{Rig}
+use Rattle.rig_model.specs.declared.config.TenantConfig.{TenantConfig}
+use Rattle.rig_model.specs.config.Roster.{Rig}
 use Rattle.host_core.specs.inner.HostStanding.{IsAt, IsWhole}
 use Rattle.instant_engine.specs.cited.Tenants.{is_active_among}
 use Rattle.rig_model.specs.declared.jobs.JobId.{JobId}
 use Rattle.rig_model.specs.Jobs.{has_job}
-use Rattle.tenant_state.specs.Standing.{Standing, no_tenant}
-use Rattle.tenant_state.specs.cited.Standing.{HasItsResults}
+use Rattle.instant_engine.specs.state.Standing.{Standing, no_tenant}
+use Rattle.instant_engine.specs.state.cited.Standing.{HasItsResults}
 use Rattle.host_core.proofs.NewHost.{at_place, as_many_places, begun}
-use Rattle.rig_laws.proofs.cited.Places.{nobody}
+use Rattle.instant_engine.proofs.of_laws.Places.{nobody}
 
 module _ (n : ℕ) (config : Rig) where
   abbrev roster : List TenantConfig

@@ -9,12 +9,12 @@ use Rattle.std.proofs.lemmas.Bool.{cases_eq, cases_lt, and_from, eq-eqb}
 use Rattle.std.proofs.lemmas.Bool.Decides.{nat_tests}
 use Rattle.std.proofs.lemmas.List.{get_or-set_same, get_or-set_other}
 use Rattle.std.proofs.lemmas.List.Folds.{list_any-append}
-use Rattle.giotto_text.specs.Program.{GiottoProgram}
+use Rattle.rig_model.specs.text.Program.{GiottoProgram}
 use Rattle.rig_model.specs.declared.events.Event.{Event}
 use Rattle.rig_model.specs.declared.events.Event.TheVariants.{Own, Tick, Done}
-use Rattle.tenant_lines.specs.declared.commands.Command.{Command}
+use Rattle.rig_model.specs.declared.lines.commands.Command.{Command}
 use Rattle.rig_model.specs.declared.jobs.JobId.{JobId}
-use Rattle.tenant_lines.specs.declared.replies.Reply.{Reply}
+use Rattle.rig_model.specs.declared.lines.replies.Reply.{Reply}
 use Rattle.rig_model.specs.Answers.{answers_along, answers_of}
 use Rattle.rig_model.specs.Base.{IsBase, new_base, Setting}
 use Rattle.rig_model.specs.Host.{host_after}
@@ -26,20 +26,20 @@ use Rattle.host_core.specs.inner.Playing.{IsPlayed}
 use Rattle.rig_model.specs.Plays.{IsLeastIllegal, IsSettingOf}
 use Rattle.host_core.specs.declared.plays.PlayFault.{PlayFault}
 use Rattle.rig_model.specs.Views.{after_command, run_of, view_of, row_of}
-use Rattle.rig_config.specs.Roster.{Rig}
-use Rattle.tenant_jobs.specs.Jobs.{JobValue}
+use Rattle.rig_model.specs.config.Roster.{Rig}
+use Rattle.instant_engine.specs.job_table.Jobs.{JobValue}
 use Rattle.rig_model.specs.Jobs.{same_job, job_of, is_active}
-use Rattle.tenant_state.specs.Jobs.{job_in, released_at}
-use Rattle.tenant_lines.specs.Replies.{text_of_reply}
+use Rattle.instant_engine.specs.state.Jobs.{job_in, released_at}
+use Rattle.rig_model.specs.lines.Replies.{text_of_reply}
 use Rattle.rig_model.specs.Row.{ActiveTask, Row}
-use Rattle.tenant_state.specs.Standing.{Standing, no_tenant, IsKnown}
-use Rattle.rig_laws.proofs.cited.AloneAlong.{same_rows}
-use Rattle.rig_laws.proofs.cited.AloneAlong.{same_clock}
-use Rattle.rig_laws.proofs.cited.LaterBase.{new_is_base, new_row}
+use Rattle.instant_engine.specs.state.Standing.{Standing, no_tenant, IsKnown}
+use Rattle.instant_engine.proofs.of_laws.AloneAlong.{same_rows}
+use Rattle.instant_engine.proofs.of_laws.AloneAlong.{same_clock}
+use Rattle.instant_engine.proofs.of_laws.LaterBase.{new_is_base, new_row}
 use Rattle.rig_model.proofs.cited.JobNames.{same_job_is}
 use Rattle.giotto_tasks.proofs.cited.TestLemmas.{either, or_true, same_answers}
 use Rattle.giotto_tasks.proofs.cited.ListLemmas.{reverse_more}
-use Rattle.rig_laws.proofs.cited.Releases.{within, is_within, row_outside, released_own, released_done, active_behind}
+use Rattle.instant_engine.proofs.of_laws.Releases.{within, is_within, row_outside, released_own, released_done, active_behind}
 
 -- the jobs of one name among those that an instant released
 module _ (j : JobId) where

@@ -10,9 +10,9 @@ use Rattle.std.proofs.lemmas.List.{length-map}
 use Rattle.std.proofs.lemmas.List.Elements.{filter-append}
 use Rattle.giotto_tasks.specs.declared.names.Name.{Name}
 use Rattle.giotto_tasks.specs.Names.{Valuation}
-use Rattle.giotto_text.specs.Program.{TaskDeclaration, TaskInvocation, ModeSwitch, ModeDeclaration, GiottoProgram}
-use Rattle.giotto_rules.specs.Costs.{greatest}
-use Rattle.giotto_rules.specs.Declarations.{task_named, mode_named}
+use Rattle.rig_model.specs.text.Program.{TaskDeclaration, TaskInvocation, ModeSwitch, ModeDeclaration, GiottoProgram}
+use Rattle.rig_model.specs.rules.Costs.{greatest}
+use Rattle.rig_model.specs.rules.Declarations.{task_named, mode_named}
 use Rattle.rig_model.specs.Due.{is_due_at}
 use Rattle.rig_model.specs.FirstHalf.{completed_in_mode, first_half_of, first_half_with, stopped_with}
 use Rattle.rig_model.specs.Instants.{LocalInstant, after_instant}
@@ -21,11 +21,11 @@ use Rattle.rig_model.specs.Readings.{Readings}
 use Rattle.rig_model.specs.Row.{StopReason, overrun, ActiveTask, Row, is_running, where_some, in_mode}
 use Rattle.rig_model.specs.SecondHalf.{installed, replaced_if_due, sensed, entered, switched, released, invoked, all_released, invoked_in_mode, moved_on, second_half_running, second_half_of}
 use Rattle.rig_model.specs.Switches.{switch_taken}
-use Rattle.tenant_state.specs.Jobs.{job_in, released_at}
-use Rattle.tenant_state.specs.Standing.{invoked_in, most_at, most_in_mode, most_released}
-use Rattle.tenant_trace.specs.declared.records.Record.{Record}
+use Rattle.instant_engine.specs.state.Jobs.{job_in, released_at}
+use Rattle.instant_engine.specs.state.Standing.{invoked_in, most_at, most_in_mode, most_released}
+use Rattle.rig_model.specs.declared.trace.records.Record.{Record}
 use Rattle.giotto_tasks.proofs.cited.ListLemmas.{filter_shorter}
-use Rattle.rig_laws.proofs.cited.ActiveTasks.{all_fresh}
+use Rattle.instant_engine.proofs.of_laws.ActiveTasks.{all_fresh}
 
 -- a filter of what another filter left finds no more
 filtered_twice : {X : Type 0} (test kept : X → Bool) (xs : List X) → length (filter test (filter kept xs)) ≤ length (filter test xs)

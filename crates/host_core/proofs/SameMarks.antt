@@ -4,7 +4,7 @@ use Rattle.rig_model.specs.Base.{Setting}
 use Rattle.rig_model.specs.Sources.{sources_before, stays}
 use Rattle.rig_model.specs.declared.events.Event.{Event}
 use Rattle.host_core.specs.inner.Trials.{marks_from}
-use Rattle.rig_laws.proofs.cited.SourceSets.{SameSources, same_before, same_stays}
+use Rattle.instant_engine.proofs.of_laws.SourceSets.{SameSources, same_before, same_stays}
 
 module _ (setting : Setting) where
   pub same_marks : (past : List Event) (ss ts : List ℕ) → SameSources ss ts → marks_from setting ss past ≡ marks_from setting ts past

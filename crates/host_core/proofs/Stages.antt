@@ -3,7 +3,7 @@ use Rattle.std.proofs.Common.{◌≡◌, ℕ, ◌+◌, ◌<◌, Bool, true, List
 use Rattle.std.specs.Prelude.{slice_get}
 use Rattle.std.proofs.lemmas.List.{length-reverse, reverse-append}
 use Rattle.giotto_tasks.proofs.cited.ListLemmas.{reverse_more}
-use Rattle.rig_config.specs.Roster.{Rig}
+use Rattle.rig_model.specs.config.Roster.{Rig}
 use Rattle.rig_model.specs.declared.jobs.JobId.{JobId}
 use Rattle.rig_model.specs.Base.{new_base, Setting}
 use Rattle.host_core.specs.HostStanding.{HostStanding}
@@ -18,8 +18,8 @@ use Rattle.host_core.specs.inner.Trials.{AllLeadBack, AreBoth, AreFlowsBefore, I
 use Rattle.host_core.proofs.Flows.{lead_back}
 use Rattle.host_core.proofs.Marks.{as_many_marks, kept_by_marks, mark_at}
 use Rattle.host_core.proofs.SameMarks.{same_marks}
-use Rattle.rig_laws.proofs.cited.TwoWorlds.{kept_answers}
-use Rattle.rig_laws.proofs.cited.TwoWorlds.{kept_legal}
+use Rattle.instant_engine.proofs.of_laws.TwoWorlds.{kept_answers}
+use Rattle.instant_engine.proofs.of_laws.TwoWorlds.{kept_legal}
 
 -- the setting of a new host of a configuration
 abbrev pub setting_of : Rig → Setting

@@ -2,7 +2,7 @@
 use Rattle.std.specs.Prelude.{◌≡◌, ◌<◌, ℕ, ℤ, List, [], map, length, slice_get, Option, IfSome}
 use Rattle.std.specs.List.{flat_map, enumerate_from}
 use Rattle.std.specs.Option.{option_and_then}
-use Rattle.rig_config.specs.declared.TenantConfig.{TenantConfig}
+use Rattle.rig_model.specs.declared.config.TenantConfig.{TenantConfig}
 use Rattle.rig_model.specs.declared.jobs.JobId.{JobId}
 use Rattle.rig_model.specs.Completions.{with_completions}
 use Rattle.rig_model.specs.Host.{after_event, host_after}
@@ -11,13 +11,13 @@ use Rattle.rig_model.specs.HostState.{HostState, row_at, is_counted}
 use Rattle.rig_model.specs.LineValues.{value_of_line}
 use Rattle.rig_model.specs.Base.{Setting}
 use Rattle.instant_engine.specs.Tenants.{ArePlaced, tenant_at}
-use Rattle.tenant_jobs.specs.Finished.{TableEntry, has_result}
-use Rattle.tenant_jobs.specs.Jobs.{JobValue}
+use Rattle.instant_engine.specs.job_table.Finished.{TableEntry, has_result}
+use Rattle.instant_engine.specs.job_table.Jobs.{JobValue}
 use Rattle.rig_model.specs.Jobs.{job_of}
-use Rattle.tenant_state.specs.Standing.{Standing, empty_standing, at_rest, StandsFor, outstanding_tasks, awaited_job}
+use Rattle.instant_engine.specs.state.Standing.{Standing, empty_standing, at_rest, StandsFor, outstanding_tasks, awaited_job}
 use Rattle.rig_model.specs.Tenancies.{owner_at}
-use Rattle.rig_config.specs.Roster.{Rig, budgets_at}
-use Rattle.tenant_grants.specs.Grants.{no_rows}
+use Rattle.rig_model.specs.config.Roster.{Rig, budgets_at}
+use Rattle.rig_model.specs.grants.Grants.{no_rows}
 
 -- the host as its code has it
 pub record HostStanding : Type 0 where

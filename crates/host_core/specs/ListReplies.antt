@@ -1,8 +1,8 @@
 -- Which replies are lists.
 use Rattle.std.specs.Prelude.{Bool, true, false}
-use Rattle.tenant_lines.specs.declared.replies.Reply.{Reply}
-use Rattle.tenant_lines.specs.declared.replies.Reply.TheVariants.{Loaded, Replaced, Started, Stopped, Mode, Port, All, Offered, Unoffered, Bound, Unbound, Rows, Refused}
-use Rattle.tenant_lines.specs.declared.replies.Reply.TheVariants as reply
+use Rattle.rig_model.specs.declared.lines.replies.Reply.{Reply}
+use Rattle.rig_model.specs.declared.lines.replies.Reply.TheVariants.{Loaded, Replaced, Started, Stopped, Mode, Port, All, Offered, Unoffered, Bound, Unbound, Rows, Refused}
+use Rattle.rig_model.specs.declared.lines.replies.Reply.TheVariants as reply
 
 -- whether it is the reply to "show all", "trace" or "rows" that lists ports, records or rows
 abbrev pub is_list : Reply → Bool

@@ -1,16 +1,16 @@
 -- Which commands are questions, and the reply to one of them.
 use Rattle.std.specs.Prelude.{◌≡◌, Bool, true, false, ℤ, Result, Ok, Err}
-use Rattle.tenant_lines.specs.declared.commands.Command.{Command}
-use Rattle.tenant_lines.specs.declared.commands.Command.TheVariants.{Load, Replace, Start, Stop, ShowMode, ShowPort, ShowAll, Grants}
-use Rattle.tenant_lines.specs.declared.commands.Command.TheVariants as command
-use Rattle.tenant_lines.specs.declared.grant_lines.GrantCommand.{GrantCommand}
-use Rattle.tenant_lines.specs.declared.grant_lines.GrantCommand.TheVariants as about
-use Rattle.tenant_lines.specs.declared.ports.PortName.{PortName}
-use Rattle.tenant_lines.specs.declared.replies.Refusal.{Refusal}
-use Rattle.tenant_lines.specs.declared.replies.Reply.{Reply}
-use Rattle.tenant_lines.specs.declared.replies.Reply.TheVariants.{Port, Refused}
+use Rattle.rig_model.specs.declared.lines.commands.Command.{Command}
+use Rattle.rig_model.specs.declared.lines.commands.Command.TheVariants.{Load, Replace, Start, Stop, ShowMode, ShowPort, ShowAll, Grants}
+use Rattle.rig_model.specs.declared.lines.commands.Command.TheVariants as command
+use Rattle.rig_model.specs.declared.lines.grant_lines.GrantCommand.{GrantCommand}
+use Rattle.rig_model.specs.declared.lines.grant_lines.GrantCommand.TheVariants as about
+use Rattle.rig_model.specs.declared.lines.ports.PortName.{PortName}
+use Rattle.rig_model.specs.declared.lines.replies.Refusal.{Refusal}
+use Rattle.rig_model.specs.declared.lines.replies.Reply.{Reply}
+use Rattle.rig_model.specs.declared.lines.replies.Reply.TheVariants.{Port, Refused}
 use Rattle.rig_model.specs.Commands.{commanded}
-use Rattle.tenant_state.specs.Standing.{Standing}
+use Rattle.instant_engine.specs.state.Standing.{Standing}
 
 -- a command about grants asks for the rows
 abbrev pub asks_for_rows : GrantCommand → Bool

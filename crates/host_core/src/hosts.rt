@@ -15,32 +15,32 @@ ghost use Rattle.rig_model.specs.Views.{after_command};
 ghost use Rattle.rig_model.specs.declared.events.Event.{Event};
 ghost use Rattle.host_core.specs.declared.hosts.Counted.{Counted};
 ghost use Rattle.host_core.specs.declared.hosts.TickFault.{TickFault};
-ghost use Rattle.tenant_grants.specs.Grants.{bind_at};
-ghost use Rattle.tenant_jobs.specs.Finished.{has_result};
-ghost use Rattle.tenant_jobs.specs.cited.Finished.{is_entered};
+ghost use Rattle.rig_model.specs.grants.Grants.{bind_at};
+ghost use Rattle.instant_engine.specs.job_table.Finished.{has_result};
+ghost use Rattle.instant_engine.specs.job_table.cited.Finished.{is_entered};
 ghost use Rattle.rig_model.specs.declared.jobs.JobId.{JobId};
 ghost use Rattle.host_core.specs.ListReplies.{is_list};
 ghost use Rattle.host_core.specs.Questions.{LeavesRow, is_question, reply_of_port};
-ghost use Rattle.tenant_lines.specs.declared.commands.Command.{Command};
-ghost use Rattle.tenant_lines.specs.declared.replies.Refusal.{Refusal};
-ghost use Rattle.tenant_lines.specs.declared.replies.Reply.{Reply};
-ghost use Rattle.tenant_state.specs.Memory.{takes_memory};
-ghost use Rattle.tenant_state.specs.Standing.{IsKnown, Standing, at_rest};
+ghost use Rattle.rig_model.specs.declared.lines.commands.Command.{Command};
+ghost use Rattle.rig_model.specs.declared.lines.replies.Refusal.{Refusal};
+ghost use Rattle.rig_model.specs.declared.lines.replies.Reply.{Reply};
+ghost use Rattle.instant_engine.specs.state.Memory.{takes_memory};
+ghost use Rattle.instant_engine.specs.state.Standing.{IsKnown, Standing, at_rest};
 
 use crate::new_tenants::{new_tenant, places};
-use giotto_check::Checked;
 use giotto_tasks::names::Name;
 use instant_engine::instants::{advance, instant, ready};
+use instant_engine::programs::prepared::{Prepared, prepare};
+use instant_engine::state::tenants::Tenant;
+use instant_engine::well_formed::Checked;
 use instant_engine::{Done, Finished, Job, JobId, Jobs, run_job};
-use rig_config::{Config, TenantId};
+use rig_model::config::{Config, TenantId};
+use rig_model::grants::granted::Granted;
+use rig_model::lines::commands::Command;
+use rig_model::lines::ports::PortName;
+use rig_model::lines::replies::{Refusal, Reply};
 use std::alloc::{AllocError, Global};
 use std::marker::Model;
-use tenant_grants::granted::Granted;
-use tenant_lines::commands::Command;
-use tenant_lines::ports::PortName;
-use tenant_lines::replies::{Refusal, Reply};
-use tenant_programs::prepared::{Prepared, prepare};
-use tenant_state::tenants::Tenant;
 use thiserror::Error;
 
 /// Why an instant is refused.
@@ -92,10 +92,10 @@ pub struct Host {
 impl Model for Host {
     ghost use Rattle.std.specs.Prelude.{map};
     ghost use Rattle.std.specs.Coded.{codes};
-    ghost use Rattle.giotto_text.specs.cited.ProgramCodes.{program_code};
+    ghost use Rattle.rig_model.specs.text.cited.ProgramCodes.{program_code};
     ghost use Rattle.host_core.specs.HostStanding.{HostStanding};
     ghost use Rattle.host_core.specs.inner.HostStanding.{IsHost};
-    ghost use Rattle.tenant_state.specs.Standing.{at_rest};
+    ghost use Rattle.instant_engine.specs.state.Standing.{at_rest};
 
     ghost Value = { HostStanding };
 

@@ -13,3 +13,6 @@ pub mod hosts;
 mod new_tenants;
 pub mod plays;
 pub mod trials;
+
+pub use instant_engine as engine;
+pub use instant_engine::{job_table, programs, reading, state, well_formed};

@@ -3,17 +3,17 @@
 ghost use Rattle.std.specs.Prelude.{◌≡◌, ◌<◌, IfOk, length};
 ghost use Rattle.host_core.specs.inner.HostStanding.{most_binds};
 ghost use Rattle.rig_model.specs.Tenancies.{owner_at, roster_of};
-ghost use Rattle.rig_config.specs.Roster.{budgets_at};
-ghost use Rattle.tenant_grants.specs.Grants.{no_rows};
-ghost use Rattle.tenant_state.specs.Standing.{empty_standing};
+ghost use Rattle.rig_model.specs.config.Roster.{budgets_at};
+ghost use Rattle.rig_model.specs.grants.Grants.{no_rows};
+ghost use Rattle.instant_engine.specs.state.Standing.{empty_standing};
 
 use arrayvec::ArrayVec;
 use giotto_tasks::names::Name;
-use rig_config::{Config, TenantId};
+use instant_engine::state::tenants::Tenant;
+use rig_model::config::{Config, TenantId};
+use rig_model::grants::granted::Granted;
+use rig_model::grants::grants::Grants;
 use std::alloc::{AllocError, Global};
-use tenant_grants::granted::Granted;
-use tenant_grants::grants::Grants;
-use tenant_state::tenants::Tenant;
 
 /// The tenant of a configuration at this place, without a program and without rows. Its first instant has this number.
 ///

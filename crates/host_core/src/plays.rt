@@ -7,24 +7,24 @@ ghost use Rattle.host_core.specs.HostStanding.{awaited_in};
 ghost use Rattle.host_core.specs.inner.Playing.{IsStage, IsPlayedOn, IsLate, HasPlace};
 ghost use Rattle.rig_model.specs.Plays.{IsSettingOf, AreAnswers, IsLeastIllegal};
 ghost use Rattle.rig_model.specs.Base.{Setting};
-ghost use Rattle.tenant_jobs.specs.Jobs.{JobValue};
+ghost use Rattle.instant_engine.specs.job_table.Jobs.{JobValue};
 ghost use Rattle.rig_model.specs.Jobs.{same_job};
 ghost use Rattle.rig_model.specs.declared.jobs.JobId.{JobId};
-ghost use Rattle.tenant_lines.specs.Replies.{text_of_reply};
+ghost use Rattle.rig_model.specs.lines.Replies.{text_of_reply};
 ghost use Rattle.rig_model.specs.declared.events.Event.{Event};
 ghost use Rattle.host_core.specs.declared.plays.PlayFault.{PlayFault};
-ghost use Rattle.tenant_lines.specs.declared.replies.Refusal.{Refusal};
-ghost use Rattle.tenant_lines.specs.declared.replies.Reply.{Reply};
+ghost use Rattle.rig_model.specs.declared.lines.replies.Refusal.{Refusal};
+ghost use Rattle.rig_model.specs.declared.lines.replies.Reply.{Reply};
 
 use crate::events::Event;
 use crate::hosts::{Host, complete};
-use rig_config::{Config, TenantId};
+use instant_engine::job_table::jobs::{JobId, Jobs};
+use rig_model::config::{Config, TenantId};
+use rig_model::lines::commands::Command;
+use rig_model::lines::replies::{Reply, print_reply};
+use rig_model::lines::texts::Text;
 use std::alloc::{AllocError, Global};
 use std::collections::BTreeSet;
-use tenant_jobs::jobs::{JobId, Jobs};
-use tenant_lines::commands::Command;
-use tenant_lines::replies::{Reply, print_reply};
-use tenant_lines::texts::Text;
 use thiserror::Error;
 
 /// Why a list of events isn't played to its end.

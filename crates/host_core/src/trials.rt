@@ -16,9 +16,9 @@ use crate::events::Event;
 use crate::hosts::Host;
 use crate::plays::{PlayFault, Stage};
 use giotto_tasks::lists::List;
-use rig_config::{Config, TenantId};
+use rig_model::config::{Config, TenantId};
+use rig_model::lines::texts::Text;
 use std::alloc::{AllocError, Global};
-use tenant_lines::texts::Text;
 
 /// What a tenant is answered over a list of events and over what is kept of it for the tenant, and what is kept.
 #[derive(Drop)]

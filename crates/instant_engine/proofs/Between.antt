@@ -11,15 +11,15 @@ use Rattle.std.proofs.lemmas.List.Folds.{list_any-append}
 use Rattle.std.proofs.lemmas.List.Sums.{sum-map}
 use Rattle.std.proofs.lemmas.Simd.{map-map}
 use Rattle.rig_model.specs.declared.jobs.JobId.{JobId}
-use Rattle.tenant_jobs.specs.declared.jobs.JobResult.{JobResult}
-use Rattle.tenant_jobs.specs.Finished.{TableEntry, entry_in, result_in, has_result}
-use Rattle.tenant_jobs.specs.cited.Finished.{is_entered, result_of}
+use Rattle.tenant_state.specs.declared.job_table.jobs.JobResult.{JobResult}
+use Rattle.tenant_state.specs.job_table.Finished.{TableEntry, entry_in, result_in, has_result}
+use Rattle.tenant_state.specs.job_table.cited.Finished.{is_entered, result_of}
 use Rattle.rig_model.specs.Jobs.{same_job, job_of, has_job}
 use Rattle.rig_model.specs.Granted.{granted_by, granted_from, granted_to, granted_along}
 use Rattle.giotto_tasks.specs.Names.{same_name}
 use Rattle.std.proofs.lemmas.List.Quantifiers.{position-Some}
-use Rattle.tenant_grants.specs.Grants.{granted_value, name_of_place, offer_of, place_in}
-use Rattle.tenant_grants.specs.declared.rows.Bind.{Bind}
+use Rattle.rig_model.specs.grants.Grants.{granted_value, name_of_place, offer_of, place_in}
+use Rattle.rig_model.specs.declared.grants.rows.Bind.{Bind}
 use Rattle.rig_model.specs.FirstHalf.{due_tasks, first_half_of, unfinished_tasks}
 use Rattle.rig_model.specs.Instants.{LocalInstant, after_instant}
 use Rattle.rig_model.specs.Row.{actuator_value, ActiveTask, Row}

@@ -6,8 +6,8 @@ use Rattle.std.proofs.Math.ListN as lists
 use Rattle.std.proofs.lemmas.Bool.{cases_eq, cases_lt}
 use Rattle.std.proofs.lemmas.List.{get_or-set_same, get_or-set_other, drop_all, take-append-drop}
 use Rattle.rig_model.specs.declared.jobs.JobId.{JobId}
-use Rattle.tenant_jobs.specs.Finished.{TableEntry, entry_in}
-use Rattle.tenant_jobs.specs.cited.Finished.{is_entered}
+use Rattle.tenant_state.specs.job_table.Finished.{TableEntry, entry_in}
+use Rattle.tenant_state.specs.job_table.cited.Finished.{is_entered}
 use Rattle.rig_model.specs.Jobs.{job_of, has_job}
 use Rattle.rig_model.specs.Row.{ActiveTask, Row}
 use Rattle.tenant_state.specs.Standing.{Standing, no_tenant}

@@ -10,9 +10,9 @@ use Rattle.giotto_tasks.proofs.cited.ListLemmas.{some_same}
 use Rattle.rig_model.specs.Granted.{granted_by, granted_from}
 use Rattle.instant_engine.specs.Tenants.{tenant_at}
 use Rattle.instant_engine.specs.cited.Tenants.{HaveRoster, roster_among, rows_of}
-use Rattle.tenant_grants.specs.Grants.{bind_at, granted_value, name_of_place, offer_of, place_in, with_place}
-use Rattle.tenant_grants.specs.declared.rows.Bind.{Bind}
-use Rattle.tenant_grants.specs.declared.rows.Offer.{Offer}
+use Rattle.rig_model.specs.grants.Grants.{bind_at, granted_value, name_of_place, offer_of, place_in, with_place}
+use Rattle.rig_model.specs.declared.grants.rows.Bind.{Bind}
+use Rattle.rig_model.specs.declared.grants.rows.Offer.{Offer}
 use Rattle.rig_model.specs.Row.{actuator_value}
 use Rattle.tenant_state.specs.Standing.{Standing}
 

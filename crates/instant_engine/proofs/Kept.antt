@@ -5,7 +5,7 @@ use Rattle.std.proofs.Math.ListN as lists
 use Rattle.std.proofs.lemmas.Bool.{cases_eq, cases_lt}
 use Rattle.std.proofs.lemmas.List.{ext_get_or, length-map}
 use Rattle.rig_model.specs.declared.jobs.JobId.{JobId}
-use Rattle.tenant_jobs.specs.Finished.{TableEntry, entry_in}
+use Rattle.tenant_state.specs.job_table.Finished.{TableEntry, entry_in}
 use Rattle.rig_model.specs.Jobs.{has_job}
 use Rattle.tenant_state.specs.Standing.{Standing, no_tenant}
 use Rattle.tenant_state.specs.cited.Standing.{without_ended}

@@ -4,3 +4,4 @@ pub mod Granting
 pub mod Kept
 pub mod Named
 pub mod cited
+pub use Rattle.rig_laws.proofs.cited as of_laws

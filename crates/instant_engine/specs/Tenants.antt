@@ -1,7 +1,7 @@
 -- All tenants of a host, by their places in the roster.
 use Rattle.std.specs.Prelude.{◌≡◌, ◌<◌, ℕ, List, length, slice_index_or}
 use Rattle.std.specs.List.{sum_by, flat_map, enumerate_from}
-use Rattle.tenant_jobs.specs.Jobs.{JobValue}
+use Rattle.tenant_state.specs.job_table.Jobs.{JobValue}
 use Rattle.tenant_state.specs.Jobs.{released_at}
 use Rattle.tenant_state.specs.Standing.{Standing, no_tenant, most_released}
 

@@ -6,12 +6,12 @@ ghost use Rattle.rig_model.specs.Granted.{granted_by};
 ghost use Rattle.instant_engine.specs.cited.Tenants.{HaveRoster, binds_of, roster_among, rows_of};
 ghost use Rattle.instant_engine.specs.cited.Halves.{AreGranted};
 ghost use Rattle.rig_model.specs.Row.{actuator_value};
-ghost use Rattle.tenant_grants.specs.Grants.{granted_value, offer_of};
+ghost use Rattle.rig_model.specs.grants.Grants.{granted_value, offer_of};
 
 use giotto_tasks::names::Name;
-use rig_config::TenantId;
-use rig_config::intervals::clamped;
-use tenant_grants::granted::{Granted, Hints};
+use rig_model::config::TenantId;
+use rig_model::config::intervals::clamped;
+use rig_model::grants::granted::{Granted, Hints};
 use tenant_state::tenants::Tenant;
 
 /// Writes what is granted through each bind, tenant by tenant, where all tenants are behind the first half of an instant: the value of

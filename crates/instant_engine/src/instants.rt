@@ -7,8 +7,8 @@ ghost use Rattle.instant_engine.specs.cited.Tables.{IsTaskTable};
 ghost use Rattle.instant_engine.specs.Tenants.{ArePlaced, most_of, released_from, tenant_at};
 ghost use Rattle.instant_engine.specs.cited.Tenants.{HaveRoster, binds_of, granted_at, is_active_among};
 ghost use Rattle.instant_engine.specs.cited.Halves.{AreSecondHalves, AreToldEnded, CanGiveJobs, IsReady, is_released_among, last_jobs};
-ghost use Rattle.tenant_jobs.specs.Finished.{entry_in, result_in};
-ghost use Rattle.tenant_jobs.specs.cited.Finished.{entry_put, is_entered};
+ghost use Rattle.tenant_state.specs.job_table.Finished.{entry_in, result_in};
+ghost use Rattle.tenant_state.specs.job_table.cited.Finished.{entry_put, is_entered};
 ghost use Rattle.rig_model.specs.declared.jobs.JobId.{JobId};
 ghost use Rattle.rig_model.specs.FirstHalf.{due_tasks};
 ghost use Rattle.tenant_state.specs.cited.Halves.{IsFirstHalf};
@@ -16,9 +16,9 @@ ghost use Rattle.tenant_state.specs.Standing.{Standing, at_rest};
 ghost use Rattle.tenant_state.specs.cited.Standing.{HasItsEntries, HasItsResults, without_ended};
 
 use crate::grants::grant;
-use tenant_grants::granted::Granted;
-use tenant_jobs::finished::Finished;
-use tenant_jobs::jobs::Jobs;
+use rig_model::grants::granted::Granted;
+use tenant_state::job_table::finished::Finished;
+use tenant_state::job_table::jobs::Jobs;
 use tenant_state::tenants::Tenant;
 
 /// Makes what each tenant's next instant needs. How many jobs all of them can release at most, if that is a number of this size. Takes no

@@ -12,5 +12,7 @@
 pub mod grants;
 pub mod instants;
 
-pub use tenant_jobs::finished::Finished;
-pub use tenant_jobs::jobs::{Done, Job, JobId, Jobs, run_job};
+pub use tenant_state as state;
+pub use tenant_state::job_table::finished::Finished;
+pub use tenant_state::job_table::jobs::{Done, Job, JobId, Jobs, run_job};
+pub use tenant_state::{job_table, programs, reading, well_formed};

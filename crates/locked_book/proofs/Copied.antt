@@ -1,9 +1,9 @@
 -- A reply whose copy takes memory is a list.
 use Rattle.std.proofs.Common.{◌≡◌, true, refl}
-use Rattle.tenant_lines.specs.cited.Copies.{has_list}
-use Rattle.tenant_lines.specs.declared.replies.Reply.{Reply}
-use Rattle.tenant_lines.specs.declared.replies.Reply.TheVariants.{Loaded, Replaced, Started, Stopped, Mode, Port, All, Offered, Unoffered, Bound, Unbound, Rows, Refused}
-use Rattle.tenant_lines.specs.declared.replies.Reply.TheVariants as reply
+use Rattle.rig_model.specs.lines.cited.Copies.{has_list}
+use Rattle.rig_model.specs.declared.lines.replies.Reply.{Reply}
+use Rattle.rig_model.specs.declared.lines.replies.Reply.TheVariants.{Loaded, Replaced, Started, Stopped, Mode, Port, All, Offered, Unoffered, Bound, Unbound, Rows, Refused}
+use Rattle.rig_model.specs.declared.lines.replies.Reply.TheVariants as reply
 use Rattle.host_core.specs.ListReplies.{is_list}
 
 pub listed : (r : Reply) → has_list r ≡ true → is_list r ≡ true

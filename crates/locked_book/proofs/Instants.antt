@@ -1,10 +1,10 @@
 -- What an instant of a book says where nothing is known of what stood before.
 use Rattle.std.proofs.Common.{◌≡◌, ℕ, ℤ, List, [], ◌∷◌, ◌++◌, length, reverse, ap, ◌∙◌, subst, arith}
 use Rattle.std.proofs.lemmas.List.{length-reverse}
-use Rattle.rig_config.specs.Roster.{Rig}
+use Rattle.rig_model.specs.config.Roster.{Rig}
 use Rattle.rig_model.specs.Host.{host_after}
-use Rattle.tenant_jobs.specs.Jobs.{JobValue}
-use Rattle.instant_engine.specs.Tenants.{released_from}
+use Rattle.host_core.specs.job_table.Jobs.{JobValue}
+use Rattle.host_core.specs.engine.Tenants.{released_from}
 use Rattle.host_core.specs.HostStanding.{HostStanding, Stands}
 use Rattle.rig_model.specs.declared.logged.Logged.{Logged}
 use Rattle.rig_model.specs.declared.logged.Logged.TheVariants as logged

@@ -8,8 +8,8 @@ use Rattle.std.proofs.lemmas.Bool.{eqb-true, eq-eqb, cases_eq}
 use Rattle.std.proofs.lemmas.List.{get_or-set_same, get_or-set_other, length-append, append-nil, length-set, length-drop, map-append}
 use Rattle.std.proofs.lemmas.List.Elements.{All-set}
 use Rattle.std.proofs.lemmas.List.Sums.{sum_by-set, sum_by-le}
-use Rattle.rig_config.specs.Roster.{Rig, is_tenant}
-use Rattle.rig_config.specs.declared.TenantConfig.{TenantConfig}
+use Rattle.rig_model.specs.config.Roster.{Rig, is_tenant}
+use Rattle.rig_model.specs.declared.config.TenantConfig.{TenantConfig}
 use Rattle.rig_model.specs.Base.{Setting, new_base}
 use Rattle.rig_model.specs.Host.{host_after, after_event}
 use Rattle.rig_model.specs.HostState.{HostState, is_awaited}
@@ -17,9 +17,9 @@ use Rattle.host_core.specs.HostStanding.{HostStanding, Stands, IsOwn, awaited_in
 use Rattle.host_core.specs.declared.hosts.Counted.{Counted}
 use Rattle.host_core.specs.declared.hosts.Counted.TheVariants.{Late}
 use Rattle.host_core.specs.declared.hosts.Counted.TheVariants as counted
-use Rattle.tenant_jobs.specs.Finished.{TableEntry}
-use Rattle.tenant_jobs.specs.Jobs.{JobValue}
-use Rattle.tenant_state.specs.Standing.{at_rest}
+use Rattle.host_core.specs.job_table.Finished.{TableEntry}
+use Rattle.host_core.specs.job_table.Jobs.{JobValue}
+use Rattle.host_core.specs.state.Standing.{at_rest}
 use Rattle.rig_model.specs.declared.logged.Call.{Call}
 use Rattle.rig_model.specs.declared.logged.Logged.{Logged}
 use Rattle.rig_model.specs.declared.logged.Logged.TheVariants as logged
@@ -27,8 +27,8 @@ use Rattle.rig_model.specs.Logs.{calls_of_seat, event_of, events_of, Gives, IsLe
 use Rattle.locked_book.specs.Books.{BaseValue, beginning, calls_before, BookValue, PassValue, Knows, length_of, new_setting}
 use Rattle.locked_book.specs.Books.{SeatValue}
 use Rattle.locked_book.specs.inner.Books.{ArePlaces, seat_at, IsBook, call_at, places_from}
-use Rattle.rig_laws.proofs.cited.LaterBase.{new_is_base}
-use Rattle.rig_laws.proofs.cited.Replays.{replay_legal}
+use Rattle.host_core.proofs.of_laws.LaterBase.{new_is_base}
+use Rattle.host_core.proofs.of_laws.Replays.{replay_legal}
 use Rattle.locked_book.proofs.Kept.{GoesOn, kept_on, kept_none}
 use Rattle.locked_book.proofs.Places.{calls_at_places, within, place_in, call_in, places_on, calls_on}
 

@@ -6,8 +6,8 @@ use Rattle.rig_model.specs.Logs.{IsLegalLog, calls_of_seat}
 use Rattle.rig_model.specs.declared.logged.Call.{Call}
 use Rattle.rig_model.specs.declared.logged.Logged.{Logged}
 use Rattle.rig_model.specs.declared.logged.Logged.TheVariants as logged
-use Rattle.rig_config.specs.Roster.{Rig}
-use Rattle.tenant_lines.specs.declared.commands.Command.{Command}
+use Rattle.rig_model.specs.config.Roster.{Rig}
+use Rattle.rig_model.specs.declared.lines.commands.Command.{Command}
 use Rattle.locked_book.specs.Books.{AreCalled, BaseValue, BookValue, EndLegalLog, IsAnswered, Knows, PassValue, asked_by, asking, beginning, calls_before}
 use Rattle.locked_book.specs.inner.Books.{AreMade}
 

@@ -1,14 +1,14 @@
 -- Books: a host with its log from a base on, and the passes of those who call it. The logs here have the oldest entry first.
 use Rattle.std.specs.Prelude.{◌≡◌, ◌≢◌, ℕ, ◌+◌, ◌-◌, ◌<◌, ◌≤◌, nat_lt, Bool, true, false, ◌==◌, if◌then◌else◌, List, [], ◌∷◌, ◌++◌, length, map, reverse, drop, take, slice_get, slice_index_or, Option, Some, None, Result, OnOk, OnErr}
 use Rattle.std.specs.List.{All, list_any}
-use Rattle.rig_config.specs.Roster.{Rig}
+use Rattle.rig_model.specs.config.Roster.{Rig}
 use Rattle.rig_model.specs.Base.{Setting, new_base}
 use Rattle.rig_model.specs.HostState.{row_at}
 use Rattle.rig_model.specs.Views.{after_command}
 use Rattle.rig_model.specs.declared.events.Event.TheVariants.{Own}
 use Rattle.host_core.specs.HostStanding.{ForEachState, HostStanding, TakesEvent, new_host}
 use Rattle.rig_model.specs.Logs.{IsLegalLog, calls_of_seat}
-use Rattle.tenant_lines.specs.declared.commands.Command.{Command}
+use Rattle.rig_model.specs.declared.lines.commands.Command.{Command}
 use Rattle.locked_book.specs.declared.faults.DeskFault.{DeskFault}
 use Rattle.rig_model.specs.declared.logged.Call.{Call}
 use Rattle.rig_model.specs.declared.logged.Logged.{Logged}

@@ -6,7 +6,7 @@ ghost use Rattle.rig_model.specs.Base.{Setting, new_base};
 ghost use Rattle.host_core.specs.HostStanding.{Stands};
 
 use host_core::hosts::Host;
-use rig_config::Config;
+use rig_model::config::Config;
 use rig_model::logged::SeatId;
 use std::alloc::{AllocError, Global};
 use std::marker::Model;
@@ -22,7 +22,7 @@ pub(crate) struct Base {
 impl Model for Base {
     ghost use Rattle.locked_book.specs.Books.{BaseValue};
     ghost use Rattle.std.specs.Coded.{codes};
-    ghost use Rattle.giotto_text.specs.cited.ProgramCodes.{program_code};
+    ghost use Rattle.rig_model.specs.text.cited.ProgramCodes.{program_code};
 
     ghost Value = { BaseValue };
 

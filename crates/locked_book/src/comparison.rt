@@ -9,9 +9,9 @@ ghost use Rattle.locked_book.specs.inner.Books.{ArePlaces, seat_at};
 use crate::bases::Base;
 use crate::faults::CloseFault;
 use crate::known::is_known;
+use crate::naming::Naming;
 use crate::passes::Pass;
 use crate::seats::Seat;
-use crate::naming::Naming;
 use rig_model::logged::{Logged, SeatId};
 
 /// Why a book of these can't be closed with these passes. There is a mark for each seat. Takes no memory. Costs as much as the log,

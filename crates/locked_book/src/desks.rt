@@ -2,7 +2,7 @@
 
 ghost use Rattle.std.specs.Prelude.{◌≡◌, ◌≢◌, ℕ, ◌+◌, ◌<◌, ◌≤◌, ◌↔◌, List, [], ◌∷◌, ◌++◌, length, map, reverse, true, IfOk, OnOk, OnErr, IfErr, IfSome, Err, Some};
 ghost use Rattle.std.specs.List.{All, range_with_len};
-ghost use Rattle.instant_engine.specs.Tenants.{released_from};
+ghost use Rattle.host_core.specs.engine.Tenants.{released_from};
 ghost use Rattle.host_core.specs.HostStanding.{HostStanding, Stands};
 ghost use Rattle.host_core.specs.declared.hosts.Counted.{Counted};
 ghost use Rattle.rig_model.specs.Answers.{answers_of};
@@ -20,18 +20,18 @@ ghost use Rattle.locked_book.specs.inner.Books.{AreMade};
 
 use crate::books::Book;
 use crate::faults::{CloseFault, DeskFault, PassFault};
-use crate::passes::Pass;
 use crate::histories::NewHistory;
 use crate::naming::Naming;
+use crate::passes::Pass;
+use host_core::engine::{Done, Jobs};
 use host_core::hosts::{Counted, TickFault};
-use instant_engine::{Done, Jobs};
-use rig_config::{Config, TenantId};
+use host_core::programs::prepared::prepare;
+use rig_model::config::{Config, TenantId};
+use rig_model::lines::commands::Command;
+use rig_model::lines::replies::Reply;
 use std::alloc::{AllocError, Global};
 use std::hint::spin_loop;
 use std::sync::{Condvar, Mutex, MutexGuard, Wait};
-use tenant_lines::commands::Command;
-use tenant_lines::replies::Reply;
-use tenant_programs::prepared::prepare;
 
 // How often the lock is asked for before a thread sleeps until it is free: for about as long as it takes to fall asleep and to be woken. What
 // a session calls together holds it for less.

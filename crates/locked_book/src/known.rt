@@ -6,10 +6,10 @@ ghost use Rattle.locked_book.specs.Books.{Knows};
 ghost use Rattle.locked_book.specs.inner.Books.{ArePlaces, call_at, call_of};
 
 use crate::bases::Base;
+use crate::naming::Naming;
 use crate::passes::Pass;
 use crate::same::Same;
 use crate::seats::Seat;
-use crate::naming::Naming;
 use rig_model::logged::{KeptCall, Logged};
 
 /// Whether the pass is known to the book of these: its seat was given, its calls behind the base are the log's of this seat, and it

@@ -23,3 +23,6 @@ mod same;
 mod seats;
 mod standing;
 mod windows;
+
+pub use host_core as host;
+pub use host_core::{engine, job_table, programs, reading, state, well_formed};

@@ -6,7 +6,7 @@ use std::marker::Brand;
 pub trait Naming {
     ghost use Rattle.std.specs.Prelude.{ℕ};
     ghost use Rattle.logbook.specs.Pages.{Book};
-    ghost use Rattle.rig_config.specs.Roster.{Rig};
+    ghost use Rattle.rig_model.specs.config.Roster.{Rig};
 
     // The rig.
     ghost config: { Rig };

@@ -4,12 +4,12 @@ ghost use Rattle.std.specs.Prelude.{◌≡◌, ◌<◌, ◌↔◌, ◌≤◌, []
 
 use crate::histories::Front;
 use crate::naming::Naming;
-use rig_config::TenantId;
+use rig_model::config::TenantId;
+use rig_model::lines::commands::Command;
+use rig_model::lines::replies::Reply;
 use rig_model::logged::{Call, KeptCall, SeatId};
 use std::alloc::{AllocError, Global};
 use std::marker::Model;
-use tenant_lines::commands::Command;
-use tenant_lines::replies::Reply;
 
 /// How many calls a pass has at most.
 pub const MOST_CALLS: usize = 4096;

@@ -3,16 +3,16 @@
 ghost use Rattle.std.specs.Prelude.{◌≡◌, ◌↔◌, IsTrue};
 
 use giotto_tasks::names::Name;
-use rig_config::intervals::Bounds;
+use rig_model::config::intervals::Bounds;
+use rig_model::grants::rows::{Bind, Offer, Row};
 use rig_model::jobs::JobId;
+use rig_model::lines::commands::Command;
+use rig_model::lines::grant_lines::GrantCommand;
+use rig_model::lines::ports::{PortName, PortValue};
+use rig_model::lines::replies::{Reply, Status};
+use rig_model::lines::texts::Text;
 use rig_model::logged::{Call, KeptCall, Logged};
-use tenant_grants::rows::{Bind, Offer, Row};
-use tenant_lines::commands::Command;
-use tenant_lines::grant_lines::GrantCommand;
-use tenant_lines::ports::{PortName, PortValue};
-use tenant_lines::replies::{Reply, Status};
-use tenant_lines::texts::Text;
-use tenant_trace::records::{Happening, Record};
+use rig_model::trace::records::{Happening, Record};
 
 /// Values that can be compared whole.
 pub(crate) trait Same {

@@ -3,12 +3,12 @@
 use crate::instants::host_of;
 use crate::plays::ONE_TASK;
 use crate::texts::text_of;
-use host_core::hosts::{Counted, Host};
+use rig_model::lines::commands::Command;
+use rig_model::lines::texts::Text;
 use std::alloc::Global;
 use std::io::Read;
-use tenant_jobs::jobs::{Jobs, run_job};
-use tenant_lines::commands::Command;
-use tenant_lines::texts::Text;
+use worker_pool::host::hosts::{Counted, Host};
+use worker_pool::job_table::jobs::{Jobs, run_job};
 
 /// Runs a program with one task that is released and ends at every instant, beside 15 tenants that run the program of a reader's text,
 /// for so many instants. Each job is run, and its result brought to the host. How many counted; -1 where the host has fewer tenants, or an

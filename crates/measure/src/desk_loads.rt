@@ -4,18 +4,18 @@ ghost use Rattle.std.specs.Prelude.{◌≡◌};
 
 use crate::instants::roster;
 use crate::texts::program_of;
-use locked_book::histories::NewHistory;
-use locked_book::naming::Naming;
-use locked_book::desks::Desk;
-use locked_book::passes::Pass;
-use rig_config::{Config, TenantId};
+use rig_model::config::{Config, TenantId};
+use rig_model::lines::commands::Command;
+use rig_model::lines::replies::Reply;
+use rig_model::lines::texts::Text;
 use std::alloc::Global;
 use std::io::Read;
 use std::marker::Brand;
 use std::sync::Wait;
-use tenant_lines::commands::Command;
-use tenant_lines::replies::Reply;
-use tenant_lines::texts::Text;
+use worker_pool::book::desks::Desk;
+use worker_pool::book::histories::NewHistory;
+use worker_pool::book::naming::Naming;
+use worker_pool::book::passes::Pass;
 
 const LOADER: TenantId = 0;
 

@@ -4,20 +4,20 @@
 ghost use Rattle.std.specs.Prelude.{◌≡◌};
 
 use crate::instants::{host_of, roster};
-use locked_book::histories::NewHistory;
-use locked_book::naming::Naming;
-use host_core::hosts::Host;
-use locked_book::desks::Desk;
-use locked_book::passes::Pass;
-use rig_config::{Config, TenantId};
+use rig_model::config::{Config, TenantId};
+use rig_model::lines::commands::Command;
+use rig_model::lines::replies::Reply;
 use std::alloc::Global;
 use std::marker::Brand;
 use std::sync::Wait;
 use std::sync::atomic::{AtomicU64, Ordering};
 use std::thread;
 use std::thread::Threads;
-use tenant_lines::commands::Command;
-use tenant_lines::replies::Reply;
+use worker_pool::book::desks::Desk;
+use worker_pool::book::histories::NewHistory;
+use worker_pool::book::naming::Naming;
+use worker_pool::book::passes::Pass;
+use worker_pool::host::hosts::Host;
 
 // How many calls each pass has that isn't one alone.
 const CALLS: u64 = 32;

@@ -1,10 +1,10 @@
 //! The expression of a driver, evaluated many times, and the same operations by a plain loop.
 
-use giotto_check::timetables::{SlotExpr, slot_value};
-use giotto_check::{Checked, check};
-use giotto_read::read;
 use giotto_tasks::operators::BinaryOperator;
 use std::alloc::{AllocError, Global};
+use worker_pool::reading::read;
+use worker_pool::well_formed::timetables::{SlotExpr, slot_value};
+use worker_pool::well_formed::{Checked, check};
 
 /// The sum of the values of the first argument of a text's first invocation, where all ports are 5 but the first, which counts
 /// up. -1 where the text has no such argument, or breaks a rule.

@@ -2,13 +2,13 @@
 
 use crate::texts::text_of;
 use giotto_tasks::names::Name;
-use host_core::hosts::Host;
-use rig_config::{Config, read_config};
+use rig_model::config::{Config, read_config};
+use rig_model::lines::commands::Command;
+use rig_model::lines::grant_lines::GrantCommand;
+use rig_model::lines::texts::Text;
 use std::alloc::Global;
 use std::io::Read;
-use tenant_lines::commands::Command;
-use tenant_lines::grant_lines::GrantCommand;
-use tenant_lines::texts::Text;
+use worker_pool::host::hosts::Host;
 
 /// Which instants are run.
 #[derive(Clone, Copy)]

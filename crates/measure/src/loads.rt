@@ -2,14 +2,14 @@
 
 use crate::instants::host_of;
 use crate::texts::text_of;
-use host_core::hosts::Host;
-use rig_config::TenantId;
+use rig_model::config::TenantId;
+use rig_model::lines::commands::Command;
+use rig_model::lines::replies::Reply;
+use rig_model::lines::texts::Text;
 use std::alloc::Global;
 use std::io::Read;
-use tenant_lines::commands::Command;
-use tenant_lines::replies::Reply;
-use tenant_lines::texts::Text;
-use tenant_programs::prepared::prepare;
+use worker_pool::host::hosts::Host;
+use worker_pool::programs::prepared::prepare;
 
 const FIRST: TenantId = 0;
 

@@ -3,13 +3,13 @@
 use crate::instants::roster;
 use giotto_tasks::lists::List;
 use giotto_tasks::names::Name;
-use host_core::events::Event;
-use host_core::plays::play;
-use rig_config::Config;
+use rig_model::config::Config;
+use rig_model::lines::commands::Command;
+use rig_model::lines::texts::Text;
 use std::alloc::{AllocError, Global};
-use tenant_jobs::jobs::JobId;
-use tenant_lines::commands::Command;
-use tenant_lines::texts::Text;
+use worker_pool::host::events::Event;
+use worker_pool::host::plays::play;
+use worker_pool::job_table::jobs::JobId;
 
 /// A program with one task that is released and ends at every instant.
 pub(crate) const ONE_TASK: &str =

@@ -4,11 +4,9 @@ ghost use Rattle.std.specs.Prelude.{◌≡◌, ◌≤◌};
 
 use crate::instants::roster;
 use crate::texts::program_of;
-use locked_book::histories::NewHistory;
-use locked_book::naming::Naming;
-use instant_engine::run_job;
-use locked_book::desks::Desk;
-use rig_config::Config;
+use rig_model::config::Config;
+use rig_model::lines::commands::Command;
+use rig_model::lines::texts::Text;
 use std::alloc::Global;
 use std::io::Read;
 use std::marker::Brand;
@@ -16,8 +14,10 @@ use std::sync::Wait;
 use std::thread;
 use std::thread::Threads;
 use std::time::Clock;
-use tenant_lines::commands::Command;
-use tenant_lines::texts::Text;
+use worker_pool::book::desks::Desk;
+use worker_pool::book::histories::NewHistory;
+use worker_pool::book::naming::Naming;
+use worker_pool::engine::run_job;
 use worker_pool::gates::Free;
 use worker_pool::pools::Pool;
 

@@ -2,20 +2,20 @@
 
 ghost use Rattle.std.specs.Prelude.{◌≡◌};
 
-use locked_book::histories::NewHistory;
-use locked_book::naming::Naming;
-use host_core::hosts::{Counted, TickFault};
-use instant_engine::{Job, Jobs, run_job};
-use locked_book::desks::Desk;
-use locked_book::faults::{CloseFault, DeskFault, PassFault};
-use locked_book::passes::Pass;
-use rig_config::{Config, TenantId, built_in};
+use rig_model::config::{Config, TenantId, built_in};
+use rig_model::lines::command_lines::{LineFault, command_of};
+use rig_model::lines::commands::Command;
+use rig_model::lines::replies::{Reply, print_reply};
 use std::alloc::{AllocError, Global};
 use std::marker::Brand;
 use std::sync::Wait;
-use tenant_lines::command_lines::{LineFault, command_of};
-use tenant_lines::commands::Command;
-use tenant_lines::replies::{Reply, print_reply};
+use worker_pool::book::desks::Desk;
+use worker_pool::book::faults::{CloseFault, DeskFault, PassFault};
+use worker_pool::book::histories::NewHistory;
+use worker_pool::book::naming::Naming;
+use worker_pool::book::passes::Pass;
+use worker_pool::engine::{Job, Jobs, run_job};
+use worker_pool::host::hosts::{Counted, TickFault};
 
 const ALPHA: TenantId = 0;
 

@@ -4,22 +4,22 @@
 ghost use Rattle.std.specs.Prelude.{◌≡◌};
 
 use crate::voices::{Heard, THREADS, Table, Voice, speak};
-use locked_book::histories::NewHistory;
-use locked_book::naming::Naming;
-use host_core::events::Event;
-use host_core::plays::play;
-use locked_book::books::Book;
-use locked_book::desks::Desk;
-use locked_book::passes::Pass;
-use rig_config::{Config, read_config};
+use rig_model::config::{Config, read_config};
 use rig_model::frames::copy_of_frame;
+use rig_model::lines::texts::Text;
 use rig_model::logged::Logged;
 use std::alloc::{AllocError, Global};
 use std::marker::Brand;
 use std::sync::{Barrier, Mutex, Wait};
 use std::thread;
 use std::thread::Threads;
-use tenant_lines::texts::Text;
+use worker_pool::book::books::Book;
+use worker_pool::book::desks::Desk;
+use worker_pool::book::histories::NewHistory;
+use worker_pool::book::naming::Naming;
+use worker_pool::book::passes::Pass;
+use worker_pool::host::events::Event;
+use worker_pool::host::plays::play;
 
 // Three tenants, of which two drive a line each.
 const CONFIG: &str = "version = 1

@@ -1,12 +1,12 @@
 //! Texts of programs: tokens, what is read, checked and printed, and a driver's value, many times each.
 
 use crate::drivers;
-use giotto_check::check;
-use giotto_read::{print, read};
-use giotto_text::lexer::tokens;
+use rig_model::lines::texts::Text;
+use rig_model::text::lexer::tokens;
 use std::alloc::Global;
 use std::io::Read;
-use tenant_lines::texts::Text;
+use worker_pool::reading::{print, read};
+use worker_pool::well_formed::check;
 
 /// The text of a reader.
 pub(crate) fn text_of<R: Read + Drop>(alloc: Global, mut reader: R) -> anyhow::Result<String> {

@@ -2,17 +2,17 @@
 
 ghost use Rattle.std.specs.Prelude.{◌≡◌, ◌<◌};
 
-use locked_book::naming::Naming;
 use giotto_tasks::lists::List;
-use host_core::hosts::Counted;
-use instant_engine::{Job, Jobs, run_job};
-use locked_book::desks::Desk;
-use locked_book::passes::Pass;
+use rig_model::lines::command_lines::command_of;
+use rig_model::lines::replies::print_reply;
 use rig_model::logged::Logged;
 use std::alloc::Global;
 use std::sync::{Barrier, Mutex, Wait};
-use tenant_lines::command_lines::command_of;
-use tenant_lines::replies::print_reply;
+use worker_pool::book::desks::Desk;
+use worker_pool::book::naming::Naming;
+use worker_pool::book::passes::Pass;
+use worker_pool::engine::{Job, Jobs, run_job};
+use worker_pool::host::hosts::Counted;
 
 /// How many threads there are.
 pub(crate) const THREADS: usize = 4;

@@ -6,18 +6,18 @@ use Rattle.std.proofs.lemmas.List.{flat_map_more, map-append, take_more}
 use Rattle.std.proofs.lemmas.List.Concat.{flat_map-append}
 use Rattle.std.proofs.lemmas.List.Folds.{flat_map-map}
 use Rattle.giotto_reports.specs.Parts.{ProgramPart, body, drivers_of, invocation, parts_of, steps_of_part, switch, update}
-use Rattle.giotto_text.specs.Program.{GiottoProgram}
-use Rattle.giotto_text.specs.ProgramTrees.{invocation_of, mode_of, switch_of, task_of, update_of}
-use Rattle.giotto_text.specs.declared.programs.Invocation.{Invocation}
-use Rattle.giotto_text.specs.declared.programs.Mode.{Mode}
-use Rattle.giotto_text.specs.declared.programs.Switch.{Switch}
-use Rattle.giotto_text.specs.declared.programs.Task.{Task}
-use Rattle.giotto_text.specs.declared.programs.Update.{Update}
-use Rattle.rig_config.specs.declared.TenantConfig.{TenantConfig}
-use Rattle.giotto_faults.specs.declared.findings.Finding.{Finding}
-use Rattle.giotto_faults.specs.declared.findings.Severity.{Severity}
-use Rattle.giotto_faults.specs.declared.findings.Severity.TheVariants.{Error}
-use Rattle.tenant_lines.specs.declared.replies.Budget.{Budget}
+use Rattle.rig_model.specs.text.Program.{GiottoProgram}
+use Rattle.rig_model.specs.text.ProgramTrees.{invocation_of, mode_of, switch_of, task_of, update_of}
+use Rattle.rig_model.specs.declared.text.programs.Invocation.{Invocation}
+use Rattle.rig_model.specs.declared.text.programs.Mode.{Mode}
+use Rattle.rig_model.specs.declared.text.programs.Switch.{Switch}
+use Rattle.rig_model.specs.declared.text.programs.Task.{Task}
+use Rattle.rig_model.specs.declared.text.programs.Update.{Update}
+use Rattle.rig_model.specs.declared.config.TenantConfig.{TenantConfig}
+use Rattle.giotto_reports.specs.declared.faults.findings.Finding.{Finding}
+use Rattle.giotto_reports.specs.declared.faults.findings.Severity.{Severity}
+use Rattle.giotto_reports.specs.declared.faults.findings.Severity.TheVariants.{Error}
+use Rattle.rig_model.specs.declared.lines.replies.Budget.{Budget}
 use Rattle.program_checks.specs.Excess.{errors_over, rule_of_budget, told_of, words_of_cost, words_of_part}
 use Rattle.program_checks.specs.inner.Telling.{AreTold}
 

@@ -1,10 +1,10 @@
 -- How a program is told beside the budgets of a tenant.
 use Rattle.std.specs.Prelude.{ℕ, List, [], ◌∷◌, ◌++◌, length, codes}
 use Rattle.std.specs.Fmt.{decimal}
-use Rattle.giotto_rules.specs.Ports.{ports_of}
-use Rattle.giotto_text.specs.Program.{GiottoProgram}
-use Rattle.rig_config.specs.declared.Budgets.{Budgets}
-use Rattle.rig_config.specs.declared.TenantConfig.{TenantConfig}
+use Rattle.rig_model.specs.rules.Ports.{ports_of}
+use Rattle.rig_model.specs.text.Program.{GiottoProgram}
+use Rattle.rig_model.specs.declared.config.Budgets.{Budgets}
+use Rattle.rig_model.specs.declared.config.TenantConfig.{TenantConfig}
 use Rattle.rig_model.specs.Admission.{steps_of_program}
 use Rattle.program_checks.specs.Numbers.{text_of_numbers}
 

@@ -2,17 +2,17 @@
 use Rattle.std.specs.Prelude.{◌≡◌, ℕ, nat_le, if◌then◌else◌, List, [], ◌∷◌, ◌++◌, length, map, option_map, Option, Some, None, codes, string_bytes}
 use Rattle.std.specs.Fmt.{decimal}
 use Rattle.std.specs.List.{flat_map}
-use Rattle.giotto_faults.specs.declared.findings.Finding.{Finding}
-use Rattle.giotto_faults.specs.declared.findings.Severity.{Severity}
-use Rattle.giotto_faults.specs.declared.findings.Severity.TheVariants.{Error}
-use Rattle.giotto_rules.specs.Ports.{ports_of}
+use Rattle.giotto_reports.specs.declared.faults.findings.Finding.{Finding}
+use Rattle.giotto_reports.specs.declared.faults.findings.Severity.{Severity}
+use Rattle.giotto_reports.specs.declared.faults.findings.Severity.TheVariants.{Error}
+use Rattle.rig_model.specs.rules.Ports.{ports_of}
 use Rattle.giotto_reports.specs.Parts.{ProgramPart, parts_of, steps_of_part, text_of_part}
-use Rattle.giotto_text.specs.Program.{Source, from_line, from_grant, SensorDeclaration, ActuatorDeclaration, GiottoProgram}
-use Rattle.rig_config.specs.Roster.{may_use}
-use Rattle.rig_config.specs.declared.TenantConfig.{TenantConfig}
-use Rattle.tenant_lines.specs.Replies.{word_of_budget}
-use Rattle.tenant_lines.specs.declared.replies.Budget.{Budget}
-use Rattle.tenant_lines.specs.declared.replies.Budget.TheVariants.{Bytes, Ports, Tasks, Modes, Steps, Lines, Offers, Binds}
+use Rattle.rig_model.specs.text.Program.{Source, from_line, from_grant, SensorDeclaration, ActuatorDeclaration, GiottoProgram}
+use Rattle.rig_model.specs.config.Roster.{may_use}
+use Rattle.rig_model.specs.declared.config.TenantConfig.{TenantConfig}
+use Rattle.rig_model.specs.lines.Replies.{word_of_budget}
+use Rattle.rig_model.specs.declared.lines.replies.Budget.{Budget}
+use Rattle.rig_model.specs.declared.lines.replies.Budget.TheVariants.{Bytes, Ports, Tasks, Modes, Steps, Lines, Offers, Binds}
 
 module _ (tenant : TenantConfig) where
   -- "the program has HAS WHAT, and one of `TENANT` may have MAY"

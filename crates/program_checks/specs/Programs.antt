@@ -1,18 +1,18 @@
 -- When a program is good for a tenant, and what is told of it.
 use Rattle.std.specs.Prelude.{◌≡◌, ◌⊎◌, ℕ, Bool, true, false, List, ◌++◌, length, Ok, Some, None, string_bytes}
-use Rattle.giotto_faults.specs.declared.findings.Finding.{Finding}
+use Rattle.giotto_reports.specs.declared.faults.findings.Finding.{Finding}
 use Rattle.giotto_reports.specs.Comments.{one_line}
-use Rattle.giotto_text.specs.Canonical.{canonical_of}
-use Rattle.giotto_text.specs.Program.{GiottoProgram}
+use Rattle.rig_model.specs.text.Canonical.{canonical_of}
+use Rattle.rig_model.specs.text.Program.{GiottoProgram}
 use Rattle.giotto_reports.specs.declared.Report.{Report}
 use Rattle.giotto_reports.specs.declared.Wish.{Wish}
 use Rattle.giotto_reports.specs.declared.Wish.TheVariants.{Summary, Load, Print, Pretty}
 use Rattle.giotto_reports.specs.Reports.{AreShown, IsWritten, TellWhy}
 use Rattle.giotto_reports.specs.Summaries.{summary_of}
-use Rattle.rig_config.specs.declared.Budgets.{Budgets}
-use Rattle.rig_config.specs.declared.TenantConfig.{TenantConfig}
+use Rattle.rig_model.specs.declared.config.Budgets.{Budgets}
+use Rattle.rig_model.specs.declared.config.TenantConfig.{TenantConfig}
 use Rattle.rig_model.specs.Admission.{broken_budget, program_of}
-use Rattle.tenant_lines.specs.declared.replies.Budget.{Budget}
+use Rattle.rig_model.specs.declared.lines.replies.Budget.{Budget}
 use Rattle.program_checks.specs.Budgets.{text_of_budgets}
 use Rattle.program_checks.specs.Excess.{AreOver, words_over}
 

@@ -3,15 +3,15 @@
 ghost use Rattle.std.specs.Prelude.{◌≡◌, ◌++◌, ◌∷◌, [], IfOk, IfSome, OnOk, codes, length, option_map, string_bytes};
 ghost use Rattle.std.specs.List.{flat_map};
 ghost use Rattle.giotto_reports.specs.Parts.{body, drivers_of, part_of, parts_of};
-ghost use Rattle.giotto_text.specs.ProgramTrees.{actuator_of, mode_of, sensor_of, task_of};
-ghost use Rattle.giotto_text.specs.declared.programs.Actuator.{Actuator as AnyActuator};
-ghost use Rattle.giotto_text.specs.declared.programs.Invocation.{Invocation as AnyInvocation};
-ghost use Rattle.giotto_text.specs.declared.programs.Mode.{Mode as AnyMode};
-ghost use Rattle.giotto_text.specs.declared.programs.Sensor.{Sensor as AnySensor};
-ghost use Rattle.giotto_text.specs.declared.programs.Switch.{Switch as AnySwitch};
-ghost use Rattle.giotto_text.specs.declared.programs.Task.{Task as AnyTask};
-ghost use Rattle.giotto_text.specs.declared.programs.Update.{Update as AnyUpdate};
-ghost use Rattle.rig_config.specs.Roster.{may_use};
+ghost use Rattle.rig_model.specs.text.ProgramTrees.{actuator_of, mode_of, sensor_of, task_of};
+ghost use Rattle.rig_model.specs.declared.text.programs.Actuator.{Actuator as AnyActuator};
+ghost use Rattle.rig_model.specs.declared.text.programs.Invocation.{Invocation as AnyInvocation};
+ghost use Rattle.rig_model.specs.declared.text.programs.Mode.{Mode as AnyMode};
+ghost use Rattle.rig_model.specs.declared.text.programs.Sensor.{Sensor as AnySensor};
+ghost use Rattle.rig_model.specs.declared.text.programs.Switch.{Switch as AnySwitch};
+ghost use Rattle.rig_model.specs.declared.text.programs.Task.{Task as AnyTask};
+ghost use Rattle.rig_model.specs.declared.text.programs.Update.{Update as AnyUpdate};
+ghost use Rattle.rig_model.specs.config.Roster.{may_use};
 ghost use Rattle.rig_model.specs.Admission.{broken_budget};
 ghost use Rattle.program_checks.specs.Budgets.{heading_of, row_of, row_of_lines, text_of_budgets};
 ghost use Rattle.program_checks.specs.Excess.{AreOver, words_of_actuator, words_of_cost, words_of_line, words_of_number, words_of_part, words_of_sensor, words_over, rule_of_budget};
@@ -20,14 +20,14 @@ ghost use Rattle.program_checks.specs.declared.budgets.OverBudget.{OverBudget as
 
 use crate::numbers::text_of_numbers;
 use crate::spots::{Spot, Spots};
-use giotto_check::Checked;
-use giotto_faults::findings::{Finding, Severity};
+use giotto_reports::faults::findings::{Finding, Severity};
 use giotto_reports::parts::Part;
-use giotto_text::programs::{Actuator, Mode, Program, Sensor, Source, Task};
-use giotto_text::tokens::Keyword;
-use rig_config::{Budgets, TenantConfig};
+use giotto_reports::well_formed::Checked;
+use rig_model::config::{Budgets, TenantConfig};
+use rig_model::lines::replies::Budget;
+use rig_model::text::programs::{Actuator, Mode, Program, Sensor, Source, Task};
+use rig_model::text::tokens::Keyword;
 use std::alloc::{AllocError, Global};
-use tenant_lines::replies::Budget;
 use tenant_programs::budgets::broken_budget;
 
 /// A budget that a program is over, and what is told of it.

@@ -2,17 +2,17 @@
 
 ghost use Rattle.std.specs.Prelude.{◌≡◌, IfOk, Ok, length, string_bytes};
 ghost use Rattle.giotto_reports.specs.Comments.{one_line};
-ghost use Rattle.giotto_rules.specs.Rules.{first_broken_rule};
-ghost use Rattle.giotto_text.specs.Parsing.{parsed};
+ghost use Rattle.rig_model.specs.rules.Rules.{first_broken_rule};
+ghost use Rattle.rig_model.specs.text.Parsing.{parsed};
 ghost use Rattle.rig_model.specs.Admission.{program_of};
 ghost use Rattle.program_checks.specs.Programs.{IsWrittenFor, TellsFor, bytes_wanted};
 
 use crate::budgets::{Held, over_budget, text_of_budgets};
-use giotto_check::Checked;
 use giotto_reports::files::one_line;
-use giotto_read::print;
+use giotto_reports::reading::print;
+use giotto_reports::well_formed::Checked;
 use giotto_reports::{Examined, Report, Wish, examine, shown, written};
-use rig_config::TenantConfig;
+use rig_model::config::TenantConfig;
 use std::alloc::{AllocError, Global};
 
 // A program's file.

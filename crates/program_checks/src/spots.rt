@@ -1,8 +1,8 @@
 //! Where the parts of a program stand in its text.
 
-use giotto_read::ReadFault;
-use giotto_text::lexer;
-use giotto_text::tokens::{Keyword, PlacedToken, Token};
+use giotto_reports::reading::ReadFault;
+use rig_model::text::lexer;
+use rig_model::text::tokens::{Keyword, PlacedToken, Token};
 use std::alloc::{AllocError, Global};
 
 /// A stretch of a text: its offset and its length, in bytes.

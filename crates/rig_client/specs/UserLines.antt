@@ -3,7 +3,7 @@ use Rattle.std.specs.Prelude.{ℕ, not, ◌&&◌, ◌==◌, nat_eq, if◌then◌
 use Rattle.std.specs.List.{starts_with}
 use Rattle.std.specs.Option.{option_map}
 use Rattle.giotto_tasks.specs.Names.{same_name}
-use Rattle.tenant_lines.specs.Words.{behind_first_word, first_word_of}
+use Rattle.rig_model.specs.lines.Words.{behind_first_word, first_word_of}
 use Rattle.rig_client.specs.declared.user_lines.FileCommand.{FileCommand}
 use Rattle.rig_client.specs.declared.user_lines.FileCommand.TheVariants.{Load, Replace}
 use Rattle.rig_client.specs.declared.user_lines.UserLine.{UserLine}

@@ -2,8 +2,8 @@
 
 ghost use Rattle.std.specs.Prelude.{◌≡◌};
 ghost use Rattle.std.specs.List.{list_all};
-ghost use Rattle.rig_config.specs.Fields.{from_to};
-ghost use Rattle.rig_config.specs.Ranges.{is_key};
+ghost use Rattle.rig_model.specs.config.Fields.{from_to};
+ghost use Rattle.rig_model.specs.config.Ranges.{is_key};
 
 /// Whether a text is a key: 1 to 64 bytes from 0x21 to 0x7E.
 pub fn is_key(text: &str) -> bool

@@ -3,11 +3,11 @@
 ghost use Rattle.std.specs.Prelude.{◌≡◌, ◌==◌, if◌then◌else◌, codes, length, nat_eq, true};
 ghost use Rattle.std.specs.List.{starts_with};
 ghost use Rattle.std.specs.Option.{option_map};
-ghost use Rattle.tenant_lines.specs.Words.{first_word_of};
+ghost use Rattle.rig_model.specs.lines.Words.{first_word_of};
 ghost use Rattle.rig_client.specs.UserLines.{command_line_of, kind_of, help as help_line, path_of, request, sole_word_of, user_line_of};
 ghost use Rattle.rig_client.specs.Requests.{word_of_command};
 
-use tenant_lines::words;
+use rig_model::lines::words;
 
 /// A command whose text can be that of a file.
 #[derive(Clone, Copy, Debug, PartialEq, Eq)]

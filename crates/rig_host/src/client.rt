@@ -3,13 +3,13 @@
 use crate::Failure;
 use crate::command_line::connect_arguments;
 use clap::error::ErrorKind;
-use giotto_text::name_bytes::is_name;
 use rig_client::answers::Server;
 use rig_client::conversing::{converse, greet};
 use rig_client::faults::ClientFault;
 use rig_client::keys::{first_line, is_key};
 use rig_client::programs::{FileFault, ProgramFiles};
 use rig_client::users::User;
+use rig_model::text::name_bytes::is_name;
 use std::alloc::Global;
 use std::env::VarError;
 use std::io::{BufReader, BufWriter, IsTerminal, Read, Write};

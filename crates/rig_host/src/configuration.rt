@@ -1,11 +1,11 @@
 //! The configuration of the rig: the built-in one, or that of a file.
 
 ghost use Rattle.std.specs.Prelude.{◌≡◌, IfOk, None};
-ghost use Rattle.rig_config.specs.BuiltIn.{built_in_config};
+ghost use Rattle.rig_model.specs.config.BuiltIn.{built_in_config};
 ghost use Rattle.rig_host.specs.declared.configuration.ConfigurationFault.TheVariants.{Refused};
 
-use rig_config::faults::ConfigFault;
-use rig_config::{Config, built_in, read_config};
+use rig_model::config::faults::ConfigFault;
+use rig_model::config::{Config, built_in, read_config};
 use std::{fmt, fs, io};
 
 /// Why there is no configuration. Its `Display` is the line of standard error.
@@ -41,7 +41,7 @@ impl From<io::Error> for ConfigurationFault {
     ghost use Rattle.std.specs.Prelude.{◌≡◌, ◌≢◌};
     ghost use Rattle.std.specs.IoError.{error_kind};
     ghost use Rattle.std.specs.declared.io.ErrorKind.TheVariants.{OutOfMemory};
-    ghost use Rattle.rig_config.specs.declared.faults.ConfigFault.TheVariants.{Memory};
+    ghost use Rattle.rig_model.specs.declared.config.faults.ConfigFault.TheVariants.{Memory};
     ghost use Rattle.rig_host.specs.declared.configuration.ConfigurationFault.TheVariants.{Refused, Unreadable};
 
     ghost from_gives = { λ error told.

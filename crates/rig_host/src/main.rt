@@ -10,9 +10,9 @@ ghost use Rattle.rig_host.specs.declared.pictures.PictureFault.{PictureFault as 
 ghost use Rattle.rig_host.specs.declared.scripts.RunFileFault.{RunFileFault as AnyRunFileFault};
 ghost use Rattle.rig_retests.specs.declared.courses.Shortfall.{Shortfall as AnyShortfall};
 ghost use Rattle.rig_client.specs.declared.faults.ClientFault.{ClientFault as AnyClientFault};
-ghost use Rattle.rig_script.specs.declared.faults.ScriptFault.{ScriptFault as AnyFault};
+ghost use Rattle.rig_retests.specs.declared.script.faults.ScriptFault.{ScriptFault as AnyFault};
 ghost use Rattle.rig_server.specs.declared.faults.ServeFault.{ServeFault as AnyServeFault};
-ghost use Rattle.rig_script.specs.declared.faults.ScriptFault.TheVariants.{Memory};
+ghost use Rattle.rig_retests.specs.declared.script.faults.ScriptFault.TheVariants.{Memory};
 
 mod checks;
 mod client;
@@ -34,10 +34,10 @@ use configuration::{ConfigurationFault, read_configuration};
 use pictures::{PictureFault, TimelineRequest, run_timeline};
 use retests::{RetestRequest, TrialRequest, run_retest, run_trial};
 use rig_client::faults::ClientFault;
+use rig_reports::script_notes::told::Report;
 use rig_retests::courses::Shortfall;
-use rig_script::faults::ScriptFault;
+use rig_retests::script::faults::ScriptFault;
 use rig_server::faults::ServeFault;
-use script_reports::told::Report;
 use scripts::{RunFileFault, ScriptRequest, run_script, script_of};
 use server::{ServeRequest, run_server};
 use std::alloc::{AllocError, Global};

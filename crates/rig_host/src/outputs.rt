@@ -8,7 +8,7 @@ ghost use Rattle.rig_host.specs.inner.Outputs.{is_same_file};
 use crate::Failure;
 use clap::Command;
 use clap::error::ErrorKind;
-use rig_script::faults::ScriptFault;
+use rig_retests::script::faults::ScriptFault;
 use std::io::Write;
 use std::path::PathBuf;
 use std::{fs, io};

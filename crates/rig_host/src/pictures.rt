@@ -8,9 +8,9 @@ use crate::command_line::timeline_arguments;
 use crate::configuration::read_configuration;
 use crate::outputs::{check_output, is_standard, write_to};
 use crate::tenants::place_of;
-use rig_config::{Config, TenantId};
-use rig_pictures::{script_with_dump, timeline};
-use rig_script::faults::ScriptFault;
+use rig_model::config::{Config, TenantId};
+use rig_reports::pictures::{script_with_dump, timeline};
+use rig_retests::script::faults::ScriptFault;
 use std::fs;
 use std::io::{self, BufWriter};
 

@@ -8,7 +8,7 @@ use crate::configuration::read_configuration;
 use crate::outputs::{check_output, is_standard, print, write_to};
 use crate::pictures::PictureFault;
 use crate::tenants::place_of;
-use rig_config::Config;
+use rig_model::config::Config;
 use rig_retests::courses::Course;
 use rig_retests::tables::{Retests, retests_of};
 use rig_retests::{TrialForm, graph_of_retests, text_of_retests, text_of_trial};

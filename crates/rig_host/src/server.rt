@@ -1,8 +1,9 @@
 //! The server on a port of this machine.
 
 use crate::Failure;
-use rig_config::Config;
+use rig_model::config::Config;
 use rig_server::faults::ServeFault;
+use rig_server::pool::gates::Free;
 use rig_server::serving::{Service, serve};
 use std::io;
 use std::io::BufWriter;
@@ -10,7 +11,6 @@ use std::net::TcpListener;
 use std::sync::Wait;
 use std::thread::Threads;
 use std::time::{Clock, Duration};
-use worker_pool::gates::Free;
 
 /// What `serve` is started with.
 #[derive(Clone, Copy)]

@@ -3,7 +3,7 @@
 use crate::Failure;
 use clap::Command;
 use clap::error::ErrorKind;
-use rig_config::{Config, TenantId};
+use rig_model::config::{Config, TenantId};
 use std::alloc::{AllocError, Global};
 
 /// The place of the tenant of this name in the configuration of `--config`, whose path is `file`, or in the built-in one. The words are

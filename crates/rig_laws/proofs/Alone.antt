@@ -7,12 +7,12 @@ use Rattle.std.proofs.lemmas.Bool.Decides.{nat_tests}
 use Rattle.std.proofs.lemmas.List.{get_or-set_same, get_or-set_other}
 use Rattle.std.proofs.lemmas.Map.Views.{any-filter_same}
 use Rattle.giotto_tasks.specs.Names.{same_name}
-use Rattle.giotto_text.specs.Program.{TaskInvocation}
+use Rattle.rig_model.specs.text.Program.{TaskInvocation}
 use Rattle.rig_model.specs.declared.events.Event.{Event}
 use Rattle.rig_model.specs.declared.events.Event.TheVariants.{Own}
 use Rattle.rig_model.specs.declared.jobs.JobId.{JobId}
-use Rattle.tenant_lines.specs.declared.commands.Command.{Command}
-use Rattle.giotto_rules.specs.Declarations.{mode_named}
+use Rattle.rig_model.specs.declared.lines.commands.Command.{Command}
+use Rattle.rig_model.specs.rules.Declarations.{mode_named}
 use Rattle.rig_model.specs.Jobs.{same_job, job_of, is_active}
 use Rattle.rig_model.specs.Row.{ActiveTask, Row, empty_row, is_running}
 use Rattle.rig_model.specs.FirstHalf.{due_in_mode, due_in_program, due_tasks}

@@ -4,10 +4,10 @@ use Rattle.std.specs.Prelude.{codes, Ok}
 use Rattle.giotto_tasks.specs.Names.{Valuation}
 use Rattle.giotto_tasks.specs.Syntax.{number, port, binary, assign, finished, step}
 use Rattle.giotto_tasks.specs.declared.operators.BinaryOperator.TheVariants.{Greater}
-use Rattle.giotto_text.specs.Parsing.{parsed}
-use Rattle.giotto_text.specs.Program.{from_line, GiottoProgram, TaskInvocation}
-use Rattle.giotto_rules.specs.Rules.{first_broken_rule}
-use Rattle.tenant_trace.specs.declared.records.Happening.TheVariants as happening
+use Rattle.rig_model.specs.text.Parsing.{parsed}
+use Rattle.rig_model.specs.text.Program.{from_line, GiottoProgram, TaskInvocation}
+use Rattle.rig_model.specs.rules.Rules.{first_broken_rule}
+use Rattle.rig_model.specs.declared.trace.records.Happening.TheVariants as happening
 use Rattle.rig_model.specs.Row.{ActiveTask, Row, running, empty_row}
 use Rattle.rig_model.specs.SecondHalf.{second_half_of}
 

@@ -2,7 +2,7 @@
 use Rattle.std.proofs.Common.{◌≡◌, ℕ, [], ◌∷◌, None, refl}
 use Rattle.std.specs.Prelude.{codes}
 use Rattle.giotto_tasks.specs.declared.names.Name.{Name}
-use Rattle.giotto_text.specs.Program.{TaskInvocation, ModeDeclaration}
+use Rattle.rig_model.specs.text.Program.{TaskInvocation, ModeDeclaration}
 use Rattle.rig_model.specs.Row.{ActiveTask}
 use Rattle.rig_model.specs.CommonPeriods.{least_common_multiple}
 use Rattle.rig_model.specs.SecondHalf.{entry_time}

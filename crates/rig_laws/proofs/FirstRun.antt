@@ -5,11 +5,11 @@ use Rattle.std.specs.Fmt.{digits}
 use Rattle.std.specs.List.{flat_map}
 use Rattle.rig_model.specs.declared.events.Event.{Event}
 use Rattle.rig_model.specs.declared.events.Event.TheVariants.{Own, Tick, Done}
-use Rattle.tenant_lines.specs.declared.commands.Command.TheVariants.{Load, Start, ShowPort}
+use Rattle.rig_model.specs.declared.lines.commands.Command.TheVariants.{Load, Start, ShowPort}
 use Rattle.rig_model.specs.Answers.{answers_of}
 use Rattle.rig_model.specs.Legal.{is_legal}
 use Rattle.rig_model.specs.Views.{view_of}
-use Rattle.giotto_text.proofs.cited.Adder.{adder_text}
+use Rattle.rig_model.proofs.of_text.Adder.{adder_text}
 use Rattle.rig_laws.proofs.Rig.{rig}
 
 -- lines, each with LF behind it

@@ -5,7 +5,7 @@ use Rattle.std.specs.Char.{encode_utf8}
 use Rattle.std.specs.Fmt.{digits}
 use Rattle.std.specs.List.{flat_map}
 use Rattle.std.specs.Str.{chars, is_utf8}
-use Rattle.giotto_text.proofs.cited.Adder.{adder_text}
+use Rattle.rig_model.proofs.of_text.Adder.{adder_text}
 use Rattle.rig_laws.proofs.Rig.{rig}
 use Rattle.rig_model.specs.Script.{script_text_of, memory_reply}
 

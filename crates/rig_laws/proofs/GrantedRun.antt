@@ -4,10 +4,10 @@ use Rattle.std.specs.Prelude.{codes, None}
 use Rattle.std.specs.Fmt.{digits}
 use Rattle.rig_model.specs.declared.events.Event.{Event}
 use Rattle.rig_model.specs.declared.events.Event.TheVariants.{Own}
-use Rattle.tenant_lines.specs.declared.commands.Command.TheVariants.{Load, Start, Grants}
-use Rattle.tenant_lines.specs.declared.grant_lines.GrantCommand.TheVariants.{Offer, Unoffer, Bind}
+use Rattle.rig_model.specs.declared.lines.commands.Command.TheVariants.{Load, Start, Grants}
+use Rattle.rig_model.specs.declared.lines.grant_lines.GrantCommand.TheVariants.{Offer, Unoffer, Bind}
 use Rattle.rig_model.specs.Answers.{answers_of}
-use Rattle.giotto_text.proofs.cited.Adder.{adder_text}
+use Rattle.rig_model.proofs.of_text.Adder.{adder_text}
 use Rattle.rig_laws.proofs.FirstRun.{answered, tick, completed, shown}
 use Rattle.rig_laws.proofs.Rig.{rig}
 

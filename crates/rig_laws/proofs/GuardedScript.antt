@@ -9,7 +9,7 @@ use Rattle.rig_model.specs.DifferingScripts.{without_lines_of, DifferInNoSource}
 use Rattle.rig_model.specs.Script.{past_after, script_from}
 use Rattle.rig_model.specs.Sources.{is_source, sources_of}
 use Rattle.rig_model.specs.TenantReplies.{own_replies}
-use Rattle.giotto_text.proofs.cited.Adder.{adder_text}
+use Rattle.rig_model.proofs.of_text.Adder.{adder_text}
 use Rattle.rig_laws.proofs.cited.TwoWorlds.{same_place}
 use Rattle.rig_laws.proofs.FirstRun.{answered}
 use Rattle.rig_laws.proofs.KeptRun.{three, three_rig}

@@ -7,7 +7,7 @@ use Rattle.giotto_tasks.specs.declared.names.Name.{Name}
 use Rattle.rig_model.specs.declared.events.Event.{Event}
 use Rattle.rig_model.specs.declared.events.Event.TheVariants.{Own, Tick, Done}
 use Rattle.rig_model.specs.declared.jobs.JobId.{JobId}
-use Rattle.tenant_lines.specs.declared.commands.Command.{Command}
+use Rattle.rig_model.specs.declared.lines.commands.Command.{Command}
 use Rattle.rig_model.specs.Jobs.{same_job, job_of, is_active}
 use Rattle.rig_model.specs.Row.{ActiveTask, Row, empty_row}
 use Rattle.rig_model.specs.FirstHalf.{unfinished_tasks}

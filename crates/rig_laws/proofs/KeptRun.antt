@@ -2,17 +2,17 @@
 use Rattle.std.proofs.Common.{◌≡◌, ℕ, List, [], ◌∷◌, ◌++◌, refl, true, reverse, map, take, drop}
 use Rattle.std.specs.Prelude.{codes, None}
 use Rattle.std.specs.Fmt.{digits}
-use Rattle.rig_config.specs.BuiltIn.{built_in_tenant}
-use Rattle.rig_config.specs.Roster.{Rig}
-use Rattle.tenant_lines.specs.declared.commands.Command.TheVariants.{Load, Start, Grants}
-use Rattle.tenant_lines.specs.declared.grant_lines.GrantCommand.TheVariants.{Offer, Unoffer, Unbind}
+use Rattle.rig_model.specs.config.BuiltIn.{built_in_tenant}
+use Rattle.rig_model.specs.config.Roster.{Rig}
+use Rattle.rig_model.specs.declared.lines.commands.Command.TheVariants.{Load, Start, Grants}
+use Rattle.rig_model.specs.declared.lines.grant_lines.GrantCommand.TheVariants.{Offer, Unoffer, Unbind}
 use Rattle.rig_model.specs.declared.events.Event.{Event}
 use Rattle.rig_model.specs.declared.events.Event.TheVariants.{Own}
 use Rattle.rig_model.specs.Answers.{answers_of}
 use Rattle.rig_model.specs.Base.{new_base, Setting}
 use Rattle.rig_model.specs.Legal.{is_legal}
 use Rattle.rig_model.specs.Sources.{kept_of, sources_of}
-use Rattle.giotto_text.proofs.cited.Adder.{adder_text}
+use Rattle.rig_model.proofs.of_text.Adder.{adder_text}
 use Rattle.rig_laws.proofs.FirstRun.{answered, tick, completed, shown, loaded_and_started, beside_beta}
 use Rattle.rig_laws.proofs.GrantedRun.{consumer_text, bound_to, granted_run}
 use Rattle.rig_laws.proofs.Rig.{rig}

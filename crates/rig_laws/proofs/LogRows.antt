@@ -3,13 +3,13 @@ use Rattle.std.proofs.Common.{◌≡◌, ℕ, pos, List, [], ◌∷◌, ◌++◌
 use Rattle.std.specs.Prelude.{codes}
 use Rattle.std.specs.Fmt.{digits}
 use Rattle.std.specs.List.{flat_map}
-use Rattle.giotto_text.proofs.cited.Adder.{adder_text}
-use Rattle.rig_config.specs.BuiltIn.{built_in_config}
-use Rattle.tenant_lines.specs.declared.commands.Command.{Command}
-use Rattle.tenant_lines.specs.declared.commands.Command.TheVariants.{Load, Start, ShowPort}
-use Rattle.tenant_lines.specs.declared.ports.PortName.{PortName}
-use Rattle.tenant_lines.specs.declared.replies.Reply.{Reply}
-use Rattle.tenant_lines.specs.declared.replies.Reply.TheVariants.{Loaded, Started, Port}
+use Rattle.rig_model.proofs.of_text.Adder.{adder_text}
+use Rattle.rig_model.specs.config.BuiltIn.{built_in_config}
+use Rattle.rig_model.specs.declared.lines.commands.Command.{Command}
+use Rattle.rig_model.specs.declared.lines.commands.Command.TheVariants.{Load, Start, ShowPort}
+use Rattle.rig_model.specs.declared.lines.ports.PortName.{PortName}
+use Rattle.rig_model.specs.declared.lines.replies.Reply.{Reply}
+use Rattle.rig_model.specs.declared.lines.replies.Reply.TheVariants.{Loaded, Started, Port}
 use Rattle.rig_laws.proofs.cited.LaterBase.{new_is_base}
 use Rattle.rig_model.specs.declared.logged.Call.{Call}
 use Rattle.rig_model.specs.declared.logged.Logged.{Logged}

@@ -3,8 +3,8 @@ use Rattle.std.proofs.Common.{◌≡◌, ℕ, pos, List, [], ◌∷◌, ◌++◌
 use Rattle.std.specs.Prelude.{codes}
 use Rattle.std.specs.Fmt.{digits}
 use Rattle.rig_model.specs.declared.events.Event.{Event}
-use Rattle.tenant_trace.specs.declared.records.Record.{Record}
-use Rattle.tenant_trace.specs.declared.records.Happening.TheVariants as happening
+use Rattle.rig_model.specs.declared.trace.records.Record.{Record}
+use Rattle.rig_model.specs.declared.trace.records.Happening.TheVariants as happening
 use Rattle.rig_model.specs.Answers.{answers_of}
 use Rattle.rig_model.specs.Legal.{is_legal, counts}
 use Rattle.rig_model.specs.Views.{row_of}

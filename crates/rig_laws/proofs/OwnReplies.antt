@@ -7,11 +7,11 @@ use Rattle.giotto_tasks.specs.declared.names.Name.{Name}
 use Rattle.rig_model.specs.declared.events.Event.{Event}
 use Rattle.rig_model.specs.declared.events.Event.TheVariants.{Own, Tick, Done}
 use Rattle.rig_model.specs.declared.jobs.JobId.{JobId}
-use Rattle.tenant_lines.specs.declared.commands.Command.{Command}
-use Rattle.tenant_lines.specs.CommandLine.{command_of_line}
-use Rattle.tenant_lines.specs.Replies.{text_of_reply}
-use Rattle.tenant_lines.specs.Words.{words_of, first_word_of, behind_first_word}
-use Rattle.rig_config.specs.Roster.{place_of}
+use Rattle.rig_model.specs.declared.lines.commands.Command.{Command}
+use Rattle.rig_model.specs.lines.CommandLine.{command_of_line}
+use Rattle.rig_model.specs.lines.Replies.{text_of_reply}
+use Rattle.rig_model.specs.lines.Words.{words_of, first_word_of, behind_first_word}
+use Rattle.rig_model.specs.config.Roster.{place_of}
 use Rattle.rig_model.specs.Answers.{answers_of}
 use Rattle.rig_model.specs.Legal.{next_tick}
 use Rattle.rig_model.specs.Base.{Setting}

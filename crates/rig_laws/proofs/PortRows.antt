@@ -1,7 +1,7 @@
 -- The ports with which the adder begins, computed from the definitions.
 use Rattle.std.proofs.Common.{◌≡◌, pos, [], ◌∷◌, Some, None, refl}
 use Rattle.std.specs.Prelude.{codes}
-use Rattle.giotto_text.proofs.cited.Adder.{adder}
+use Rattle.rig_model.proofs.of_text.Adder.{adder}
 use Rattle.rig_model.specs.Ports.{initial_ports, value_of_port}
 
 pub ports_of_adder : initial_ports adder ≡ (codes "s", pos 0) ∷ (codes "a", pos 0) ∷ (codes "o", pos 0) ∷ (codes "T.i", pos 0) ∷ []

@@ -3,8 +3,8 @@ use Rattle.std.proofs.Common.{◌≡◌, pos, [], ◌∷◌, Some, None, refl}
 use Rattle.std.specs.Prelude.{codes}
 use Rattle.giotto_tasks.specs.Names.{Valuation}
 use Rattle.giotto_tasks.specs.Syntax.{number, port}
-use Rattle.giotto_text.specs.Program.{ModeDeclaration}
-use Rattle.tenant_trace.specs.declared.records.Happening.TheVariants as happening
+use Rattle.rig_model.specs.text.Program.{ModeDeclaration}
+use Rattle.rig_model.specs.declared.trace.records.Happening.TheVariants as happening
 use Rattle.rig_model.specs.FirstHalf.{outputs_happened}
 use Rattle.rig_model.specs.Updates.{updates_happened}
 

@@ -3,7 +3,7 @@ use Rattle.std.proofs.Common.{◌≡◌, pos, negsuc, List, [], ◌∷◌, None,
 use Rattle.std.specs.Prelude.{codes}
 use Rattle.giotto_tasks.specs.Names.{Valuation}
 use Rattle.giotto_tasks.specs.Syntax.{finished}
-use Rattle.giotto_text.specs.Program.{from_line, from_grant, SensorDeclaration, ActuatorDeclaration, GiottoProgram}
+use Rattle.rig_model.specs.text.Program.{from_line, from_grant, SensorDeclaration, ActuatorDeclaration, GiottoProgram}
 use Rattle.rig_model.specs.Replacement.{carried_ports}
 
 -- sensors and actuators, and besides: output o := 1; task T(x) output o state n := 2 { }

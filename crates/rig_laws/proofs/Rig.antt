@@ -1,5 +1,5 @@
 -- The rig of the examples: the built-in configuration, and a new host.
-use Rattle.rig_config.specs.BuiltIn.{built_in_config}
+use Rattle.rig_model.specs.config.BuiltIn.{built_in_config}
 use Rattle.rig_model.specs.Base.{new_base, Setting}
 
 abbrev pub rig : Setting

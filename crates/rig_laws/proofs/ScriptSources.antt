@@ -5,11 +5,11 @@ use Rattle.std.specs.Option.{option_map_or}
 use Rattle.std.proofs.lemmas.List.{append_cancel_left}
 use Rattle.giotto_tasks.specs.declared.names.Name.{Name}
 use Rattle.giotto_tasks.proofs.cited.ListLemmas.{all_filtered, all_mapped, all_of, filter-flat_map, same_filter}
-use Rattle.rig_config.specs.Roster.{place_of}
-use Rattle.rig_config.specs.declared.TenantConfig.{TenantConfig}
-use Rattle.tenant_lines.specs.declared.commands.Command.{Command}
-use Rattle.tenant_lines.specs.CommandLine.{command_of_line}
-use Rattle.tenant_lines.specs.Words.{words_of, first_word_of, behind_first_word}
+use Rattle.rig_model.specs.config.Roster.{place_of}
+use Rattle.rig_model.specs.declared.config.TenantConfig.{TenantConfig}
+use Rattle.rig_model.specs.declared.lines.commands.Command.{Command}
+use Rattle.rig_model.specs.lines.CommandLine.{command_of_line}
+use Rattle.rig_model.specs.lines.Words.{words_of, first_word_of, behind_first_word}
 use Rattle.rig_model.specs.declared.events.Event.{Event}
 use Rattle.rig_model.specs.declared.events.Event.TheVariants.{Own, Tick, Done}
 use Rattle.rig_model.specs.declared.jobs.JobId.{JobId}

@@ -4,12 +4,12 @@ use Rattle.std.specs.Prelude.{codes}
 use Rattle.std.specs.Char.{encode_utf8}
 use Rattle.std.specs.List.{flat_map}
 use Rattle.std.specs.Str.{chars, is_utf8}
-use Rattle.rig_config.specs.BuiltIn.{built_in_config}
+use Rattle.rig_model.specs.config.BuiltIn.{built_in_config}
 use Rattle.rig_model.specs.Sessions.{ended, no_memory, pass_full, replied, session_of, strange, tenant, untold}
 use Rattle.rig_model.specs.TextLines.{cut}
-use Rattle.tenant_lines.specs.declared.commands.Command.TheVariants.{ShowMode, Start}
-use Rattle.tenant_lines.specs.declared.replies.Reply.TheVariants.{Mode, Started}
-use Rattle.tenant_lines.specs.declared.replies.Status.TheVariants.{Empty}
+use Rattle.rig_model.specs.declared.lines.commands.Command.TheVariants.{ShowMode, Start}
+use Rattle.rig_model.specs.declared.lines.replies.Reply.TheVariants.{Mode, Started}
+use Rattle.rig_model.specs.declared.lines.replies.Status.TheVariants.{Empty}
 
 -- lines, each with LF behind it
 abbrev lines : List (List ℕ) → List ℕ

@@ -4,8 +4,8 @@ use Rattle.std.specs.Prelude.{codes}
 use Rattle.std.specs.Fmt.{digits}
 use Rattle.rig_model.specs.declared.events.Event.{Event}
 use Rattle.rig_model.specs.declared.events.Event.TheVariants.{Own}
-use Rattle.tenant_lines.specs.declared.commands.Command.TheVariants.{Load, Start, Stop, ShowMode, ShowAll}
-use Rattle.tenant_trace.specs.declared.records.Happening.TheVariants as happening
+use Rattle.rig_model.specs.declared.lines.commands.Command.TheVariants.{Load, Start, Stop, ShowMode, ShowAll}
+use Rattle.rig_model.specs.declared.trace.records.Happening.TheVariants as happening
 use Rattle.rig_model.specs.Answers.{answers_of}
 use Rattle.rig_model.specs.Views.{row_of}
 use Rattle.rig_model.specs.FirstHalf.{first_half_of}
@@ -13,7 +13,7 @@ use Rattle.rig_model.specs.Row.{Row}
 use Rattle.rig_model.specs.SecondHalf.{second_half_of}
 use Rattle.rig_laws.proofs.FirstRun.{answered, tick, completed, first_run}
 use Rattle.rig_laws.proofs.Rig.{rig}
-use Rattle.giotto_rules.proofs.cited.ExamplePrograms.{switcher_text, two_constants}
+use Rattle.rig_model.proofs.of_rules.ExamplePrograms.{switcher_text, two_constants}
 
 -- T of period 3 is released at instant 0. The switch at mode time 2 finds it unfinished, one tick before its deadline, and so enters mode n, of
 -- period 9, at mode time 8, one tick before its end.

@@ -3,7 +3,7 @@ use Rattle.std.proofs.Common.{◌≡◌, ℤ, pos, [], ◌∷◌, Some, None, re
 use Rattle.std.specs.Prelude.{codes}
 use Rattle.giotto_tasks.specs.Names.{Valuation}
 use Rattle.giotto_tasks.specs.Syntax.{number, port}
-use Rattle.giotto_text.specs.Program.{ModeSwitch, ModeDeclaration}
+use Rattle.rig_model.specs.text.Program.{ModeSwitch, ModeDeclaration}
 use Rattle.rig_model.specs.Switches.{switch_taken, with_destinations}
 
 abbrev ports : ℤ → ℤ → Valuation

@@ -2,7 +2,7 @@
 
 ghost use Rattle.std.specs.Prelude.{◌≡◌, ◌++◌, ℕ, Bool, List, [], true, false};
 ghost use Rattle.rig_model.specs.declared.jobs.JobId.{JobId};
-ghost use Rattle.rig_config.specs.Roster.{is_tenant, Rig};
+ghost use Rattle.rig_model.specs.config.Roster.{is_tenant, Rig};
 ghost use Rattle.rig_model.specs.Base.{IsBase, new_base, Setting};
 ghost use Rattle.rig_model.specs.Host.{host_after};
 ghost use Rattle.rig_model.specs.HostState.{row_at, is_awaited};

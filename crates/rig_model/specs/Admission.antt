@@ -1,16 +1,16 @@
 -- Which programs a tenant is let load: the well-formed ones that texts spell, within its budgets.
 use Rattle.std.specs.Prelude.{ℕ, ◌-◌, ◌^◌, min, Bool, false, not, nat_lt, ◌&&◌, List, [], ◌∷◌, length, Option, Some, None, Result, Ok, Err}
 use Rattle.std.specs.List.{find, list_all}
-use Rattle.giotto_text.specs.declared.faults.ReadFault.{ReadFault}
-use Rattle.giotto_text.specs.declared.faults.ReadFault.TheVariants as faults
-use Rattle.giotto_text.specs.Program.{GiottoProgram}
-use Rattle.giotto_text.specs.Parsing.{parsed}
+use Rattle.giotto_rules.specs.declared.text.faults.ReadFault.{ReadFault}
+use Rattle.giotto_rules.specs.declared.text.faults.ReadFault.TheVariants as faults
+use Rattle.giotto_rules.specs.text.Program.{GiottoProgram}
+use Rattle.giotto_rules.specs.text.Parsing.{parsed}
 use Rattle.giotto_rules.specs.Declarations.{lines_read, lines_written}
 use Rattle.giotto_rules.specs.Rules.{first_broken_rule}
 use Rattle.giotto_rules.specs.Costs.{greatest_cost_of}
 use Rattle.giotto_rules.specs.Ports.{ports_of}
-use Rattle.rig_config.specs.declared.Budgets.{Budgets}
-use Rattle.rig_config.specs.Roster.{may_use}
+use Rattle.tenant_lines.specs.declared.config.Budgets.{Budgets}
+use Rattle.tenant_lines.specs.config.Roster.{may_use}
 use Rattle.tenant_lines.specs.declared.replies.Budget.{Budget}
 use Rattle.tenant_lines.specs.declared.replies.Budget.TheVariants.{Bytes, Ports, Tasks, Modes, Steps, Lines, Offers, Binds}
 use Rattle.tenant_lines.specs.declared.replies.Refusal.{Refusal}

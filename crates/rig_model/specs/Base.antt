@@ -1,12 +1,12 @@
 -- Where a history begins, and what stays fixed throughout.
 use Rattle.std.specs.Prelude.{◌≡◌, ◌<◌, ℕ, true, [], map, length}
 use Rattle.std.specs.List.{AllByRecursion}
-use Rattle.rig_config.specs.declared.TenantConfig.{TenantConfig}
+use Rattle.tenant_lines.specs.declared.config.TenantConfig.{TenantConfig}
 use Rattle.rig_model.specs.declared.jobs.JobId.{JobId}
 use Rattle.rig_model.specs.Jobs.{is_active}
 use Rattle.rig_model.specs.Row.{ActiveTask, empty_row}
 use Rattle.rig_model.specs.HostState.{HostState, row_at, is_counted}
-use Rattle.rig_config.specs.Roster.{Rig}
+use Rattle.tenant_lines.specs.config.Roster.{Rig}
 
 -- What a host has to keep so that a history can begin with it: each tenant of the roster has a row, which has counted the instants up to
 -- the next one; what is active was released before that; and what is counted is active.

@@ -3,10 +3,10 @@ use Rattle.std.specs.Prelude.{pos, unwrap_or, ℕ, length, reverse, take, if◌t
 use Rattle.giotto_tasks.specs.Names.{Valuation, value_at}
 use Rattle.giotto_rules.specs.Ports.{ProgramPort, shown_name, ports_of}
 use Rattle.tenant_lines.specs.declared.ports.PortValue.{PortValue}
-use Rattle.giotto_text.specs.Program.{GiottoProgram}
-use Rattle.rig_config.specs.declared.Budgets.{Budgets}
+use Rattle.giotto_rules.specs.text.Program.{GiottoProgram}
+use Rattle.tenant_lines.specs.declared.config.Budgets.{Budgets}
 use Rattle.rig_model.specs.GrantCommands.{GrantOutcome, grants_commanded}
-use Rattle.tenant_grants.specs.Grants.{Owner, GrantRows}
+use Rattle.tenant_lines.specs.grants.Grants.{Owner, GrantRows}
 use Rattle.tenant_lines.specs.declared.commands.Command.{Command}
 use Rattle.tenant_lines.specs.declared.commands.Command.TheVariants.{Load, Replace, Start, Stop, ShowMode, ShowPort, ShowAll, Grants}
 use Rattle.tenant_lines.specs.declared.commands.Command.TheVariants as command
@@ -19,7 +19,7 @@ use Rattle.tenant_lines.specs.declared.replies.Reply.TheVariants as reply
 use Rattle.tenant_lines.specs.declared.replies.Status.{Status}
 use Rattle.tenant_lines.specs.declared.replies.Status.TheVariants as status
 use Rattle.tenant_lines.specs.declared.ports.PortName.{PortName}
-use Rattle.tenant_trace.specs.declared.records.Happening.TheVariants as happening
+use Rattle.tenant_lines.specs.declared.trace.records.Happening.TheVariants as happening
 use Rattle.rig_model.specs.FirstHalf.{stopped_with}
 use Rattle.rig_model.specs.Tenancies.{Tenancy}
 use Rattle.rig_model.specs.Row.{StopReason, asked, overrun, TenantState, empty, loaded, running, stopped, Row, is_running, recorded}

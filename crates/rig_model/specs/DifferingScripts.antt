@@ -1,7 +1,7 @@
 -- Scripts that differ in the lines of some tenants alone. A set of tenants is here a test of their places.
 use Rattle.std.specs.Prelude.{◌≡◌, ℕ, Bool, true, false, not, List, [], filter}
 use Rattle.std.specs.Option.{option_map_or}
-use Rattle.rig_config.specs.Roster.{Rig}
+use Rattle.tenant_lines.specs.config.Roster.{Rig}
 use Rattle.rig_model.specs.declared.events.Event.{Event}
 use Rattle.rig_model.specs.declared.speakers.Speaker.{Speaker}
 use Rattle.rig_model.specs.declared.speakers.Speaker.TheVariants.{Nobody, Operator, Tenant, Unknown}

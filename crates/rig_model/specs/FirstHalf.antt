@@ -2,19 +2,19 @@
 use Rattle.std.specs.Prelude.{ℤ, List, map, ℕ, Bool, not, ◌&&◌, if◌then◌else◌, [], ◌∷◌, ◌++◌, filter, None}
 use Rattle.std.specs.List.{zip, flat_map}
 use Rattle.giotto_tasks.specs.declared.names.Name.{Name}
-use Rattle.tenant_trace.specs.declared.records.Happening.{Happening}
-use Rattle.tenant_trace.specs.declared.records.Happening.TheVariants as happening
+use Rattle.tenant_lines.specs.declared.trace.records.Happening.{Happening}
+use Rattle.tenant_lines.specs.declared.trace.records.Happening.TheVariants as happening
 use Rattle.std.specs.Option.{option_map_or}
 use Rattle.giotto_tasks.specs.Names.{Valuation, same_name, is_among}
 use Rattle.giotto_tasks.specs.Meaning.{outputs_of, states_of}
-use Rattle.giotto_text.specs.Program.{TaskDeclaration, TaskInvocation, ModeDeclaration, GiottoProgram, body_of, names_of}
+use Rattle.giotto_rules.specs.text.Program.{TaskDeclaration, TaskInvocation, ModeDeclaration, GiottoProgram, body_of, names_of}
 use Rattle.giotto_rules.specs.Declarations.{task_named, mode_named}
 use Rattle.rig_model.specs.Row.{StopReason, asked, overrun, stopped, ActiveTask, Row, is_running, in_program, in_mode, recorded}
-use Rattle.giotto_text.specs.PortNames.{own_ports, with_values}
+use Rattle.giotto_rules.specs.text.PortNames.{own_ports, with_values}
 use Rattle.rig_model.specs.Ports.{actuators_reset}
 use Rattle.rig_model.specs.Due.{is_due_at}
 use Rattle.rig_model.specs.Updates.{all_updated, updates_happened}
-use Rattle.tenant_trace.specs.Trace.{with_happenings}
+use Rattle.tenant_lines.specs.trace.Trace.{with_happenings}
 
 -- each of these outputs that is written, with its value, in their order
 abbrev pub outputs_happened : List Name → List ℤ → List Happening

@@ -1,10 +1,10 @@
 -- What a command about offers and binds does, and its reply.
 use Rattle.std.specs.Prelude.{Result, Ok, Err, List, unwrap_or}
-use Rattle.tenant_grants.specs.Grants.{GrantRows, offered, unoffered, bound, unbound, rows_of}
-use Rattle.tenant_grants.specs.declared.faults.GrantFault.{GrantFault}
-use Rattle.tenant_grants.specs.declared.faults.GrantFault.TheVariants as fault
-use Rattle.tenant_grants.specs.declared.rows.Offer as offers
-use Rattle.tenant_grants.specs.declared.rows.Bind as binds
+use Rattle.tenant_lines.specs.grants.Grants.{GrantRows, offered, unoffered, bound, unbound, rows_of}
+use Rattle.tenant_lines.specs.declared.grants.faults.GrantFault.{GrantFault}
+use Rattle.tenant_lines.specs.declared.grants.faults.GrantFault.TheVariants as fault
+use Rattle.tenant_lines.specs.declared.grants.rows.Offer as offers
+use Rattle.tenant_lines.specs.declared.grants.rows.Bind as binds
 use Rattle.tenant_lines.specs.declared.grant_lines.GrantCommand.{GrantCommand}
 use Rattle.tenant_lines.specs.declared.grant_lines.GrantCommand.TheVariants as command
 use Rattle.tenant_lines.specs.declared.replies.Budget.{Budget}

@@ -4,8 +4,8 @@ use Rattle.std.specs.List.{filter_map, zip}
 use Rattle.std.specs.Option.{option_map, option_and_then}
 use Rattle.giotto_tasks.specs.declared.names.Name.{Name}
 use Rattle.giotto_tasks.specs.Names.{Valuation}
-use Rattle.tenant_grants.specs.declared.rows.Bind.{Bind}
-use Rattle.tenant_grants.specs.Grants.{granted_value, name_of_place, offer_of, place_in}
+use Rattle.tenant_lines.specs.declared.grants.rows.Bind.{Bind}
+use Rattle.tenant_lines.specs.grants.Grants.{granted_value, name_of_place, offer_of, place_in}
 use Rattle.rig_model.specs.Row.{actuator_value, Row}
 
 -- the bind's sensor has the value that is granted through it, if one is

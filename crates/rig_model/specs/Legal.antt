@@ -3,7 +3,7 @@ use Rattle.std.specs.Prelude.{◌≡◌, ℕ, ◌+◌, ◌-◌, ◌^◌, nat_lt,
 use Rattle.rig_model.specs.declared.events.Event.{Event}
 use Rattle.rig_model.specs.declared.events.Event.TheVariants.{Own, Tick, Done}
 use Rattle.rig_model.specs.declared.jobs.JobId.{JobId}
-use Rattle.rig_config.specs.Roster.{is_tenant}
+use Rattle.tenant_lines.specs.config.Roster.{is_tenant}
 use Rattle.rig_model.specs.Base.{IsBase, Setting}
 use Rattle.rig_model.specs.Completions.{has_completion}
 use Rattle.rig_model.specs.Jobs.{is_active}

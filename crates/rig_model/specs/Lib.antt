@@ -33,3 +33,9 @@ pub mod TenantReplies
 pub mod TextLines
 pub mod Updates
 pub mod Views
+pub use Rattle.tenant_lines.specs.config
+pub use Rattle.tenant_lines.specs.grants
+pub use Rattle.tenant_lines.specs as lines
+pub use Rattle.giotto_rules.specs as rules
+pub use Rattle.giotto_rules.specs.text
+pub use Rattle.tenant_lines.specs.trace

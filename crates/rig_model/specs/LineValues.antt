@@ -1,11 +1,11 @@
 -- The values with which tenants drive the lines of the rig.
 use Rattle.std.specs.Prelude.{ℕ, Bool, false, nat_eq, Option, ℤ, find, option_and_then, pos, unwrap_or}
 use Rattle.std.specs.Option.{option_map_or}
-use Rattle.giotto_text.specs.Program.{ActuatorDeclaration, GiottoProgram}
+use Rattle.giotto_rules.specs.text.Program.{ActuatorDeclaration, GiottoProgram}
 use Rattle.rig_model.specs.Row.{Row, actuator_value}
 use Rattle.std.specs.List.{position}
-use Rattle.rig_config.specs.Roster.{Rig, may_use}
-use Rattle.rig_config.specs.declared.TenantConfig.{TenantConfig}
+use Rattle.tenant_lines.specs.config.Roster.{Rig, may_use}
+use Rattle.tenant_lines.specs.declared.config.TenantConfig.{TenantConfig}
 
 -- whether an actuator with this line, if any, drives line k
 abbrev pub drives : ℕ → Option ℕ → Bool

@@ -1,6 +1,6 @@
 -- The log of a host: what was done to it, with the replies that were given. In a log that is spoken of here the newest entry comes first.
 use Rattle.std.specs.Prelude.{◌≡◌, ◌<◌, ◌-◌, ◌^◌, ℕ, true, ◌==◌, if◌then◌else◌, List, [], ◌∷◌, ◌++◌, map, length}
-use Rattle.rig_config.specs.Roster.{is_tenant}
+use Rattle.tenant_lines.specs.config.Roster.{is_tenant}
 use Rattle.tenant_lines.specs.Replies.{text_of_reply}
 use Rattle.rig_model.specs.Base.{Setting}
 use Rattle.rig_model.specs.Host.{host_after}

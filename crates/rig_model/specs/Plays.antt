@@ -4,7 +4,7 @@ use Rattle.rig_model.specs.declared.events.Event.{Event}
 use Rattle.rig_model.specs.Answers.{answers_of}
 use Rattle.rig_model.specs.Base.{new_base, Setting}
 use Rattle.rig_model.specs.Legal.{is_legal}
-use Rattle.rig_config.specs.Roster.{Rig}
+use Rattle.tenant_lines.specs.config.Roster.{Rig}
 use Rattle.rig_model.specs.Sources.{kept_of, sources_of, stays}
 
 -- the setting of a new host of this configuration, whose first instant is 0

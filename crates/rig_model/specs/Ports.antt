@@ -8,8 +8,8 @@ use Rattle.giotto_tasks.specs.Names.{Valuation, value_at}
 use Rattle.giotto_tasks.specs.Syntax.{Expression}
 use Rattle.giotto_tasks.specs.Meaning.{value_of}
 use Rattle.giotto_rules.specs.Ports.{shown_name, slot_of}
-use Rattle.giotto_text.specs.PortNames.{own_port, with_values}
-use Rattle.giotto_text.specs.Program.{SensorDeclaration, ActuatorDeclaration, OutputDeclaration, TaskDeclaration, GiottoProgram}
+use Rattle.giotto_rules.specs.text.PortNames.{own_port, with_values}
+use Rattle.giotto_rules.specs.text.Program.{SensorDeclaration, ActuatorDeclaration, OutputDeclaration, TaskDeclaration, GiottoProgram}
 
 -- sensors, actuators and outputs with their initial values, each in text order
 abbrev pub initial_shared : GiottoProgram → Valuation

@@ -2,8 +2,8 @@
 use Rattle.std.specs.Prelude.{ℕ, ◌==◌, if◌then◌else◌, ℤ, List, [], ◌∷◌, filter, Option, Some, None, unwrap_or}
 use Rattle.std.specs.List.{enumerate_from}
 use Rattle.giotto_tasks.specs.Names.{Valuation, value_at}
-use Rattle.giotto_text.specs.Program.{Source, from_line, from_grant, SensorDeclaration}
-use Rattle.rig_config.specs.Roster.{may_use}
+use Rattle.giotto_rules.specs.text.Program.{Source, from_line, from_grant, SensorDeclaration}
+use Rattle.tenant_lines.specs.config.Roster.{may_use}
 
 -- the input value of each line that the tenant may read
 abbrev pub Readings : Type 0

@@ -2,11 +2,11 @@
 use Rattle.std.specs.Prelude.{ℕ, ℤ, Bool, true, false, List, [], ◌∷◌, Option, Some, None, if◌then◌else◌}
 use Rattle.giotto_tasks.specs.declared.names.Name.{Name}
 use Rattle.giotto_tasks.specs.Names.{Valuation, value_at, is_among}
-use Rattle.giotto_text.specs.Program.{GiottoProgram, ModeDeclaration}
-use Rattle.tenant_grants.specs.declared.rows.Offer.{Offer}
-use Rattle.tenant_grants.specs.declared.rows.Bind.{Bind}
-use Rattle.tenant_trace.specs.declared.records.Record.{Record}
-use Rattle.tenant_trace.specs.declared.records.Happening.{Happening}
+use Rattle.giotto_rules.specs.text.Program.{GiottoProgram, ModeDeclaration}
+use Rattle.tenant_lines.specs.declared.grants.rows.Offer.{Offer}
+use Rattle.tenant_lines.specs.declared.grants.rows.Bind.{Bind}
+use Rattle.tenant_lines.specs.declared.trace.records.Record.{Record}
+use Rattle.tenant_lines.specs.declared.trace.records.Happening.{Happening}
 use Rattle.giotto_rules.specs.Declarations.{mode_named, actuator_names}
 use Rattle.std.specs.Option.{option_map_or}
 

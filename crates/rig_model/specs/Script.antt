@@ -4,14 +4,14 @@ use Rattle.std.specs.List.{flat_map, enumerate_from}
 use Rattle.std.specs.Fmt.{decimal, signed_decimal}
 use Rattle.giotto_tasks.specs.declared.names.Name.{Name}
 use Rattle.giotto_tasks.specs.Names.{same_name}
-use Rattle.giotto_text.specs.Bytes.{is_name}
+use Rattle.giotto_rules.specs.text.Bytes.{is_name}
 use Rattle.rig_model.specs.declared.events.Event.{Event}
 use Rattle.rig_model.specs.declared.events.Event.TheVariants.{Own, Tick, Done}
 use Rattle.rig_model.specs.declared.jobs.JobId.{JobId}
-use Rattle.rig_config.specs.declared.TenantConfig.{TenantConfig}
+use Rattle.tenant_lines.specs.declared.config.TenantConfig.{TenantConfig}
 use Rattle.tenant_lines.specs.declared.commands.Command.{Command}
 use Rattle.tenant_lines.specs.declared.replies.Refusal.TheVariants.{BadCommand}
-use Rattle.rig_config.specs.Roster.{Rig, place_of}
+use Rattle.tenant_lines.specs.config.Roster.{Rig, place_of}
 use Rattle.tenant_lines.specs.CommandLine.{command_of_line}
 use Rattle.tenant_lines.specs.Replies.{text_of_reply, text_of_refusal}
 use Rattle.tenant_lines.specs.Words.{words_of, first_word_of, behind_first_word, values_of_words}

@@ -4,11 +4,11 @@ use Rattle.std.specs.List.{filter_map}
 use Rattle.std.specs.Option.{option_map, option_map_or}
 use Rattle.giotto_tasks.specs.Names.{Valuation, values_of}
 use Rattle.giotto_tasks.specs.Meaning.{value_of}
-use Rattle.giotto_text.specs.Program.{TaskDeclaration, ModeSwitch, TaskInvocation, ModeDeclaration, GiottoProgram, names_of}
-use Rattle.tenant_trace.specs.declared.records.Happening.TheVariants as happening
+use Rattle.giotto_rules.specs.text.Program.{TaskDeclaration, ModeSwitch, TaskInvocation, ModeDeclaration, GiottoProgram, names_of}
+use Rattle.tenant_lines.specs.declared.trace.records.Happening.TheVariants as happening
 use Rattle.giotto_rules.specs.Declarations.{sensor_names, task_named, mode_named, period_of_task}
 use Rattle.rig_model.specs.Row.{ActiveTask, Row, is_running, where_some, in_program, in_mode, recorded}
-use Rattle.giotto_text.specs.PortNames.{own_ports, with_values}
+use Rattle.giotto_rules.specs.text.PortNames.{own_ports, with_values}
 use Rattle.rig_model.specs.CommonPeriods.{least_common_multiple}
 use Rattle.rig_model.specs.Ports.{holds}
 use Rattle.rig_model.specs.Due.{is_due_at}

@@ -3,8 +3,8 @@ use Rattle.std.specs.Prelude.{ℕ, if◌then◌else◌, List, [], ◌∷◌, ◌
 use Rattle.std.specs.Option.{option_map}
 use Rattle.giotto_tasks.specs.declared.names.Name.{Name}
 use Rattle.giotto_tasks.specs.Names.{same_name}
-use Rattle.giotto_text.specs.Bytes.{is_name}
-use Rattle.rig_config.specs.Roster.{Rig, greeted}
+use Rattle.giotto_rules.specs.text.Bytes.{is_name}
+use Rattle.tenant_lines.specs.config.Roster.{Rig, greeted}
 use Rattle.rig_model.specs.TextLines.{text_of_line}
 use Rattle.rig_model.specs.declared.logged.Call.{Call}
 use Rattle.tenant_lines.specs.CommandLine.{command_of_line}

@@ -4,8 +4,8 @@ use Rattle.std.specs.Prelude.{ℕ, Bool, true, false, not, ◌==◌, if◌then�
 use Rattle.std.specs.List.{list_any, filter_map, flat_map}
 use Rattle.rig_model.specs.declared.events.Event.{Event}
 use Rattle.rig_model.specs.declared.events.Event.TheVariants.{Own, Tick, Done}
-use Rattle.tenant_grants.specs.Grants.{place_in}
-use Rattle.tenant_grants.specs.declared.rows.Bind.{Bind}
+use Rattle.tenant_lines.specs.grants.Grants.{place_in}
+use Rattle.tenant_lines.specs.declared.grants.rows.Bind.{Bind}
 use Rattle.rig_model.specs.Row.{Row}
 use Rattle.rig_model.specs.Base.{Setting}
 use Rattle.rig_model.specs.Tenancies.{roster_of}

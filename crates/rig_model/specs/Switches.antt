@@ -5,8 +5,8 @@ use Rattle.giotto_tasks.specs.declared.names.Name.{Name}
 use Rattle.giotto_tasks.specs.Names.{Valuation}
 use Rattle.giotto_tasks.specs.Syntax.{Expression}
 use Rattle.giotto_tasks.specs.Meaning.{value_of}
-use Rattle.giotto_text.specs.PortNames.{with_values}
-use Rattle.giotto_text.specs.Program.{ModeSwitch, ModeDeclaration}
+use Rattle.giotto_rules.specs.text.PortNames.{with_values}
+use Rattle.giotto_rules.specs.text.Program.{ModeSwitch, ModeDeclaration}
 use Rattle.giotto_rules.specs.Declarations.{destinations_of}
 use Rattle.rig_model.specs.Due.{is_due_at}
 use Rattle.rig_model.specs.Ports.{holds}

@@ -1,10 +1,10 @@
 -- What the tenants of a rig are given when they are made, and keep.
-use Rattle.rig_config.specs.declared.Budgets.{Budgets}
-use Rattle.tenant_grants.specs.Grants.{Owner}
+use Rattle.tenant_lines.specs.declared.config.Budgets.{Budgets}
+use Rattle.tenant_lines.specs.grants.Grants.{Owner}
 use Rattle.std.specs.Prelude.{ℕ, List, map}
 use Rattle.giotto_tasks.specs.declared.names.Name.{Name}
-use Rattle.rig_config.specs.Roster.{Rig, budgets_at}
-use Rattle.rig_config.specs.declared.TenantConfig.{TenantConfig}
+use Rattle.tenant_lines.specs.config.Roster.{Rig, budgets_at}
+use Rattle.tenant_lines.specs.declared.config.TenantConfig.{TenantConfig}
 
 pub record Tenancy : Type 0 where
   -- its place in the roster, the roster, how many offers and binds it may have, and the bounds of an offer that names none

@@ -2,9 +2,9 @@
 use Rattle.std.specs.Prelude.{ℕ, Bool, ◌&&◌, if◌then◌else◌, List, [], ◌∷◌, ◌++◌}
 use Rattle.giotto_tasks.specs.Names.{Valuation, with_value}
 use Rattle.giotto_tasks.specs.Meaning.{value_of}
-use Rattle.giotto_text.specs.Program.{ActuatorUpdate, ModeDeclaration}
-use Rattle.tenant_trace.specs.declared.records.Happening.{Happening}
-use Rattle.tenant_trace.specs.declared.records.Happening.TheVariants as happening
+use Rattle.giotto_rules.specs.text.Program.{ActuatorUpdate, ModeDeclaration}
+use Rattle.tenant_lines.specs.declared.trace.records.Happening.{Happening}
+use Rattle.tenant_lines.specs.declared.trace.records.Happening.TheVariants as happening
 use Rattle.rig_model.specs.Ports.{holds}
 use Rattle.rig_model.specs.Due.{is_due_at}
 

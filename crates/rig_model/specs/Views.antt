@@ -4,7 +4,7 @@ use Rattle.rig_model.specs.declared.events.Event.{Event}
 use Rattle.rig_model.specs.declared.events.Event.TheVariants.{Own, Tick, Done}
 use Rattle.rig_model.specs.declared.jobs.JobId.{JobId}
 use Rattle.tenant_lines.specs.declared.commands.Command.{Command}
-use Rattle.rig_config.specs.Roster.{budgets_at}
+use Rattle.tenant_lines.specs.config.Roster.{budgets_at}
 use Rattle.rig_model.specs.Row.{Row}
 use Rattle.rig_model.specs.Commands.{CommandOutcome, commanded}
 use Rattle.rig_model.specs.Instants.{LocalInstant, after_instant, local_instant}

@@ -8,9 +8,9 @@ ghost use Rattle.rig_model.specs.declared.jobs.JobId.{JobId};
 use crate::frames::copy_of_frame;
 use crate::jobs::JobId;
 use giotto_tasks::lists::List;
-use rig_config::TenantId;
 use std::alloc::{AllocError, Global};
 use tenant_lines::commands::Command;
+use tenant_lines::config::TenantId;
 
 /// An event of the host.
 #[derive(Drop)]

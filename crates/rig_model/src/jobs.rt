@@ -3,7 +3,7 @@
 ghost use Rattle.std.specs.Prelude.{◌≡◌};
 
 use giotto_tasks::names::Name;
-use rig_config::TenantId;
+use tenant_lines::config::TenantId;
 
 /// The name of a job, never used twice in one host.
 #[derive(PartialEq, Eq, PartialOrd, Ord, Drop)]

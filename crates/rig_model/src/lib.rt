@@ -16,3 +16,8 @@ pub mod jobs;
 pub mod limits;
 pub mod logged;
 pub mod speakers;
+
+pub use giotto_rules as rules;
+pub use giotto_rules::text;
+pub use tenant_lines as lines;
+pub use tenant_lines::{config, grants, trace};

@@ -7,11 +7,11 @@ ghost use Rattle.std.specs.Prelude.{◌≡◌, IfOk};
 use crate::frames::copy_of_frame;
 use crate::jobs::JobId;
 use giotto_tasks::lists::List;
-use rig_config::TenantId;
 use std::alloc::{AllocError, Global};
 use std::marker::Model;
 use std::sync::Arc;
 use tenant_lines::commands::Command;
+use tenant_lines::config::TenantId;
 use tenant_lines::replies::Reply;
 
 /// The number of a seat, from 0.

@@ -4,7 +4,7 @@ ghost use Rattle.std.specs.Prelude.{◌≡◌, ℕ, List};
 ghost use Rattle.rig_model.specs.Script.{addressee_of, speaker_of};
 ghost use Rattle.tenant_lines.specs.Words.{first_word_of};
 
-use rig_config::{Config, TenantId};
+use tenant_lines::config::{Config, TenantId};
 use tenant_lines::words;
 
 /// Who speaks in a line.

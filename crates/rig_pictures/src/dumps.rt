@@ -6,7 +6,7 @@ ghost use Rattle.rig_script.specs.BrokenOff.{ForNewHostReading};
 ghost use Rattle.rig_model.specs.Script.{script_text_of};
 
 use crate::watching::{Scene, Watch, watched_script};
-use rig_config::Config;
+use rig_model::config::Config;
 use rig_script::faults::ScriptFault;
 use std::alloc::{AllocError, Global};
 use std::io::{Read, Write};

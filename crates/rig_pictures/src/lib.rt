@@ -17,4 +17,6 @@ mod timelines;
 mod watching;
 
 pub use dumps::script_with_dump;
+pub use rig_script as script;
+pub use rig_script::host;
 pub use timelines::timeline;

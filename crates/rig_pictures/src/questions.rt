@@ -1,20 +1,20 @@
 //! What tenants are asked between two lines of a script: questions, which change nothing.
 
 ghost use Rattle.std.specs.Prelude.{◌≡◌, ◌<◌, length, IfOk, IsTrue};
-ghost use Rattle.host_core.specs.HostStanding.{ForEachState};
-ghost use Rattle.host_core.specs.Questions.{LeavesRow, is_question};
-ghost use Rattle.instant_engine.specs.Tenants.{tenant_at};
+ghost use Rattle.rig_script.specs.host.HostStanding.{ForEachState};
+ghost use Rattle.rig_script.specs.host.Questions.{LeavesRow, is_question};
+ghost use Rattle.rig_script.specs.engine.Tenants.{tenant_at};
 ghost use Rattle.rig_model.specs.HostState.{row_at};
 ghost use Rattle.rig_model.specs.Views.{after_command};
 
 use giotto_tasks::lists::List;
-use host_core::hosts::Host;
-use rig_config::TenantId;
+use rig_model::config::TenantId;
+use rig_model::lines::commands::Command;
+use rig_model::lines::ports::PortValue;
+use rig_model::lines::replies::Reply;
+use rig_script::host::hosts::Host;
 use std::alloc::{AllocError, Global};
 use tenant_dumps::views::View;
-use tenant_lines::commands::Command;
-use tenant_lines::ports::PortValue;
-use tenant_lines::replies::Reply;
 
 /// What all tenants show, in the order of the roster.
 ///

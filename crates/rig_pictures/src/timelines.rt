@@ -2,7 +2,7 @@
 
 use crate::runs::Run;
 use crate::watching::watched_script;
-use rig_config::{Config, TenantId};
+use rig_model::config::{Config, TenantId};
 use rig_script::faults::ScriptFault;
 use std::alloc::{AllocError, Global};
 use std::io;

@@ -5,14 +5,14 @@ use Rattle.rig_model.specs.Base.{Setting}
 use Rattle.rig_model.specs.Commands.{status_of}
 use Rattle.rig_model.specs.Row.{Row, TenantState, empty, loaded, running, stopped, asked, overrun, is_running}
 use Rattle.rig_model.specs.declared.events.Event.{Event}
-use Rattle.rig_config.specs.Roster.{name_at}
+use Rattle.rig_model.specs.config.Roster.{name_at}
 use Rattle.rig_model.specs.Legal.{next_tick}
 use Rattle.rig_reports.specs.inner.Reported.{listed, missed_task, overrun_of, overruns_between, overruns_up_to, row_behind}
 use Rattle.script_reports.specs.declared.listeners.Overrun.{Overrun}
 use Rattle.rig_reports.specs.inner.Telling.{running_up_to}
 use Rattle.std.proofs.lemmas.List.{get_or_append_left, get_or_push, length-append}
-use Rattle.tenant_lines.specs.declared.replies.Status.{Status}
-use Rattle.tenant_lines.specs.declared.replies.Status.TheVariants.{Empty, Loaded, Running, StoppedAsked, StoppedOverrun}
+use Rattle.rig_model.specs.declared.lines.replies.Status.{Status}
+use Rattle.rig_model.specs.declared.lines.replies.Status.TheVariants.{Empty, Loaded, Running, StoppedAsked, StoppedOverrun}
 use Rattle.giotto_tasks.specs.declared.names.Name.{Name}
 use Rattle.std.specs.Prelude.{Option, Some, None}
 

@@ -1,22 +1,22 @@
 //! Which tenants an instant stopped by an overrun: those that ran before it, and are stopped behind it since a task missed its deadline.
 
 ghost use Rattle.std.specs.Prelude.{◌≡◌, ◌<◌, ◌++◌, List, IfOk, OnOk, false, get_or, length};
-ghost use Rattle.rig_config.specs.Roster.{name_at};
+ghost use Rattle.rig_model.specs.config.Roster.{name_at};
 ghost use Rattle.rig_model.specs.Commands.{status_of};
 ghost use Rattle.rig_model.specs.Row.{Row, is_running};
 ghost use Rattle.rig_model.specs.declared.events.Event.{Event};
 ghost use Rattle.rig_reports.specs.inner.Reported.{listed, missed_task, overrun_of, overruns_up_to, row_behind};
 ghost use Rattle.rig_reports.specs.inner.Telling.{ForEachPastOf, running_up_to};
-ghost use Rattle.tenant_lines.specs.declared.replies.Reply.TheVariants.{Mode};
+ghost use Rattle.rig_model.specs.declared.lines.replies.Reply.TheVariants.{Mode};
 
 use giotto_tasks::names::Name;
-use host_core::hosts::Host;
-use rig_config::{Config, TenantId};
+use rig_model::config::{Config, TenantId};
+use rig_model::lines::commands::Command;
+use rig_model::lines::replies::{Reply, Status};
+use rig_pictures::host::hosts::Host;
 use rig_pictures::questions::ask;
 use script_reports::listeners::Overrun;
 use std::alloc::{AllocError, Global};
-use tenant_lines::commands::Command;
-use tenant_lines::replies::{Reply, Status};
 
 /// Which tenants run, by their places in the roster.
 ///

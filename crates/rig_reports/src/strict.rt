@@ -6,11 +6,11 @@ ghost use Rattle.rig_model.specs.Answered.{IsText};
 ghost use Rattle.rig_model.specs.Script.{script_text_of};
 ghost use Rattle.rig_model.specs.TextLines.{cut};
 ghost use Rattle.rig_reports.specs.inner.Reported.{IsReportBrokenOff, report_of, told_of_bad_line};
-ghost use Rattle.rig_script.specs.BrokenOff.{AreFewRead, ForNewHostReading};
+ghost use Rattle.rig_pictures.specs.script.BrokenOff.{AreFewRead, ForNewHostReading};
 
 use crate::telling::{Told, told_script};
-use rig_config::Config;
-use rig_script::faults::ScriptFault;
+use rig_model::config::Config;
+use rig_pictures::script::faults::ScriptFault;
 use script_reports::told::Report;
 use std::alloc::{AllocError, Global};
 use std::io::{Read, Write};

@@ -5,12 +5,12 @@ use Rattle.std.specs.declared.alloc.AllocError.{AllocError}
 use Rattle.std.specs.declared.alloc.Global.{Global}
 use Rattle.rig_model.specs.declared.events.Event.{Event}
 use Rattle.tenant_sources.specs.declared.tables.Addition.{Addition}
-use Rattle.host_core.specs.HostStanding.{HostStanding, Stands}
+use Rattle.tenant_sources.specs.host.HostStanding.{HostStanding, Stands}
 use Rattle.tenant_sources.specs.cited.Additions.{AreAdded, with_links}
 use Rattle.tenant_sources.specs.Links.{IsLinkTable, Links}
 use Rattle.rig_model.specs.Plays.{IsSettingOf}
 use Rattle.rig_model.specs.Base.{Setting, new_base}
-use Rattle.rig_config.specs.Roster.{Rig}
+use Rattle.rig_model.specs.config.Roster.{Rig}
 use Rattle.rig_model.specs.TextLines.{cut}
 use Rattle.rig_script.specs.BrokenOff.{ForNewHostReading}
 use Rattle.rig_script.specs.Given.{texts_of}

@@ -4,7 +4,7 @@ use Rattle.std.specs.List.{list_any}
 use Rattle.std.proofs.lemmas.List.{reverse-append}
 use Rattle.std.proofs.lemmas.List.Folds.{list_any-append}
 use Rattle.giotto_tasks.specs.declared.names.Name.{Name}
-use Rattle.rig_config.specs.Roster.{place_of}
+use Rattle.rig_model.specs.config.Roster.{place_of}
 use Rattle.rig_model.specs.Base.{Setting}
 use Rattle.rig_model.specs.Legal.{next_tick}
 use Rattle.rig_model.specs.Script.{OperatorLine, tick, work, work_of, line_values, operator_line_of, operator_step, tick_step, work_step_of, line_step, speaker_of, outstanding_at, outstanding_after, past_behind}
@@ -13,7 +13,7 @@ use Rattle.rig_model.specs.declared.events.Event.TheVariants.{Done}
 use Rattle.rig_model.specs.declared.jobs.JobId.{JobId}
 use Rattle.rig_model.specs.declared.speakers.Speaker.{Speaker}
 use Rattle.rig_model.specs.declared.speakers.Speaker.TheVariants.{Nobody, Operator, Tenant, Unknown}
-use Rattle.tenant_lines.specs.Words.{words_of, behind_first_word}
+use Rattle.rig_model.specs.lines.Words.{words_of, behind_first_word}
 use Rattle.rig_retests.specs.Courses.{IsQuiet, is_command}
 use Rattle.rig_retests.specs.Speaking.{is_tenants}
 

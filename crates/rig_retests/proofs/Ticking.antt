@@ -5,25 +5,25 @@ use Rattle.giotto_tasks.specs.declared.names.Name.{Name}
 use Rattle.rig_model.specs.declared.events.Event.{Event}
 use Rattle.rig_model.specs.declared.events.Event.TheVariants.{Own, Tick, Done}
 use Rattle.tenant_sources.specs.declared.tables.Addition.{Addition}
-use Rattle.host_core.specs.HostStanding.{HostStanding}
+use Rattle.tenant_sources.specs.host.HostStanding.{HostStanding}
 use Rattle.rig_model.specs.Legal.{next_tick}
 use Rattle.tenant_sources.specs.cited.Additions.{AreAdded, with_links}
 use Rattle.tenant_sources.specs.Links.{IsLinkTable, Links}
 use Rattle.rig_model.specs.Base.{Setting}
 use Rattle.rig_model.specs.Views.{after_command, row_of}
-use Rattle.rig_laws.proofs.cited.AloneAlong.{same_clock}
-use Rattle.rig_laws.proofs.cited.Places.{first_done}
-use Rattle.rig_config.specs.Roster.{place_of}
+use Rattle.tenant_sources.proofs.of_laws.AloneAlong.{same_clock}
+use Rattle.tenant_sources.proofs.of_laws.Places.{first_done}
+use Rattle.rig_model.specs.config.Roster.{place_of}
 use Rattle.rig_model.specs.Answered.{reply_line}
 use Rattle.rig_model.specs.declared.speakers.Speaker.{Speaker}
 use Rattle.rig_model.specs.declared.speakers.Speaker.TheVariants.{Nobody, Operator, Tenant, Unknown}
 use Rattle.rig_script.specs.cited.HostAnswers.{IsHostAfter}
 use Rattle.rig_model.specs.Script.{Step, OperatorLine, tick, work, work_of, line_values, lines_step, speaker_of, operator_line_of, operator_refusal, operator_step, tenant_step, tick_step, work_step, work_step_of, line_step, only_answered, err_who, outstanding_at, outstanding_after, past_behind}
 use Rattle.rig_model.specs.declared.jobs.JobId.{JobId}
-use Rattle.tenant_lines.specs.declared.commands.Command.{Command}
-use Rattle.tenant_lines.specs.CommandLine.{command_of_line}
-use Rattle.tenant_lines.specs.Replies.{text_of_reply}
-use Rattle.tenant_lines.specs.Words.{words_of, first_word_of, behind_first_word}
+use Rattle.rig_model.specs.declared.lines.commands.Command.{Command}
+use Rattle.rig_model.specs.lines.CommandLine.{command_of_line}
+use Rattle.rig_model.specs.lines.Replies.{text_of_reply}
+use Rattle.rig_model.specs.lines.Words.{words_of, first_word_of, behind_first_word}
 
 module _ (setting : Setting) where
   -- no instant came between: the next one has the same number, and a table stays that of the events

@@ -2,7 +2,7 @@
 
 use crate::tables::Retests;
 use crate::texts::{bind_of_link, name_of, place_of_link};
-use rig_config::{Config, TenantId};
+use rig_model::config::{Config, TenantId};
 use std::alloc::{AllocError, Global};
 
 // What a graph begins with.

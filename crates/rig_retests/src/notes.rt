@@ -5,10 +5,10 @@ ghost use Rattle.rig_retests.specs.Speaking.{is_tenants};
 
 use crate::courses::is_tenants;
 use crate::shared_lines::SharedLines;
+use rig_model::lines::words;
 use rig_script::speakers::Speaker;
 use std::alloc::{AllocError, Global};
-use tenant_lines::words;
-use tenant_programs::admission::read_program;
+use tenant_sources::programs::admission::read_program;
 
 /// How many lines were answered, whether one was a tenant's, and which rig lines the programs use that tenants were given.
 #[derive(Drop)]

@@ -1,8 +1,8 @@
 //! Which rig lines one tenant drives and another reads, since a plant may pass them on.
 
 use crate::texts::name_of;
-use giotto_text::programs::{Program, Source};
-use rig_config::{Config, TenantId};
+use rig_model::config::{Config, TenantId};
+use rig_model::text::programs::{Program, Source};
 use std::alloc::{AllocError, Global};
 
 /// The rig lines that programs use.

@@ -7,7 +7,7 @@ ghost use Rattle.tenant_sources.specs.Links.{IsChain, IsLinkTable, is_source_of,
 ghost use Rattle.tenant_sources.specs.cited.Additions.{IsPlaceOf};
 ghost use Rattle.rig_model.specs.Base.{Setting};
 ghost use Rattle.rig_model.specs.declared.events.Event.{Event};
-ghost use Rattle.rig_config.specs.Roster.{is_tenant};
+ghost use Rattle.rig_model.specs.config.Roster.{is_tenant};
 ghost use Rattle.rig_retests.specs.Courses.{IsCourseOf};
 ghost use Rattle.rig_retests.specs.inner.Watching.{IsAddedTo};
 ghost use Rattle.rig_model.specs.TextLines.{cut};
@@ -17,8 +17,7 @@ ghost use Rattle.rig_model.specs.Script.{past_after};
 use crate::courses::{Course, course_of};
 use crate::notes::Notes;
 use crate::shared_lines::SharedLines;
-use host_core::hosts::Host;
-use rig_config::{Config, TenantId};
+use rig_model::config::{Config, TenantId};
 use rig_script::answers::{Answers, answer_lines};
 use rig_script::faults::{ScriptFault, Unanswered};
 use rig_script::speakers::who_speaks;
@@ -26,6 +25,7 @@ use std::alloc::{AllocError, Global};
 use std::io;
 use std::io::Read;
 use std::marker::Model;
+use tenant_sources::host::hosts::Host;
 use tenant_sources::tables::{Addition, Link, SourceTable};
 
 /// Whose change calls for whose retest in a script. Contracts see it as the table of links between its tenants, and how the script went.

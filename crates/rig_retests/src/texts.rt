@@ -5,7 +5,7 @@ ghost use Rattle.rig_retests.specs.inner.Texts.{text_of_bind, text_of_place};
 
 use crate::columns::Columns;
 use crate::tables::Retests;
-use rig_config::{Config, TenantId};
+use rig_model::config::{Config, TenantId};
 use std::alloc::{AllocError, Global};
 use tenant_sources::tables::Link;
 

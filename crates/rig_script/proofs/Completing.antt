@@ -4,12 +4,12 @@ use Rattle.std.specs.List.{enumerate_from, AllByRecursion}
 use Rattle.std.proofs.lemmas.Bool.{and_from}
 use Rattle.rig_model.specs.declared.events.Event.{Event}
 use Rattle.rig_model.specs.declared.events.Event.TheVariants.{Done}
-use Rattle.rig_config.specs.declared.TenantConfig.{TenantConfig}
+use Rattle.rig_model.specs.declared.config.TenantConfig.{TenantConfig}
 use Rattle.rig_model.specs.declared.jobs.JobId.{JobId}
 use Rattle.rig_model.specs.Completions.{has_completion}
 use Rattle.rig_model.specs.Host.{host_after}
 use Rattle.rig_model.specs.HostState.{row_at, is_counted}
-use Rattle.instant_engine.specs.Tenants.{tenant_at}
+use Rattle.host_core.specs.engine.Tenants.{tenant_at}
 use Rattle.host_core.specs.HostStanding.{HostStanding, Stands, outstanding_jobs, outstanding_of}
 use Rattle.rig_model.specs.Legal.{was_released, is_legal}
 use Rattle.rig_model.specs.Base.{Setting}
@@ -20,7 +20,7 @@ use Rattle.giotto_tasks.proofs.cited.TestLemmas.{or_true}
 use Rattle.rig_model.proofs.cited.JobNames.{own_jobs_active}
 use Rattle.rig_script.specs.cited.HostAnswers.{IsHostAfter}
 use Rattle.rig_model.specs.Script.{outstanding_at, outstanding_after}
-use Rattle.rig_laws.proofs.cited.Places.{first_done}
+use Rattle.host_core.proofs.of_laws.Places.{first_done}
 use Rattle.host_core.proofs.cited.Outstanding.{awaited_at, code_awaits}
 use Rattle.rig_script.proofs.Outstanding.{same_outstanding, same_outstanding_at}
 

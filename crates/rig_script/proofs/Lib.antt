@@ -6,3 +6,4 @@ pub mod Outstanding
 pub mod Speaking
 pub mod Steps
 pub mod cited
+pub use Rattle.host_core.proofs.of_laws

@@ -10,7 +10,7 @@ use Rattle.rig_model.specs.Legal.{is_legal}
 use Rattle.rig_model.specs.LineValues.{value_of_line}
 use Rattle.rig_model.specs.Views.{row_of}
 use Rattle.rig_model.specs.declared.events.Event.{Event}
-use Rattle.rig_laws.proofs.cited.AloneAlong.{same_rows}
+use Rattle.host_core.proofs.of_laws.AloneAlong.{same_rows}
 use Rattle.host_core.proofs.cited.LineValues.{line_of_rows, same_values}
 use Rattle.rig_model.specs.Script.{text_of_lines}
 

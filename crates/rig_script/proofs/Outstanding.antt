@@ -2,8 +2,8 @@
 use Rattle.std.proofs.Common.{◌≡◌, ℕ, ◌<◌, Bool, true, false, not, ◌&&◌, List, length, map, filter, refl, ap, ◌∙◌, arith}
 use Rattle.std.proofs.lemmas.Bool.Decides.{nat_tests}
 use Rattle.rig_model.specs.declared.events.Event.{Event}
-use Rattle.rig_config.specs.declared.TenantConfig.{TenantConfig}
-use Rattle.rig_config.specs.Roster.{is_tenant}
+use Rattle.rig_model.specs.declared.config.TenantConfig.{TenantConfig}
+use Rattle.rig_model.specs.config.Roster.{is_tenant}
 use Rattle.rig_model.specs.Base.{IsBase, Setting}
 use Rattle.rig_model.specs.Completions.{has_completion}
 use Rattle.rig_model.specs.Host.{host_after}
@@ -13,8 +13,8 @@ use Rattle.rig_model.specs.Views.{row_of}
 use Rattle.rig_model.specs.Jobs.{job_of, is_active}
 use Rattle.rig_model.specs.Row.{Row}
 use Rattle.giotto_tasks.proofs.cited.ListLemmas.{all_map, all_mapped, same_filter}
-use Rattle.rig_laws.proofs.cited.Places.{nobody}
-use Rattle.rig_laws.proofs.cited.AloneAlong.{same_rows, same_awaits}
+use Rattle.host_core.proofs.of_laws.Places.{nobody}
+use Rattle.host_core.proofs.of_laws.AloneAlong.{same_rows, same_awaits}
 use Rattle.host_core.proofs.cited.Outstanding.{jobs_at, all_jobs, places_from_start}
 use Rattle.rig_model.proofs.cited.JobNames.{own_jobs_active}
 use Rattle.rig_model.specs.Script.{outstanding_at, outstanding_after}

@@ -4,9 +4,9 @@ use Rattle.std.specs.List.{position_or_len}
 use Rattle.std.proofs.lemmas.Bool.Decides.{nat_tests}
 use Rattle.giotto_tasks.specs.declared.names.Name.{Name}
 use Rattle.giotto_tasks.specs.Names.{same_name}
-use Rattle.rig_config.specs.declared.TenantConfig.{TenantConfig}
-use Rattle.rig_config.specs.Roster.{Rig, place_of}
-use Rattle.tenant_lines.specs.Words.{first_word_of}
+use Rattle.rig_model.specs.declared.config.TenantConfig.{TenantConfig}
+use Rattle.rig_model.specs.config.Roster.{Rig, place_of}
+use Rattle.rig_model.specs.lines.Words.{first_word_of}
 use Rattle.rig_model.specs.declared.speakers.Speaker.TheVariants.{Nobody, Operator, Tenant, Unknown}
 use Rattle.rig_model.specs.Script.{operator, speaker_of}
 

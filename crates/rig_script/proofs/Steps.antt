@@ -6,8 +6,8 @@ use Rattle.std.specs.Fmt.{decimal}
 use Rattle.std.specs.declared.alloc.AllocError.{AllocError}
 use Rattle.rig_model.specs.declared.events.Event.{Event}
 use Rattle.rig_model.specs.declared.events.Event.TheVariants.{Own, Tick}
-use Rattle.tenant_lines.specs.declared.commands.Command.{Command}
-use Rattle.tenant_lines.specs.declared.replies.Reply.{Reply}
+use Rattle.rig_model.specs.declared.lines.commands.Command.{Command}
+use Rattle.rig_model.specs.declared.lines.replies.Reply.{Reply}
 use Rattle.rig_model.specs.Host.{after_event, host_after}
 use Rattle.rig_model.specs.HostState.{row_at}
 use Rattle.host_core.specs.HostStanding.{ForEachState, HostStanding, Stands, TakesEvent, line_of}
@@ -15,12 +15,12 @@ use Rattle.rig_model.specs.LineValues.{value_of_line}
 use Rattle.rig_model.specs.Legal.{next_tick, may_follow, is_legal}
 use Rattle.rig_model.specs.Base.{Setting}
 use Rattle.rig_model.specs.Views.{after_command, row_of}
-use Rattle.rig_config.specs.Roster.{Rig, is_tenant, place_of}
-use Rattle.tenant_lines.specs.CommandLine.{command_of_line}
-use Rattle.tenant_lines.specs.Replies.{text_of_reply}
-use Rattle.tenant_lines.specs.Words.{values_of_words}
-use Rattle.rig_laws.proofs.cited.AloneAlong.{same_rows}
-use Rattle.rig_laws.proofs.cited.AloneAlong.{same_clock}
+use Rattle.rig_model.specs.config.Roster.{Rig, is_tenant, place_of}
+use Rattle.rig_model.specs.lines.CommandLine.{command_of_line}
+use Rattle.rig_model.specs.lines.Replies.{text_of_reply}
+use Rattle.rig_model.specs.lines.Words.{values_of_words}
+use Rattle.host_core.proofs.of_laws.AloneAlong.{same_rows}
+use Rattle.host_core.proofs.of_laws.AloneAlong.{same_clock}
 use Rattle.rig_script.proofs.LineValues.{same_lines}
 use Rattle.rig_model.specs.Answered.{reply_line}
 use Rattle.rig_script.specs.cited.HostAnswers.{IsHostAfter}

@@ -5,7 +5,7 @@ use Rattle.rig_script.specs.declared.faults.ScriptFault.TheVariants.{Read, Write
 use Rattle.rig_model.specs.TextLines.{text_of_line}
 use Rattle.rig_model.specs.declared.events.Event.{Event}
 use Rattle.rig_model.specs.declared.limits.TheConstants.{MAX_READS}
-use Rattle.rig_config.specs.Roster.{Rig}
+use Rattle.rig_model.specs.config.Roster.{Rig}
 use Rattle.rig_model.specs.Plays.{IsSettingOf}
 use Rattle.rig_model.specs.Base.{Setting}
 use Rattle.rig_model.specs.Script.{reply_to_line, memory_reply, past_behind}

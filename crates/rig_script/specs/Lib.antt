@@ -2,3 +2,5 @@ pub mod BrokenOff
 pub mod Given
 pub mod cited
 pub mod inner
+pub use Rattle.host_core.specs.engine
+pub use Rattle.host_core.specs as host

@@ -2,10 +2,10 @@
 
 ghost use Rattle.std.specs.Prelude.{◌≡◌, [], ◌∷◌, ◌++◌, ◌<◌, Some, codes, length, All, IfOk, IfErr, IfSome, OnOk, string_bytes};
 ghost use Rattle.std.specs.Io.KnownBytes.{Appends};
-ghost use Rattle.tenant_lines.specs.Replies.{text_of_reply};
-ghost use Rattle.tenant_lines.specs.Words.{words_of};
-ghost use Rattle.tenant_lines.specs.declared.commands.Command.{Command};
-ghost use Rattle.tenant_lines.specs.declared.replies.Reply.{Reply};
+ghost use Rattle.rig_model.specs.lines.Replies.{text_of_reply};
+ghost use Rattle.rig_model.specs.lines.Words.{words_of};
+ghost use Rattle.rig_model.specs.declared.lines.commands.Command.{Command};
+ghost use Rattle.rig_model.specs.declared.lines.replies.Reply.{Reply};
 ghost use Rattle.host_core.specs.HostStanding.{ForEachState, TakesEvent, line_of};
 ghost use Rattle.rig_model.specs.HostState.{row_at};
 ghost use Rattle.rig_model.specs.Views.{after_command};
@@ -23,18 +23,18 @@ use crate::answers::{Answers, answer_lines};
 use crate::faults::{ScriptFault, Unanswered};
 use crate::records::{Record, Unrecorded};
 use crate::speakers::{Speaker, who_is};
-use giotto_text::name_bytes::is_name;
 use host_core::hosts::{Host, TickFault};
+use host_core::programs::prepared::prepare;
 use itoa::Buffer;
-use rig_config::{Config, TenantId};
+use rig_model::config::{Config, TenantId};
+use rig_model::lines::command_lines::{LineFault, command_of, name_shown};
+use rig_model::lines::commands::Command;
+use rig_model::lines::ports::PortName;
+use rig_model::lines::replies::{Reply, add_reply, add_shown};
+use rig_model::lines::words;
+use rig_model::text::name_bytes::is_name;
 use std::alloc::{AllocError, Global};
 use std::io::{Read, Write};
-use tenant_lines::command_lines::{LineFault, command_of, name_shown};
-use tenant_lines::commands::Command;
-use tenant_lines::ports::PortName;
-use tenant_lines::replies::{Reply, add_reply, add_shown};
-use tenant_lines::words;
-use tenant_programs::prepared::prepare;
 
 impl Answers for Host {
     ghost stands = { λ host setting texts past. IsHostAfter setting host past };

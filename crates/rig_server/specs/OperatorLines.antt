@@ -1,7 +1,7 @@
 -- The operator's lines in a server.
 use Rattle.std.specs.Prelude.{ℕ, ℤ, if◌then◌else◌, List, [], ◌∷◌, Option, Some, None, codes}
 use Rattle.giotto_tasks.specs.Names.{same_name}
-use Rattle.tenant_lines.specs.Words.{values_of_words}
+use Rattle.rig_model.specs.lines.Words.{values_of_words}
 use Rattle.rig_server.specs.declared.operator_lines.OperatorLine.{OperatorLine}
 use Rattle.rig_server.specs.declared.operator_lines.OperatorLine.TheVariants.{Blank, Tick, Lines, Wait, Halt, BadCommand}
 

@@ -18,3 +18,5 @@ mod register;
 mod replies;
 pub mod seats;
 pub mod serving;
+
+pub use worker_pool as pool;

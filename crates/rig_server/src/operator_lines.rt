@@ -1,12 +1,12 @@
 //! The operator's lines, as they stand in a server: without `op` before them.
 
 ghost use Rattle.std.specs.Prelude.{◌≡◌, ◌==◌, ◌∷◌, IfOk, IsErr, if◌then◌else◌, codes, length};
-ghost use Rattle.tenant_lines.specs.Words.{first_word_of, words_of};
+ghost use Rattle.rig_model.specs.lines.Words.{first_word_of, words_of};
 ghost use Rattle.rig_server.specs.OperatorLines.{bad_command, line_of, served_line_of};
 
+use rig_model::lines::words;
+use rig_model::lines::words::Values;
 use std::alloc::{AllocError, Global};
-use tenant_lines::words;
-use tenant_lines::words::Values;
 
 /// What a line of the operator is.
 #[derive(Drop)]

@@ -4,7 +4,7 @@ use Rattle.std.specs.Io.KnownBytes.{Appends}
 use Rattle.locked_book.specs.Books.{PassValue}
 use Rattle.locked_book.specs.declared.faults.DeskFault.{DeskFault}
 use Rattle.locked_book.specs.declared.faults.DeskFault.TheVariants as desk
-use Rattle.tenant_lines.specs.declared.commands.Command.{Command}
+use Rattle.rig_model.specs.declared.lines.commands.Command.{Command}
 use Rattle.rig_model.specs.Sessions.{Outcome, State, Step, call, calls_by, ended, no_memory, pass_full, says, state_by, stays_quiet, strange, text_of_outcome, written}
 use Rattle.rig_sessions.specs.inner.Steps.{IsCallWithText}
 use Rattle.rig_sessions.specs.Talks.{outcome_of}

@@ -7,10 +7,10 @@ use Rattle.std.specs.Io.KnownBytes.{Appends}
 use Rattle.locked_book.specs.Books.{AreCalled, PassValue, asked_by, asking}
 use Rattle.locked_book.specs.declared.faults.DeskFault.{DeskFault}
 use Rattle.locked_book.specs.declared.faults.DeskFault.TheVariants as desk
-use Rattle.rig_config.specs.Roster.{Rig, greeted}
+use Rattle.rig_model.specs.config.Roster.{Rig, greeted}
 use Rattle.rig_model.specs.Sessions.{Outcome, Session, SessionLine, State, Step, ask, behind_step, blank, call, ended, form_step, hello, hello_step, no_memory, quit, replied, session_line_of, strange, stranger, tenant, text_of_outcome, text_step, untold, written}
 use Rattle.rig_model.specs.declared.logged.Call.{Call}
-use Rattle.tenant_lines.specs.declared.commands.Command.{Command}
+use Rattle.rig_model.specs.declared.lines.commands.Command.{Command}
 use Rattle.rig_sessions.specs.Talks.{outcome_of}
 use Rattle.rig_sessions.specs.declared.faults.TalkFault.{TalkFault}
 use Rattle.rig_sessions.specs.declared.faults.TalkFault.TheVariants.{Read, Write, Turns, Desk}

@@ -4,13 +4,13 @@ use Rattle.std.proofs.lemmas.Bool.Decides.{nat_tests}
 use Rattle.std.specs.Option.{option_map}
 use Rattle.giotto_tasks.specs.Names.{same_name}
 use Rattle.giotto_tasks.proofs.cited.NameLemmas.{same_name_is}
-use Rattle.giotto_text.specs.Bytes.{is_name}
-use Rattle.rig_config.specs.Roster.{Rig}
-use Rattle.tenant_lines.specs.CommandLine.{command_of_line}
-use Rattle.tenant_lines.specs.Words.{words_of, first_word_of, behind_first_word}
-use Rattle.tenant_lines.specs.declared.commands.Command.{Command}
-use Rattle.tenant_lines.specs.cited.Copies.{has_text}
-use Rattle.tenant_lines.proofs.cited.WordLemmas.{words_first, words_none}
+use Rattle.rig_model.specs.text.Bytes.{is_name}
+use Rattle.rig_model.specs.config.Roster.{Rig}
+use Rattle.rig_model.specs.lines.CommandLine.{command_of_line}
+use Rattle.rig_model.specs.lines.Words.{words_of, first_word_of, behind_first_word}
+use Rattle.rig_model.specs.declared.lines.commands.Command.{Command}
+use Rattle.rig_model.specs.lines.cited.Copies.{has_text}
+use Rattle.rig_model.proofs.of_lines.WordLemmas.{words_first, words_none}
 use Rattle.rig_model.specs.Sessions.{State, ask, blank, bye, ended, err_bad_command, err_not_greeted, form_step, hello, hello_of, line_of_words, quit, quit_of, says, session_line_of, stays_quiet, stranger, tenant}
 use Rattle.rig_sessions.specs.inner.Steps.{IsCallWithText}
 

@@ -4,7 +4,7 @@ use Rattle.std.proofs.KnownBytes.{Appends-trans, Appends-kept}
 use Rattle.std.specs.Io.KnownBytes.{Appends, Keeps}
 use Rattle.std.specs.List.{AllByRecursion}
 use Rattle.locked_book.specs.Books.{PassValue}
-use Rattle.rig_config.specs.Roster.{Rig}
+use Rattle.rig_model.specs.config.Roster.{Rig}
 use Rattle.rig_model.specs.Answered.{IsText, state_after}
 use Rattle.rig_model.specs.TextLines.{cut, text_of_line, whole_lines}
 use Rattle.rig_model.specs.declared.limits.TheConstants.{MAX_READS}

@@ -3,7 +3,7 @@ use Rattle.std.specs.Prelude.{◌≡◌, ◌≢◌, ◌≤◌, ◌*◌, ◌⊎�
 use Rattle.locked_book.specs.Books.{PassValue}
 use Rattle.locked_book.specs.declared.faults.DeskFault.{DeskFault}
 use Rattle.locked_book.specs.declared.faults.DeskFault.TheVariants as desk
-use Rattle.rig_config.specs.Roster.{Rig}
+use Rattle.rig_model.specs.config.Roster.{Rig}
 use Rattle.rig_model.specs.TextLines.{cut, whole_lines}
 use Rattle.rig_model.specs.declared.limits.TheConstants.{MAX_READS}
 use Rattle.rig_model.specs.declared.logged.Call.{Call}

@@ -3,15 +3,15 @@
 ghost use Rattle.locked_book.specs.Books.{AreCalled};
 ghost use Rattle.std.specs.Prelude.{◌≡◌, [], ◌∷◌, ◌++◌, IfOk, OnErr};
 
-use locked_book::naming::Naming;
 use locked_book::desks::Desk;
 use locked_book::faults::DeskFault;
+use locked_book::naming::Naming;
 use locked_book::passes::Pass;
-use rig_config::TenantId;
+use rig_model::config::TenantId;
+use rig_model::lines::commands::Command;
+use rig_model::lines::replies::Reply;
 use std::alloc::Global;
 use std::sync::Wait;
-use tenant_lines::commands::Command;
-use tenant_lines::replies::Reply;
 
 /// Who takes the calls of a session.
 pub trait Calls<N: Naming> {

@@ -17,3 +17,5 @@ pub mod sessions;
 pub mod talking;
 mod waiting;
 mod writing;
+
+pub use text_lines as line_reader;

@@ -2,20 +2,20 @@
 
 ghost use Rattle.std.specs.Prelude.{◌≡◌, ◌↔◌, Some, None, if◌then◌else◌, IsTrue, IfOk, OnErr, IsErr, is_some};
 ghost use Rattle.std.specs.Option.{option_map};
-ghost use Rattle.tenant_lines.specs.CommandLine.{command_of_line};
-ghost use Rattle.tenant_lines.specs.Words.{words_of, first_word_of, behind_first_word};
-ghost use Rattle.rig_config.specs.Roster.{greeted};
+ghost use Rattle.rig_model.specs.lines.CommandLine.{command_of_line};
+ghost use Rattle.rig_model.specs.lines.Words.{words_of, first_word_of, behind_first_word};
+ghost use Rattle.rig_model.specs.config.Roster.{greeted};
 ghost use Rattle.rig_model.specs.Sessions.{ask, ended, err_bad_command, err_not_greeted, form_step, hello, hello_of, hello_step, quit_of, stranger, text_step};
 ghost use Rattle.rig_sessions.specs.inner.Steps.{IsStep, IsCallWithText, text_of_own};
 
 use crate::replies::OwnReply;
-use giotto_text::name_bytes::is_name;
-use rig_config::{Config, TenantId};
+use rig_model::config::{Config, TenantId};
+use rig_model::lines::command_lines::{LineFault, command_of};
+use rig_model::lines::commands::Command;
+use rig_model::lines::words;
+use rig_model::text::name_bytes::is_name;
 use std::alloc::{AllocError, Global};
 use std::marker::Model;
-use tenant_lines::command_lines::{LineFault, command_of};
-use tenant_lines::commands::Command;
-use tenant_lines::words;
 
 /// What a line is.
 #[derive(Drop)]

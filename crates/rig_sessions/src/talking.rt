@@ -13,14 +13,14 @@ use crate::faults::TalkFault;
 use crate::sessions::{Session, Step};
 use crate::waiting::{Work, call_and_say, call_waiting};
 use crate::writing::{flush, refuse, say, say_bad_line, say_reply};
-use locked_book::naming::Naming;
 use locked_book::faults::DeskFault;
+use locked_book::naming::Naming;
 use locked_book::passes::Pass;
-use rig_config::{Config, TenantId};
+use rig_model::config::{Config, TenantId};
+use rig_model::lines::commands::Command;
 use std::alloc::Global;
 use std::io::{Read, Write};
 use std::sync::Wait;
-use tenant_lines::commands::Command;
 use text_lines::lines::{Behind, Lines};
 
 /// Answers the lines of a client, in their order, until its input or the session ends: by itself, or by a call of the pass, which comes

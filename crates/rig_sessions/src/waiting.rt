@@ -2,23 +2,23 @@
 
 ghost use Rattle.std.specs.Prelude.{◌≡◌, ◌⊎◌, Option, ℕ, ◌+◌, ◌<◌, ◌≤◌, List, [], ◌∷◌, ◌++◌, drop, length, take, IfErr, IfOk, OnErr, OnOk};
 ghost use Rattle.std.specs.Io.KnownBytes.{Appends};
-ghost use Rattle.rig_config.specs.Roster.{Rig};
+ghost use Rattle.rig_model.specs.config.Roster.{Rig};
 ghost use Rattle.rig_model.specs.Sessions.{Outcome, State};
 ghost use Rattle.rig_sessions.specs.inner.Answered.{AreAnswered, AreTaken, AreTold, AreUnanswered, AreWaiting};
 
 use crate::calls::Calls;
 use crate::faults::TalkFault;
 use crate::writing::{refuse, say, say_reply};
-use locked_book::naming::Naming;
 use locked_book::faults::DeskFault;
+use locked_book::naming::Naming;
 use locked_book::passes::Pass;
-use rig_config::TenantId;
+use rig_model::config::TenantId;
+use rig_model::lines::commands::Command;
+use rig_model::lines::grant_lines::GrantCommand;
 use rig_model::logged::KeptCall;
 use std::alloc::Global;
 use std::io::Write;
 use std::sync::Wait;
-use tenant_lines::commands::Command;
-use tenant_lines::grant_lines::GrantCommand;
 use text_lines::lines::MOST_LINES;
 
 /// What a session has at hand while it answers lines.

@@ -2,15 +2,15 @@
 
 ghost use Rattle.std.specs.Prelude.{◌≡◌, ◌⊎◌, string_bytes, IfErr, OnOk};
 ghost use Rattle.std.specs.Io.KnownBytes.{Appends, Keeps};
-ghost use Rattle.tenant_lines.specs.Replies.{text_of_reply};
+ghost use Rattle.rig_model.specs.lines.Replies.{text_of_reply};
 ghost use Rattle.rig_model.specs.Sessions.{bye_bad_line, text_of_outcome, untold, written};
 ghost use Rattle.rig_sessions.specs.Talks.{outcome_of};
 
 use crate::faults::TalkFault;
 use locked_book::faults::DeskFault;
+use rig_model::lines::replies::{Reply, add_reply};
 use std::alloc::AllocError;
 use std::io::Write;
-use tenant_lines::replies::{Reply, add_reply};
 
 /// Writes the reply to a call, or that there is no memory for its text.
 pub(crate) fn say_reply<W: Write>(

@@ -2,13 +2,13 @@
 
 use giotto_tasks::lists::List;
 use giotto_tasks::names::Name;
-use host_core::events::Event;
-use host_core::plays::play;
-use rig_config::{TenantId, built_in};
+use rig_model::config::{TenantId, built_in};
+use rig_model::lines::command_lines::command_of;
+use rig_model::lines::texts::Text;
 use std::alloc::{AllocError, Global};
-use tenant_jobs::jobs::JobId;
-use tenant_lines::command_lines::command_of;
-use tenant_lines::texts::Text;
+use worker_pool::host::events::Event;
+use worker_pool::host::plays::play;
+use worker_pool::job_table::jobs::JobId;
 
 const ALPHA: TenantId = 0;
 

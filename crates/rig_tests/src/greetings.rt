@@ -1,6 +1,6 @@
 //! Greetings of the built-in configuration, of which no line of a script makes one.
 
-use rig_config::{TenantId, built_in};
+use rig_model::config::{TenantId, built_in};
 use std::alloc::Global;
 
 // Whether this name and this key greet the tenant at this place, or nobody.

@@ -2,13 +2,13 @@
 
 use giotto_tasks::lists::List;
 use giotto_tasks::names::Name;
-use host_core::events::Event;
-use host_core::plays::{PlayFault, play};
-use rig_config::built_in;
+use rig_model::config::built_in;
+use rig_model::lines::commands::Command;
+use rig_model::lines::texts::Text;
 use std::alloc::{AllocError, Global};
-use tenant_jobs::jobs::JobId;
-use tenant_lines::commands::Command;
-use tenant_lines::texts::Text;
+use worker_pool::host::events::Event;
+use worker_pool::host::plays::{PlayFault, play};
+use worker_pool::job_table::jobs::JobId;
 
 // Reads a sensor, adds 1, and drives an actuator with the sum, with a period of 2 ticks.
 const ADDER: &str =

@@ -4,12 +4,11 @@
 ghost use Rattle.std.specs.Prelude.{◌≡◌, ◌≤◌};
 
 use crate::desks::{both, entries};
-use locked_book::histories::NewHistory;
-use locked_book::naming::Naming;
-use instant_engine::{JobId, Jobs};
-use locked_book::desks::Desk;
-use locked_book::passes::Pass;
-use rig_config::{Config, TenantId, built_in};
+use rig_model::config::{Config, TenantId, built_in};
+use rig_model::lines::command_lines::command_of;
+use rig_model::lines::commands::Command;
+use rig_model::lines::replies::print_reply;
+use rig_model::lines::texts::Text;
 use std::alloc::Global;
 use std::marker::Brand;
 use std::sync::atomic::{AtomicUsize, Ordering};
@@ -17,10 +16,11 @@ use std::sync::{Mutex, Wait};
 use std::thread;
 use std::thread::Threads;
 use std::time::{Clock, Duration};
-use tenant_lines::command_lines::command_of;
-use tenant_lines::commands::Command;
-use tenant_lines::replies::print_reply;
-use tenant_lines::texts::Text;
+use worker_pool::book::desks::Desk;
+use worker_pool::book::histories::NewHistory;
+use worker_pool::book::naming::Naming;
+use worker_pool::book::passes::Pass;
+use worker_pool::engine::{JobId, Jobs};
 use worker_pool::gates::{Free, Gate};
 use worker_pool::pools::Pool;
 

@@ -1,6 +1,6 @@
 //! Scripts whose bytes come one by one, a read that fails in mid-line, and want of memory for a reply.
 
-use rig_config::built_in;
+use rig_model::config::built_in;
 use rig_script::answers::{Answers, answer_lines};
 use rig_script::faults::{ScriptFault, Unanswered};
 use rig_script::script;

@@ -6,12 +6,8 @@ use crate::sessions::{
     ALPHAS, ALPHAS_REPLIES, BETAS, BETAS_REPLIES, THIRDS, THIRDS_REPLIES, talked, talked_on,
 };
 use crate::threads::closed;
-use locked_book::histories::NewHistory;
-use locked_book::naming::Naming;
 use giotto_tasks::lists::List;
-use locked_book::desks::Desk;
-use locked_book::passes::Pass;
-use rig_config::{Config, built_in};
+use rig_model::config::{Config, built_in};
 use rig_model::logged::Logged;
 use rig_sessions::calls::Calls;
 use std::alloc::Global;
@@ -20,6 +16,10 @@ use std::sync::Wait;
 use std::thread;
 use std::thread::Threads;
 use std::time::Clock;
+use worker_pool::book::desks::Desk;
+use worker_pool::book::histories::NewHistory;
+use worker_pool::book::naming::Naming;
+use worker_pool::book::passes::Pass;
 use worker_pool::gates::Free;
 use worker_pool::pools::Pool;
 

@@ -2,16 +2,16 @@
 
 use arrayvec::ArrayVec;
 use giotto_tasks::names::Name;
-use host_core::hosts::Host;
-use rig_config::{TenantId, built_in};
+use rig_model::config::{TenantId, built_in};
+use rig_model::grants::grants::Grants;
+use rig_model::lines::commands::Command;
+use rig_model::lines::replies::Reply;
+use rig_model::lines::texts::Text;
+use rig_model::trace::records::{Happening, Record};
+use rig_model::trace::traces::Trace;
 use std::alloc::Global;
-use tenant_grants::grants::Grants;
-use tenant_lines::commands::Command;
-use tenant_lines::replies::Reply;
-use tenant_lines::texts::Text;
-use tenant_state::tenants::Tenant;
-use tenant_trace::records::{Happening, Record};
-use tenant_trace::traces::Trace;
+use worker_pool::host::hosts::Host;
+use worker_pool::state::tenants::Tenant;
 
 const ALPHA: TenantId = 0;
 

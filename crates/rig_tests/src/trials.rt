@@ -2,13 +2,13 @@
 
 use giotto_tasks::lists::List;
 use giotto_tasks::names::Name;
-use host_core::events::Event;
-use host_core::plays::PlayFault;
-use host_core::trials::{TrialOutcome, trial};
-use rig_config::{TenantId, built_in};
+use rig_model::config::{TenantId, built_in};
+use rig_model::lines::command_lines::command_of;
 use std::alloc::{AllocError, Global};
-use tenant_jobs::jobs::JobId;
-use tenant_lines::command_lines::command_of;
+use worker_pool::host::events::Event;
+use worker_pool::host::plays::PlayFault;
+use worker_pool::host::trials::{TrialOutcome, trial};
+use worker_pool::job_table::jobs::JobId;
 
 const ALPHA: TenantId = 0;
 

@@ -6,22 +6,22 @@ use Rattle.std.proofs.lemmas.List.{drop_more, map-append}
 use Rattle.std.proofs.lemmas.Option.{slice_get_past, slice_get_read}
 use Rattle.std.specs.Option.{option_copied}
 use Rattle.std.specs.Slice.{IsItemAt}
-use Rattle.giotto_reports.specs.Reports.{IsWellFormed}
-use Rattle.giotto_text.specs.Program.{GiottoProgram}
+use Rattle.program_checks.specs.reports.Reports.{IsWellFormed}
+use Rattle.rig_model.specs.text.Program.{GiottoProgram}
 use Rattle.program_checks.proofs.cited.WellFormed.{program_of_text, text_of_program}
-use Rattle.giotto_rules.specs.Rules.{first_broken_rule}
-use Rattle.giotto_text.specs.Parsing.{parsed}
-use Rattle.rig_config.specs.Roster.{Rig, place_of}
-use Rattle.rig_config.specs.declared.TenantConfig.{TenantConfig}
+use Rattle.rig_model.specs.rules.Rules.{first_broken_rule}
+use Rattle.rig_model.specs.text.Parsing.{parsed}
+use Rattle.rig_model.specs.config.Roster.{Rig, place_of}
+use Rattle.rig_model.specs.declared.config.TenantConfig.{TenantConfig}
 use Rattle.rig_model.specs.Script.{OperatorLine, tick, work, work_of, line_values, speaker_of}
 use Rattle.rig_model.specs.TextLines.{text_of_line}
 use Rattle.rig_model.specs.declared.speakers.Speaker.TheVariants.{Tenant}
-use Rattle.tenant_lines.specs.CommandLine.{command_of_line}
-use Rattle.tenant_lines.specs.Words.{behind_first_word}
-use Rattle.rig_config.specs.declared.Budgets.{Budgets}
+use Rattle.rig_model.specs.lines.CommandLine.{command_of_line}
+use Rattle.rig_model.specs.lines.Words.{behind_first_word}
+use Rattle.rig_model.specs.declared.config.Budgets.{Budgets}
 use Rattle.rig_model.specs.Admission.{broken_budget, program_of}
-use Rattle.tenant_lines.specs.declared.replies.Budget.{Budget}
-use Rattle.tenant_lines.specs.declared.replies.Refusal.{Refusal}
+use Rattle.rig_model.specs.declared.lines.replies.Budget.{Budget}
+use Rattle.rig_model.specs.declared.lines.replies.Refusal.{Refusal}
 use Rattle.script_checks.specs.declared.scripts.FaultyLine.{FaultyLine}
 use Rattle.script_checks.specs.declared.scripts.LineFault.{LineFault}
 use Rattle.script_checks.specs.declared.scripts.LineFault.TheVariants.{BadFrame, UnknownTenant, Program}

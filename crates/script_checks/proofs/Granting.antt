@@ -1,14 +1,14 @@
 -- What is said of grants, one line on.
 use Rattle.std.proofs.Common.{◌≡◌, ◌+◌, ◌<◌, ◌∙◌, ℕ, List, [], ◌∷◌, ◌++◌, Some, None, Result, Ok, Err, length, drop, get_or, refl, sym, ap, append_assoc}
 use Rattle.std.proofs.lemmas.List.{drop_more}
-use Rattle.giotto_reports.specs.Reports.{IsWellFormed}
-use Rattle.giotto_rules.specs.Rules.{first_broken_rule}
-use Rattle.giotto_text.specs.Parsing.{parsed}
-use Rattle.giotto_text.specs.Program.{GiottoProgram}
+use Rattle.program_checks.specs.reports.Reports.{IsWellFormed}
+use Rattle.rig_model.specs.rules.Rules.{first_broken_rule}
+use Rattle.rig_model.specs.text.Parsing.{parsed}
+use Rattle.rig_model.specs.text.Program.{GiottoProgram}
 use Rattle.program_checks.proofs.cited.WellFormed.{program_of_text, text_of_program}
-use Rattle.rig_config.specs.Roster.{Rig}
+use Rattle.rig_model.specs.config.Roster.{Rig}
 use Rattle.rig_model.specs.Admission.{program_of}
-use Rattle.tenant_lines.specs.declared.replies.Refusal.{Refusal}
+use Rattle.rig_model.specs.declared.lines.replies.Refusal.{Refusal}
 use Rattle.script_checks.specs.Grants.{loaded, said_from, said_in_line}
 use Rattle.script_checks.specs.declared.binds.Said.{Said}
 use Rattle.script_checks.specs.declared.binds.What.TheVariants.{Program}

@@ -1,11 +1,11 @@
 -- What was found at a line tells of its fault.
 use Rattle.std.proofs.Common.{◌≡◌, ℕ, List, Option, Some, None, Result, Ok, Err, IfOk, IfSome, slice_get, refl, sym, subst}
-use Rattle.rig_config.specs.Roster.{Rig}
-use Rattle.rig_config.specs.declared.TenantConfig.{TenantConfig}
+use Rattle.rig_model.specs.config.Roster.{Rig}
+use Rattle.rig_model.specs.declared.config.TenantConfig.{TenantConfig}
 use Rattle.rig_model.specs.Script.{speaker_of}
 use Rattle.rig_model.specs.declared.speakers.Speaker.TheVariants.{Tenant}
-use Rattle.tenant_lines.specs.CommandLine.{command_of_line}
-use Rattle.tenant_lines.specs.Words.{behind_first_word}
+use Rattle.rig_model.specs.lines.CommandLine.{command_of_line}
+use Rattle.rig_model.specs.lines.Words.{behind_first_word}
 use Rattle.script_checks.specs.LineTexts.{text_or_none}
 use Rattle.script_checks.specs.inner.Telling.{TellCommand}
 use Rattle.script_checks.specs.Told.{IsOneFinding, TellBrought, TellLine, TellProgram, of_fault, program_in}

@@ -1,26 +1,26 @@
 -- Offers and binds of a script that grant nothing in it.
 use Rattle.std.specs.Prelude.{◌≡◌, ℕ, ◌+◌, ◌==◌, Bool, true, false, not, ◌&&◌, if◌then◌else◌, List, [], ◌∷◌, ◌++◌, map, Option, Some, None, Result, Ok, Err, codes, string_bytes}
 use Rattle.std.specs.List.{flat_map, list_any}
-use Rattle.giotto_faults.specs.declared.findings.Finding.{Finding}
-use Rattle.giotto_faults.specs.declared.findings.Severity.{Severity}
-use Rattle.giotto_faults.specs.declared.findings.Severity.TheVariants.{Note}
-use Rattle.giotto_faults.specs.declared.places.Place.{Place}
+use Rattle.program_checks.specs.declared.faults.findings.Finding.{Finding}
+use Rattle.program_checks.specs.declared.faults.findings.Severity.{Severity}
+use Rattle.program_checks.specs.declared.faults.findings.Severity.TheVariants.{Note}
+use Rattle.program_checks.specs.declared.faults.places.Place.{Place}
 use Rattle.giotto_tasks.specs.declared.names.Name.{Name}
 use Rattle.giotto_tasks.specs.Names.{same_name}
-use Rattle.giotto_text.specs.Program.{Source, from_line, from_grant, SensorDeclaration, ActuatorDeclaration, GiottoProgram}
-use Rattle.rig_config.specs.Roster.{Rig, name_at, place_of}
+use Rattle.rig_model.specs.text.Program.{Source, from_line, from_grant, SensorDeclaration, ActuatorDeclaration, GiottoProgram}
+use Rattle.rig_model.specs.config.Roster.{Rig, name_at, place_of}
 use Rattle.rig_model.specs.Admission.{program_of}
 use Rattle.rig_model.specs.Script.{speaker_of}
 use Rattle.rig_model.specs.TextLines.{text_of_line}
 use Rattle.rig_model.specs.declared.speakers.Speaker.{Speaker}
 use Rattle.rig_model.specs.declared.speakers.Speaker.TheVariants.{Nobody, Operator, Tenant, Unknown}
-use Rattle.tenant_lines.specs.CommandLine.{command_of_line}
-use Rattle.tenant_lines.specs.Words.{behind_first_word}
-use Rattle.tenant_lines.specs.declared.commands.Command.{Command}
-use Rattle.tenant_lines.specs.declared.commands.Command.TheVariants as command
-use Rattle.tenant_lines.specs.declared.grant_lines.GrantCommand.{GrantCommand}
-use Rattle.tenant_lines.specs.declared.grant_lines.GrantCommand.TheVariants.{Offer, Unoffer, Bind, Unbind, Rows}
-use Rattle.tenant_lines.specs.declared.replies.Refusal.{Refusal}
+use Rattle.rig_model.specs.lines.CommandLine.{command_of_line}
+use Rattle.rig_model.specs.lines.Words.{behind_first_word}
+use Rattle.rig_model.specs.declared.lines.commands.Command.{Command}
+use Rattle.rig_model.specs.declared.lines.commands.Command.TheVariants as command
+use Rattle.rig_model.specs.declared.lines.grant_lines.GrantCommand.{GrantCommand}
+use Rattle.rig_model.specs.declared.lines.grant_lines.GrantCommand.TheVariants.{Offer, Unoffer, Bind, Unbind, Rows}
+use Rattle.rig_model.specs.declared.lines.replies.Refusal.{Refusal}
 use Rattle.script_checks.specs.LineTexts.{offset_of_word, place_in, text_or_none}
 use Rattle.script_checks.specs.Told.{line_at}
 use Rattle.script_checks.specs.declared.binds.Said.{Said}

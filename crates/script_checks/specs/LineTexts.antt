@@ -1,15 +1,15 @@
 -- In which words a fault of a line of a script is told, and where.
 use Rattle.std.specs.Prelude.{◌≡◌, ℕ, ◌-◌, min, Bool, if◌then◌else◌, List, [], ◌∷◌, ◌++◌, length, Option, Some, None, codes, string_bytes}
 use Rattle.std.specs.Fmt.{decimal}
-use Rattle.giotto_faults.specs.Places.{place_of}
-use Rattle.giotto_faults.specs.declared.findings.Finding.{Finding}
-use Rattle.giotto_faults.specs.declared.findings.Severity.TheVariants.{Error}
-use Rattle.giotto_faults.specs.declared.places.Place.{Place}
+use Rattle.program_checks.specs.faults.Places.{place_of}
+use Rattle.program_checks.specs.declared.faults.findings.Finding.{Finding}
+use Rattle.program_checks.specs.declared.faults.findings.Severity.TheVariants.{Error}
+use Rattle.program_checks.specs.declared.faults.places.Place.{Place}
 use Rattle.giotto_tasks.specs.Names.{is_among, same_name}
-use Rattle.rig_config.specs.Roster.{Rig}
+use Rattle.rig_model.specs.config.Roster.{Rig}
 use Rattle.rig_model.specs.Script.{operator}
 use Rattle.rig_model.specs.TextLines.{text_of_line}
-use Rattle.tenant_lines.specs.Words.{behind_first_word, first_word_of}
+use Rattle.rig_model.specs.lines.Words.{behind_first_word, first_word_of}
 use Rattle.script_checks.specs.declared.scripts.LineFault.{LineFault}
 use Rattle.script_checks.specs.declared.scripts.LineFault.TheVariants.{TooLong, NotText, UnknownSpeaker, BadCommand, BadFrame, UnknownTenant, Program}
 

@@ -1,13 +1,13 @@
 -- What is wrong with the lines of a script, by the text of each alone.
 use Rattle.std.specs.Prelude.{◌≡◌, ℕ, ◌+◌, ◌==◌, Bool, true, false, nat_le, if◌then◌else◌, List, [], ◌∷◌, length, Option, Some, None, is_some, is_none, map, option_map, Result, Ok, Err}
-use Rattle.giotto_text.specs.Program.{GiottoProgram}
-use Rattle.rig_config.specs.Roster.{Rig, budgets_at, place_of}
-use Rattle.rig_config.specs.declared.Budgets.{Budgets}
-use Rattle.tenant_lines.specs.CommandLine.{command_of_line}
-use Rattle.tenant_lines.specs.Words.{behind_first_word, words_of}
-use Rattle.tenant_lines.specs.declared.commands.Command.{Command}
-use Rattle.tenant_lines.specs.declared.commands.Command.TheVariants.{Load, Replace, Start, Stop, ShowMode, ShowPort, ShowAll, Trace, Grants}
-use Rattle.tenant_lines.specs.declared.replies.Refusal.{Refusal}
+use Rattle.rig_model.specs.text.Program.{GiottoProgram}
+use Rattle.rig_model.specs.config.Roster.{Rig, budgets_at, place_of}
+use Rattle.rig_model.specs.declared.config.Budgets.{Budgets}
+use Rattle.rig_model.specs.lines.CommandLine.{command_of_line}
+use Rattle.rig_model.specs.lines.Words.{behind_first_word, words_of}
+use Rattle.rig_model.specs.declared.lines.commands.Command.{Command}
+use Rattle.rig_model.specs.declared.lines.commands.Command.TheVariants.{Load, Replace, Start, Stop, ShowMode, ShowPort, ShowAll, Trace, Grants}
+use Rattle.rig_model.specs.declared.lines.replies.Refusal.{Refusal}
 use Rattle.rig_model.specs.Admission.{broken_budget, program_of}
 use Rattle.rig_model.specs.Script.{OperatorLine, tick, work, work_of, line_values, operator_line_of, speaker_of}
 use Rattle.rig_model.specs.TextLines.{cut, text_of_line}

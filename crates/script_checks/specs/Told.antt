@@ -1,20 +1,20 @@
 -- What is found at the lines at fault of a script, and how it is shown.
 use Rattle.std.specs.Prelude.{◌≡◌, ◌≢◌, ◌⊎◌, ℕ, ◌+◌, ◌-◌, List, [], ◌∷◌, ◌++◌, length, get_or, slice_get, map, Option, Some, None}
 use Rattle.std.specs.List.{flat_map}
-use Rattle.giotto_faults.specs.declared.findings.Finding.{Finding}
-use Rattle.giotto_faults.specs.declared.places.Place.{Place}
-use Rattle.giotto_faults.specs.Findings.{BeginsWith, head_at}
-use Rattle.giotto_reports.specs.Reports.{TellWhy}
-use Rattle.giotto_reports.specs.declared.Wish.TheVariants.{Summary}
+use Rattle.program_checks.specs.declared.faults.findings.Finding.{Finding}
+use Rattle.program_checks.specs.declared.faults.places.Place.{Place}
+use Rattle.program_checks.specs.faults.Findings.{BeginsWith, head_at}
+use Rattle.program_checks.specs.reports.Reports.{TellWhy}
+use Rattle.program_checks.specs.declared.reports.Wish.TheVariants.{Summary}
 use Rattle.program_checks.specs.Programs.{TellOver}
-use Rattle.rig_config.specs.Roster.{Rig}
-use Rattle.rig_config.specs.declared.TenantConfig.{TenantConfig}
+use Rattle.rig_model.specs.config.Roster.{Rig}
+use Rattle.rig_model.specs.declared.config.TenantConfig.{TenantConfig}
 use Rattle.rig_model.specs.Script.{speaker_of}
 use Rattle.rig_model.specs.declared.speakers.Speaker.TheVariants.{Tenant}
-use Rattle.tenant_lines.specs.CommandLine.{command_of_line}
-use Rattle.tenant_lines.specs.Words.{behind_first_word}
-use Rattle.tenant_lines.specs.declared.commands.Command.{Command}
-use Rattle.tenant_lines.specs.declared.commands.Command.TheVariants.{Load, Replace, Start, Stop, ShowMode, ShowPort, ShowAll, Trace, Grants}
+use Rattle.rig_model.specs.lines.CommandLine.{command_of_line}
+use Rattle.rig_model.specs.lines.Words.{behind_first_word}
+use Rattle.rig_model.specs.declared.lines.commands.Command.{Command}
+use Rattle.rig_model.specs.declared.lines.commands.Command.TheVariants.{Load, Replace, Start, Stop, ShowMode, ShowPort, ShowAll, Trace, Grants}
 use Rattle.script_checks.specs.LineTexts.{IsErrorAt, offset_of_fault, place_in, text_or_none, words_of_fault}
 use Rattle.script_checks.specs.declared.scripts.FaultyLine.{FaultyLine}
 use Rattle.script_checks.specs.declared.scripts.Found.{Found}

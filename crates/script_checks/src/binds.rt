@@ -2,10 +2,10 @@
 
 ghost use Rattle.std.specs.Prelude.{◌≡◌, ◌++◌, ◌∷◌, [], IfOk, OnOk, map, option_map, string_bytes};
 ghost use Rattle.std.specs.List.{flat_map, list_any};
-ghost use Rattle.giotto_text.specs.ProgramTrees.{actuator_of, sensor_of};
-ghost use Rattle.rig_config.specs.Roster.{name_at, place_of};
-ghost use Rattle.tenant_lines.specs.CommandLine.{command_of_line};
-ghost use Rattle.tenant_lines.specs.Words.{behind_first_word};
+ghost use Rattle.rig_model.specs.text.ProgramTrees.{actuator_of, sensor_of};
+ghost use Rattle.rig_model.specs.config.Roster.{name_at, place_of};
+ghost use Rattle.rig_model.specs.lines.CommandLine.{command_of_line};
+ghost use Rattle.rig_model.specs.lines.Words.{behind_first_word};
 ghost use Rattle.script_checks.specs.LineTexts.{offset_of_word, text_or_none};
 ghost use Rattle.script_checks.specs.Grants.{drives, loaded, loads_actuator, loads_sensor, note_of, note_of_bind, note_of_offer, note_of_sensor, note_of_supplier, note_on, notes_of, offers, place_of_note, said_from, said_in_line, takes, what_of, words_of_no_actuator, words_of_no_offer, words_of_nobody};
 ghost use Rattle.script_checks.specs.Told.{line_at};
@@ -13,18 +13,18 @@ ghost use Rattle.script_checks.specs.inner.Telling.{AddsNotes};
 
 use crate::line_texts::{LineEnd, offset_of_word, shown_in_line, text_or_none};
 use crate::scripts::{line_at, text_of_line};
-use giotto_check::Checked;
-use giotto_faults::findings::{Finding, Severity};
-use giotto_reports::{Examined, examine};
 use giotto_tasks::names::Name;
-use giotto_text::programs::{Actuator, Program, Sensor, Source};
-use rig_config::{Config, TenantId};
+use program_checks::faults::findings::{Finding, Severity};
+use program_checks::reports::{Examined, examine};
+use program_checks::well_formed::Checked;
+use rig_model::config::{Config, TenantId};
+use rig_model::lines::command_lines::{LineFault, command_of};
+use rig_model::lines::commands::Command;
+use rig_model::lines::grant_lines::GrantCommand;
+use rig_model::lines::words;
 use rig_model::speakers::{Speaker, who_speaks};
+use rig_model::text::programs::{Actuator, Program, Sensor, Source};
 use std::alloc::{AllocError, Global};
-use tenant_lines::command_lines::{LineFault, command_of};
-use tenant_lines::commands::Command;
-use tenant_lines::grant_lines::GrantCommand;
-use tenant_lines::words;
 
 /// A command of a script, with its tenant and the number of its line.
 #[derive(Drop)]

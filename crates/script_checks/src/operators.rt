@@ -2,14 +2,14 @@
 
 ghost use Rattle.std.specs.Prelude.{◌≡◌, ◌∷◌, Some, codes, IfOk};
 ghost use Rattle.rig_model.specs.Script.{operator_line_of, work_of};
-ghost use Rattle.tenant_lines.specs.Words.{words_of};
+ghost use Rattle.rig_model.specs.lines.Words.{words_of};
 ghost use Rattle.script_checks.specs.Scripts.{fault_of_operator};
 
 use crate::scripts::LineFault;
-use giotto_text::name_bytes::is_name;
-use rig_config::Config;
+use rig_model::config::Config;
+use rig_model::lines::words;
+use rig_model::text::name_bytes::is_name;
 use std::alloc::{AllocError, Global};
-use tenant_lines::words;
 
 /// What is wrong with the operator's line that stands behind `op`, if anything is.
 ///

@@ -3,8 +3,8 @@
 ghost use Rattle.std.specs.Prelude.{◌≡◌, ◌≢◌, ◌==◌, ◌+◌, ◌-◌, ◌<◌, ◌≤◌, true, false, Some, IfOk, IfSome, OnOk, drop, get_or, length, map, option_map, string_bytes, take};
 ghost use Rattle.std.specs.List.{position_or_len};
 ghost use Rattle.rig_model.specs.TextLines.{cut, text_of_line, without_last_cr};
-ghost use Rattle.tenant_lines.specs.CommandLine.{command_of_line};
-ghost use Rattle.tenant_lines.specs.Words.{behind_first_word};
+ghost use Rattle.rig_model.specs.lines.CommandLine.{command_of_line};
+ghost use Rattle.rig_model.specs.lines.Words.{behind_first_word};
 ghost use Rattle.script_checks.specs.Scripts.{AreTold, IsFound, fault_of_command, fault_of_line, fault_of_program, faults_from, faults_of, is_good};
 ghost use Rattle.script_checks.specs.Reports.{IsToldOf, told_first};
 ghost use Rattle.script_checks.specs.Told.{AreFound, IsOneFinding, TellLine, TellProgram, findings_in, findings_of, line_at};
@@ -13,16 +13,16 @@ ghost use Rattle.script_checks.specs.inner.Telling.{Adds, TellCommand};
 use crate::binds::add_notes;
 use crate::line_texts::{LineEnd, one_finding, shown_in_line};
 use crate::operators::fault_of_operator;
-use giotto_faults::findings::Finding;
-use giotto_reports::{Examined, Report, examine};
 use program_checks::budgets::{Held, over_budget};
-use rig_config::{Config, TenantConfig};
+use program_checks::faults::findings::Finding;
+use program_checks::reports::{Examined, Report, examine};
+use rig_model::config::{Config, TenantConfig};
 use rig_model::limits::MAX_LINE;
+use rig_model::lines::command_lines::{LineFault as CommandFault, command_of};
+use rig_model::lines::commands::Command;
+use rig_model::lines::words;
 use rig_model::speakers::{Speaker, who_speaks};
 use std::alloc::{AllocError, Global};
-use tenant_lines::command_lines::{LineFault as CommandFault, command_of};
-use tenant_lines::commands::Command;
-use tenant_lines::words;
 
 /// What is wrong with a line of a script.
 #[derive(Clone, Copy, Debug, PartialEq, Eq)]
@@ -186,7 +186,7 @@ pub fn lines_of(alloc: Global, bytes: &[u8]) -> Result<Vec<&[u8]>, AllocError>
 }
 
 // How many bytes stand before the first LF, or in all where there is none.
-#[tactic(auto, using(tenant_lines::proofs::cited::WordLemmas::prefix_more, tenant_lines::proofs::cited::WordLemmas::prefix_end))]
+#[tactic(auto, using(rig_model::proofs::of_lines::WordLemmas::prefix_more, rig_model::proofs::of_lines::WordLemmas::prefix_end))]
 fn line_len(bytes: &[u8]) -> usize
     ensures len { result ≡ position_or_len (λ c. c == 10) bytes.now }
     ensures within { result ≤ length bytes.now }

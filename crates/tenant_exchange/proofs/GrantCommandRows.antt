@@ -1,13 +1,13 @@
 -- What commands about grants do to the rows of tenant alpha, of the roster alpha, beta, which of them take memory, and what its sensors are granted, computed from the definitions.
 use Rattle.std.proofs.Common.{◌≡◌, true, false, pos, [], ◌∷◌, Some, None, codes, refl}
-use Rattle.rig_config.specs.Intervals.{Interval, whole}
-use Rattle.tenant_grants.specs.Grants.{GrantRows}
-use Rattle.tenant_grants.specs.declared.rows.Row.TheVariants as row
-use Rattle.tenant_lines.specs.declared.grant_lines.GrantCommand.TheVariants.{Offer, Unoffer, Bind, Unbind, Rows}
-use Rattle.tenant_lines.specs.declared.replies.Budget.TheVariants as budget
-use Rattle.tenant_lines.specs.declared.replies.Refusal.TheVariants.{NoTenant, Own, Twice, NotThere, OverBudget}
-use Rattle.tenant_lines.specs.declared.replies.Reply.TheVariants as reply
-use Rattle.tenant_lines.specs.Replies.{text_of_reply}
+use Rattle.rig_model.specs.config.Intervals.{Interval, whole}
+use Rattle.rig_model.specs.grants.Grants.{GrantRows}
+use Rattle.rig_model.specs.declared.grants.rows.Row.TheVariants as row
+use Rattle.rig_model.specs.declared.lines.grant_lines.GrantCommand.TheVariants.{Offer, Unoffer, Bind, Unbind, Rows}
+use Rattle.rig_model.specs.declared.lines.replies.Budget.TheVariants as budget
+use Rattle.rig_model.specs.declared.lines.replies.Refusal.TheVariants.{NoTenant, Own, Twice, NotThere, OverBudget}
+use Rattle.rig_model.specs.declared.lines.replies.Reply.TheVariants as reply
+use Rattle.rig_model.specs.lines.Replies.{text_of_reply}
 use Rattle.rig_model.specs.GrantCommands.{grants_commanded}
 use Rattle.tenant_exchange.specs.Memory.{takes_memory}
 use Rattle.rig_model.specs.Granted.{granted_along}

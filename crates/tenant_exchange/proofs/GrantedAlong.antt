@@ -7,11 +7,11 @@ use Rattle.giotto_tasks.specs.declared.names.Name.{Name}
 use Rattle.giotto_tasks.specs.cited.Sources.{names_in}
 use Rattle.giotto_tasks.specs.Names.{Valuation, is_among, same_name}
 use Rattle.giotto_tasks.proofs.cited.NameLemmas.{same_name_self, same_name_is}
-use Rattle.giotto_text.specs.Program.{GiottoProgram}
-use Rattle.giotto_check.specs.cited.Slots.{PortNamesDiffer}
-use Rattle.tenant_grants.specs.Grants.{bind_at, with_place, place_in}
-use Rattle.tenant_grants.specs.Kept.{same_bind}
-use Rattle.tenant_grants.specs.declared.rows.Bind.{Bind}
+use Rattle.rig_model.specs.text.Program.{GiottoProgram}
+use Rattle.tenant_slots.specs.well_formed.cited.Slots.{PortNamesDiffer}
+use Rattle.rig_model.specs.grants.Grants.{bind_at, with_place, place_in}
+use Rattle.rig_model.specs.grants.Kept.{same_bind}
+use Rattle.rig_model.specs.declared.grants.rows.Bind.{Bind}
 use Rattle.rig_model.specs.Readings.{Readings}
 use Rattle.tenant_slots.specs.cited.Grants.{with_granted}
 use Rattle.tenant_slots.specs.cited.Readings.{with_readings}

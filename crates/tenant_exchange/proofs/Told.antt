@@ -1,16 +1,16 @@
 -- What a change of the rows leads to is told as the definitions say.
 use Rattle.std.proofs.Common.{◌≡◌, ◌≢◌, ℕ, Bool, true, false, if◌then◌else◌, nat_eq, nat_lt, List, [], ◌∷◌, ◌++◌, length, Option, Some, None, ok_or, Result, Ok, Err, IfOk, IfErr, IsOk, is_ok, refl, sym, ap, ◌∙◌}
 use Rattle.giotto_tasks.specs.declared.names.Name.{Name}
-use Rattle.rig_config.specs.Intervals.{Interval}
-use Rattle.tenant_grants.specs.Grants.{Owner, ◌>>=◌, place_in, other_side, one_more, offered, bound}
-use Rattle.tenant_grants.specs.declared.faults.GrantFault.{GrantFault}
-use Rattle.tenant_grants.specs.declared.faults.GrantFault.TheVariants as fault
-use Rattle.tenant_grants.specs.declared.rows.Bind.{Bind}
-use Rattle.tenant_grants.specs.declared.rows.Offer.{Offer}
-use Rattle.tenant_lines.specs.declared.replies.Budget.{Budget}
-use Rattle.tenant_lines.specs.declared.replies.Refusal.TheVariants.{Memory}
-use Rattle.tenant_lines.specs.declared.replies.Reply.{Reply}
-use Rattle.tenant_lines.specs.declared.replies.Reply.TheVariants.{Refused}
+use Rattle.rig_model.specs.config.Intervals.{Interval}
+use Rattle.rig_model.specs.grants.Grants.{Owner, ◌>>=◌, place_in, other_side, one_more, offered, bound}
+use Rattle.rig_model.specs.declared.grants.faults.GrantFault.{GrantFault}
+use Rattle.rig_model.specs.declared.grants.faults.GrantFault.TheVariants as fault
+use Rattle.rig_model.specs.declared.grants.rows.Bind.{Bind}
+use Rattle.rig_model.specs.declared.grants.rows.Offer.{Offer}
+use Rattle.rig_model.specs.declared.lines.replies.Budget.{Budget}
+use Rattle.rig_model.specs.declared.lines.replies.Refusal.TheVariants.{Memory}
+use Rattle.rig_model.specs.declared.lines.replies.Reply.{Reply}
+use Rattle.rig_model.specs.declared.lines.replies.Reply.TheVariants.{Refused}
 use Rattle.rig_model.specs.GrantCommands.{GrantOutcome, refusal_of_row}
 
 -- An outcome that is this reply where a change is done, and else tells why it isn't: so does the answer to the change.

@@ -1,8 +1,8 @@
 -- Which commands about offers and binds take memory, and so can be refused for want of it.
 use Rattle.std.specs.Prelude.{Bool, false, ◌+◌, nat_lt, length, is_ok, unwrap_or}
-use Rattle.tenant_grants.specs.Grants.{GrantRows, offered, bound}
-use Rattle.tenant_lines.specs.declared.grant_lines.GrantCommand.{GrantCommand}
-use Rattle.tenant_lines.specs.declared.grant_lines.GrantCommand.TheVariants as command
+use Rattle.rig_model.specs.grants.Grants.{GrantRows, offered, bound}
+use Rattle.rig_model.specs.declared.lines.grant_lines.GrantCommand.{GrantCommand}
+use Rattle.rig_model.specs.declared.lines.grant_lines.GrantCommand.TheVariants as command
 
 -- whether it takes memory, and so can be refused for want of it: `offer` and `bind` for a row that may be made, and `rows` where there is a row
 abbrev pub takes_memory : GrantCommand → GrantRows → Bool

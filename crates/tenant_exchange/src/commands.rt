@@ -1,20 +1,20 @@
 //! What the commands about grants do.
 
 ghost use Rattle.std.specs.Prelude.{◌≡◌, ◌≢◌, false, Err, IfErr, IfOk, OnErr, OnOk, unwrap_or};
-ghost use Rattle.tenant_grants.specs.Grants.{offered};
-ghost use Rattle.tenant_grants.specs.declared.faults.GrantFault.{GrantFault};
+ghost use Rattle.rig_model.specs.grants.Grants.{offered};
+ghost use Rattle.rig_model.specs.declared.grants.faults.GrantFault.{GrantFault};
 ghost use Rattle.rig_model.specs.GrantCommands.{grants_commanded, refusal_of_row};
 ghost use Rattle.tenant_exchange.specs.Memory.{takes_memory};
-ghost use Rattle.tenant_lines.specs.declared.replies.Refusal.{Refusal};
-ghost use Rattle.tenant_lines.specs.declared.replies.Reply.{Reply};
+ghost use Rattle.rig_model.specs.declared.lines.replies.Refusal.{Refusal};
+ghost use Rattle.rig_model.specs.declared.lines.replies.Reply.{Reply};
 
 use giotto_tasks::names::Name;
-use rig_config::intervals::Bounds;
+use rig_model::config::intervals::Bounds;
+use rig_model::grants::faults::GrantFault;
+use rig_model::grants::grants::Grants;
+use rig_model::lines::grant_lines::GrantCommand;
+use rig_model::lines::replies::{Budget, Refusal, Reply};
 use std::alloc::Global;
-use tenant_grants::faults::GrantFault;
-use tenant_grants::grants::Grants;
-use tenant_lines::grant_lines::GrantCommand;
-use tenant_lines::replies::{Budget, Refusal, Reply};
 
 /// Carries out a command about grants on the rows of the tenant that gives it. A refusal changes nothing, want of memory included.
 /// Only `offer` and `bind` where the row may be made, and `rows` where there is a row, take memory; nothing else is refused for it.

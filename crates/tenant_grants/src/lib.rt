@@ -12,3 +12,5 @@ pub mod grants;
 pub mod laws;
 pub mod rows;
 mod tables;
+
+pub use rig_config as config;

@@ -9,7 +9,7 @@ use Rattle.giotto_tasks.proofs.cited.NameLemmas.{same_name_self}
 use Rattle.giotto_text.specs.Bytes.{is_name}
 use Rattle.tenant_lines.specs.declared.grant_lines.GrantCommand.{GrantCommand}
 use Rattle.tenant_lines.specs.declared.grant_lines.GrantCommand.TheVariants.{Rows}
-use Rattle.rig_config.specs.Intervals.{Interval, from_to}
+use Rattle.tenant_grants.specs.config.Intervals.{Interval, from_to}
 use Rattle.tenant_lines.specs.GrantLines.{bounded_offer_command, bounds_of_words, offer_command, unoffer_command, bind_command, unbind_command, grant_command_of_words}
 use Rattle.tenant_lines.specs.Words.{value_of_word, words_of, first_word_of, behind_first_word}
 use Rattle.tenant_lines.specs.inner.CutLines.{words_from}

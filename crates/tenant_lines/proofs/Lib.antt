@@ -9,3 +9,4 @@ pub mod SingleBlanks
 pub mod ValueLemmas
 pub mod WordRows
 pub mod cited
+pub use Rattle.tenant_trace.proofs.cited as of_trace

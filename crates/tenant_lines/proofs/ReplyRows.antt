@@ -4,7 +4,7 @@ use Rattle.std.specs.Fmt.{digits}
 use Rattle.tenant_trace.specs.declared.records.Happening.TheVariants.{Start, Mode, Act, Out, Asked, Overrun, Replaced}
 use Rattle.tenant_lines.specs.declared.replies.Reply.TheVariants.{Rows, Trace}
 use Rattle.tenant_grants.specs.declared.rows.Row.TheVariants as row
-use Rattle.rig_config.specs.Intervals.{whole}
+use Rattle.tenant_grants.specs.config.Intervals.{whole}
 use Rattle.tenant_lines.specs.Replies.{text_of_reply}
 use Rattle.tenant_lines.specs.cited.Copies.{has_list}
 

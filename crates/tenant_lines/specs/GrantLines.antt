@@ -6,7 +6,7 @@ use Rattle.giotto_tasks.specs.Names.{same_name}
 use Rattle.giotto_text.specs.Bytes.{is_name}
 use Rattle.tenant_lines.specs.declared.grant_lines.GrantCommand.{GrantCommand}
 use Rattle.tenant_lines.specs.declared.grant_lines.GrantCommand.TheVariants.{Offer, Unoffer, Bind, Unbind, Rows}
-use Rattle.rig_config.specs.Intervals.{Interval, from_to}
+use Rattle.tenant_grants.specs.config.Intervals.{Interval, from_to}
 use Rattle.tenant_lines.specs.Words.{is_dot, value_of_word}
 
 -- an actuator and a tenant to offer it to, where both have the shape of names, and the bounds of the offer, where it names them

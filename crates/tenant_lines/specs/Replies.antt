@@ -4,7 +4,7 @@ use Rattle.std.specs.Fmt.{decimal, signed_decimal}
 use Rattle.std.specs.List.{flat_map}
 use Rattle.std.specs.Option.{option_map_or}
 use Rattle.giotto_text.specs.PortNames.{own_port}
-use Rattle.rig_config.specs.Intervals.{Interval, is_whole}
+use Rattle.tenant_grants.specs.config.Intervals.{Interval, is_whole}
 use Rattle.tenant_grants.specs.declared.rows.Row.{Row}
 use Rattle.tenant_grants.specs.declared.rows.Row.TheVariants as row
 use Rattle.tenant_trace.specs.declared.records.Happening.{Happening}

@@ -10,7 +10,7 @@ ghost use Rattle.tenant_lines.specs.inner.GrantWords.{offer_by, offer_within, wo
 use crate::command_lines::name_of_word;
 use crate::words::{behind_first_word, cut, first_word, value_of_word};
 use giotto_tasks::names::Name;
-use rig_config::intervals::Bounds;
+use tenant_grants::config::intervals::Bounds;
 
 /// A command about grants, one variant for each form. An *offer* lets another tenant read an actuator; a *bind* takes the
 /// value of an offered actuator for a sensor of one's own.

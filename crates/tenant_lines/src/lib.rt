@@ -17,3 +17,7 @@ pub mod ports;
 pub mod replies;
 pub mod texts;
 pub mod words;
+
+pub use tenant_grants as grants;
+pub use tenant_grants::config;
+pub use tenant_trace as trace;

@@ -11,10 +11,10 @@ use crate::ports::{PortName, PortValue};
 use giotto_tasks::lists::List;
 use giotto_tasks::names::Name;
 use itoa::Buffer;
-use rig_config::intervals::Bounds;
 use std::alloc::{AllocError, Global};
 use std::fmt;
 use std::string::ToString;
+use tenant_grants::config::intervals::Bounds;
 use tenant_grants::rows::Row;
 use tenant_trace::records::{Happening, Record};
 

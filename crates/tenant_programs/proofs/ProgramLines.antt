@@ -1,10 +1,10 @@
 -- The lines of a program's sensors and actuators, as loops over them see them.
 use Rattle.std.proofs.Common.{ℕ, List, [], map}
-use Rattle.giotto_text.specs.declared.programs.Actuator.{Actuator}
-use Rattle.giotto_text.specs.declared.programs.Sensor.{Sensor}
-use Rattle.giotto_text.specs.Program.{GiottoProgram}
-use Rattle.giotto_text.specs.ProgramTrees.{sensor_of, actuator_of}
-use Rattle.giotto_rules.specs.Declarations.{lines_read, lines_written}
+use Rattle.rig_model.specs.declared.text.programs.Actuator.{Actuator}
+use Rattle.rig_model.specs.declared.text.programs.Sensor.{Sensor}
+use Rattle.rig_model.specs.text.Program.{GiottoProgram}
+use Rattle.rig_model.specs.text.ProgramTrees.{sensor_of, actuator_of}
+use Rattle.rig_model.specs.rules.Declarations.{lines_read, lines_written}
 
 abbrev only_with : List Sensor → List Actuator → GiottoProgram
 only_with sensors actuators = record { sensors = map sensor_of sensors; actuators = map actuator_of actuators; outputs = []; tasks = []; modes = []; start = [] }

@@ -10,17 +10,17 @@ use Rattle.giotto_tasks.specs.declared.names.Name.{Name}
 use Rattle.giotto_tasks.specs.Names.{Valuation, same_name, is_among, value_at}
 use Rattle.giotto_tasks.specs.Sound.{all_different}
 use Rattle.giotto_tasks.proofs.cited.NameLemmas.{same_name_is, same_name_self}
-use Rattle.giotto_text.specs.Program.{SensorDeclaration, ActuatorDeclaration, OutputDeclaration, GiottoProgram, names_of}
-use Rattle.giotto_text.specs.ProgramTrees.{sensor_of, actuator_of, output_of, task_of}
-use Rattle.giotto_text.specs.declared.programs.Sensor.{Sensor}
-use Rattle.giotto_text.specs.declared.programs.Actuator.{Actuator}
-use Rattle.giotto_text.specs.declared.programs.Output.{Output}
-use Rattle.giotto_text.specs.declared.programs.Task.{Task}
-use Rattle.giotto_rules.specs.Ports.{ProgramPort, task_port, shown_name, ports_of, ports_of_task}
+use Rattle.rig_model.specs.text.Program.{SensorDeclaration, ActuatorDeclaration, OutputDeclaration, GiottoProgram, names_of}
+use Rattle.rig_model.specs.text.ProgramTrees.{sensor_of, actuator_of, output_of, task_of}
+use Rattle.rig_model.specs.declared.text.programs.Sensor.{Sensor}
+use Rattle.rig_model.specs.declared.text.programs.Actuator.{Actuator}
+use Rattle.rig_model.specs.declared.text.programs.Output.{Output}
+use Rattle.rig_model.specs.declared.text.programs.Task.{Task}
+use Rattle.rig_model.specs.rules.Ports.{ProgramPort, task_port, shown_name, ports_of, ports_of_task}
 use Rattle.giotto_check.specs.Slots.{port_names, valuation_of}
 use Rattle.giotto_check.specs.cited.Slots.{slots_of}
-use Rattle.tenant_lines.specs.declared.ports.PortName.{PortName}
-use Rattle.tenant_lines.specs.declared.ports.PortValue.{PortValue}
+use Rattle.rig_model.specs.declared.lines.ports.PortName.{PortName}
+use Rattle.rig_model.specs.declared.lines.ports.PortValue.{PortValue}
 use Rattle.rig_model.specs.Commands.{port_with_value}
 use Rattle.tenant_programs.specs.inner.ShownPorts.{name_of_port, with_its_value, name_of_own_port, name_of_shared_port}
 

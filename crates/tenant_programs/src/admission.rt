@@ -2,14 +2,14 @@
 
 ghost use Rattle.std.specs.Prelude.{◌≡◌, ◌≢◌, ℕ, Ok, Err, IfOk, IfErr};
 ghost use Rattle.giotto_check.specs.declared.CheckFault.{CheckFault};
-ghost use Rattle.tenant_lines.specs.declared.replies.Refusal.{Refusal};
+ghost use Rattle.rig_model.specs.declared.lines.replies.Refusal.{Refusal};
 ghost use Rattle.rig_model.specs.Admission.{program_of, refusal_of_text};
 
 use giotto_check::{self, CheckFault, Checked};
 use giotto_read::read;
-use giotto_text::faults::ReadFault;
+use rig_model::lines::replies::Refusal;
+use rig_model::text::faults::ReadFault;
 use std::alloc::Global;
-use tenant_lines::replies::Refusal;
 
 /// The well-formed program that a text spells.
 ///

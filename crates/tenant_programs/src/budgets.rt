@@ -2,14 +2,14 @@
 
 ghost use Rattle.std.specs.Prelude.{◌≡◌};
 ghost use Rattle.std.specs.List.{list_all};
-ghost use Rattle.giotto_rules.specs.Declarations.{lines_read, lines_written};
-ghost use Rattle.rig_config.specs.Roster.{may_use};
+ghost use Rattle.rig_model.specs.rules.Declarations.{lines_read, lines_written};
+ghost use Rattle.rig_model.specs.config.Roster.{may_use};
 ghost use Rattle.rig_model.specs.Admission.{broken_budget, uses_own_lines};
 
 use giotto_check::Checked;
-use giotto_text::programs::{Program, Source};
-use rig_config::Budgets;
-use tenant_lines::replies::Budget;
+use rig_model::config::Budgets;
+use rig_model::lines::replies::Budget;
+use rig_model::text::programs::{Program, Source};
 
 /// The first budget that a program is over, of those that a program has, in this order: `Bytes`, the length of its text, which is
 /// `bytes` bytes with all blanks; `Ports`, all that it has, inputs and states of tasks included; `Tasks`; `Modes`; `Steps`, its

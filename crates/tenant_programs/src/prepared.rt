@@ -2,15 +2,15 @@
 
 ghost use Rattle.std.specs.Prelude.{◌≡◌, ◌≢◌, IfOk, IfErr, IfSome, Ok, Err};
 ghost use Rattle.rig_model.specs.Admission.{program_of};
-ghost use Rattle.tenant_lines.specs.declared.replies.Refusal.{Refusal};
+ghost use Rattle.rig_model.specs.declared.lines.replies.Refusal.{Refusal};
 ghost use Rattle.tenant_programs.specs.cited.Prepared.{IsReadingOf, IsRead};
 
 use crate::admission::read_program;
 use giotto_check::Checked;
+use rig_model::lines::commands::Command;
+use rig_model::lines::replies::Refusal;
 use std::alloc::Global;
 use std::marker::Model;
-use tenant_lines::commands::Command;
-use tenant_lines::replies::Refusal;
 
 /// What a text reads as, where it was read: the well-formed program, or why there is none.
 pub type Reading = Option<Result<Checked, Refusal>>;
@@ -23,7 +23,7 @@ pub struct Prepared {
 }
 
 impl Model for Prepared {
-    ghost use Rattle.tenant_lines.specs.declared.commands.Command.{Command};
+    ghost use Rattle.rig_model.specs.declared.lines.commands.Command.{Command};
     ghost use Rattle.tenant_programs.specs.cited.Prepared.{IsRead};
 
     ghost Value = { Command };

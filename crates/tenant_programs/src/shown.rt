@@ -2,7 +2,7 @@
 
 ghost use Rattle.std.specs.Prelude.{◌≡◌, ◌++◌, length, map, IfOk, OnOk};
 ghost use Rattle.std.specs.List.{zip};
-ghost use Rattle.giotto_rules.specs.Ports.{ports_of};
+ghost use Rattle.rig_model.specs.rules.Ports.{ports_of};
 ghost use Rattle.giotto_check.specs.Slots.{valuation_of};
 ghost use Rattle.giotto_check.specs.cited.Slots.{slots_of};
 ghost use Rattle.rig_model.specs.Commands.{port_with_value};
@@ -11,9 +11,9 @@ ghost use Rattle.tenant_programs.specs.inner.ShownPorts.{name_of_port, name_of_o
 use giotto_check::Checked;
 use giotto_tasks::bodies::Body;
 use giotto_tasks::names::Name;
-use giotto_text::programs::Program;
+use rig_model::lines::ports::{PortName, PortValue};
+use rig_model::text::programs::Program;
 use std::alloc::{AllocError, Global};
-use tenant_lines::ports::{PortName, PortValue};
 
 /// Each port of a program with its value, where these are the values of all ports by their slots: sensors, actuators, outputs,
 /// then for each task its inputs and its states, each in text order.

@@ -11,11 +11,11 @@ use Rattle.giotto_tasks.specs.Names.{same_name, is_among}
 use Rattle.giotto_tasks.specs.Sound.{all_different}
 use Rattle.giotto_tasks.proofs.cited.ListLemmas.{some_same}
 use Rattle.giotto_tasks.proofs.cited.NameLemmas.{same_name_is, all_different-append, among_first, among_passes, different_first}
-use Rattle.giotto_text.specs.declared.programs.Actuator.{Actuator}
-use Rattle.giotto_text.specs.ProgramTrees.{actuator_of}
-use Rattle.giotto_text.specs.Program.{ActuatorDeclaration, ActuatorUpdate, ModeDeclaration, GiottoProgram}
-use Rattle.giotto_rules.specs.Declarations.{sensor_names, actuator_names, output_names, task_names, mode_names}
-use Rattle.giotto_rules.specs.Ports.{slot_of}
+use Rattle.rig_model.specs.declared.text.programs.Actuator.{Actuator}
+use Rattle.rig_model.specs.text.ProgramTrees.{actuator_of}
+use Rattle.rig_model.specs.text.Program.{ActuatorDeclaration, ActuatorUpdate, ModeDeclaration, GiottoProgram}
+use Rattle.rig_model.specs.rules.Declarations.{sensor_names, actuator_names, output_names, task_names, mode_names}
+use Rattle.rig_model.specs.rules.Ports.{slot_of}
 use Rattle.giotto_check.specs.cited.Facts.{ProgramFits, UpdateFits}
 use Rattle.giotto_check.specs.cited.Timetables.{AreEach, IsUpdate}
 use Rattle.giotto_check.specs.declared.timetables.SlotUpdate.{SlotUpdate}

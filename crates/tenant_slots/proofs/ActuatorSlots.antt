@@ -4,13 +4,13 @@ use Rattle.std.specs.Prelude.{slice_get}
 use Rattle.std.specs.List.{range_with_len, flat_map}
 use Rattle.std.proofs.lemmas.List.{drop_more, length-map, length-append}
 use Rattle.giotto_tasks.specs.declared.names.Name.{Name}
-use Rattle.giotto_text.specs.declared.programs.Actuator.{Actuator}
-use Rattle.giotto_text.specs.ProgramTrees.{actuator_of}
-use Rattle.giotto_text.specs.Program.{ActuatorDeclaration, GiottoProgram}
-use Rattle.giotto_rules.specs.Declarations.{sensor_names, actuator_names, output_names}
+use Rattle.rig_model.specs.declared.text.programs.Actuator.{Actuator}
+use Rattle.rig_model.specs.text.ProgramTrees.{actuator_of}
+use Rattle.rig_model.specs.text.Program.{ActuatorDeclaration, GiottoProgram}
+use Rattle.rig_model.specs.rules.Declarations.{sensor_names, actuator_names, output_names}
 use Rattle.giotto_check.specs.cited.Facts.{ProgramFits}
 use Rattle.giotto_check.specs.Slots.{port_names, valuation_of}
-use Rattle.giotto_rules.specs.Ports.{ports_of, ports_of_task, shown_name}
+use Rattle.rig_model.specs.rules.Ports.{ports_of, ports_of_task, shown_name}
 use Rattle.giotto_check.specs.cited.Slots.{slots_of, with_slots}
 use Rattle.giotto_check.proofs.cited.SlotLemmas.{port_names_begin}
 use Rattle.giotto_check.proofs.cited.Valuations.{with_values_at_places}

@@ -13,13 +13,13 @@ use Rattle.giotto_tasks.specs.Sound.{all_different}
 use Rattle.giotto_tasks.proofs.cited.NameLemmas.{same_name_is, among_first, among_second, all_in}
 use Rattle.giotto_tasks.proofs.cited.TestLemmas.{either}
 use Rattle.giotto_tasks.proofs.cited.ValuationLemmas.{names_in-with_value}
-use Rattle.giotto_text.specs.PortNames.{with_values}
-use Rattle.giotto_text.specs.Program.{GiottoProgram}
-use Rattle.giotto_rules.specs.Declarations.{sensor_names, actuator_names, output_names, driver_ports}
+use Rattle.rig_model.specs.text.PortNames.{with_values}
+use Rattle.rig_model.specs.text.Program.{GiottoProgram}
+use Rattle.rig_model.specs.rules.Declarations.{sensor_names, actuator_names, output_names, driver_ports}
 use Rattle.giotto_check.specs.cited.Facts.{ProgramFits}
 use Rattle.giotto_check.specs.cited.Slots.{HaveSlots, slots_of, with_slots}
 use Rattle.giotto_check.specs.Slots.{port_names, valuation_of}
-use Rattle.giotto_rules.specs.Ports.{ports_of, shown_name, slot_of}
+use Rattle.rig_model.specs.rules.Ports.{ports_of, shown_name, slot_of}
 use Rattle.giotto_check.proofs.cited.SlotLemmas.{name_at_slot, port_names_begin}
 use Rattle.giotto_check.proofs.cited.Valuations.{value_at_place}
 use Rattle.rig_model.specs.Ports.{initial_ports}

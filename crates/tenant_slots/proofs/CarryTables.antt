@@ -11,11 +11,11 @@ use Rattle.std.proofs.lemmas.Option.{slice_get-get_or, slice_get-map, slice_get_
 use Rattle.giotto_tasks.specs.declared.names.Name.{Name}
 use Rattle.giotto_tasks.specs.Names.{is_among}
 use Rattle.giotto_tasks.proofs.cited.ListLemmas.{all_at}
-use Rattle.giotto_text.specs.Program.{GiottoProgram}
-use Rattle.giotto_rules.specs.Declarations.{sensor_names, actuator_names, output_names, driver_ports}
+use Rattle.rig_model.specs.text.Program.{GiottoProgram}
+use Rattle.rig_model.specs.rules.Declarations.{sensor_names, actuator_names, output_names, driver_ports}
 use Rattle.giotto_check.specs.cited.Facts.{ProgramFits}
 use Rattle.giotto_check.specs.cited.Slots.{HaveSlots, slots_of}
-use Rattle.giotto_rules.specs.Ports.{shared_port, slot_of}
+use Rattle.rig_model.specs.rules.Ports.{shared_port, slot_of}
 use Rattle.giotto_check.proofs.cited.PlaceLemmas.{passes_there}
 use Rattle.giotto_check.proofs.cited.SlotLemmas.{no_slot, slot_of_port, slot_shared}
 use Rattle.tenant_slots.specs.cited.Replacement.{AreCarried, IsCarryTable, is_carried}

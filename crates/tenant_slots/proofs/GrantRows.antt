@@ -2,7 +2,7 @@
 use Rattle.std.proofs.Common.{◌≡◌, ℤ, pos, negsuc, [], ◌∷◌, None, refl}
 use Rattle.std.specs.Prelude.{codes}
 use Rattle.giotto_tasks.specs.Names.{Valuation}
-use Rattle.giotto_text.specs.Program.{from_line, from_grant, GiottoProgram}
+use Rattle.rig_model.specs.text.Program.{from_line, from_grant, GiottoProgram}
 use Rattle.rig_model.specs.Ports.{initial_ports}
 use Rattle.rig_model.specs.Readings.{Readings}
 use Rattle.tenant_slots.specs.cited.Grants.{with_granted, with_each_granted}

@@ -6,14 +6,14 @@ use Rattle.std.proofs.lemmas.List.Concat.{flat_map-append}
 use Rattle.giotto_tasks.specs.declared.names.Name.{Name}
 use Rattle.giotto_tasks.specs.Names.{Valuation}
 use Rattle.giotto_tasks.specs.cited.Sources.{names_in}
-use Rattle.giotto_text.specs.PortNames.{own_port, own_ports}
-use Rattle.giotto_text.specs.Program.{SensorDeclaration, ActuatorDeclaration, OutputDeclaration, TaskDeclaration, GiottoProgram, names_of}
-use Rattle.giotto_text.specs.ProgramTrees.{sensor_of, actuator_of, output_of, task_of}
-use Rattle.giotto_text.specs.declared.programs.Sensor.{Sensor}
-use Rattle.giotto_text.specs.declared.programs.Actuator.{Actuator}
-use Rattle.giotto_text.specs.declared.programs.Output.{Output}
-use Rattle.giotto_text.specs.declared.programs.Task.{Task}
-use Rattle.giotto_rules.specs.Ports.{ports_of, shown_name}
+use Rattle.rig_model.specs.text.PortNames.{own_port, own_ports}
+use Rattle.rig_model.specs.text.Program.{SensorDeclaration, ActuatorDeclaration, OutputDeclaration, TaskDeclaration, GiottoProgram, names_of}
+use Rattle.rig_model.specs.text.ProgramTrees.{sensor_of, actuator_of, output_of, task_of}
+use Rattle.rig_model.specs.declared.text.programs.Sensor.{Sensor}
+use Rattle.rig_model.specs.declared.text.programs.Actuator.{Actuator}
+use Rattle.rig_model.specs.declared.text.programs.Output.{Output}
+use Rattle.rig_model.specs.declared.text.programs.Task.{Task}
+use Rattle.rig_model.specs.rules.Ports.{ports_of, shown_name}
 use Rattle.giotto_check.specs.Slots.{port_names, valuation_of}
 use Rattle.giotto_check.specs.cited.Slots.{slots_of}
 use Rattle.giotto_check.proofs.cited.PortsOnce.{all_shown, shown_of_task}

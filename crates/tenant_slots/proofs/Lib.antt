@@ -14,3 +14,4 @@ pub mod TaskValues
 pub mod WrittenRanges
 pub mod WrittenSlots
 pub mod cited
+pub use Rattle.giotto_check.proofs.cited as of_well_formed

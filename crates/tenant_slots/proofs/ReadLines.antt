@@ -5,7 +5,7 @@ use Rattle.std.specs.Option.{option_copied}
 use Rattle.std.specs.Slice.{IsItemAt}
 use Rattle.std.proofs.lemmas.Option.{slice_get_past, slice_get_read}
 use Rattle.std.proofs.lemmas.Bool.{cases_eq, ltb-true, ltb-false, eqb-true, ne_eqb, eq-eqb, false≢true}
-use Rattle.rig_config.specs.Roster.{may_use}
+use Rattle.rig_model.specs.config.Roster.{may_use}
 use Rattle.rig_model.specs.Readings.{Readings, reading_of, readings_within}
 
 -- a line that may not be read has no reading

@@ -4,10 +4,10 @@ use Rattle.std.proofs.lemmas.List.{drop_more}
 use Rattle.giotto_tasks.specs.declared.names.Name.{Name}
 use Rattle.giotto_tasks.specs.Meaning.{value_of}
 use Rattle.giotto_tasks.specs.Names.{Valuation}
-use Rattle.giotto_text.specs.Program.{ActuatorUpdate, ModeDeclaration}
-use Rattle.tenant_trace.specs.Trace.{LastRecords}
-use Rattle.tenant_trace.specs.cited.Noted.{noted, pushed}
-use Rattle.tenant_trace.specs.declared.records.Happening.TheVariants as happening
+use Rattle.rig_model.specs.text.Program.{ActuatorUpdate, ModeDeclaration}
+use Rattle.rig_model.specs.trace.Trace.{LastRecords}
+use Rattle.rig_model.specs.trace.cited.Noted.{noted, pushed}
+use Rattle.rig_model.specs.declared.trace.records.Happening.TheVariants as happening
 use Rattle.rig_model.specs.FirstHalf.{outputs_happened}
 use Rattle.rig_model.specs.Updates.{is_updated, updated, updates_happened}
 

@@ -6,13 +6,13 @@ use Rattle.std.proofs.lemmas.List.{length-map}
 use Rattle.std.proofs.lemmas.Option.{slice_get-get_or, slice_get-map}
 use Rattle.giotto_tasks.specs.Names.{Valuation, with_value}
 use Rattle.giotto_tasks.specs.Sound.{all_different}
-use Rattle.giotto_text.specs.PortNames.{with_values}
-use Rattle.giotto_text.specs.Program.{SensorDeclaration, GiottoProgram}
-use Rattle.giotto_text.specs.ProgramTrees.{sensor_of}
-use Rattle.giotto_text.specs.declared.programs.Sensor.{Sensor}
-use Rattle.giotto_rules.specs.Declarations.{sensor_names, actuator_names, output_names, driver_ports}
+use Rattle.rig_model.specs.text.PortNames.{with_values}
+use Rattle.rig_model.specs.text.Program.{SensorDeclaration, GiottoProgram}
+use Rattle.rig_model.specs.text.ProgramTrees.{sensor_of}
+use Rattle.rig_model.specs.declared.text.programs.Sensor.{Sensor}
+use Rattle.rig_model.specs.rules.Declarations.{sensor_names, actuator_names, output_names, driver_ports}
 use Rattle.giotto_check.specs.Slots.{port_names, valuation_of}
-use Rattle.giotto_rules.specs.Ports.{ports_of, shown_name}
+use Rattle.rig_model.specs.rules.Ports.{ports_of, shown_name}
 use Rattle.giotto_check.specs.cited.Slots.{slots_of}
 use Rattle.giotto_check.proofs.cited.EachLemmas.{left_at}
 use Rattle.giotto_check.proofs.cited.SlotLemmas.{port_names_begin}

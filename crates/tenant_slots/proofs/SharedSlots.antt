@@ -5,13 +5,13 @@ use Rattle.std.specs.Option.{option_map}
 use Rattle.std.proofs.lemmas.List.{length-append, length-map}
 use Rattle.giotto_tasks.specs.declared.names.Name.{Name}
 use Rattle.giotto_tasks.specs.Names.{same_name}
-use Rattle.giotto_text.specs.Program.{GiottoProgram}
-use Rattle.giotto_text.specs.ProgramTrees.{sensor_of, actuator_of, output_of}
-use Rattle.giotto_text.specs.declared.programs.Actuator.{Actuator}
-use Rattle.giotto_text.specs.declared.programs.Output.{Output}
-use Rattle.giotto_text.specs.declared.programs.Sensor.{Sensor}
-use Rattle.giotto_rules.specs.Declarations.{actuator_names, driver_ports, output_names, sensor_names}
-use Rattle.giotto_rules.specs.Ports.{ports_of_task, shared_port, slot_of}
+use Rattle.rig_model.specs.text.Program.{GiottoProgram}
+use Rattle.rig_model.specs.text.ProgramTrees.{sensor_of, actuator_of, output_of}
+use Rattle.rig_model.specs.declared.text.programs.Actuator.{Actuator}
+use Rattle.rig_model.specs.declared.text.programs.Output.{Output}
+use Rattle.rig_model.specs.declared.text.programs.Sensor.{Sensor}
+use Rattle.rig_model.specs.rules.Declarations.{actuator_names, driver_ports, output_names, sensor_names}
+use Rattle.rig_model.specs.rules.Ports.{ports_of_task, shared_port, slot_of}
 use Rattle.giotto_check.specs.cited.Slots.{slots_of}
 use Rattle.giotto_check.proofs.cited.PlaceLemmas.{place-map, place_first, place_from, place_second}
 use Rattle.giotto_check.proofs.cited.SlotLemmas.{slot_shared}

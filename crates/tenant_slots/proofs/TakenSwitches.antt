@@ -12,12 +12,12 @@ use Rattle.giotto_tasks.specs.Sound.{all_different}
 use Rattle.giotto_tasks.specs.Syntax.{Expression}
 use Rattle.giotto_tasks.proofs.cited.ListLemmas.{found_has, some_same}
 use Rattle.giotto_tasks.proofs.cited.NameLemmas.{same_name_self}
-use Rattle.giotto_text.specs.PortNames.{with_values}
-use Rattle.giotto_text.specs.Program.{ModeSwitch, ModeDeclaration, GiottoProgram}
-use Rattle.giotto_rules.specs.Declarations.{destinations_of}
-use Rattle.giotto_rules.specs.Names.{all_different_numbers}
+use Rattle.rig_model.specs.text.PortNames.{with_values}
+use Rattle.rig_model.specs.text.Program.{ModeSwitch, ModeDeclaration, GiottoProgram}
+use Rattle.rig_model.specs.rules.Declarations.{destinations_of}
+use Rattle.rig_model.specs.rules.Names.{all_different_numbers}
 use Rattle.giotto_check.specs.cited.Facts.{SwitchFits, ModeFits, ProgramFits}
-use Rattle.giotto_rules.specs.Ports.{slot_of}
+use Rattle.rig_model.specs.rules.Ports.{slot_of}
 use Rattle.giotto_check.specs.Slots.{valuation_of}
 use Rattle.giotto_check.specs.cited.Slots.{slots_of, with_slots}
 use Rattle.giotto_check.specs.cited.Timetables.{AreEach, IsDestination, IsExit, value_over}

@@ -10,13 +10,13 @@ use Rattle.std.proofs.lemmas.Slice.Zip.{firsts-zip}
 use Rattle.giotto_tasks.specs.declared.names.Name.{Name}
 use Rattle.giotto_tasks.specs.Names.{values_of}
 use Rattle.giotto_tasks.proofs.cited.ListLemmas.{some_same}
-use Rattle.giotto_text.specs.PortNames.{own_port, own_ports, with_values}
-use Rattle.giotto_text.specs.Program.{TaskDeclaration, GiottoProgram, names_of}
-use Rattle.giotto_text.specs.ProgramTrees as trees
-use Rattle.giotto_text.specs.declared.programs.Task.{Task}
+use Rattle.rig_model.specs.text.PortNames.{own_port, own_ports, with_values}
+use Rattle.rig_model.specs.text.Program.{TaskDeclaration, GiottoProgram, names_of}
+use Rattle.rig_model.specs.text.ProgramTrees as trees
+use Rattle.rig_model.specs.declared.text.programs.Task.{Task}
 use Rattle.giotto_check.specs.cited.Facts.{ProgramFits}
 use Rattle.giotto_check.specs.Slots.{port_names, valuation_of}
-use Rattle.giotto_rules.specs.Ports.{ports_of, shown_name, slot_of}
+use Rattle.rig_model.specs.rules.Ports.{ports_of, shown_name, slot_of}
 use Rattle.giotto_check.specs.cited.Slots.{slots_of, with_slots}
 use Rattle.giotto_check.specs.cited.Timetables.{AreTaskSlots, HaveSlotsFrom}
 use Rattle.giotto_check.specs.declared.timetables.TaskSlots.{TaskSlots}

@@ -2,7 +2,7 @@
 use Rattle.std.specs.Prelude.{ℕ, [], slice_get}
 use Rattle.std.specs.Option.{option_map_or}
 use Rattle.giotto_tasks.specs.declared.names.Name.{Name}
-use Rattle.giotto_text.specs.Program.{TaskDeclaration, ModeDeclaration, GiottoProgram}
+use Rattle.rig_model.specs.text.Program.{TaskDeclaration, ModeDeclaration, GiottoProgram}
 
 -- the name of the task at this place
 abbrev pub name_of_task : GiottoProgram → ℕ → Name

@@ -4,25 +4,25 @@ ghost use Rattle.std.specs.Prelude.{◌≡◌, ◌≤◌, length};
 ghost use Rattle.std.specs.List.{find, position_from};
 ghost use Rattle.std.specs.Option.{option_map};
 ghost use Rattle.giotto_tasks.specs.Names.{same_name};
-ghost use Rattle.giotto_text.specs.declared.programs.Actuator.{Actuator};
-ghost use Rattle.giotto_text.specs.Program.{ActuatorDeclaration, ModeDeclaration};
+ghost use Rattle.rig_model.specs.declared.text.programs.Actuator.{Actuator};
+ghost use Rattle.rig_model.specs.text.Program.{ActuatorDeclaration, ModeDeclaration};
 ghost use Rattle.giotto_check.specs.cited.Slots.{slots_of};
 ghost use Rattle.giotto_check.specs.Slots.{valuation_of};
 ghost use Rattle.tenant_slots.specs.cited.Places.{IsModeAt};
 ghost use Rattle.rig_model.specs.Ports.{actuators_reset};
 ghost use Rattle.rig_model.specs.LineValues.{drives};
 ghost use Rattle.rig_model.specs.Updates.{all_updated, updates_happened};
-ghost use Rattle.tenant_trace.specs.cited.Noted.{noted, pushed};
-ghost use Rattle.tenant_trace.specs.declared.records.Happening.TheVariants as happening;
+ghost use Rattle.rig_model.specs.trace.cited.Noted.{noted, pushed};
+ghost use Rattle.rig_model.specs.declared.trace.records.Happening.TheVariants as happening;
 
 use crate::drivers::holds;
 use crate::due::Due;
 use giotto_check::Checked;
 use giotto_check::timetables::slot_value;
 use giotto_tasks::names::Name;
-use giotto_text::programs::Actuator;
-use tenant_trace::records::Happening;
-use tenant_trace::traces::Trace;
+use rig_model::text::programs::Actuator;
+use rig_model::trace::records::Happening;
+use rig_model::trace::traces::Trace;
 
 /// Gives each actuator its initial value. Takes no memory.
 pub fn reset_actuators(checked: &Checked, values: &mut [i64])

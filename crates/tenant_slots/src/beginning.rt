@@ -5,12 +5,12 @@ ghost use Rattle.std.specs.Arc.{arc_value};
 ghost use Rattle.std.specs.Option.{option_map};
 ghost use Rattle.giotto_check.specs.cited.Slots.{slots_of, with_range};
 ghost use Rattle.giotto_check.specs.Slots.{valuation_of};
-ghost use Rattle.giotto_text.specs.ProgramTrees.{task_of};
+ghost use Rattle.rig_model.specs.text.ProgramTrees.{task_of};
 ghost use Rattle.rig_model.specs.Ports.{initial_of_task, initial_ports};
 
 use giotto_check::Checked;
 use giotto_tasks::bodies::Body;
-use giotto_text::programs::Task;
+use rig_model::text::programs::Task;
 use std::alloc::{AllocError, Global};
 use std::sync::Arc;
 

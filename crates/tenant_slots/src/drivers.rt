@@ -2,7 +2,7 @@
 
 ghost use Rattle.std.specs.Prelude.{◌≡◌, Option, length};
 ghost use Rattle.giotto_tasks.specs.Syntax.{Expression};
-ghost use Rattle.giotto_text.specs.Program.{GiottoProgram};
+ghost use Rattle.rig_model.specs.text.Program.{GiottoProgram};
 ghost use Rattle.giotto_check.specs.cited.Slots.{slots_of};
 ghost use Rattle.giotto_check.specs.Slots.{valuation_of};
 ghost use Rattle.giotto_check.specs.cited.Timetables.{IsGuard};

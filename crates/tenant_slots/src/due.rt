@@ -2,7 +2,7 @@
 
 ghost use Rattle.std.specs.Prelude.{◌≡◌, ◌<◌, ◌≤◌, ◌%◌, ◌-◌, ◌^◌, ◌==◌, ◌&&◌, ℕ, false, length, nat_eq};
 ghost use Rattle.std.specs.List.{list_any, AllByRecursion};
-ghost use Rattle.giotto_text.specs.Program.{ModeDeclaration};
+ghost use Rattle.rig_model.specs.text.Program.{ModeDeclaration};
 ghost use Rattle.tenant_slots.specs.cited.Due.{IsNextDue, IsQuietUntil, MarksDue, is_among_due};
 ghost use Rattle.tenant_slots.specs.cited.Places.{IsModeAt};
 

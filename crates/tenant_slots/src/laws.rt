@@ -7,7 +7,7 @@ ghost use Rattle.giotto_tasks.specs.declared.names.Name.{Name};
 ghost use Rattle.giotto_tasks.specs.cited.Sources.{names_in};
 ghost use Rattle.giotto_tasks.specs.Names.{Valuation, is_among};
 ghost use Rattle.giotto_tasks.specs.Sound.{all_different};
-ghost use Rattle.giotto_text.specs.Program.{GiottoProgram};
+ghost use Rattle.rig_model.specs.text.Program.{GiottoProgram};
 ghost use Rattle.giotto_check.specs.cited.Slots.{PortNamesDiffer};
 ghost use Rattle.rig_model.specs.Readings.{Readings};
 ghost use Rattle.tenant_slots.specs.cited.Grants.{with_each_granted, with_granted};

@@ -25,3 +25,5 @@ pub mod replacement;
 pub mod sensors;
 pub mod switches;
 pub mod tasks;
+
+pub use giotto_check as well_formed;

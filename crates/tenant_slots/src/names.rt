@@ -4,19 +4,19 @@ ghost use Rattle.std.specs.Prelude.{◌≡◌, ◌<◌, None, length, slice_get,
 ghost use Rattle.std.specs.List.{position_from};
 ghost use Rattle.std.specs.Option.{option_map};
 ghost use Rattle.giotto_tasks.specs.Names.{same_name};
-ghost use Rattle.giotto_text.specs.declared.programs.Actuator.{Actuator};
-ghost use Rattle.giotto_text.specs.declared.programs.Mode.{Mode};
-ghost use Rattle.giotto_text.specs.declared.programs.Output.{Output};
-ghost use Rattle.giotto_text.specs.declared.programs.Sensor.{Sensor};
+ghost use Rattle.rig_model.specs.declared.text.programs.Actuator.{Actuator};
+ghost use Rattle.rig_model.specs.declared.text.programs.Mode.{Mode};
+ghost use Rattle.rig_model.specs.declared.text.programs.Output.{Output};
+ghost use Rattle.rig_model.specs.declared.text.programs.Sensor.{Sensor};
 ghost use Rattle.giotto_check.specs.cited.Slots.{slots_of};
 ghost use Rattle.giotto_check.specs.Slots.{valuation_of};
-ghost use Rattle.giotto_rules.specs.Ports.{slot_of};
+ghost use Rattle.rig_model.specs.rules.Ports.{slot_of};
 ghost use Rattle.tenant_slots.specs.Places.{name_of_mode, name_of_task};
 ghost use Rattle.rig_model.specs.Ports.{value_of_port};
 
 use giotto_check::Checked;
 use giotto_tasks::names::Name;
-use giotto_text::programs::{Actuator, Mode, Output, Sensor};
+use rig_model::text::programs::{Actuator, Mode, Output, Sensor};
 
 /// The value of a port, where these are the values of all ports by their slots: of an input or a state of a task, if one is
 /// named, and else of a sensor, an actuator or an output. `None` where there is no such port. It goes over the program's names once.

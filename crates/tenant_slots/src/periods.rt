@@ -4,8 +4,8 @@ ghost use Rattle.std.specs.Prelude.{◌≡◌, ◌<◌, ◌≤◌, ◌*◌, ◌^
 ghost use Rattle.std.specs.Int.{IsGcd};
 ghost use Rattle.std.specs.List.{find};
 ghost use Rattle.std.specs.Option.{option_map};
-ghost use Rattle.giotto_text.specs.Program.{ModeDeclaration};
-ghost use Rattle.giotto_rules.specs.Declarations.{period_of_task};
+ghost use Rattle.rig_model.specs.text.Program.{ModeDeclaration};
+ghost use Rattle.rig_model.specs.rules.Declarations.{period_of_task};
 ghost use Rattle.tenant_slots.specs.Places.{name_of_task};
 ghost use Rattle.tenant_slots.specs.cited.CommonPeriods.{IsLeastCommonMultiple};
 ghost use Rattle.tenant_slots.specs.cited.Places.{IsModeAt};

@@ -4,20 +4,20 @@
 ghost use Rattle.std.specs.Prelude.{◌≡◌, [], None, Some, length, IfOk, OnOk};
 ghost use Rattle.giotto_tasks.specs.declared.names.Name.{Name as AnyName};
 ghost use Rattle.giotto_tasks.specs.Names.{is_among};
-ghost use Rattle.giotto_text.specs.Program.{GiottoProgram};
-ghost use Rattle.giotto_rules.specs.Declarations as declared;
-ghost use Rattle.giotto_rules.specs.Declarations.{sensor_names, actuator_names};
+ghost use Rattle.rig_model.specs.text.Program.{GiottoProgram};
+ghost use Rattle.rig_model.specs.rules.Declarations as declared;
+ghost use Rattle.rig_model.specs.rules.Declarations.{sensor_names, actuator_names};
 ghost use Rattle.giotto_check.specs.cited.Slots.{slots_of};
-ghost use Rattle.giotto_rules.specs.Ports.{slot_of};
+ghost use Rattle.rig_model.specs.rules.Ports.{slot_of};
 ghost use Rattle.giotto_check.specs.Slots.{valuation_of};
 ghost use Rattle.rig_model.specs.Ports.{initial_ports};
 ghost use Rattle.rig_model.specs.Replacement.{carried_ports};
 ghost use Rattle.tenant_slots.specs.cited.Replacement.{IsCarryTable, is_carried};
 
 use giotto_check::Checked;
-use giotto_rules::declarations::driver_ports;
 use giotto_tasks::index::Index;
 use giotto_tasks::names::Name;
+use rig_model::rules::declarations::driver_ports;
 use std::alloc::{AllocError, Global};
 
 /// A value that goes from a slot of the program that is replaced to a slot of the one that replaces it.

@@ -2,8 +2,8 @@
 
 ghost use Rattle.std.specs.Prelude.{◌≡◌, [], length};
 ghost use Rattle.std.specs.List.{position_from};
-ghost use Rattle.giotto_text.specs.ProgramTrees.{sensor_of};
-ghost use Rattle.giotto_text.specs.declared.programs.Sensor.{Sensor};
+ghost use Rattle.rig_model.specs.text.ProgramTrees.{sensor_of};
+ghost use Rattle.rig_model.specs.declared.text.programs.Sensor.{Sensor};
 ghost use Rattle.giotto_check.specs.cited.Slots.{slots_of};
 ghost use Rattle.giotto_check.specs.Slots.{valuation_of};
 ghost use Rattle.rig_model.specs.Readings.{readings_within, reading_of, reading_taken};
@@ -12,8 +12,8 @@ ghost use Rattle.tenant_slots.specs.cited.Readings.{with_readings};
 
 use giotto_check::Checked;
 use giotto_tasks::names::Name;
-use giotto_text::programs::{Sensor, Source};
-use rig_config::Budgets;
+use rig_model::config::Budgets;
+use rig_model::text::programs::{Sensor, Source};
 
 /// Writes each sensor's reading. `frame` has the input value of each line. Takes no memory.
 pub fn sense(checked: &Checked, budgets: &Budgets, frame: &[i64], values: &mut [i64])

@@ -2,8 +2,8 @@
 
 ghost use Rattle.std.specs.Prelude.{◌≡◌, ◌<◌, ◌≤◌, None, IsTrue, length};
 ghost use Rattle.std.specs.List.{AllByRecursion};
-ghost use Rattle.giotto_text.specs.Program.{GiottoProgram, ModeDeclaration};
-ghost use Rattle.giotto_rules.specs.Names.{all_different_numbers};
+ghost use Rattle.rig_model.specs.text.Program.{GiottoProgram, ModeDeclaration};
+ghost use Rattle.rig_model.specs.rules.Names.{all_different_numbers};
 ghost use Rattle.giotto_check.specs.cited.Slots.{slots_of, with_slots};
 ghost use Rattle.giotto_check.specs.Slots.{valuation_of};
 ghost use Rattle.giotto_check.specs.cited.Timetables.{AreEach, IsExit};

@@ -4,7 +4,7 @@ ghost use Rattle.std.specs.Prelude.{◌≡◌, ◌<◌, ◌≤◌, ◌+◌, ℕ,
 ghost use Rattle.std.specs.List.{AllByRecursion, range_with_len};
 ghost use Rattle.giotto_tasks.specs.Meaning.{value_of};
 ghost use Rattle.giotto_tasks.specs.Syntax.{Expression};
-ghost use Rattle.giotto_text.specs.Program.{GiottoProgram, TaskDeclaration};
+ghost use Rattle.rig_model.specs.text.Program.{GiottoProgram, TaskDeclaration};
 ghost use Rattle.giotto_check.specs.cited.Facts.{ProgramFits};
 ghost use Rattle.giotto_check.specs.cited.Slots.{slots_of, with_slots};
 ghost use Rattle.giotto_check.specs.Slots.{valuation_of};
@@ -12,15 +12,15 @@ ghost use Rattle.giotto_check.specs.cited.Timetables.{AreEach, AreTaskSlots, IsE
 ghost use Rattle.rig_model.specs.FirstHalf.{outputs_happened};
 ghost use Rattle.tenant_slots.specs.cited.Places.{IsTaskAt};
 ghost use Rattle.tenant_slots.specs.inner.Tasks.{states_in, with_input_values, with_results};
-ghost use Rattle.tenant_trace.specs.cited.Noted.{noted};
+ghost use Rattle.rig_model.specs.trace.cited.Noted.{noted};
 
 use giotto_check::Checked;
 use giotto_check::timetables::{SlotExpr, TaskSlots, slot_value};
 use giotto_tasks::bodies::Body;
 use giotto_tasks::names::Name;
 use giotto_tasks::values::Values;
-use tenant_trace::records::Happening;
-use tenant_trace::traces::Trace;
+use rig_model::trace::records::Happening;
+use rig_model::trace::traces::Trace;
 
 /// Puts the values of an invocation's arguments, at most 16, into an empty list, in their order. Takes no memory.
 pub fn argument_values(arguments: &[SlotExpr], values: &[i64], given: &mut Values)

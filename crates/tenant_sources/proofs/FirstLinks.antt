@@ -22,9 +22,9 @@ use Rattle.rig_model.specs.Base.{Setting}
 use Rattle.rig_model.specs.Sources.{suppliers_of}
 use Rattle.rig_model.specs.Tenancies.{roster_of}
 use Rattle.rig_model.specs.Views.{row_of}
-use Rattle.rig_config.specs.declared.TenantConfig.{TenantConfig}
-use Rattle.tenant_grants.specs.declared.rows.Bind.{Bind}
-use Rattle.tenant_grants.specs.Grants.{bind_at, place_in, with_place}
+use Rattle.rig_model.specs.declared.config.TenantConfig.{TenantConfig}
+use Rattle.rig_model.specs.declared.grants.rows.Bind.{Bind}
+use Rattle.rig_model.specs.grants.Grants.{bind_at, place_in, with_place}
 use Rattle.tenant_sources.proofs.ForwardSources.{behind_tick}
 
 abbrev pub Placed : Type 0

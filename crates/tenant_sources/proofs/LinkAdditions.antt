@@ -11,8 +11,8 @@ use Rattle.tenant_sources.specs.cited.Additions.{IsPlaceOf, has_source, with_lin
 use Rattle.tenant_sources.specs.Links.{Links, link_at, link_in}
 use Rattle.rig_model.specs.Base.{Setting}
 use Rattle.rig_model.specs.Tenancies.{roster_of}
-use Rattle.tenant_grants.specs.declared.rows.Bind.{Bind}
-use Rattle.tenant_grants.specs.Grants.{with_place}
+use Rattle.rig_model.specs.declared.grants.rows.Bind.{Bind}
+use Rattle.rig_model.specs.grants.Grants.{with_place}
 use Rattle.rig_model.specs.Row.{Row}
 use Rattle.tenant_sources.proofs.FirstLinks.{Placed}
 use Rattle.tenant_sources.proofs.LinkTables.{is_at, link_with_link, with_links_many, with_links_square, with_one_more}

@@ -18,10 +18,10 @@ use Rattle.tenant_sources.specs.cited.Additions.{IsPlaceOf, has_source, with_lin
 use Rattle.rig_model.specs.Base.{Setting}
 use Rattle.rig_model.specs.Tenancies.{roster_of}
 use Rattle.rig_model.specs.Views.{row_of}
-use Rattle.rig_config.specs.declared.TenantConfig.{TenantConfig}
-use Rattle.rig_config.specs.Roster.{Rig}
+use Rattle.rig_model.specs.declared.config.TenantConfig.{TenantConfig}
+use Rattle.rig_model.specs.config.Roster.{Rig}
 use Rattle.rig_model.specs.Row.{Row}
-use Rattle.rig_laws.proofs.cited.AloneAlong.{same_clock, same_rows}
+use Rattle.host_core.proofs.of_laws.AloneAlong.{same_clock, same_rows}
 use Rattle.tenant_sources.proofs.FirstLinks.{Placed, same_found, source_is_linked}
 use Rattle.tenant_sources.proofs.LinkTables.{with_links_many}
 

@@ -5,7 +5,7 @@ use Rattle.giotto_tasks.specs.declared.names.Name.{Name}
 use Rattle.rig_model.specs.declared.events.Event.{Event}
 use Rattle.rig_model.specs.declared.events.Event.TheVariants.{Own, Tick, Done}
 use Rattle.tenant_sources.specs.declared.tables.Link.{Link}
-use Rattle.tenant_grants.specs.Grants.{with_place}
+use Rattle.rig_model.specs.grants.Grants.{with_place}
 use Rattle.rig_model.specs.Row.{Row}
 use Rattle.rig_model.specs.Legal.{next_tick}
 use Rattle.rig_model.specs.Base.{Setting}

@@ -5,3 +5,6 @@
 #![tactic(auto)]
 
 pub mod tables;
+
+pub use host_core as host;
+pub use host_core::programs;

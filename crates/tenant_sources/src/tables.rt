@@ -13,11 +13,11 @@ ghost use Rattle.rig_model.specs.Views.{row_of};
 ghost use Rattle.rig_model.specs.declared.events.Event.{Event};
 ghost use Rattle.tenant_sources.specs.declared.tables.Addition.{Addition};
 ghost use Rattle.tenant_sources.specs.inner.Links.{Adds, next_link};
-ghost use Rattle.rig_config.specs.Roster.{is_tenant};
+ghost use Rattle.rig_model.specs.config.Roster.{is_tenant};
 
 use giotto_tasks::names::Name;
 use host_core::hosts::Host;
-use rig_config::TenantId;
+use rig_model::config::TenantId;
 use std::alloc::{AllocError, Global};
 use std::marker::Model;
 

@@ -11,11 +11,11 @@ use Rattle.std.proofs.lemmas.Option.{slice_get_read}
 use Rattle.std.proofs.Math.ListN.{get_or-map}
 use Rattle.giotto_tasks.specs.Sound.{IsSound}
 use Rattle.giotto_tasks.specs.Syntax.{TaskBody, finished}
-use Rattle.giotto_text.specs.Program.{GiottoProgram, body_of}
-use Rattle.giotto_text.specs.ProgramTrees as trees
-use Rattle.giotto_text.specs.declared.programs.Task.{Task}
-use Rattle.giotto_check.specs.cited.Facts.{ProgramFits}
-use Rattle.tenant_slots.proofs.cited.Numbered.{task_here, task_fits_at}
+use Rattle.rig_model.specs.text.Program.{GiottoProgram, body_of}
+use Rattle.rig_model.specs.text.ProgramTrees as trees
+use Rattle.rig_model.specs.declared.text.programs.Task.{Task}
+use Rattle.tenant_exchange.specs.well_formed.cited.Facts.{ProgramFits}
+use Rattle.tenant_exchange.proofs.of_slots.Numbered.{task_here, task_fits_at}
 use Rattle.rig_model.specs.declared.jobs.JobId.{JobId}
 use Rattle.tenant_jobs.specs.Finished.{TableEntry, entry_in, result_in, has_result}
 use Rattle.tenant_jobs.specs.cited.Finished.{is_entered, result_of}

@@ -10,7 +10,7 @@ use Rattle.giotto_tasks.specs.Names.{same_name, is_among}
 use Rattle.giotto_tasks.proofs.cited.ListLemmas.{all_map, all_mapped, all_of, any_map, same_filter}
 use Rattle.giotto_tasks.proofs.cited.NameLemmas.{same_name_is, same_name_self, any_is_among, is_among-append}
 use Rattle.giotto_tasks.proofs.cited.TestLemmas.{absorbed, and_false, and_true}
-use Rattle.giotto_text.specs.Program.{TaskInvocation, ModeDeclaration}
+use Rattle.rig_model.specs.text.Program.{TaskInvocation, ModeDeclaration}
 use Rattle.rig_model.specs.Due.{is_due_at}
 use Rattle.rig_model.specs.FirstHalf.{still_active}
 use Rattle.rig_model.specs.Row.{ActiveTask}

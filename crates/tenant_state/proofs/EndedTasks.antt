@@ -6,7 +6,7 @@ use Rattle.std.proofs.lemmas.Bool.{and_parts, and_from, eqb-true, eq-eqb, false�
 use Rattle.std.proofs.lemmas.List.Folds.{list_all-map}
 use Rattle.std.proofs.lemmas.List.{drop_more, length-map}
 use Rattle.std.proofs.lemmas.Option.{slice_get_cases}
-use Rattle.giotto_rules.specs.Declarations.{task_named, mode_named}
+use Rattle.rig_model.specs.rules.Declarations.{task_named, mode_named}
 use Rattle.std.specs.Option.{option_map, option_map_or}
 use Rattle.giotto_tasks.specs.declared.names.Name.{Name}
 use Rattle.giotto_tasks.specs.Names.{Valuation, same_name}
@@ -16,18 +16,18 @@ use Rattle.giotto_tasks.specs.Syntax as syntax
 use Rattle.giotto_tasks.proofs.cited.ListLemmas.{all_if_any, all_map, any_if_all, any_map, all_of, filter-map, list_all-filter, same_filter}
 use Rattle.giotto_tasks.proofs.cited.TestLemmas.{and_false, and_true}
 use Rattle.giotto_tasks.proofs.cited.NameLemmas.{same_name_is}
-use Rattle.giotto_text.specs.Program.{TaskDeclaration, TaskInvocation, ModeDeclaration, GiottoProgram, body_of, names_of}
-use Rattle.giotto_check.specs.cited.Facts.{ProgramFits}
-use Rattle.giotto_check.specs.Slots.{valuation_of}
-use Rattle.giotto_check.specs.cited.Timetables.{AreEach, IsInvocation, place_of_task}
-use Rattle.giotto_check.specs.declared.timetables.SlotInvocation.{SlotInvocation}
-use Rattle.giotto_check.proofs.cited.PlaceLemmas.{passes_there, place_within}
+use Rattle.rig_model.specs.text.Program.{TaskDeclaration, TaskInvocation, ModeDeclaration, GiottoProgram, body_of, names_of}
+use Rattle.tenant_exchange.specs.well_formed.cited.Facts.{ProgramFits}
+use Rattle.tenant_exchange.specs.well_formed.Slots.{valuation_of}
+use Rattle.tenant_exchange.specs.well_formed.cited.Timetables.{AreEach, IsInvocation, place_of_task}
+use Rattle.tenant_exchange.specs.declared.well_formed.timetables.SlotInvocation.{SlotInvocation}
+use Rattle.tenant_exchange.proofs.of_well_formed.PlaceLemmas.{passes_there, place_within}
 use Rattle.rig_model.specs.Due.{is_due_at}
-use Rattle.tenant_slots.specs.cited.Due.{IsQuietAt, is_among_due}
-use Rattle.tenant_slots.specs.Places.{name_of_task}
+use Rattle.tenant_exchange.specs.slots.cited.Due.{IsQuietAt, is_among_due}
+use Rattle.tenant_exchange.specs.slots.Places.{name_of_task}
 use Rattle.rig_model.specs.Updates.{all_updated, updates_happened}
-use Rattle.tenant_slots.proofs.cited.Numbered.{invocation_due, mode_here, same_task, task_here}
-use Rattle.tenant_grants.specs.Grants.{GrantRows}
+use Rattle.tenant_exchange.proofs.of_slots.Numbered.{invocation_due, mode_here, same_task, task_here}
+use Rattle.rig_model.specs.grants.Grants.{GrantRows}
 use Rattle.tenant_state.specs.declared.tenants.Active.{Active}
 use Rattle.tenant_state.specs.declared.tenants.waiting.Waiting.{Waiting}
 use Rattle.tenant_state.specs.declared.tenants.State as code
@@ -42,16 +42,16 @@ use Rattle.rig_model.specs.FirstHalf.{all_ended, ends_happened, outputs_of_end, 
 use Rattle.rig_model.specs.Row.{overrun, ActiveTask, Row}
 use Rattle.tenant_state.specs.Standing.{is_another, all_different_releases, with_last, Standing}
 use Rattle.tenant_state.specs.cited.Standing.{AreEnded, has_active}
-use Rattle.rig_config.specs.declared.Budgets.{Budgets}
+use Rattle.rig_model.specs.declared.config.Budgets.{Budgets}
 use Rattle.tenant_state.specs.Tenants.{active_of, standing_of, state_of}
 use Rattle.tenant_state.specs.inner.Tenants.{FitsProgram, FitsIts, IsActiveAs, IsActiveIn, IsActiveOf, IsTenant}
 use Rattle.tenant_state.proofs.DueTasks.{any_parted, group, ends, is_open, is_unfinished, names_of_tasks, none_passes, stay}
 use Rattle.tenant_state.proofs.FirstHalfOf.{Runs, due_are, goes_on, stops, unchanged}
 use Rattle.tenant_state.proofs.Records.{last_noted}
 use Rattle.tenant_state.proofs.Stops.{row_of}
-use Rattle.tenant_trace.specs.Trace.{LastRecords, with_happenings}
-use Rattle.tenant_trace.specs.cited.Noted.{noted}
-use Rattle.tenant_trace.proofs.cited.Kept.{noted_behind}
+use Rattle.rig_model.specs.trace.Trace.{LastRecords, with_happenings}
+use Rattle.rig_model.specs.trace.cited.Noted.{noted}
+use Rattle.rig_model.proofs.of_trace.Kept.{noted_behind}
 
 -- a tenant that stays as it is, where none had ended, has none that end
 pub none_ended : (s : Standing) → s.ready.ended ≡ [] → AreEnded s s

@@ -6,14 +6,14 @@ use Rattle.giotto_tasks.specs.Names.{Valuation, is_among, same_name, with_value}
 use Rattle.giotto_tasks.specs.Meaning.{value_of}
 use Rattle.giotto_tasks.proofs.cited.ListLemmas.{all_of}
 use Rattle.giotto_tasks.proofs.cited.TestLemmas.{and_false}
-use Rattle.giotto_text.specs.Program.{ActuatorUpdate, TaskInvocation, ModeDeclaration, GiottoProgram}
-use Rattle.giotto_rules.specs.Declarations.{mode_named}
+use Rattle.rig_model.specs.text.Program.{ActuatorUpdate, TaskInvocation, ModeDeclaration, GiottoProgram}
+use Rattle.rig_model.specs.rules.Declarations.{mode_named}
 use Rattle.rig_model.specs.Due.{is_due_at}
-use Rattle.tenant_slots.specs.cited.Due.{IsQuietAt}
+use Rattle.tenant_exchange.specs.slots.cited.Due.{IsQuietAt}
 use Rattle.rig_model.specs.Ports.{holds}
 use Rattle.rig_model.specs.Updates.{all_updated, updated, updates_happened}
-use Rattle.tenant_trace.specs.declared.records.Happening.TheVariants as happening
-use Rattle.tenant_trace.specs.Trace.{with_happenings}
+use Rattle.rig_model.specs.declared.trace.records.Happening.TheVariants as happening
+use Rattle.rig_model.specs.trace.Trace.{with_happenings}
 use Rattle.rig_model.specs.FirstHalf.{all_ended, ends_happened, still_active, unfinished_tasks, due_in_mode, due_tasks, names_due, first_half_with, completed_in_mode, first_half_of, stopped_with}
 use Rattle.rig_model.specs.Row.{running, overrun, ActiveTask, Row, is_running_state, where_some, in_mode}
 use Rattle.tenant_state.proofs.DueTasks.{group, is_open, is_unfinished, names_of_tasks, open_names, none_open, none_passes, first_open}

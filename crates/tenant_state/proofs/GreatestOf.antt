@@ -1,7 +1,7 @@
 -- The greatest of some numbers, the first taken apart.
 use Rattle.std.proofs.Common.{◌≡◌, ℕ, List, [], ◌∷◌, max, arith}
 use Rattle.std.specs.List.{fold}
-use Rattle.giotto_rules.specs.Costs.{greatest}
+use Rattle.rig_model.specs.rules.Costs.{greatest}
 
 greatest_from : (a : ℕ) (ns : List ℕ) → fold max a ns ≡ max a (greatest ns)
 greatest_from a [] = omega arith

@@ -9,21 +9,21 @@ use Rattle.std.proofs.lemmas.List.{length-append}
 use Rattle.giotto_tasks.specs.Names.{Valuation}
 use Rattle.giotto_tasks.proofs.cited.ListLemmas.{some_same}
 use Rattle.giotto_tasks.specs.Syntax.{TaskBody}
-use Rattle.giotto_text.specs.PortNames.{with_values}
-use Rattle.giotto_text.specs.Program.{TaskDeclaration, TaskInvocation, ModeDeclaration, GiottoProgram}
-use Rattle.giotto_rules.specs.Declarations.{task_named, sensor_names}
-use Rattle.giotto_check.specs.cited.Facts.{ProgramFits}
-use Rattle.giotto_check.specs.Slots.{valuation_of}
-use Rattle.rig_config.specs.declared.Budgets.{Budgets}
-use Rattle.tenant_grants.specs.Grants.{GrantRows}
+use Rattle.rig_model.specs.text.PortNames.{with_values}
+use Rattle.rig_model.specs.text.Program.{TaskDeclaration, TaskInvocation, ModeDeclaration, GiottoProgram}
+use Rattle.rig_model.specs.rules.Declarations.{task_named, sensor_names}
+use Rattle.tenant_exchange.specs.well_formed.cited.Facts.{ProgramFits}
+use Rattle.tenant_exchange.specs.well_formed.Slots.{valuation_of}
+use Rattle.rig_model.specs.declared.config.Budgets.{Budgets}
+use Rattle.rig_model.specs.grants.Grants.{GrantRows}
 use Rattle.rig_model.specs.Due.{is_due_at}
-use Rattle.tenant_slots.specs.Places.{name_of_mode}
+use Rattle.tenant_exchange.specs.slots.Places.{name_of_mode}
 use Rattle.rig_model.specs.Readings.{Readings, reading_taken}
-use Rattle.tenant_slots.proofs.cited.Numbered.{mode_here}
+use Rattle.tenant_exchange.proofs.of_slots.Numbered.{mode_here}
 use Rattle.tenant_state.specs.declared.tenants.Active.{Active}
 use Rattle.tenant_state.specs.declared.tenants.waiting.Waiting.{Waiting}
 use Rattle.tenant_state.specs.declared.tenants.State.TheVariants.{Running}
-use Rattle.tenant_trace.specs.declared.records.Record.{Record}
+use Rattle.rig_model.specs.declared.trace.records.Record.{Record}
 use Rattle.rig_model.specs.Row.{ActiveTask, Row, in_mode}
 use Rattle.rig_model.specs.SecondHalf.{is_invoked, released, invoked, all_invoked, all_released, invoked_in_mode, moved_on, counted, second_half_of}
 use Rattle.tenant_state.specs.Standing.{Standing, StandsFor, most_at, most_in_mode, most_released, with_last}
@@ -31,7 +31,7 @@ use Rattle.tenant_state.specs.cited.Standing.{AreReleased, IsSettled}
 use Rattle.tenant_state.specs.Tenants.{active_of, standing_of}
 use Rattle.tenant_state.specs.inner.Tenants.{AreInvoked}
 use Rattle.tenant_state.proofs.Records.{last_noted}
-use Rattle.tenant_trace.specs.Trace.{LastRecords, with_happenings}
+use Rattle.rig_model.specs.trace.Trace.{LastRecords, with_happenings}
 use Rattle.tenant_state.proofs.SecondHalfSteps.{in_its_mode, running_half, placed, IsBehindSwitch}
 
 module _ (p : GiottoProgram) (m : ModeDeclaration) (time n : ℕ) where

@@ -4,8 +4,8 @@ use Rattle.std.specs.Prelude.{◌&&◌}
 use Rattle.std.specs.List.{AllByRecursion, flat_map}
 use Rattle.std.specs.Option.{option_map_or}
 use Rattle.giotto_tasks.specs.Names.{same_name}
-use Rattle.giotto_rules.specs.Declarations.{mode_named}
-use Rattle.giotto_text.specs.Program.{ModeDeclaration, TaskInvocation, GiottoProgram}
+use Rattle.rig_model.specs.rules.Declarations.{mode_named}
+use Rattle.rig_model.specs.text.Program.{ModeDeclaration, TaskInvocation, GiottoProgram}
 use Rattle.rig_model.specs.Granted.{granted_along}
 use Rattle.rig_model.specs.Due.{is_due_at}
 use Rattle.rig_model.specs.Readings.{readings_within}
@@ -14,10 +14,10 @@ use Rattle.tenant_state.specs.cited.Halves.{IsSecondHalf}
 use Rattle.tenant_state.specs.cited.Standing.{AreReleased, IsBehind}
 use Rattle.tenant_state.proofs.Replaced.{installed_first}
 use Rattle.giotto_tasks.specs.Syntax.{TaskBody}
-use Rattle.giotto_check.specs.cited.Facts.{ProgramFits}
-use Rattle.rig_config.specs.declared.Budgets.{Budgets}
-use Rattle.tenant_grants.specs.Grants.{GrantRows}
-use Rattle.tenant_trace.specs.Trace.{LastRecords}
+use Rattle.tenant_exchange.specs.well_formed.cited.Facts.{ProgramFits}
+use Rattle.rig_model.specs.declared.config.Budgets.{Budgets}
+use Rattle.rig_model.specs.grants.Grants.{GrantRows}
+use Rattle.rig_model.specs.trace.Trace.{LastRecords}
 use Rattle.tenant_state.specs.declared.tenants.Active.{Active}
 use Rattle.tenant_state.specs.declared.tenants.waiting.Waiting.{Waiting}
 use Rattle.rig_model.specs.FirstHalf.{due_in_mode, due_tasks}

@@ -10,19 +10,19 @@ use Rattle.giotto_tasks.specs.Syntax.{TaskBody}
 use Rattle.giotto_tasks.proofs.cited.ListLemmas.{all_append, all_if_any, all_map, all_mapped, all_of, all_with, any_map, find_is_any, find_passes, found_has, found_passes, some_same}
 use Rattle.giotto_tasks.proofs.cited.NameLemmas.{any_is_among, same_name_is, same_name_self}
 use Rattle.giotto_tasks.proofs.cited.TestLemmas.{either}
-use Rattle.giotto_text.specs.Program.{TaskDeclaration, ModeSwitch, TaskInvocation, ModeDeclaration, GiottoProgram}
-use Rattle.giotto_rules.specs.Declarations.{invoked_tasks, mode_named, period_of_task}
-use Rattle.giotto_rules.specs.cited.KeepsRules.{KeepsRules}
-use Rattle.giotto_rules.specs.Rules.{switches_keep_periods}
-use Rattle.giotto_rules.specs.Switches.{goes_on_with, is_period, keeps_period, mode_keeps_periods, switch_keeps_periods}
-use Rattle.giotto_rules.proofs.cited.RulesKept.{rule_kept}
-use Rattle.giotto_check.specs.cited.Facts.{ProgramFits}
-use Rattle.tenant_grants.specs.Grants.{GrantRows}
+use Rattle.rig_model.specs.text.Program.{TaskDeclaration, ModeSwitch, TaskInvocation, ModeDeclaration, GiottoProgram}
+use Rattle.rig_model.specs.rules.Declarations.{invoked_tasks, mode_named, period_of_task}
+use Rattle.rig_model.specs.rules.cited.KeepsRules.{KeepsRules}
+use Rattle.rig_model.specs.rules.Rules.{switches_keep_periods}
+use Rattle.rig_model.specs.rules.Switches.{goes_on_with, is_period, keeps_period, mode_keeps_periods, switch_keeps_periods}
+use Rattle.rig_model.proofs.of_rules.RulesKept.{rule_kept}
+use Rattle.tenant_exchange.specs.well_formed.cited.Facts.{ProgramFits}
+use Rattle.rig_model.specs.grants.Grants.{GrantRows}
 use Rattle.rig_model.specs.Due.{is_due_at}
-use Rattle.tenant_slots.specs.Places.{name_of_mode}
+use Rattle.tenant_exchange.specs.slots.Places.{name_of_mode}
 use Rattle.rig_model.specs.Switches.{is_open, switch_taken}
-use Rattle.tenant_slots.proofs.cited.CommonMultiples.{divides, is_divided}
-use Rattle.tenant_slots.proofs.cited.Numbered.{mode_here}
+use Rattle.tenant_exchange.proofs.of_slots.CommonMultiples.{divides, is_divided}
+use Rattle.tenant_exchange.proofs.of_slots.Numbered.{mode_here}
 use Rattle.tenant_state.specs.declared.tenants.Active.{Active}
 use Rattle.tenant_state.specs.declared.tenants.waiting.Waiting.{Waiting}
 use Rattle.tenant_state.specs.declared.tenants.switches.Entry.{Entry}
@@ -34,7 +34,7 @@ use Rattle.tenant_state.specs.Tenants.{active_of}
 use Rattle.tenant_state.specs.inner.Invoked.{IsInvokedIn}
 use Rattle.tenant_state.specs.inner.Tenants.{AreInvoked, IsEntered}
 use Rattle.tenant_state.proofs.DueTasks.{ends, group}
-use Rattle.tenant_trace.specs.Trace.{LastRecords}
+use Rattle.rig_model.specs.trace.Trace.{LastRecords}
 use Rattle.tenant_state.proofs.EndedTasks.{IsRunning, all_unmapped}
 use Rattle.tenant_state.proofs.FirstHalfOf.{Runs, due_are}
 use Rattle.tenant_state.proofs.HalfStands.{released_by}

@@ -10,26 +10,26 @@ use Rattle.giotto_tasks.specs.Names.{Valuation, is_among, same_name, value_at}
 use Rattle.giotto_tasks.proofs.cited.ListLemmas.{any_map, find_is_any, find_passes, found_has}
 use Rattle.giotto_tasks.proofs.cited.NameLemmas.{any_is_among, same_name_is}
 use Rattle.giotto_tasks.proofs.cited.TestLemmas.{and_true, and_false}
-use Rattle.giotto_text.specs.Program.{ActuatorDeclaration, ModeDeclaration, GiottoProgram}
-use Rattle.giotto_text.specs.ProgramTrees.{actuator_of, sensor_of}
-use Rattle.giotto_text.specs.declared.programs.Actuator.{Actuator}
-use Rattle.giotto_text.specs.declared.programs.Sensor.{Sensor}
-use Rattle.giotto_rules.specs.Declarations.{sensor_names, actuator_names, output_names}
-use Rattle.giotto_check.specs.cited.Facts.{ProgramFits}
-use Rattle.giotto_check.specs.Slots.{port_names, valuation_of}
-use Rattle.giotto_rules.specs.Ports.{ports_of, ports_of_task, shown_name}
-use Rattle.giotto_check.specs.cited.Slots.{slots_of}
-use Rattle.giotto_check.specs.cited.Timetables.{AreEach, IsInvocation}
-use Rattle.giotto_check.specs.declared.timetables.SlotInvocation.{SlotInvocation}
-use Rattle.giotto_check.proofs.cited.PlaceLemmas.{passes_there, place-map, place_if_found}
-use Rattle.giotto_check.proofs.cited.SlotLemmas.{port_names_begin}
-use Rattle.giotto_check.proofs.cited.Valuations.{value_at_place}
+use Rattle.rig_model.specs.text.Program.{ActuatorDeclaration, ModeDeclaration, GiottoProgram}
+use Rattle.rig_model.specs.text.ProgramTrees.{actuator_of, sensor_of}
+use Rattle.rig_model.specs.declared.text.programs.Actuator.{Actuator}
+use Rattle.rig_model.specs.declared.text.programs.Sensor.{Sensor}
+use Rattle.rig_model.specs.rules.Declarations.{sensor_names, actuator_names, output_names}
+use Rattle.tenant_exchange.specs.well_formed.cited.Facts.{ProgramFits}
+use Rattle.tenant_exchange.specs.well_formed.Slots.{port_names, valuation_of}
+use Rattle.rig_model.specs.rules.Ports.{ports_of, ports_of_task, shown_name}
+use Rattle.tenant_exchange.specs.well_formed.cited.Slots.{slots_of}
+use Rattle.tenant_exchange.specs.well_formed.cited.Timetables.{AreEach, IsInvocation}
+use Rattle.tenant_exchange.specs.declared.well_formed.timetables.SlotInvocation.{SlotInvocation}
+use Rattle.tenant_exchange.proofs.of_well_formed.PlaceLemmas.{passes_there, place-map, place_if_found}
+use Rattle.tenant_exchange.proofs.of_well_formed.SlotLemmas.{port_names_begin}
+use Rattle.tenant_exchange.proofs.of_well_formed.Valuations.{value_at_place}
 use Rattle.rig_model.specs.Due.{is_due_at}
-use Rattle.tenant_slots.specs.Places.{name_of_task}
-use Rattle.tenant_slots.proofs.cited.Numbered.{invocation_due, mode_here, same_task}
+use Rattle.tenant_exchange.specs.slots.Places.{name_of_task}
+use Rattle.tenant_exchange.proofs.of_slots.Numbered.{invocation_due, mode_here, same_task}
 use Rattle.rig_model.specs.declared.jobs.JobId.{JobId}
-use Rattle.tenant_grants.specs.Grants.{GrantRows}
-use Rattle.rig_config.specs.Roster.{no_budgets}
+use Rattle.rig_model.specs.grants.Grants.{GrantRows}
+use Rattle.rig_model.specs.config.Roster.{no_budgets}
 use Rattle.tenant_state.specs.declared.tenants.Active.{Active}
 use Rattle.tenant_state.specs.declared.tenants.State.TheVariants as states
 use Rattle.rig_model.specs.FirstHalf.{names_due}

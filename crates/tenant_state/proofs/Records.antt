@@ -1,11 +1,11 @@
 -- What a tenant's trace keeps of the records of its row.
 use Rattle.std.proofs.Common.{◌≡◌, ℕ, List, [], ◌∷◌, take, ap, sym, ◌∙◌, arith}
 use Rattle.std.proofs.lemmas.List.{take-take}
-use Rattle.tenant_trace.specs.declared.records.Happening.{Happening}
-use Rattle.tenant_trace.specs.declared.records.Record.{Record}
-use Rattle.tenant_trace.specs.Trace.{LastRecords, with_happenings}
-use Rattle.tenant_trace.specs.cited.Noted.{noted, pushed}
-use Rattle.tenant_trace.proofs.cited.Kept.{last_of_all}
+use Rattle.rig_model.specs.declared.trace.records.Happening.{Happening}
+use Rattle.rig_model.specs.declared.trace.records.Record.{Record}
+use Rattle.rig_model.specs.trace.Trace.{LastRecords, with_happenings}
+use Rattle.rig_model.specs.trace.cited.Noted.{noted, pushed}
+use Rattle.rig_model.proofs.of_trace.Kept.{last_of_all}
 use Rattle.rig_model.specs.Row.{Row, recorded}
 use Rattle.tenant_state.specs.Standing.{with_last}
 use Rattle.tenant_state.specs.inner.Tenants.{IsTraceOf}

@@ -4,25 +4,25 @@ use Rattle.std.specs.Prelude.{◌==◌, is_some, slice_get}
 use Rattle.std.proofs.lemmas.Bool.{eq-eqb, ne_eqb, false≢true}
 use Rattle.giotto_tasks.specs.Names.{Valuation}
 use Rattle.giotto_tasks.proofs.cited.TestLemmas.{cond-same}
-use Rattle.giotto_text.specs.Program.{GiottoProgram, ModeDeclaration}
+use Rattle.rig_model.specs.text.Program.{GiottoProgram, ModeDeclaration}
 use Rattle.rig_model.specs.Readings.{Readings}
 use Rattle.rig_model.specs.Replacement.{carried_ports}
 use Rattle.tenant_state.specs.declared.tenants.Active.{Active}
 use Rattle.tenant_state.specs.declared.tenants.State.TheVariants.{Running}
 use Rattle.tenant_state.specs.declared.tenants.waiting.Waiting.{Waiting}
-use Rattle.tenant_grants.specs.Grants.{GrantRows}
-use Rattle.giotto_check.specs.Slots.{valuation_of}
-use Rattle.tenant_slots.specs.Places.{name_of_mode}
-use Rattle.tenant_trace.specs.declared.records.Happening.TheVariants as happening
-use Rattle.tenant_trace.specs.Trace.{LastRecords}
-use Rattle.tenant_trace.specs.cited.Noted.{noted}
+use Rattle.rig_model.specs.grants.Grants.{GrantRows}
+use Rattle.tenant_exchange.specs.well_formed.Slots.{valuation_of}
+use Rattle.tenant_exchange.specs.slots.Places.{name_of_mode}
+use Rattle.rig_model.specs.declared.trace.records.Happening.TheVariants as happening
+use Rattle.rig_model.specs.trace.Trace.{LastRecords}
+use Rattle.rig_model.specs.trace.cited.Noted.{noted}
 use Rattle.rig_model.specs.Row.{ActiveTask, Row, in_mode, is_running, recorded, where_some}
 use Rattle.rig_model.specs.SecondHalf.{counted, installed, invoked_in_mode, moved_on, replaced_if_due, second_half_of, second_half_running, sensed, switched}
-use Rattle.tenant_trace.specs.declared.records.Record.{Record}
+use Rattle.rig_model.specs.declared.trace.records.Record.{Record}
 use Rattle.std.specs.Option.{option_map_or}
-use Rattle.giotto_rules.specs.Declarations.{mode_named}
-use Rattle.giotto_check.specs.cited.Facts.{ProgramFits}
-use Rattle.tenant_slots.proofs.cited.Numbered.{mode_here}
+use Rattle.rig_model.specs.rules.Declarations.{mode_named}
+use Rattle.tenant_exchange.specs.well_formed.cited.Facts.{ProgramFits}
+use Rattle.tenant_exchange.proofs.of_slots.Numbered.{mode_here}
 use Rattle.tenant_state.specs.Standing.{most_at, most_in_mode, most_released, with_last}
 use Rattle.tenant_state.specs.cited.Standing.{IsSettled}
 use Rattle.tenant_state.proofs.Records.{recorded_behind}

@@ -7,25 +7,25 @@ use Rattle.std.proofs.Math.Nat.{le-max_left, le-max_right}
 use Rattle.std.proofs.lemmas.Bool.{eq-eqb, ne_eqb}
 use Rattle.giotto_tasks.specs.declared.names.Name.{Name}
 use Rattle.giotto_tasks.specs.Names.{Valuation, same_name}
-use Rattle.giotto_text.specs.Program.{ModeSwitch, TaskInvocation, ModeDeclaration, GiottoProgram}
-use Rattle.giotto_rules.specs.Declarations.{mode_named, period_of_task}
-use Rattle.giotto_check.specs.cited.Facts.{ProgramFits}
-use Rattle.giotto_check.specs.Slots.{valuation_of}
+use Rattle.rig_model.specs.text.Program.{ModeSwitch, TaskInvocation, ModeDeclaration, GiottoProgram}
+use Rattle.rig_model.specs.rules.Declarations.{mode_named, period_of_task}
+use Rattle.tenant_exchange.specs.well_formed.cited.Facts.{ProgramFits}
+use Rattle.tenant_exchange.specs.well_formed.Slots.{valuation_of}
 use Rattle.rig_model.specs.Due.{is_due_at}
-use Rattle.tenant_slots.specs.cited.Due.{IsQuietUntil}
-use Rattle.tenant_slots.specs.Places.{name_of_mode}
+use Rattle.tenant_exchange.specs.slots.cited.Due.{IsQuietUntil}
+use Rattle.tenant_exchange.specs.slots.Places.{name_of_mode}
 use Rattle.rig_model.specs.Ports.{holds}
 use Rattle.rig_model.specs.Readings.{Readings}
-use Rattle.tenant_slots.proofs.cited.Numbered.{mode_fits_at}
+use Rattle.tenant_exchange.proofs.of_slots.Numbered.{mode_fits_at}
 use Rattle.tenant_state.specs.declared.tenants.switches.Entry.{Entry}
-use Rattle.tenant_trace.specs.declared.records.Happening.TheVariants as happening
-use Rattle.tenant_trace.specs.declared.records.Happening.{Happening}
-use Rattle.tenant_trace.specs.declared.records.Record.{Record}
-use Rattle.tenant_trace.specs.Trace.{LastRecords, with_happenings}
-use Rattle.tenant_trace.specs.cited.Noted.{noted}
+use Rattle.rig_model.specs.declared.trace.records.Happening.TheVariants as happening
+use Rattle.rig_model.specs.declared.trace.records.Happening.{Happening}
+use Rattle.rig_model.specs.declared.trace.records.Record.{Record}
+use Rattle.rig_model.specs.trace.Trace.{LastRecords, with_happenings}
+use Rattle.rig_model.specs.trace.cited.Noted.{noted}
 use Rattle.rig_model.specs.Row.{running, ActiveTask, Row, is_running_state, where_some, in_mode}
 use Rattle.rig_model.specs.SecondHalf.{installed, replaced_if_due, sensed, time_before_end, entry_time, entered, switched, invoked_in_mode, moved_on, counted, second_half_running, second_half_of}
-use Rattle.giotto_rules.specs.Costs.{greatest}
+use Rattle.rig_model.specs.rules.Costs.{greatest}
 use Rattle.tenant_state.specs.Standing.{invoked_in, most_at}
 use Rattle.tenant_state.proofs.GreatestOf.{greatest_more}
 use Rattle.tenant_state.specs.inner.Tenants.{IsEntered, IsSwitched}

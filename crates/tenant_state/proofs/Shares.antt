@@ -11,27 +11,27 @@ use Rattle.std.proofs.lemmas.Option.{slice_get-map, slice_get-get_or, slice_get_
 use Rattle.giotto_tasks.specs.declared.names.Name.{Name}
 use Rattle.giotto_tasks.specs.Names.{same_name}
 use Rattle.giotto_tasks.specs.Syntax.{TaskBody}
-use Rattle.giotto_text.specs.declared.programs.Task.{Task}
-use Rattle.giotto_text.specs.Program.{TaskDeclaration, ModeSwitch, TaskInvocation, ModeDeclaration, GiottoProgram, body_of}
-use Rattle.giotto_text.specs.ProgramTrees as trees
+use Rattle.rig_model.specs.declared.text.programs.Task.{Task}
+use Rattle.rig_model.specs.text.Program.{TaskDeclaration, ModeSwitch, TaskInvocation, ModeDeclaration, GiottoProgram, body_of}
+use Rattle.rig_model.specs.text.ProgramTrees as trees
 use Rattle.giotto_tasks.proofs.cited.ListLemmas.{all_same, some_same, is_some-option_map}
-use Rattle.giotto_rules.specs.Declarations.{mode_named}
-use Rattle.giotto_rules.specs.Costs.{greatest}
-use Rattle.giotto_check.specs.cited.Timetables.{AreEach, IsInvocation, place_of_mode}
-use Rattle.giotto_check.specs.cited.Facts.{ProgramFits}
-use Rattle.giotto_check.specs.declared.timetables.SlotInvocation.{SlotInvocation}
-use Rattle.giotto_check.proofs.cited.EachLemmas.{each_long}
-use Rattle.giotto_check.proofs.cited.PlaceLemmas.{found_there, place_if_found}
+use Rattle.rig_model.specs.rules.Declarations.{mode_named}
+use Rattle.rig_model.specs.rules.Costs.{greatest}
+use Rattle.tenant_exchange.specs.well_formed.cited.Timetables.{AreEach, IsInvocation, place_of_mode}
+use Rattle.tenant_exchange.specs.well_formed.cited.Facts.{ProgramFits}
+use Rattle.tenant_exchange.specs.declared.well_formed.timetables.SlotInvocation.{SlotInvocation}
+use Rattle.tenant_exchange.proofs.of_well_formed.EachLemmas.{each_long}
+use Rattle.tenant_exchange.proofs.of_well_formed.PlaceLemmas.{found_there, place_if_found}
 use Rattle.rig_model.specs.Due.{is_due_at}
-use Rattle.tenant_slots.proofs.cited.Numbered.{mode_here}
+use Rattle.tenant_exchange.proofs.of_slots.Numbered.{mode_here}
 use Rattle.tenant_state.proofs.DueTasks.{none_passes}
 use Rattle.tenant_state.proofs.GreatestOf.{greatest_more}
 use Rattle.tenant_state.proofs.TenantFacts.{body_of_task}
-use Rattle.tenant_trace.specs.Trace.{LastRecords}
+use Rattle.rig_model.specs.trace.Trace.{LastRecords}
 use Rattle.tenant_state.specs.cited.Standing.{IsSettled}
 use Rattle.rig_model.specs.Row.{Row}
-use Rattle.tenant_grants.specs.Grants.{GrantRows}
-use Rattle.rig_config.specs.Roster.{no_budgets}
+use Rattle.rig_model.specs.grants.Grants.{GrantRows}
+use Rattle.rig_model.specs.config.Roster.{no_budgets}
 use Rattle.tenant_state.specs.declared.tenants.Active.{Active}
 use Rattle.tenant_state.specs.declared.tenants.waiting.Waiting.{Waiting}
 use Rattle.tenant_state.specs.declared.tenants.State as code

@@ -2,9 +2,9 @@
 use Rattle.std.proofs.Common.{◌≡◌, ℕ, ℤ, List, [], ◌∷◌, take, Option, Some, None, refl, sym, ap, ◌∙◌}
 use Rattle.std.specs.Option.{option_map_or}
 use Rattle.giotto_tasks.specs.Names.{Valuation}
-use Rattle.giotto_text.specs.Program.{GiottoProgram}
-use Rattle.rig_config.specs.Roster.{no_budgets}
-use Rattle.tenant_grants.specs.Grants.{GrantRows}
+use Rattle.rig_model.specs.text.Program.{GiottoProgram}
+use Rattle.rig_model.specs.config.Roster.{no_budgets}
+use Rattle.rig_model.specs.grants.Grants.{GrantRows}
 use Rattle.rig_model.specs.Ports.{actuators_reset}
 use Rattle.tenant_state.specs.declared.tenants.Active.{Active}
 use Rattle.tenant_state.specs.declared.tenants.waiting.Waiting.{Waiting}
@@ -16,8 +16,8 @@ use Rattle.rig_model.specs.Row.{StopReason, stopped, Row, recorded}
 use Rattle.tenant_state.specs.Standing.{with_last}
 use Rattle.tenant_state.specs.Tenants.{ports_in, reason_of, standing_of, tasks_in}
 use Rattle.tenant_state.proofs.Records.{last_noted}
-use Rattle.tenant_trace.specs.Trace.{LastRecords}
-use Rattle.tenant_trace.specs.cited.Noted.{noted}
+use Rattle.rig_model.specs.trace.Trace.{LastRecords}
+use Rattle.rig_model.specs.trace.cited.Noted.{noted}
 
 -- the ports behind a stop; as they are where there is no program
 abbrev pub reset_in : Option GiottoProgram → Valuation → Valuation

@@ -13,22 +13,22 @@ use Rattle.giotto_tasks.specs.declared.names.Name.{Name}
 use Rattle.giotto_tasks.specs.Names.{Valuation, same_name, is_among}
 use Rattle.giotto_tasks.specs.Sound.{all_different}
 use Rattle.giotto_tasks.specs.Syntax.{TaskBody}
-use Rattle.giotto_text.specs.declared.programs.Mode.{Mode}
-use Rattle.giotto_text.specs.ProgramTrees as tree
-use Rattle.giotto_text.specs.Program.{TaskDeclaration, TaskInvocation, ModeDeclaration, GiottoProgram}
-use Rattle.giotto_check.specs.cited.Facts.{ProgramFits}
-use Rattle.tenant_slots.specs.cited.Due.{IsQuietUntil}
-use Rattle.tenant_slots.specs.Places.{name_of_task}
-use Rattle.tenant_slots.proofs.cited.Numbered.{mode_fits_at}
+use Rattle.rig_model.specs.declared.text.programs.Mode.{Mode}
+use Rattle.rig_model.specs.text.ProgramTrees as tree
+use Rattle.rig_model.specs.text.Program.{TaskDeclaration, TaskInvocation, ModeDeclaration, GiottoProgram}
+use Rattle.tenant_exchange.specs.well_formed.cited.Facts.{ProgramFits}
+use Rattle.tenant_exchange.specs.slots.cited.Due.{IsQuietUntil}
+use Rattle.tenant_exchange.specs.slots.Places.{name_of_task}
+use Rattle.tenant_exchange.proofs.of_slots.Numbered.{mode_fits_at}
 use Rattle.tenant_state.specs.declared.tenants.Active.{Active}
 use Rattle.tenant_state.specs.Jobs.{job_in, released_at}
-use Rattle.rig_config.specs.Intervals.{whole}
+use Rattle.rig_model.specs.config.Intervals.{whole}
 use Rattle.rig_model.specs.Row.{running, ActiveTask, Row}
 use Rattle.rig_model.specs.SecondHalf.{released, all_released}
 use Rattle.tenant_state.specs.Standing.{is_another, all_different_releases, most_released}
 use Rattle.tenant_state.specs.inner.Invoked.{IsInvokedIn}
 use Rattle.tenant_state.specs.cited.Standing.{AreReleased}
-use Rattle.tenant_grants.specs.Grants.{no_rows}
+use Rattle.rig_model.specs.grants.Grants.{no_rows}
 use Rattle.tenant_state.specs.Tenants.{active_of}
 use Rattle.tenant_state.specs.inner.Tenants.{AreInvoked, IsActiveIn, IsTenant, its_job, released_in}
 use Rattle.tenant_state.proofs.HalfStands.{released_by, new_releases}

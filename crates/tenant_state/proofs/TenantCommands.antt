@@ -1,23 +1,23 @@
 -- What a tenant's commands do, over what its code keeps.
 use Rattle.std.proofs.Common.{◌≡◌, ℕ, ℤ, List, [], ◌∷◌, map, Option, Some, None, refl, ap}
 use Rattle.giotto_tasks.specs.Syntax.{TaskBody}
-use Rattle.giotto_text.specs.Program.{GiottoProgram, TaskDeclaration}
+use Rattle.rig_model.specs.text.Program.{GiottoProgram, TaskDeclaration}
 use Rattle.tenant_state.specs.declared.tenants.Active.{Active}
 use Rattle.tenant_state.specs.declared.tenants.waiting.Waiting.{Waiting}
 use Rattle.tenant_state.specs.declared.tenants.State as code
 use Rattle.rig_model.specs.Commands.{at_beginning}
-use Rattle.giotto_text.specs.declared.programs.Task.{Task}
-use Rattle.giotto_text.specs.ProgramTrees.{task_of}
-use Rattle.giotto_check.specs.cited.Timetables.{AreEach}
-use Rattle.giotto_check.specs.Slots.{valuation_of}
-use Rattle.tenant_grants.specs.Grants.{GrantRows}
-use Rattle.tenant_slots.specs.Places.{name_of_mode}
+use Rattle.rig_model.specs.declared.text.programs.Task.{Task}
+use Rattle.rig_model.specs.text.ProgramTrees.{task_of}
+use Rattle.tenant_exchange.specs.well_formed.cited.Timetables.{AreEach}
+use Rattle.tenant_exchange.specs.well_formed.Slots.{valuation_of}
+use Rattle.rig_model.specs.grants.Grants.{GrantRows}
+use Rattle.tenant_exchange.specs.slots.Places.{name_of_mode}
 use Rattle.rig_model.specs.Ports.{initial_ports}
 use Rattle.rig_model.specs.Row.{Row}
 use Rattle.tenant_state.specs.Standing.{with_last}
 use Rattle.tenant_state.specs.Tenants.{state_of}
 use Rattle.tenant_state.proofs.Stops.{row_of}
-use Rattle.tenant_trace.specs.Trace.{LastRecords}
+use Rattle.rig_model.specs.trace.Trace.{LastRecords}
 use Rattle.tenant_state.specs.inner.Tenants.{IsShareOf}
 
 -- what stands after a program was put at its beginning

@@ -4,12 +4,12 @@ use Rattle.std.specs.Arc.{arc_value}
 use Rattle.std.specs.List.{AllByRecursion}
 use Rattle.std.proofs.lemmas.Slice.Zip.{firsts-zip}
 use Rattle.giotto_tasks.specs.Syntax.{TaskBody}
-use Rattle.giotto_text.specs.Program.{GiottoProgram, body_of}
-use Rattle.giotto_text.specs.ProgramTrees as trees
-use Rattle.giotto_text.specs.declared.programs.Task.{Task}
-use Rattle.tenant_grants.specs.Grants.{GrantRows}
-use Rattle.rig_config.specs.declared.Budgets.{Budgets}
-use Rattle.tenant_trace.specs.Trace.{LastRecords}
+use Rattle.rig_model.specs.text.Program.{GiottoProgram, body_of}
+use Rattle.rig_model.specs.text.ProgramTrees as trees
+use Rattle.rig_model.specs.declared.text.programs.Task.{Task}
+use Rattle.rig_model.specs.grants.Grants.{GrantRows}
+use Rattle.rig_model.specs.declared.config.Budgets.{Budgets}
+use Rattle.rig_model.specs.trace.Trace.{LastRecords}
 use Rattle.tenant_state.specs.declared.tenants.Active.{Active}
 use Rattle.tenant_state.specs.declared.tenants.waiting.Waiting.{Waiting}
 use Rattle.tenant_state.specs.declared.tenants.State as code

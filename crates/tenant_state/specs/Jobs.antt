@@ -3,8 +3,8 @@ use Rattle.std.specs.Prelude.{ℕ, ◌==◌, List, [], map, filter}
 use Rattle.std.specs.Option.{option_map_or}
 use Rattle.giotto_tasks.specs.declared.names.Name.{Name}
 use Rattle.giotto_tasks.specs.Syntax.{TaskBody, finished}
-use Rattle.giotto_text.specs.Program.{GiottoProgram, body_of}
-use Rattle.giotto_rules.specs.Declarations.{task_named}
+use Rattle.rig_model.specs.text.Program.{GiottoProgram, body_of}
+use Rattle.rig_model.specs.rules.Declarations.{task_named}
 use Rattle.rig_model.specs.Row.{ActiveTask, Row}
 use Rattle.tenant_jobs.specs.Jobs.{JobValue}
 use Rattle.rig_model.specs.Jobs.{job_of}

@@ -5,3 +5,5 @@ pub mod Standing
 pub mod Tenants
 pub mod cited
 pub mod inner
+pub use Rattle.tenant_jobs.specs as job_table
+pub use Rattle.tenant_exchange.specs.well_formed

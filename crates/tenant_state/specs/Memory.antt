@@ -1,12 +1,12 @@
 -- Which commands of a tenant take memory, and so can be refused for want of it.
 use Rattle.std.specs.Prelude.{length, Bool, true, false, nat_lt, Option, Some, None}
-use Rattle.giotto_text.specs.Program.{GiottoProgram}
-use Rattle.giotto_rules.specs.Ports.{ports_of}
+use Rattle.rig_model.specs.text.Program.{GiottoProgram}
+use Rattle.rig_model.specs.rules.Ports.{ports_of}
 use Rattle.tenant_exchange.specs.Memory as grants
-use Rattle.tenant_grants.specs.Grants.{Owner}
-use Rattle.tenant_lines.specs.declared.commands.Command.{Command}
-use Rattle.tenant_lines.specs.declared.commands.Command.TheVariants.{Load, Replace, Start, Stop, ShowMode, ShowPort, ShowAll, Grants}
-use Rattle.tenant_lines.specs.declared.commands.Command.TheVariants as command
+use Rattle.rig_model.specs.grants.Grants.{Owner}
+use Rattle.rig_model.specs.declared.lines.commands.Command.{Command}
+use Rattle.rig_model.specs.declared.lines.commands.Command.TheVariants.{Load, Replace, Start, Stop, ShowMode, ShowPort, ShowAll, Grants}
+use Rattle.rig_model.specs.declared.lines.commands.Command.TheVariants as command
 use Rattle.rig_model.specs.Row.{Row}
 use Rattle.rig_model.specs.Commands.{grant_rows}
 

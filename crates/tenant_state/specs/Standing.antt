@@ -4,13 +4,13 @@ use Rattle.std.specs.List.{AllByRecursion, find, list_all}
 use Rattle.std.specs.Option.{option_and_then, option_map, option_map_or}
 use Rattle.giotto_tasks.specs.declared.names.Name.{Name}
 use Rattle.giotto_tasks.specs.Names.{same_name}
-use Rattle.giotto_text.specs.Program.{GiottoProgram, ModeDeclaration, ModeSwitch, TaskInvocation}
-use Rattle.giotto_rules.specs.Costs.{greatest}
-use Rattle.giotto_rules.specs.Declarations.{mode_named}
-use Rattle.rig_config.specs.Intervals.{whole}
-use Rattle.rig_config.specs.Roster.{no_budgets}
-use Rattle.rig_config.specs.declared.Budgets.{Budgets}
-use Rattle.tenant_grants.specs.Grants.{GrantRows, no_rows}
+use Rattle.rig_model.specs.text.Program.{GiottoProgram, ModeDeclaration, ModeSwitch, TaskInvocation}
+use Rattle.rig_model.specs.rules.Costs.{greatest}
+use Rattle.rig_model.specs.rules.Declarations.{mode_named}
+use Rattle.rig_model.specs.config.Intervals.{whole}
+use Rattle.rig_model.specs.config.Roster.{no_budgets}
+use Rattle.rig_model.specs.declared.config.Budgets.{Budgets}
+use Rattle.rig_model.specs.grants.Grants.{GrantRows, no_rows}
 use Rattle.rig_model.specs.declared.jobs.JobId.{JobId}
 use Rattle.rig_model.specs.Due.{is_due_at}
 use Rattle.tenant_jobs.specs.Finished.{TableEntry, has_result}

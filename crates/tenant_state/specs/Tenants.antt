@@ -5,11 +5,11 @@ use Rattle.std.specs.Option.{option_map, option_map_or}
 use Rattle.giotto_tasks.specs.declared.names.Name.{Name}
 use Rattle.giotto_tasks.specs.Names.{Valuation}
 use Rattle.giotto_tasks.specs.Syntax.{TaskBody}
-use Rattle.giotto_text.specs.Program.{GiottoProgram}
-use Rattle.giotto_check.specs.Slots.{valuation_of}
-use Rattle.rig_config.specs.declared.Budgets.{Budgets}
-use Rattle.tenant_grants.specs.Grants.{GrantRows}
-use Rattle.tenant_slots.specs.Places.{name_of_task, name_of_mode}
+use Rattle.rig_model.specs.text.Program.{GiottoProgram}
+use Rattle.tenant_exchange.specs.well_formed.Slots.{valuation_of}
+use Rattle.rig_model.specs.declared.config.Budgets.{Budgets}
+use Rattle.rig_model.specs.grants.Grants.{GrantRows}
+use Rattle.tenant_exchange.specs.slots.Places.{name_of_task, name_of_mode}
 use Rattle.tenant_state.specs.declared.tenants.Active.{Active}
 use Rattle.tenant_state.specs.declared.tenants.Reason.{Reason}
 use Rattle.tenant_state.specs.declared.tenants.Reason.TheVariants.{Asked, Overrun}
@@ -18,7 +18,7 @@ use Rattle.tenant_state.specs.declared.tenants.waiting.Waiting.{Waiting}
 use Rattle.tenant_state.specs.declared.tenants.State.TheVariants as states
 use Rattle.rig_model.specs.Row.{StopReason, asked, overrun, TenantState, empty, loaded, running, stopped, ActiveTask}
 use Rattle.tenant_state.specs.Standing.{Standing}
-use Rattle.tenant_trace.specs.Trace.{LastRecords}
+use Rattle.rig_model.specs.trace.Trace.{LastRecords}
 
 -- why the code's tenant was stopped
 abbrev pub reason_of : Reason → StopReason

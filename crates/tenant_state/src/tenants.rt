@@ -20,17 +20,17 @@ pub mod waiting;
 
 use crate::tenants::active_tasks::ActiveTasks;
 use crate::tenants::waiting::Waiting;
-use giotto_check::Checked;
 use giotto_tasks::bodies::Body;
 use giotto_tasks::names::Name;
 use giotto_tasks::values::Values;
-use rig_config::Budgets;
+use rig_model::config::Budgets;
+use rig_model::grants::grants::Grants;
+use rig_model::trace::traces::Trace;
 use std::alloc::{AllocError, Global};
 use std::marker::Model;
 use std::sync::Arc;
-use tenant_grants::grants::Grants;
+use tenant_exchange::well_formed::Checked;
 use tenant_jobs::jobs::Key;
-use tenant_trace::traces::Trace;
 
 /// Why a tenant was stopped.
 #[derive(Drop)]
@@ -97,7 +97,7 @@ impl Model for Tenant {
     ghost use Rattle.tenant_state.specs.Tenants.{standing_of, state_of};
     ghost use Rattle.tenant_state.specs.inner.Tenants.{FitsWaiting, IsTenant, IsTraceOf};
     ghost use Rattle.std.specs.Coded.{codes};
-    ghost use Rattle.giotto_text.specs.cited.ProgramCodes.{program_code};
+    ghost use Rattle.rig_model.specs.text.cited.ProgramCodes.{program_code};
 
     ghost Value = { Standing };
 

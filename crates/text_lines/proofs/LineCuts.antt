@@ -16,7 +16,7 @@ use Rattle.tokio_util.specs.declared.codec.lines_codec.LinesCodecError.TheVarian
 use Rattle.tokio_util.specs.Codec.Next.{decoded, partial, at_end, Resumes}
 use Rattle.tokio_util.specs.Codec.Lines.{newline_from, without_carriage_return, max_length, Scan, line, too_long, unfinished, read_line, skip_line, scan, at_line_start, discarding, IsOutOfMemory, IsSettled, IsUnfinished, Answers, AnswersAtEnd, gives_lines}
 use Rattle.tokio_util.specs.Codec.LinesLaws.{read_line_found, read_line_long, read_line_short, skip_line_found, skip_line_missing}
-use Rattle.tenant_lines.specs.Words.{joined_to_first}
+use Rattle.rig_model.specs.lines.Words.{joined_to_first}
 use Rattle.rig_model.specs.TextLines.{cut, lf_count, without_last_cr, text_of_line}
 use Rattle.text_lines.specs.cited.Reading.{HasFirstLine}
 use Rattle.rig_model.specs.declared.limits.TheConstants.{MAX_LINE}

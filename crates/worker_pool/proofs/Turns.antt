@@ -2,8 +2,8 @@
 use Rattle.std.proofs.Common.{arith, refl, sym, ap, subst, ◌∙◌, ◌≡◌, ◌+◌, ◌<◌, ◌∷◌, ◌++◌, ℕ, [], Bool, true, false, List, length, drop, get_or}
 use Rattle.std.proofs.lemmas.List.{append-nil, append_assoc, drop_more, drop_all, length-append, length-drop}
 use Rattle.std.specs.Bool.{MatchBool}
-use Rattle.tenant_jobs.specs.JobLists.{JobList}
-use Rattle.tenant_jobs.specs.Jobs.{JobValue}
+use Rattle.locked_book.specs.job_table.JobLists.{JobList}
+use Rattle.locked_book.specs.job_table.Jobs.{JobValue}
 use Rattle.worker_pool.specs.Unsent.{AreUnsent, unsent_of}
 
 -- behind so many turns: the jobs that are left, and behind them those that weren't sent

@@ -1,6 +1,6 @@
 -- What is given back of jobs that are sent.
 use Rattle.std.specs.Prelude.{◌≡◌, ◌∷◌, [], Bool, true, false, List, length}
-use Rattle.tenant_jobs.specs.Jobs.{JobValue}
+use Rattle.locked_book.specs.job_table.Jobs.{JobValue}
 
 -- the jobs that weren't sent, where it is told of each in turn whether it was
 abbrev pub unsent_of : List Bool → List JobValue → List JobValue

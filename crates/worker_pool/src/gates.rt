@@ -1,6 +1,6 @@
 //! Gates: what a worker asks before it computes a job.
 
-use instant_engine::JobId;
+use locked_book::engine::JobId;
 use std::sync::Wait;
 use std::time::Clock;
 

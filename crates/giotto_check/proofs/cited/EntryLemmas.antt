@@ -12,10 +12,10 @@ use Rattle.giotto_tasks.specs.Names.{same_name, is_among}
 use Rattle.giotto_tasks.specs.Syntax.{Expression}
 use Rattle.giotto_tasks.proofs.cited.ListLemmas.{found_has}
 use Rattle.giotto_tasks.proofs.cited.NameLemmas.{among_passes, weaker_all}
-use Rattle.giotto_text.specs.Program.{TaskDeclaration, ModeDeclaration, ModeSwitch, GiottoProgram}
-use Rattle.giotto_text.specs.declared.programs.Mode.{Mode}
-use Rattle.giotto_text.specs.declared.programs.Task.{Task}
-use Rattle.giotto_text.specs.ProgramTrees as trees
+use Rattle.giotto_rules.specs.text.Program.{TaskDeclaration, ModeDeclaration, ModeSwitch, GiottoProgram}
+use Rattle.giotto_rules.specs.declared.text.programs.Mode.{Mode}
+use Rattle.giotto_rules.specs.declared.text.programs.Task.{Task}
+use Rattle.giotto_rules.specs.text.ProgramTrees as trees
 use Rattle.giotto_rules.specs.Declarations.{driver_ports, names_read, mode_named, task_named, mode_ports, output_names, destinations_of}
 use Rattle.giotto_check.specs.cited.Facts.{ModeFits, ProgramFits}
 use Rattle.giotto_rules.specs.Ports.{shared_port, shown_name, slot_of, ports_of_task}

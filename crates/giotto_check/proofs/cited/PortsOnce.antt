@@ -10,8 +10,8 @@ use Rattle.giotto_tasks.specs.Sound.{all_different}
 use Rattle.giotto_tasks.proofs.cited.ListLemmas.{all_wider}
 use Rattle.giotto_tasks.proofs.cited.NameLemmas.{same_name_is, same_name_self, is_among-append, among_passes, all_different-append, different_joined, different_first}
 use Rattle.giotto_tasks.proofs.cited.TestLemmas.{either}
-use Rattle.giotto_text.specs.PortNames.{own_port, own_ports}
-use Rattle.giotto_text.specs.Program.{TaskDeclaration, GiottoProgram, names_of, body_of}
+use Rattle.giotto_rules.specs.text.PortNames.{own_port, own_ports}
+use Rattle.giotto_rules.specs.text.Program.{TaskDeclaration, GiottoProgram, names_of, body_of}
 use Rattle.giotto_rules.specs.Declarations.{sensor_names, actuator_names, output_names, task_names, mode_names, driver_ports, declared_names}
 use Rattle.giotto_rules.specs.TaskPorts.{declares_own}
 use Rattle.giotto_rules.specs.Ports.{shared_port, task_port, shown_name, ports_of_task}

@@ -12,10 +12,10 @@ use Rattle.giotto_tasks.specs.declared.names.Name.{Name}
 use Rattle.giotto_tasks.specs.Names.{same_name, is_among}
 use Rattle.giotto_tasks.specs.Sound.{all_different, is_small, IsSound}
 use Rattle.giotto_tasks.proofs.cited.NameLemmas.{same_name_self, same_name_is}
-use Rattle.giotto_text.specs.Program.{TaskDeclaration, GiottoProgram, body_of, names_of}
-use Rattle.giotto_text.specs.ProgramTrees as trees
-use Rattle.giotto_text.specs.declared.programs.Task.{Task}
-use Rattle.giotto_text.specs.PortNames.{own_port}
+use Rattle.giotto_rules.specs.text.Program.{TaskDeclaration, GiottoProgram, body_of, names_of}
+use Rattle.giotto_rules.specs.text.ProgramTrees as trees
+use Rattle.giotto_rules.specs.declared.text.programs.Task.{Task}
+use Rattle.giotto_rules.specs.text.PortNames.{own_port}
 use Rattle.giotto_rules.specs.Declarations.{driver_ports}
 use Rattle.giotto_rules.specs.Ports.{ProgramPort, shared_port, task_port, shown_name, same_task, is_port, ports_of, ports_of_task, slot_of}
 use Rattle.giotto_check.specs.Slots.{port_names}

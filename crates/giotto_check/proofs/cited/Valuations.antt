@@ -10,7 +10,7 @@ use Rattle.giotto_tasks.specs.declared.names.Name.{Name}
 use Rattle.giotto_tasks.specs.Names.{same_name, is_among, value_at, value_or_zero, with_value, values_of}
 use Rattle.giotto_tasks.specs.Sound.{all_different}
 use Rattle.giotto_tasks.proofs.cited.NameLemmas.{same_name_self, same_name_is}
-use Rattle.giotto_text.specs.PortNames.{with_values}
+use Rattle.giotto_rules.specs.text.PortNames.{with_values}
 use Rattle.giotto_check.specs.cited.Slots.{with_slots, with_range}
 
 -- a name that stands at a place of a list is among it

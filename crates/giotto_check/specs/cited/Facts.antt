@@ -4,8 +4,8 @@ use Rattle.std.specs.List.{AllByRecursion}
 use Rattle.giotto_tasks.specs.declared.names.Name.{Name}
 use Rattle.giotto_tasks.specs.Names.{is_among}
 use Rattle.giotto_tasks.specs.Sound.{all_different, IsSound}
-use Rattle.giotto_text.specs.Depth.{is_shallow_update, is_shallow_switch, is_shallow_invocation}
-use Rattle.giotto_text.specs.Program.{TaskDeclaration, ActuatorUpdate, ModeSwitch, TaskInvocation, ModeDeclaration, GiottoProgram, body_of}
+use Rattle.giotto_rules.specs.text.Depth.{is_shallow_update, is_shallow_switch, is_shallow_invocation}
+use Rattle.giotto_rules.specs.text.Program.{TaskDeclaration, ActuatorUpdate, ModeSwitch, TaskInvocation, ModeDeclaration, GiottoProgram, body_of}
 use Rattle.giotto_rules.specs.Declarations.{actuator_names, output_names, driver_ports, declared_names, task_named, mode_named, invoked_tasks, updated_actuators, destinations_of, mode_ports, lines_written}
 use Rattle.giotto_rules.specs.Drivers.{readable_ports}
 use Rattle.giotto_rules.specs.Names.{are_among, all_different_numbers}

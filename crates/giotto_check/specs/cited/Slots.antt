@@ -1,12 +1,12 @@
 -- Lists of the values of all ports, and what the maps of the definitions are in them.
 use Rattle.std.specs.Prelude.{ℕ, length, IsTrue, ◌≡◌, ℤ, List, Some, map, None, [], ◌∷◌, slice_set, ◌+◌, ◌++◌, take, drop}
-use Rattle.giotto_text.specs.Program.{GiottoProgram}
+use Rattle.giotto_rules.specs.text.Program.{GiottoProgram}
 use Rattle.giotto_rules.specs.Ports.{ports_of, ProgramPort, slot_of}
 use Rattle.giotto_check.specs.Slots.{port_names, valuation_of}
 use Rattle.giotto_tasks.specs.Sound.{all_different}
 use Rattle.giotto_tasks.specs.declared.names.Name.{Name}
 use Rattle.giotto_tasks.specs.Names.{values_of, Valuation}
-use Rattle.giotto_text.specs.PortNames.{own_ports, with_values}
+use Rattle.giotto_rules.specs.text.PortNames.{own_ports, with_values}
 
 -- how many values a list for all ports has
 abbrev pub slots_of : GiottoProgram → ℕ

@@ -1,6 +1,6 @@
 -- What is known of a checked program, and of what is kept with it.
 use Rattle.std.specs.Prelude.{◌≡◌, ℕ, ◌-◌, ◌^◌, min}
-use Rattle.giotto_text.specs.Program.{GiottoProgram}
+use Rattle.giotto_rules.specs.text.Program.{GiottoProgram}
 use Rattle.giotto_rules.specs.cited.KeepsRules.{KeepsRules}
 use Rattle.giotto_rules.specs.Costs.{greatest_cost_of}
 use Rattle.giotto_check.specs.cited.Facts.{ProgramFits}

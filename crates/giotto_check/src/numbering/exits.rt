@@ -4,8 +4,8 @@ ghost use Rattle.std.specs.Prelude.{◌≡◌, Some, IfOk, IsTrue, IsSome, map};
 ghost use Rattle.std.specs.List.{list_all, position_from};
 ghost use Rattle.giotto_tasks.specs.Names.{is_among, same_name};
 ghost use Rattle.giotto_tasks.specs.Trees.{expression_of};
-ghost use Rattle.giotto_text.specs.Depth.{is_shallow};
-ghost use Rattle.giotto_text.specs.ProgramTrees.{mode_of, switch_of, destination_of};
+ghost use Rattle.giotto_rules.specs.text.Depth.{is_shallow};
+ghost use Rattle.giotto_rules.specs.text.ProgramTrees.{mode_of, switch_of, destination_of};
 ghost use Rattle.giotto_rules.specs.Declarations.{mode_named, names_read, output_names};
 ghost use Rattle.giotto_rules.specs.Names.{are_among};
 ghost use Rattle.giotto_rules.specs.Reads.{names_in_destinations};
@@ -14,8 +14,8 @@ ghost use Rattle.giotto_check.specs.cited.Timetables.{AreDestinations, AreExits,
 
 use crate::numbering::numbered::Numbered;
 use crate::timetables::{SlotDestination, SlotExit};
+use giotto_rules::text::programs::{Destination, Mode, Switch};
 use giotto_tasks::names::Name;
-use giotto_text::programs::{Destination, Mode, Switch};
 use std::alloc::AllocError;
 
 impl Numbered<'_> {

@@ -4,8 +4,8 @@ ghost use Rattle.std.specs.Prelude.{◌≡◌, Some, IfOk, IsTrue, IsSome, map};
 ghost use Rattle.std.specs.List.{list_all, position_from};
 ghost use Rattle.giotto_tasks.specs.Names.{same_name};
 ghost use Rattle.giotto_tasks.specs.Trees.{expression_of};
-ghost use Rattle.giotto_text.specs.Depth.{is_shallow};
-ghost use Rattle.giotto_text.specs.ProgramTrees.{mode_of, invocation_of};
+ghost use Rattle.giotto_rules.specs.text.Depth.{is_shallow};
+ghost use Rattle.giotto_rules.specs.text.ProgramTrees.{mode_of, invocation_of};
 ghost use Rattle.giotto_rules.specs.Declarations.{task_named};
 ghost use Rattle.giotto_rules.specs.Reads.{names_in_arguments};
 ghost use Rattle.giotto_check.specs.cited.Facts.{DriversMayRead, InvocationFits, ModeFits};
@@ -13,9 +13,9 @@ ghost use Rattle.giotto_check.specs.cited.Timetables.{AreArguments, AreEach, Are
 
 use crate::numbering::numbered::Numbered;
 use crate::timetables::{SlotExpr, SlotInvocation, TaskSlots};
+use giotto_rules::text::programs::{Invocation, Mode, Task};
 use giotto_tasks::bodies::Expr;
 use giotto_tasks::names::Name;
-use giotto_text::programs::{Invocation, Mode, Task};
 use std::alloc::AllocError;
 
 impl Numbered<'_> {

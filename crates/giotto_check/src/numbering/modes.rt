@@ -1,13 +1,13 @@
 //! The timetables of modes.
 
 ghost use Rattle.std.specs.Prelude.{IfOk};
-ghost use Rattle.giotto_text.specs.ProgramTrees.{mode_of};
+ghost use Rattle.giotto_rules.specs.text.ProgramTrees.{mode_of};
 ghost use Rattle.giotto_check.specs.cited.Facts.{ModeFits};
 ghost use Rattle.giotto_check.specs.cited.Timetables.{AreEach, AreTaskSlots, IsTimetable};
 
 use crate::numbering::numbered::Numbered;
 use crate::timetables::{TaskSlots, Timetable};
-use giotto_text::programs::Mode;
+use giotto_rules::text::programs::Mode;
 use std::alloc::AllocError;
 
 impl Numbered<'_> {

@@ -3,8 +3,8 @@
 ghost use Rattle.std.specs.Prelude.{◌≡◌, Some, None, IfOk, IsTrue};
 ghost use Rattle.giotto_tasks.specs.Names.{is_among};
 ghost use Rattle.giotto_tasks.specs.Trees.{expression_of};
-ghost use Rattle.giotto_text.specs.Depth.{is_shallow, has_shallow_guard};
-ghost use Rattle.giotto_text.specs.ProgramTrees.{guard_of};
+ghost use Rattle.giotto_rules.specs.text.Depth.{is_shallow, has_shallow_guard};
+ghost use Rattle.giotto_rules.specs.text.ProgramTrees.{guard_of};
 ghost use Rattle.giotto_rules.specs.Declarations.{driver_ports, names_read};
 ghost use Rattle.giotto_rules.specs.Reads.{names_in_guard};
 ghost use Rattle.giotto_check.specs.cited.Facts.{DriversMayRead, ProgramFits};
@@ -13,12 +13,12 @@ ghost use Rattle.giotto_check.specs.cited.Timetables.{IsExpression, IsGuard};
 
 use crate::timetables::SlotExpr;
 use giotto_rules::declarations::driver_ports;
+use giotto_rules::text::programs::Program;
 use giotto_tasks::bodies::Expr;
 use giotto_tasks::code::driver::DriverCode;
 use giotto_tasks::faults::CodeFault;
 use giotto_tasks::index::Index;
 use giotto_tasks::names::Name;
-use giotto_text::programs::Program;
 use std::alloc::{AllocError, Global};
 use std::marker::Model;
 
@@ -32,8 +32,8 @@ pub(crate) struct Numbered<'a> {
 }
 
 impl<'a> Model for Numbered<'a> {
-    ghost use Rattle.giotto_text.specs.Program.{GiottoProgram};
-    ghost use Rattle.giotto_text.specs.cited.ProgramCodes.{program_code};
+    ghost use Rattle.giotto_rules.specs.text.Program.{GiottoProgram};
+    ghost use Rattle.giotto_rules.specs.text.cited.ProgramCodes.{program_code};
     ghost use Rattle.giotto_check.specs.cited.Timetables.{AreDriverPorts};
 
     ghost Value = { GiottoProgram };

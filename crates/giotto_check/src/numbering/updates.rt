@@ -1,13 +1,13 @@
 //! Updates by number.
 
 ghost use Rattle.std.specs.Prelude.{IfOk};
-ghost use Rattle.giotto_text.specs.ProgramTrees.{mode_of, update_of};
+ghost use Rattle.giotto_rules.specs.text.ProgramTrees.{mode_of, update_of};
 ghost use Rattle.giotto_check.specs.cited.Facts.{ModeFits, UpdateFits};
 ghost use Rattle.giotto_check.specs.cited.Timetables.{AreUpdates, IsUpdate};
 
 use crate::numbering::numbered::Numbered;
 use crate::timetables::SlotUpdate;
-use giotto_text::programs::{Mode, Update};
+use giotto_rules::text::programs::{Mode, Update};
 use std::alloc::AllocError;
 
 impl Numbered<'_> {

@@ -2,7 +2,7 @@
 
 use crate::hints::spot::Spot;
 use crate::kinds::TokenKind;
-use giotto_text::tokens::{Keyword, Symbol};
+use giotto_read::text::tokens::{Keyword, Symbol};
 
 /// A hint on the body of a task, and on expressions.
 pub(crate) fn hint(spot: &Spot) -> Option<&'static str> {

@@ -2,7 +2,7 @@
 
 use crate::found::is_first_in_line;
 use crate::hints::spot::{Spot, is_keyword};
-use giotto_text::tokens::{Keyword, Symbol};
+use giotto_read::text::tokens::{Keyword, Symbol};
 
 /// A hint on what is missing at the end of a block or a text, or too much there.
 pub(crate) fn hint(spot: &Spot) -> Option<&'static str> {

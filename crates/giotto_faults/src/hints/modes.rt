@@ -1,7 +1,7 @@
 //! Modes and their lines.
 
 use crate::hints::spot::Spot;
-use giotto_text::tokens::{Keyword, Symbol};
+use giotto_read::text::tokens::{Keyword, Symbol};
 
 /// A hint on a mode.
 pub(crate) fn hint(spot: &Spot) -> Option<&'static str> {

@@ -2,8 +2,8 @@
 
 use crate::found::piece_at;
 use crate::kinds::TokenKind;
-use giotto_text::name_bytes::{is_digit, is_letter, is_name_byte};
-use giotto_text::tokens::{Keyword, Symbol};
+use giotto_read::text::name_bytes::{is_digit, is_letter, is_name_byte};
+use giotto_read::text::tokens::{Keyword, Symbol};
 
 /// A place at which a text goes on with something else than what is expected there.
 #[derive(Clone, Copy)]

@@ -1,15 +1,15 @@
 -- The value of a line, by the rows of the tenants.
 use Rattle.std.proofs.Common.{◌≡◌, ℕ, ◌<◌, ℤ, pos, length, Option, Some, None, unwrap_or, option_and_then, refl, ap, ◌∙◌}
 use Rattle.std.proofs.lemmas.List.Quantifiers.{position-Some}
-use Rattle.rig_config.specs.Roster.{Rig, may_use}
-use Rattle.rig_config.specs.declared.TenantConfig.{TenantConfig}
+use Rattle.rig_model.specs.config.Roster.{Rig, may_use}
+use Rattle.rig_model.specs.declared.config.TenantConfig.{TenantConfig}
 use Rattle.instant_engine.specs.Tenants.{tenant_at}
 use Rattle.rig_model.specs.LineValues.{line_value, value_of_line, writer_of}
 use Rattle.rig_model.specs.Row.{Row}
 use Rattle.host_core.specs.HostStanding.{HostStanding, Stands, line_of}
 use Rattle.rig_model.specs.HostState.{HostState, row_at}
 use Rattle.rig_model.specs.Base.{Setting}
-use Rattle.rig_laws.proofs.cited.Places.{nobody}
+use Rattle.instant_engine.proofs.of_laws.Places.{nobody}
 
 -- a tenant that may drive a line is one of the roster
 pub writer_within : (config : Rig) (k t : ℕ) → writer_of config k ≡ Some t → t < length config.tenants

@@ -6,22 +6,22 @@ use Rattle.std.proofs.lemmas.Bool.{and_from, and_parts, eq-eqb, false_from_ne_tr
 use Rattle.std.proofs.lemmas.List.{get_or_default, length-map, length-take-le, take_more}
 use Rattle.std.proofs.lemmas.List.Sums.{sum-map, sum_by-cons}
 use Rattle.rig_model.specs.declared.jobs.JobId.{JobId}
-use Rattle.rig_config.specs.declared.TenantConfig.{TenantConfig}
+use Rattle.rig_model.specs.declared.config.TenantConfig.{TenantConfig}
 use Rattle.instant_engine.specs.Tenants.{ArePlaced, tenant_at}
 use Rattle.instant_engine.specs.cited.Tenants.{is_active_among}
-use Rattle.tenant_jobs.specs.Finished.{TableEntry, has_result}
+use Rattle.instant_engine.specs.job_table.Finished.{TableEntry, has_result}
 use Rattle.rig_model.specs.Jobs.{same_job, job_of}
 use Rattle.rig_model.proofs.cited.JobNames.{same_job_is, same_job_self}
 use Rattle.host_core.specs.HostStanding.{HostStanding, Stands, outstanding_from, outstanding_jobs}
 use Rattle.rig_model.specs.HostState.{HostState, row_at, is_counted}
 use Rattle.rig_model.specs.Base.{Setting}
 use Rattle.rig_model.specs.Row.{ActiveTask, Row}
-use Rattle.tenant_state.specs.Standing.{Standing, StandsFor, all_different_releases, no_tenant, is_another, outstanding_tasks}
+use Rattle.instant_engine.specs.state.Standing.{Standing, StandsFor, all_different_releases, no_tenant, is_another, outstanding_tasks}
 use Rattle.giotto_tasks.specs.Names.{same_name}
 use Rattle.giotto_tasks.proofs.cited.NameLemmas.{same_name_self}
 use Rattle.giotto_tasks.proofs.cited.ListLemmas.{all_map, all_of, all_pass, filter-map, same_filter}
 use Rattle.host_core.proofs.HostSteps.{outstanding_are}
-use Rattle.rig_laws.proofs.cited.Places.{nobody}
+use Rattle.instant_engine.proofs.of_laws.Places.{nobody}
 
 -- how many a tenant has, by this table
 abbrev pub number_outstanding : List TableEntry → Standing → ℕ

@@ -5,10 +5,10 @@ use Rattle.instant_engine.specs.cited.Instants.{IsBetween}
 use Rattle.instant_engine.specs.cited.Tables.{IsTaskTable}
 use Rattle.instant_engine.specs.Tenants.{ArePlaced, tenant_at}
 use Rattle.rig_model.specs.Tenancies.{tenancy_at}
-use Rattle.rig_config.specs.Roster.{Rig}
-use Rattle.rig_config.specs.declared.TenantConfig.{TenantConfig}
-use Rattle.tenant_jobs.specs.Finished.{TableEntry}
-use Rattle.tenant_state.specs.Standing.{Standing}
+use Rattle.rig_model.specs.config.Roster.{Rig}
+use Rattle.rig_model.specs.declared.config.TenantConfig.{TenantConfig}
+use Rattle.instant_engine.specs.job_table.Finished.{TableEntry}
+use Rattle.instant_engine.specs.state.Standing.{Standing}
 
 -- what is known of each tenant of a host whose next instant has this number
 abbrev pub IsAt : ℕ → Standing → Type 0

@@ -11,7 +11,7 @@ use Rattle.rig_model.specs.Host.{host_after}
 use Rattle.host_core.specs.HostStanding.{HostStanding, Stands, awaited_in}
 use Rattle.rig_model.specs.Legal.{may_follow, was_released, is_legal}
 use Rattle.rig_model.specs.Jobs.{same_job}
-use Rattle.rig_config.specs.Roster.{Rig}
+use Rattle.rig_model.specs.config.Roster.{Rig}
 
 -- The host, each tenant's text and the names of the released jobs are those behind these events, the newest first.
 pub record IsPlayed (setting : Setting) (past : List Event) (host : HostStanding) (texts : List (List ℕ)) (released : List JobId) : Type 0 where

@@ -8,7 +8,7 @@ use Rattle.std.proofs.lemmas.List.{length-map}
 use Rattle.std.proofs.lemmas.List.Sums.{sum-map}
 use Rattle.std.proofs.lemmas.Simd.{map-map}
 use Rattle.rig_model.specs.declared.jobs.JobId.{JobId}
-use Rattle.tenant_jobs.specs.Finished.{TableEntry}
+use Rattle.tenant_state.specs.job_table.Finished.{TableEntry}
 use Rattle.rig_model.specs.Jobs.{has_job}
 use Rattle.tenant_state.specs.Standing.{Standing, IsKnown, with_last, at_rest, most_released, no_tenant}
 use Rattle.rig_model.specs.Instants.{after_instant}

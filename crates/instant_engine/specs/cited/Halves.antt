@@ -1,9 +1,9 @@
 -- All tenants of a host, before and behind a step of each.
 use Rattle.std.specs.Prelude.{◌≡◌, ◌<◌, ◌≤◌, ◌-◌, ◌&&◌, not, ℕ, ℤ, Bool, true, List, Option, length, map, drop}
 use Rattle.rig_model.specs.declared.jobs.JobId.{JobId}
-use Rattle.tenant_jobs.specs.Finished.{TableEntry}
-use Rattle.tenant_jobs.specs.cited.Finished.{is_entered}
-use Rattle.tenant_jobs.specs.Jobs.{JobValue}
+use Rattle.tenant_state.specs.job_table.Finished.{TableEntry}
+use Rattle.tenant_state.specs.job_table.cited.Finished.{is_entered}
+use Rattle.tenant_state.specs.job_table.Jobs.{JobValue}
 use Rattle.rig_model.specs.Jobs.{has_job}
 use Rattle.tenant_state.specs.Jobs.{released_at}
 use Rattle.tenant_state.specs.Standing.{Standing, IsKnown, most_released}

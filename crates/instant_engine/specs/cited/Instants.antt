@@ -1,6 +1,6 @@
 -- An instant of all tenants.
 use Rattle.std.specs.Prelude.{◌≡◌, ◌+◌, ◌<◌, ◌≤◌, ℕ, ℤ, List, [], length}
-use Rattle.tenant_jobs.specs.Finished.{TableEntry, has_result}
+use Rattle.tenant_state.specs.job_table.Finished.{TableEntry, has_result}
 use Rattle.rig_model.specs.Instants.{local_instant, LocalInstant, after_instant}
 use Rattle.rig_model.specs.Row.{Row}
 use Rattle.tenant_state.specs.Standing.{Standing, StandsFor, IsKnown}

@@ -1,8 +1,8 @@
 -- The table of the active tasks of all tenants.
 use Rattle.std.specs.Prelude.{◌≡◌, List, All}
 use Rattle.rig_model.specs.declared.jobs.JobId.{JobId}
-use Rattle.tenant_jobs.specs.Finished.{TableEntry}
-use Rattle.tenant_jobs.specs.cited.Finished.{is_entered}
+use Rattle.tenant_state.specs.job_table.Finished.{TableEntry}
+use Rattle.tenant_state.specs.job_table.cited.Finished.{is_entered}
 use Rattle.tenant_state.specs.Standing.{Standing}
 use Rattle.tenant_state.specs.cited.Standing.{HasItsResults}
 use Rattle.instant_engine.specs.cited.Tenants.{is_active_among}

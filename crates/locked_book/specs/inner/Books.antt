@@ -1,7 +1,7 @@
 -- What a book keeps, and what is known of it at any time. The logs here have the oldest entry first.
 use Rattle.std.specs.Prelude.{◌≡◌, ◌≢◌, ℕ, ◌+◌, ◌*◌, ◌-◌, ◌<◌, ◌≤◌, ◌^◌, ◌==◌, if◌then◌else◌, List, [], ◌∷◌, ◌++◌, length, map, reverse, slice_index_or, sum_by, Option, Some, None}
 use Rattle.std.specs.List.{All}
-use Rattle.rig_config.specs.Roster.{Rig}
+use Rattle.rig_model.specs.config.Roster.{Rig}
 use Rattle.rig_model.specs.Base.{Setting, new_base}
 use Rattle.rig_model.specs.Host.{host_after}
 use Rattle.host_core.specs.HostStanding.{HostStanding, Stands, outstanding_count}

@@ -6,11 +6,11 @@ use Rattle.rig_model.specs.declared.events.Event.TheVariants.{Own}
 use Rattle.rig_model.specs.declared.logged.Call.{Call}
 use Rattle.rig_model.specs.declared.logged.Logged.TheVariants as logged
 use Rattle.host_core.specs.HostStanding.{ForEachState, HostStanding, TakesEvent}
-use Rattle.tenant_lines.specs.cited.Copies.{has_list}
-use Rattle.tenant_lines.specs.declared.commands.Command.{Command}
-use Rattle.tenant_lines.specs.declared.replies.Refusal.TheVariants.{Memory}
-use Rattle.tenant_lines.specs.declared.replies.Reply.{Reply}
-use Rattle.tenant_lines.specs.declared.replies.Reply.TheVariants.{Refused}
+use Rattle.rig_model.specs.lines.cited.Copies.{has_list}
+use Rattle.rig_model.specs.declared.lines.commands.Command.{Command}
+use Rattle.rig_model.specs.declared.lines.replies.Refusal.TheVariants.{Memory}
+use Rattle.rig_model.specs.declared.lines.replies.Reply.{Reply}
+use Rattle.rig_model.specs.declared.lines.replies.Reply.TheVariants.{Refused}
 use Rattle.locked_book.specs.Books.{BookValue, PassValue}
 
 -- the call of this command

@@ -1,12 +1,12 @@
 -- A text was found to be what the host reads it as.
 use Rattle.std.proofs.Common.{◌≡◌, ℕ, List, Option, Some, None, Result, Ok, Err, refl}
-use Rattle.giotto_rules.specs.Rules.{first_broken_rule}
-use Rattle.giotto_text.specs.Parsing.{parsed}
-use Rattle.giotto_text.specs.Program.{GiottoProgram}
-use Rattle.giotto_text.specs.declared.faults.ReadFault.{ReadFault}
+use Rattle.rig_model.specs.rules.Rules.{first_broken_rule}
+use Rattle.rig_model.specs.text.Parsing.{parsed}
+use Rattle.rig_model.specs.text.Program.{GiottoProgram}
+use Rattle.rig_model.specs.declared.text.faults.ReadFault.{ReadFault}
 use Rattle.giotto_reports.specs.Reports.{IsWellFormed}
 use Rattle.rig_model.specs.Admission.{program_of, refusal_of_text}
-use Rattle.tenant_lines.specs.declared.replies.Refusal.TheVariants.{Rule}
+use Rattle.rig_model.specs.declared.lines.replies.Refusal.TheVariants.{Rule}
 
 -- a well-formed program of a text is let in
 pub program_of_text : (text : List ℕ) (p : GiottoProgram) → parsed text ≡ Ok p → first_broken_rule p ≡ None → program_of text ≡ Ok p

@@ -1,14 +1,14 @@
 -- Findings about a budget, and some more.
 use Rattle.std.specs.Prelude.{ℕ, List, ◌++◌}
-use Rattle.giotto_faults.specs.declared.findings.Finding.{Finding}
+use Rattle.giotto_reports.specs.declared.faults.findings.Finding.{Finding}
 use Rattle.giotto_reports.specs.Parts.{ProgramPart, invocation, switch, update}
-use Rattle.giotto_text.specs.ProgramTrees.{invocation_of, mode_of, switch_of, update_of}
-use Rattle.giotto_text.specs.declared.programs.Invocation.{Invocation}
-use Rattle.giotto_text.specs.declared.programs.Mode.{Mode}
-use Rattle.giotto_text.specs.declared.programs.Switch.{Switch}
-use Rattle.giotto_text.specs.declared.programs.Update.{Update}
+use Rattle.rig_model.specs.text.ProgramTrees.{invocation_of, mode_of, switch_of, update_of}
+use Rattle.rig_model.specs.declared.text.programs.Invocation.{Invocation}
+use Rattle.rig_model.specs.declared.text.programs.Mode.{Mode}
+use Rattle.rig_model.specs.declared.text.programs.Switch.{Switch}
+use Rattle.rig_model.specs.declared.text.programs.Update.{Update}
 use Rattle.program_checks.specs.Excess.{AreOver}
-use Rattle.tenant_lines.specs.declared.replies.Budget.{Budget}
+use Rattle.rig_model.specs.declared.lines.replies.Budget.{Budget}
 
 -- behind findings with whatever words about a budget there are now others with these words more
 abbrev pub AreTold : Budget → List (List ℕ) → List Finding → List Finding → Type 0

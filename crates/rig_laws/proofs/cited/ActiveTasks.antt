@@ -5,17 +5,17 @@ use Rattle.std.specs.Option.{option_map}
 use Rattle.std.specs.List.{AllByRecursion}
 use Rattle.giotto_tasks.specs.declared.names.Name.{Name}
 use Rattle.giotto_tasks.specs.Names.{Valuation}
-use Rattle.giotto_text.specs.Program.{TaskDeclaration, TaskInvocation, ModeDeclaration, GiottoProgram}
-use Rattle.rig_config.specs.declared.Budgets.{Budgets}
-use Rattle.tenant_lines.specs.declared.commands.Command.{Command}
-use Rattle.tenant_lines.specs.declared.commands.Command.TheVariants as command
-use Rattle.tenant_lines.specs.declared.commands.Command.TheVariants.{Load, Start, Stop, ShowMode, ShowPort, ShowAll, Grants}
-use Rattle.tenant_lines.specs.declared.ports.PortName.{PortName}
-use Rattle.tenant_lines.specs.declared.replies.Budget.{Budget}
-use Rattle.giotto_rules.specs.Declarations.{task_named, mode_named}
-use Rattle.tenant_lines.specs.declared.replies.Refusal.{Refusal}
-use Rattle.tenant_lines.specs.declared.replies.Refusal.TheVariants.{NotRunning}
-use Rattle.tenant_lines.specs.declared.replies.Reply.TheVariants.{Stopped}
+use Rattle.rig_model.specs.text.Program.{TaskDeclaration, TaskInvocation, ModeDeclaration, GiottoProgram}
+use Rattle.rig_model.specs.declared.config.Budgets.{Budgets}
+use Rattle.rig_model.specs.declared.lines.commands.Command.{Command}
+use Rattle.rig_model.specs.declared.lines.commands.Command.TheVariants as command
+use Rattle.rig_model.specs.declared.lines.commands.Command.TheVariants.{Load, Start, Stop, ShowMode, ShowPort, ShowAll, Grants}
+use Rattle.rig_model.specs.declared.lines.ports.PortName.{PortName}
+use Rattle.rig_model.specs.declared.lines.replies.Budget.{Budget}
+use Rattle.rig_model.specs.rules.Declarations.{task_named, mode_named}
+use Rattle.rig_model.specs.declared.lines.replies.Refusal.{Refusal}
+use Rattle.rig_model.specs.declared.lines.replies.Refusal.TheVariants.{NotRunning}
+use Rattle.rig_model.specs.declared.lines.replies.Reply.TheVariants.{Stopped}
 use Rattle.rig_model.specs.Tenancies.{Tenancy}
 use Rattle.rig_model.specs.Row.{ActiveTask, Row, StopReason, asked, overrun, is_running, where_some, in_program, in_mode}
 use Rattle.rig_model.specs.Commands.{CommandOutcome, refused, load_within, replace_read, replace_within, load_read, start_program, stop_program, show_value, show_port, show_all, commanded}

@@ -10,14 +10,14 @@ use Rattle.giotto_tasks.specs.declared.names.Name.{Name}
 use Rattle.giotto_tasks.specs.Names.{same_name}
 use Rattle.rig_model.specs.declared.events.Event.{Event}
 use Rattle.rig_model.specs.declared.events.Event.TheVariants.{Own, Tick, Done}
-use Rattle.rig_config.specs.declared.TenantConfig.{TenantConfig}
-use Rattle.tenant_grants.specs.declared.rows.Bind.{Bind}
+use Rattle.rig_model.specs.declared.config.TenantConfig.{TenantConfig}
+use Rattle.rig_model.specs.declared.grants.rows.Bind.{Bind}
 use Rattle.rig_model.specs.declared.jobs.JobId.{JobId}
-use Rattle.rig_config.specs.Roster.{budgets_at, is_tenant}
+use Rattle.rig_model.specs.config.Roster.{budgets_at, is_tenant}
 use Rattle.rig_model.specs.Jobs.{same_job, job_of, is_active}
 use Rattle.rig_model.specs.Row.{ActiveTask, Row, empty_row}
 use Rattle.rig_model.specs.FirstHalf.{unfinished_tasks, due_tasks, first_half_of}
-use Rattle.tenant_grants.specs.Grants.{place_in}
+use Rattle.rig_model.specs.grants.Grants.{place_in}
 use Rattle.rig_model.specs.Readings.{readings_within}
 use Rattle.rig_model.specs.Granted.{granted_from, granted_to, granted_along}
 use Rattle.rig_model.specs.Base.{IsBase, Setting}

@@ -4,7 +4,7 @@ use Rattle.std.specs.List.{list_any, AllByRecursion}
 use Rattle.std.proofs.lemmas.Bool.{cases_lt, and_parts}
 use Rattle.std.proofs.lemmas.List.{length-map, get_or-map}
 use Rattle.std.proofs.Math.ListN.{get_or-eq_default}
-use Rattle.rig_config.specs.declared.TenantConfig.{TenantConfig}
+use Rattle.rig_model.specs.declared.config.TenantConfig.{TenantConfig}
 use Rattle.rig_model.specs.declared.jobs.JobId.{JobId}
 use Rattle.rig_model.specs.declared.events.Event.{Event}
 use Rattle.rig_model.specs.declared.events.Event.TheVariants.{Own, Tick, Done}
@@ -21,7 +21,7 @@ use Rattle.rig_laws.proofs.Histories.{releases}
 use Rattle.rig_laws.proofs.cited.Places.{nobody}
 use Rattle.rig_model.proofs.cited.JobNames.{same_job_is}
 use Rattle.giotto_tasks.proofs.cited.TestLemmas.{either}
-use Rattle.rig_config.specs.Roster.{Rig}
+use Rattle.rig_model.specs.config.Roster.{Rig}
 
 -- a name among the jobs that pass a test passes it
 passes : (test : JobId → Bool) (j : JobId) (js : List JobId) → list_any (λ i. same_job i j) (filter test js) ≡ true → test j ≡ true

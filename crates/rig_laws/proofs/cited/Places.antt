@@ -1,7 +1,7 @@
 -- Places of a roster, and completions, in a history.
 use Rattle.std.proofs.Common.{[], ◌≡◌, List, ◌∷◌, ◌++◌, map, reverse, ap, ◌∙◌, append_assoc}
-use Rattle.rig_config.specs.declared.TenantConfig.{TenantConfig}
-use Rattle.rig_config.specs.Roster.{no_budgets}
+use Rattle.rig_model.specs.declared.config.TenantConfig.{TenantConfig}
+use Rattle.rig_model.specs.config.Roster.{no_budgets}
 use Rattle.std.proofs.lemmas.List.{reverse-append}
 use Rattle.rig_model.specs.declared.jobs.JobId.{JobId}
 use Rattle.rig_model.specs.declared.events.Event.{Event}

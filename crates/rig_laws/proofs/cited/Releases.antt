@@ -5,14 +5,14 @@ use Rattle.std.proofs.lemmas.Bool.{and_parts}
 use Rattle.std.proofs.lemmas.Bool.Decides.{nat_tests}
 use Rattle.rig_model.specs.declared.events.Event.{Event}
 use Rattle.rig_model.specs.declared.events.Event.TheVariants.{Own, Tick, Done}
-use Rattle.tenant_lines.specs.declared.commands.Command.{Command}
+use Rattle.rig_model.specs.declared.lines.commands.Command.{Command}
 use Rattle.rig_model.specs.declared.jobs.JobId.{JobId}
 use Rattle.std.proofs.Math.ListN.{get_or-eq_default}
 use Rattle.rig_model.specs.Base.{IsBase, Setting}
 use Rattle.rig_model.specs.Legal.{next_tick, was_released, may_follow, is_legal}
 use Rattle.rig_model.specs.Tenancies.{tenancy_at}
 use Rattle.rig_model.specs.Views.{run_of, view_of, row_of}
-use Rattle.rig_config.specs.Roster.{budgets_at, is_tenant}
+use Rattle.rig_model.specs.config.Roster.{budgets_at, is_tenant}
 use Rattle.rig_model.specs.Readings.{readings_within}
 use Rattle.rig_model.specs.FirstHalf.{first_half_of}
 use Rattle.rig_model.specs.Jobs.{same_job, job_of, is_active}

@@ -3,9 +3,9 @@ use Rattle.std.proofs.Common.{◌≡◌, ℕ, ◌<◌, Bool, true, false, cond, 
 use Rattle.std.proofs.lemmas.Bool.{and_parts, and_from, eqb-true, eq-eqb, cases_lt}
 use Rattle.std.proofs.lemmas.Bool.Decides.{nat_tests}
 use Rattle.std.proofs.Math.ListN.{get_or-eq_default}
-use Rattle.rig_config.specs.Roster.{is_tenant}
-use Rattle.tenant_lines.specs.Replies.{text_of_reply}
-use Rattle.tenant_lines.specs.declared.replies.Reply.{Reply}
+use Rattle.rig_model.specs.config.Roster.{is_tenant}
+use Rattle.rig_model.specs.lines.Replies.{text_of_reply}
+use Rattle.rig_model.specs.declared.lines.replies.Reply.{Reply}
 use Rattle.rig_model.specs.Answers.{answers_of, answers_along}
 use Rattle.rig_model.specs.Base.{IsBase, Setting}
 use Rattle.rig_model.specs.Host.{host_after}

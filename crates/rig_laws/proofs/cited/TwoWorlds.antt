@@ -9,10 +9,10 @@ use Rattle.std.proofs.lemmas.List.Folds.{list_any-append}
 use Rattle.giotto_tasks.specs.declared.names.Name.{Name}
 use Rattle.rig_model.specs.declared.events.Event.{Event}
 use Rattle.rig_model.specs.declared.events.Event.TheVariants.{Own, Tick, Done}
-use Rattle.tenant_grants.specs.Grants.{place_in}
-use Rattle.tenant_grants.specs.declared.rows.Bind.{Bind}
+use Rattle.rig_model.specs.grants.Grants.{place_in}
+use Rattle.rig_model.specs.declared.grants.rows.Bind.{Bind}
 use Rattle.rig_model.specs.declared.jobs.JobId.{JobId}
-use Rattle.rig_config.specs.Roster.{budgets_at, is_tenant}
+use Rattle.rig_model.specs.config.Roster.{budgets_at, is_tenant}
 use Rattle.rig_model.specs.Jobs.{same_job, is_active, job_of}
 use Rattle.rig_model.specs.Readings.{readings_within}
 use Rattle.rig_model.specs.Granted.{granted_by, granted_from, granted_to, granted_along}

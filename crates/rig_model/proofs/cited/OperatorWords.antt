@@ -2,7 +2,7 @@
 use Rattle.std.proofs.Common.{◌≡◌, ℕ, ◌<◌, Bool, true, false, if◌then◌else◌, List, [], ◌∷◌, length, Some, None, codes, refl, sym, ap, ◌∙◌, subst, arith}
 use Rattle.std.specs.Cmp.Lexicographic.{same_text}
 use Rattle.giotto_tasks.specs.Names.{same_name}
-use Rattle.giotto_text.specs.Bytes.{is_name}
+use Rattle.giotto_rules.specs.text.Bytes.{is_name}
 use Rattle.tenant_lines.specs.Words.{words_of, first_word_of, behind_first_word}
 use Rattle.tenant_lines.proofs.cited.WordLemmas.{words_first, words_none}
 use Rattle.rig_model.specs.Script.{work_of, operator_line_of}

@@ -2,7 +2,7 @@
 use Rattle.std.specs.Prelude.{◌≡◌, ◌⊎◌, ℕ, zero, suc, ◌+◌, ◌==◌, if◌then◌else◌, List, [], ◌∷◌, ◌++◌, length, map, Option, Some, None, codes}
 use Rattle.std.specs.Option.{option_map}
 use Rattle.giotto_tasks.specs.declared.names.Name.{Name}
-use Rattle.rig_config.specs.Roster.{name_at}
+use Rattle.rig_model.specs.config.Roster.{name_at}
 use Rattle.rig_model.specs.Base.{Setting}
 use Rattle.rig_model.specs.Host.{host_after}
 use Rattle.rig_model.specs.HostState.{row_at}
@@ -11,10 +11,10 @@ use Rattle.rig_model.specs.Row.{Row, TenantState, StopReason, empty, loaded, run
 use Rattle.rig_model.specs.Script.{past_behind, reply_to_line, script_text_of}
 use Rattle.rig_model.specs.TextLines.{cut}
 use Rattle.rig_model.specs.declared.events.Event.{Event}
-use Rattle.rig_script.specs.BrokenOff.{IsScriptBrokenOff}
-use Rattle.rig_script.specs.declared.faults.ScriptFault.{ScriptFault}
-use Rattle.rig_script.specs.declared.faults.ScriptFault.TheVariants.{Memory}
-use Rattle.rig_script.specs.Given.{bad_line_of, number_behind, texts_of}
+use Rattle.rig_pictures.specs.script.BrokenOff.{IsScriptBrokenOff}
+use Rattle.rig_pictures.specs.declared.script.faults.ScriptFault.{ScriptFault}
+use Rattle.rig_pictures.specs.declared.script.faults.ScriptFault.TheVariants.{Memory}
+use Rattle.rig_pictures.specs.script.Given.{bad_line_of, number_behind, texts_of}
 use Rattle.script_reports.specs.cited.Heard.{HeardLine}
 use Rattle.script_reports.specs.cited.Runs.{line_in}
 use Rattle.script_reports.specs.cited.Told.{told_of_end, told_of_lines}

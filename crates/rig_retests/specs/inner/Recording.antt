@@ -1,7 +1,7 @@
 -- A host that answers a script, and the events and lines that are recorded of it.
 use Rattle.std.specs.Prelude.{◌≡◌, ℕ, ◌+◌, Bool, List, [], ◌∷◌, ◌++◌, length, map, reverse, string_bytes}
 use Rattle.std.specs.List.{list_any}
-use Rattle.host_core.specs.HostStanding.{HostStanding}
+use Rattle.tenant_sources.specs.host.HostStanding.{HostStanding}
 use Rattle.rig_model.specs.Base.{Setting}
 use Rattle.rig_model.specs.Script.{line_step, past_behind, reply_to_line, speaker_of}
 use Rattle.rig_model.specs.TextLines.{cut}

@@ -2,7 +2,7 @@
 use Rattle.std.specs.Prelude.{◌≡◌, ℕ, Bool, true, List, Result, Ok, Err, Vec}
 use Rattle.std.specs.declared.alloc.AllocError.{AllocError}
 use Rattle.std.specs.declared.alloc.Global.{Global}
-use Rattle.host_core.specs.HostStanding.{HostStanding}
+use Rattle.tenant_sources.specs.host.HostStanding.{HostStanding}
 use Rattle.tenant_sources.specs.Links.{IsLinkTable, Links}
 use Rattle.tenant_sources.specs.cited.Additions.{with_links}
 use Rattle.rig_model.specs.Base.{Setting}

@@ -4,14 +4,14 @@ use Rattle.std.specs.Prelude.{Result, Ok, Err, IfErr, OnOk}
 use Rattle.rig_model.specs.Base.{IsBase, new_base, Setting}
 use Rattle.host_core.specs.HostStanding.{HostStanding, Stands}
 use Rattle.rig_model.specs.Plays.{IsSettingOf}
-use Rattle.rig_laws.proofs.cited.LaterBase.{new_is_base}
+use Rattle.host_core.proofs.of_laws.LaterBase.{new_is_base}
 use Rattle.rig_script.specs.cited.HostAnswers.{IsHostAfter}
 use Rattle.rig_model.specs.TextLines.{cut}
 use Rattle.rig_script.specs.cited.Past.{ForEachPastReading}
 use Rattle.rig_model.specs.Script.{script_from, script_text_of}
 use Rattle.rig_script.specs.BrokenOff.{AreBrokenOff, IsScriptBrokenOff, ForNewHostReading}
 use Rattle.rig_script.specs.declared.faults.ScriptFault.{ScriptFault}
-use Rattle.rig_config.specs.Roster.{Rig}
+use Rattle.rig_model.specs.config.Roster.{Rig}
 
 module _ (host : HostStanding) (config : Rig) (begins : (setting : Setting) → setting.config ≡ config → Stands setting host (new_base config 0)) where
   pub starts : (setting : Setting) → IsSettingOf config setting → IsHostAfter setting host []

@@ -1,7 +1,7 @@
 -- What lines do to a session, to its pass and to its writer.
 use Rattle.std.specs.Prelude.{◌≡◌, ◌≢◌, ◌⊎◌, ℕ, List, [], ◌∷◌, ◌++◌}
-use Rattle.rig_config.specs.Roster.{Rig}
-use Rattle.tenant_lines.specs.declared.commands.Command.{Command}
+use Rattle.rig_model.specs.config.Roster.{Rig}
+use Rattle.rig_model.specs.declared.lines.commands.Command.{Command}
 use Rattle.locked_book.specs.Books.{PassValue}
 use Rattle.locked_book.specs.declared.faults.DeskFault.TheVariants as desk
 use Rattle.rig_model.specs.declared.logged.Call.{Call}

@@ -1,8 +1,8 @@
 -- What the steps and replies of the code are in the definitions.
 use Rattle.std.specs.Prelude.{◌≡◌, ℕ, true, List}
-use Rattle.rig_config.specs.Roster.{Rig}
-use Rattle.tenant_lines.specs.declared.commands.Command.{Command}
-use Rattle.tenant_lines.specs.cited.Copies.{has_text}
+use Rattle.rig_model.specs.config.Roster.{Rig}
+use Rattle.rig_model.specs.declared.lines.commands.Command.{Command}
+use Rattle.rig_model.specs.lines.cited.Copies.{has_text}
 use Rattle.rig_model.specs.Sessions.{Act, State, Step as SessionStep, bye, call, ended, err_bad_command, err_greeted, err_not_greeted, err_who, ok_hello, quiet, say, stranger, tenant}
 use Rattle.rig_sessions.specs.declared.replies.OwnReply.{OwnReply}
 use Rattle.rig_sessions.specs.declared.replies.OwnReply.TheVariants.{Hello, BadCommand, NotGreeted, Greeted, Who}

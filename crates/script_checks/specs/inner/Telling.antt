@@ -1,10 +1,10 @@
 -- A text to which more is added, and what is found at a tenant's line.
 use Rattle.std.specs.Prelude.{◌≡◌, ℕ, List, ◌++◌}
-use Rattle.giotto_faults.specs.declared.findings.Finding.{Finding}
-use Rattle.giotto_faults.specs.declared.places.Place.{Place}
+use Rattle.program_checks.specs.declared.faults.findings.Finding.{Finding}
+use Rattle.program_checks.specs.declared.faults.places.Place.{Place}
 use Rattle.script_checks.specs.Grants.{AreNotes, Told}
-use Rattle.rig_config.specs.Roster.{Rig}
-use Rattle.rig_config.specs.declared.TenantConfig.{TenantConfig}
+use Rattle.rig_model.specs.config.Roster.{Rig}
+use Rattle.rig_model.specs.declared.config.TenantConfig.{TenantConfig}
 use Rattle.script_checks.specs.Told.{AreShown, IsOneFinding, TellBrought, of_fault}
 use Rattle.script_checks.specs.declared.scripts.Found.{Found}
 

@@ -1,10 +1,10 @@
 -- What the text of a command reads as, beside the command.
 use Rattle.std.specs.Prelude.{◌≡◌, ℕ, List, [], Option, Result, IfSome}
-use Rattle.giotto_text.specs.Program.{GiottoProgram}
-use Rattle.tenant_lines.specs.declared.commands.Command.{Command}
-use Rattle.tenant_lines.specs.declared.commands.Command.TheVariants.{Load, Replace, Start, Stop, ShowMode, ShowPort, ShowAll, Grants}
-use Rattle.tenant_lines.specs.declared.commands.Command.TheVariants as command
-use Rattle.tenant_lines.specs.declared.replies.Refusal.{Refusal}
+use Rattle.rig_model.specs.text.Program.{GiottoProgram}
+use Rattle.rig_model.specs.declared.lines.commands.Command.{Command}
+use Rattle.rig_model.specs.declared.lines.commands.Command.TheVariants.{Load, Replace, Start, Stop, ShowMode, ShowPort, ShowAll, Grants}
+use Rattle.rig_model.specs.declared.lines.commands.Command.TheVariants as command
+use Rattle.rig_model.specs.declared.lines.replies.Refusal.{Refusal}
 use Rattle.rig_model.specs.Admission.{program_of}
 
 -- where a text was read, that is what it spells: a program, or why there is none

@@ -1,9 +1,9 @@
 -- The names of ports in replies, and a name with its value.
 use Rattle.std.specs.Prelude.{ℤ, Some, None}
 use Rattle.giotto_tasks.specs.declared.names.Name.{Name}
-use Rattle.giotto_rules.specs.Ports.{ProgramPort}
-use Rattle.tenant_lines.specs.declared.ports.PortName.{PortName}
-use Rattle.tenant_lines.specs.declared.ports.PortValue.{PortValue}
+use Rattle.rig_model.specs.rules.Ports.{ProgramPort}
+use Rattle.rig_model.specs.declared.lines.ports.PortName.{PortName}
+use Rattle.rig_model.specs.declared.lines.ports.PortValue.{PortValue}
 
 -- a port of the program, as replies name it
 abbrev pub name_of_port : ProgramPort → PortName

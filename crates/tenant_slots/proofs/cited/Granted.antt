@@ -13,14 +13,14 @@ use Rattle.giotto_tasks.specs.Names.{Valuation, same_name, is_among, value_at, w
 use Rattle.giotto_tasks.specs.Sound.{all_different}
 use Rattle.giotto_tasks.proofs.cited.NameLemmas.{same_name_self, same_name_is, different_first}
 use Rattle.giotto_tasks.proofs.cited.TestLemmas.{either}
-use Rattle.giotto_text.specs.PortNames.{with_values}
-use Rattle.giotto_text.specs.Program.{Source, from_line, from_grant, SensorDeclaration, GiottoProgram}
-use Rattle.giotto_text.specs.ProgramTrees.{sensor_of}
-use Rattle.giotto_text.specs.declared.programs.Sensor.{Sensor}
-use Rattle.giotto_rules.specs.Declarations.{sensor_names, actuator_names, output_names, driver_ports}
+use Rattle.rig_model.specs.text.PortNames.{with_values}
+use Rattle.rig_model.specs.text.Program.{Source, from_line, from_grant, SensorDeclaration, GiottoProgram}
+use Rattle.rig_model.specs.text.ProgramTrees.{sensor_of}
+use Rattle.rig_model.specs.declared.text.programs.Sensor.{Sensor}
+use Rattle.rig_model.specs.rules.Declarations.{sensor_names, actuator_names, output_names, driver_ports}
 use Rattle.giotto_check.specs.cited.Slots.{PortNamesDiffer, slots_of}
 use Rattle.giotto_check.specs.Slots.{port_names, valuation_of}
-use Rattle.giotto_rules.specs.Ports.{ports_of, shown_name}
+use Rattle.rig_model.specs.rules.Ports.{ports_of, shown_name}
 use Rattle.giotto_check.proofs.cited.PlaceLemmas.{passes_there, place-map}
 use Rattle.giotto_check.proofs.cited.SlotLemmas.{port_names_begin}
 use Rattle.giotto_check.proofs.cited.Valuations.{with_value_at_place}

@@ -11,8 +11,8 @@ use Rattle.giotto_tasks.specs.Names.{same_name}
 use Rattle.giotto_tasks.proofs.cited.ListLemmas.{found_has, some_same}
 use Rattle.giotto_tasks.proofs.cited.NameLemmas.{same_name_is, same_name_self}
 use Rattle.giotto_tasks.proofs.cited.TestLemmas.{same_answers}
-use Rattle.giotto_text.specs.Program.{TaskDeclaration, TaskInvocation, ModeDeclaration, GiottoProgram}
-use Rattle.giotto_rules.specs.Declarations.{period_of_task}
+use Rattle.rig_model.specs.text.Program.{TaskDeclaration, TaskInvocation, ModeDeclaration, GiottoProgram}
+use Rattle.rig_model.specs.rules.Declarations.{period_of_task}
 use Rattle.giotto_check.specs.cited.Facts.{IsFrequencyOf, InvocationFits, ModeFits, ProgramFits}
 use Rattle.giotto_check.specs.cited.Timetables.{AreEach, IsInvocation}
 use Rattle.giotto_check.specs.declared.timetables.SlotInvocation.{SlotInvocation}

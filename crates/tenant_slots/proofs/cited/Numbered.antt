@@ -11,10 +11,10 @@ use Rattle.giotto_tasks.specs.Sound.{all_different}
 use Rattle.giotto_tasks.proofs.cited.ListLemmas.{found_has, some_same}
 use Rattle.giotto_tasks.proofs.cited.NameLemmas.{same_name_is, same_name_self, all_different-append}
 use Rattle.giotto_tasks.proofs.cited.TestLemmas.{same_answers}
-use Rattle.giotto_text.specs.Program.{TaskDeclaration, ActuatorUpdate, ModeSwitch, TaskInvocation, ModeDeclaration, GiottoProgram}
-use Rattle.giotto_rules.specs.Declarations.{sensor_names, actuator_names, output_names, task_names, mode_names, task_named, mode_named}
+use Rattle.rig_model.specs.text.Program.{TaskDeclaration, ActuatorUpdate, ModeSwitch, TaskInvocation, ModeDeclaration, GiottoProgram}
+use Rattle.rig_model.specs.rules.Declarations.{sensor_names, actuator_names, output_names, task_names, mode_names, task_named, mode_named}
 use Rattle.giotto_check.specs.cited.Facts.{UpdateFits, SwitchFits, InvocationFits, ModeFits, TaskFits, ProgramFits}
-use Rattle.giotto_rules.specs.Ports.{is_port, ports_of, slot_of}
+use Rattle.rig_model.specs.rules.Ports.{is_port, ports_of, slot_of}
 use Rattle.giotto_check.specs.cited.Slots.{slots_of}
 use Rattle.giotto_check.specs.cited.Timetables.{AreEach, IsUpdate, IsExit, IsInvocation, AreTaskSlots, place_of_task}
 use Rattle.giotto_check.specs.declared.timetables.SlotUpdate.{SlotUpdate}

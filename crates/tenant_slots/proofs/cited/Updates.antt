@@ -4,10 +4,10 @@ use Rattle.std.specs.Prelude.{slice_get}
 use Rattle.std.proofs.lemmas.List.{drop_more, length-map}
 use Rattle.std.proofs.lemmas.Option.{slice_get-get_or, slice_get_cases}
 use Rattle.giotto_tasks.specs.Names.{Valuation}
-use Rattle.giotto_text.specs.Program.{ActuatorUpdate, ModeDeclaration, GiottoProgram}
+use Rattle.rig_model.specs.text.Program.{ActuatorUpdate, ModeDeclaration, GiottoProgram}
 use Rattle.giotto_check.specs.cited.Facts.{ProgramFits}
 use Rattle.giotto_check.specs.Slots.{port_names, valuation_of}
-use Rattle.giotto_rules.specs.Ports.{ports_of, shown_name}
+use Rattle.rig_model.specs.rules.Ports.{ports_of, shown_name}
 use Rattle.giotto_check.specs.cited.Slots.{slots_of}
 use Rattle.giotto_check.specs.cited.Timetables.{AreEach, IsUpdate, value_over}
 use Rattle.giotto_check.specs.declared.timetables.SlotUpdate.{SlotUpdate}

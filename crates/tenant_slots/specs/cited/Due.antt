@@ -2,7 +2,7 @@
 use Rattle.std.specs.Prelude.{◌≡◌, ℕ, Bool, false, nat_eq, ◌<◌, ◌≤◌, ◌-◌, ◌^◌, ◌%◌, ◌==◌, ◌&&◌, List, get_or}
 use Rattle.std.specs.List.{list_any, AllByRecursion}
 use Rattle.giotto_check.specs.declared.timetables.SlotInvocation.{SlotInvocation}
-use Rattle.giotto_text.specs.Program.{ActuatorUpdate, ModeSwitch, TaskInvocation, ModeDeclaration}
+use Rattle.rig_model.specs.text.Program.{ActuatorUpdate, ModeSwitch, TaskInvocation, ModeDeclaration}
 use Rattle.rig_model.specs.Due.{is_due_at}
 use Rattle.tenant_slots.specs.declared.due.TheConstants.{TABLED_TASKS}
 

@@ -3,7 +3,7 @@ use Rattle.std.specs.Prelude.{Bool, true, false, ◌&&◌, if◌then◌else◌, 
 use Rattle.std.specs.List.{list_any}
 use Rattle.giotto_tasks.specs.declared.names.Name.{Name}
 use Rattle.giotto_tasks.specs.Names.{Valuation, same_name, with_value}
-use Rattle.giotto_text.specs.Program.{Source, from_line, from_grant, SensorDeclaration, GiottoProgram}
+use Rattle.rig_model.specs.text.Program.{Source, from_line, from_grant, SensorDeclaration, GiottoProgram}
 
 abbrev pub is_grant : Source → Bool
 is_grant (from_line k) = false

@@ -1,6 +1,6 @@
 -- The task and the mode at a place.
 use Rattle.std.specs.Prelude.{◌≡◌, ℕ, Some, slice_get}
-use Rattle.giotto_text.specs.Program.{TaskDeclaration, GiottoProgram, ModeDeclaration}
+use Rattle.rig_model.specs.text.Program.{TaskDeclaration, GiottoProgram, ModeDeclaration}
 
 -- the task stands at this place, in text order from 0
 abbrev pub IsTaskAt : GiottoProgram → ℕ → TaskDeclaration → Type 0

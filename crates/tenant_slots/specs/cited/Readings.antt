@@ -1,9 +1,9 @@
 -- The ports behind the readings.
 use Rattle.std.specs.Prelude.{map}
 use Rattle.giotto_tasks.specs.Names.{Valuation}
-use Rattle.giotto_text.specs.Program.{GiottoProgram}
-use Rattle.giotto_text.specs.PortNames.{with_values}
-use Rattle.giotto_rules.specs.Declarations.{sensor_names}
+use Rattle.rig_model.specs.text.Program.{GiottoProgram}
+use Rattle.rig_model.specs.text.PortNames.{with_values}
+use Rattle.rig_model.specs.rules.Declarations.{sensor_names}
 use Rattle.rig_model.specs.Readings.{Readings, reading_taken}
 
 -- the ports behind the readings: each sensor has what it takes, all other ports are as they were

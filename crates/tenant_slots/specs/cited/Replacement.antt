@@ -1,8 +1,8 @@
 -- The slots of the ports that keep their values where a program replaces another.
 use Rattle.std.specs.Prelude.{Bool, ◌||◌, List, map, filter}
 use Rattle.giotto_tasks.specs.declared.names.Name.{Name}
-use Rattle.giotto_text.specs.Program.{GiottoProgram}
-use Rattle.giotto_rules.specs.Declarations.{sensor_names, actuator_names, driver_ports}
+use Rattle.rig_model.specs.text.Program.{GiottoProgram}
+use Rattle.rig_model.specs.rules.Declarations.{sensor_names, actuator_names, driver_ports}
 use Rattle.giotto_check.specs.cited.Facts.{ProgramFits}
 use Rattle.giotto_check.specs.cited.Slots.{HaveSlots}
 use Rattle.rig_model.specs.Replacement.{stands_in_both}

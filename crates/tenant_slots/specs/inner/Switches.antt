@@ -2,7 +2,7 @@
 use Rattle.std.specs.Prelude.{ℕ, Option, ◌≡◌, None, IsSomeAnd, MatchOption, List, map, ℤ}
 use Rattle.std.specs.Option.{option_map_or, option_and_then}
 use Rattle.giotto_tasks.specs.Names.{Valuation}
-use Rattle.giotto_text.specs.Program.{ModeDeclaration, GiottoProgram, ModeSwitch}
+use Rattle.rig_model.specs.text.Program.{ModeDeclaration, GiottoProgram, ModeSwitch}
 use Rattle.rig_model.specs.Switches.{switch_taken, with_destinations}
 use Rattle.giotto_check.specs.cited.Timetables.{place_of_mode, IsExit, value_over}
 use Rattle.std.specs.Borrow.{Bor}

@@ -1,8 +1,8 @@
 -- What a task takes from its ports and writes to them.
 use Rattle.std.specs.Prelude.{ℤ, List}
 use Rattle.giotto_tasks.specs.Names.{Valuation, values_of}
-use Rattle.giotto_text.specs.PortNames.{own_ports, with_values}
-use Rattle.giotto_text.specs.Program.{TaskDeclaration, names_of}
+use Rattle.rig_model.specs.text.PortNames.{own_ports, with_values}
+use Rattle.rig_model.specs.text.Program.{TaskDeclaration, names_of}
 
 -- the values of a task's states, in their order
 abbrev pub states_in : TaskDeclaration → Valuation → List ℤ

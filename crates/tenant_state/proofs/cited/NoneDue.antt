@@ -6,8 +6,8 @@ use Rattle.std.proofs.lemmas.Bool.{not-true, or_parts}
 use Rattle.giotto_tasks.specs.declared.names.Name.{Name}
 use Rattle.giotto_tasks.specs.Names.{same_name, is_among}
 use Rattle.giotto_tasks.proofs.cited.ListLemmas.{all_map}
-use Rattle.giotto_text.specs.Program.{TaskInvocation, ModeDeclaration, GiottoProgram}
-use Rattle.giotto_rules.specs.Declarations.{mode_named}
+use Rattle.rig_model.specs.text.Program.{TaskInvocation, ModeDeclaration, GiottoProgram}
+use Rattle.rig_model.specs.rules.Declarations.{mode_named}
 use Rattle.rig_model.specs.Due.{is_due_at}
 use Rattle.rig_model.specs.FirstHalf.{due_among, due_in_mode, due_tasks, names_due, still_active, completed_in_mode, first_half_of, first_half_with, stopped_with}
 use Rattle.rig_model.specs.Row.{StopReason, TenantState, empty, loaded, running, stopped, ActiveTask, Row, where_some}

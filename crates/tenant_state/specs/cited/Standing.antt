@@ -1,7 +1,7 @@
 -- What a command and an instant leave a tenant with, what it has to have ready, and what the table of active tasks has to have.
 use Rattle.std.specs.Prelude.{[], ◌≡◌, ◌&&◌, not, Bool, ◌≤◌, ◌<◌, true, ◌+◌, List, Some, IfSome, length, take, drop}
-use Rattle.giotto_text.specs.Program.{GiottoProgram}
-use Rattle.tenant_lines.specs.declared.replies.Reply.{Reply}
+use Rattle.rig_model.specs.text.Program.{GiottoProgram}
+use Rattle.rig_model.specs.declared.lines.replies.Reply.{Reply}
 use Rattle.rig_model.specs.Commands.{CommandOutcome, refused}
 use Rattle.rig_model.specs.Row.{ActiveTask, Row}
 use Rattle.rig_model.specs.declared.jobs.JobId.{JobId}
@@ -11,8 +11,8 @@ use Rattle.rig_model.specs.Jobs.{has_job, job_of}
 use Rattle.tenant_state.specs.Jobs.{job_in}
 use Rattle.rig_model.specs.SecondHalf.{replaced_if_due}
 use Rattle.tenant_state.specs.Standing.{Standing, StandsFor, most_released}
-use Rattle.tenant_trace.specs.declared.records.Record.{Record}
-use Rattle.tenant_lines.specs.declared.replies.Refusal.{Refusal}
+use Rattle.rig_model.specs.declared.trace.records.Record.{Record}
+use Rattle.rig_model.specs.declared.lines.replies.Refusal.{Refusal}
 use Rattle.std.specs.List.{AllByRecursion}
 
 -- a command's outcome: this reply was given, and this is what is left

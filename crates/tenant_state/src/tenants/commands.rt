@@ -1,9 +1,9 @@
 //! What a tenant's commands do.
 
 ghost use Rattle.std.specs.Prelude.{◌≡◌, ◌≢◌, ◌⊎◌, [], false, Err, IfOk, IfErr, OnOk, OnErr, length};
-ghost use Rattle.tenant_lines.specs.declared.commands.Command.{Command};
-ghost use Rattle.tenant_lines.specs.declared.replies.Refusal.{Refusal};
-ghost use Rattle.tenant_lines.specs.declared.replies.Reply.{Reply};
+ghost use Rattle.rig_model.specs.declared.lines.commands.Command.{Command};
+ghost use Rattle.rig_model.specs.declared.lines.replies.Refusal.{Refusal};
+ghost use Rattle.rig_model.specs.declared.lines.replies.Reply.{Reply};
 ghost use Rattle.rig_model.specs.Commands.{at_beginning, commanded, load_kept};
 ghost use Rattle.tenant_state.specs.Memory.{takes_memory};
 ghost use Rattle.rig_model.specs.Row.{Row, is_running, loaded};
@@ -15,16 +15,16 @@ ghost use Rattle.tenant_state.specs.Standing.{StandsFor};
 
 use crate::tenants::waiting::{Beginning, beginning_of};
 use crate::tenants::{Reason, State, Tenant};
-use giotto_check::Checked;
+use rig_model::lines::commands::Command;
+use rig_model::lines::ports::PortValue;
+use rig_model::lines::replies::{Refusal, Reply};
+use rig_model::trace::records::Happening;
 use tenant_exchange::commands;
-use tenant_lines::commands::Command;
-use tenant_lines::ports::PortValue;
-use tenant_lines::replies::{Refusal, Reply};
+use tenant_exchange::slots::beginning::reset_ports;
+use tenant_exchange::slots::names::{mode_name, start_place};
+use tenant_exchange::well_formed::Checked;
 use tenant_programs::budgets::broken_budget;
 use tenant_programs::prepared::{Prepared, Reading, prepare, program_by_reading};
-use tenant_slots::beginning::reset_ports;
-use tenant_slots::names::{mode_name, start_place};
-use tenant_trace::records::Happening;
 
 impl Tenant {
     /// Carries out a command, as `carry_out`. Its text, if it has one, is read first.

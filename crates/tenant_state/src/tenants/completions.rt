@@ -4,9 +4,9 @@ ghost use Rattle.std.specs.Prelude.{◌≡◌, ◌<◌, ◌↔◌, ◌||◌, ◌
 ghost use Rattle.std.specs.Arc.{arc_value};
 ghost use Rattle.std.specs.List.{AllByRecursion};
 ghost use Rattle.std.specs.Option.{option_and_then};
-ghost use Rattle.giotto_check.specs.cited.Facts.{ProgramFits};
-ghost use Rattle.giotto_text.specs.ProgramTrees.{task_of};
-ghost use Rattle.tenant_slots.specs.cited.Places.{IsTaskAt};
+ghost use Rattle.tenant_exchange.specs.well_formed.cited.Facts.{ProgramFits};
+ghost use Rattle.rig_model.specs.text.ProgramTrees.{task_of};
+ghost use Rattle.tenant_exchange.specs.slots.cited.Places.{IsTaskAt};
 ghost use Rattle.tenant_jobs.specs.Finished.{entry_in, has_result, result_in};
 ghost use Rattle.tenant_jobs.specs.cited.Finished.{entry_put, is_entered};
 ghost use Rattle.rig_model.specs.Jobs.{job_of, same_job};
@@ -16,12 +16,12 @@ ghost use Rattle.tenant_state.specs.Standing.{awaited_job, outstanding_tasks, re
 ghost use Rattle.tenant_state.specs.inner.Tenants.{IsActiveOf, is_done, its_name, its_result};
 
 use crate::tenants::{Active, Tenant};
-use giotto_check::Checked;
 use giotto_tasks::bodies::Body;
-use giotto_text::programs::Task;
-use rig_config::TenantId;
+use rig_model::config::TenantId;
+use rig_model::text::programs::Task;
 use std::alloc::AllocError;
 use std::sync::Arc;
+use tenant_exchange::well_formed::Checked;
 use tenant_jobs::finished::Finished;
 use tenant_jobs::jobs::{Done, Job, JobId, JobResult};
 

@@ -15,8 +15,8 @@ ghost use Rattle.tenant_state.specs.inner.Tenants.{IsActiveOf};
 use crate::tenants::active_tasks::ActiveTasks;
 use crate::tenants::completions::job_id;
 use crate::tenants::{Active, Tenant};
-use giotto_check::Checked;
-use rig_config::TenantId;
+use rig_model::config::TenantId;
+use tenant_exchange::well_formed::Checked;
 use tenant_jobs::finished::Finished;
 
 impl Tenant {

@@ -1,12 +1,12 @@
 //! What a tenant tells of its offers and binds.
 
 ghost use Rattle.std.specs.Prelude.{◌≡◌, ◌↔◌, ◌<◌, IsSome, length, option_map};
-ghost use Rattle.tenant_grants.specs.Grants.{bind_at, offer_of};
+ghost use Rattle.rig_model.specs.grants.Grants.{bind_at, offer_of};
 
 use crate::tenants::Tenant;
 use giotto_tasks::names::Name;
-use rig_config::TenantId;
-use tenant_grants::rows::Offer;
+use rig_model::config::TenantId;
+use rig_model::grants::rows::Offer;
 
 impl Tenant {
     /// The tenant's offer of this actuator to the tenant of this name, where there is one, and its place among the offers, counted from 0.

@@ -1,8 +1,8 @@
 //! What a tenant shows: its status, and the values of its ports.
 
 ghost use Rattle.std.specs.Prelude.{◌≡◌, ◌≢◌, Err, false, IfOk, IfErr};
-ghost use Rattle.tenant_lines.specs.declared.replies.Refusal.{Refusal};
-ghost use Rattle.tenant_lines.specs.declared.replies.Reply.{Reply};
+ghost use Rattle.rig_model.specs.declared.lines.replies.Refusal.{Refusal};
+ghost use Rattle.rig_model.specs.declared.lines.replies.Reply.{Reply};
 ghost use Rattle.rig_model.specs.Commands.{show_all, show_port, status_of};
 ghost use Rattle.rig_model.specs.Row.{Row};
 ghost use Rattle.tenant_state.specs.cited.Standing.{IsRefused};
@@ -12,10 +12,10 @@ ghost use Rattle.tenant_state.specs.Standing.{StandsFor};
 use crate::tenants::{Reason, State, Tenant};
 use giotto_tasks::lists::List;
 use giotto_tasks::names::Name;
-use tenant_lines::ports::{PortName, PortValue};
-use tenant_lines::replies::{Refusal, Status};
+use rig_model::lines::ports::{PortName, PortValue};
+use rig_model::lines::replies::{Refusal, Status};
+use tenant_exchange::slots::names::port_value;
 use tenant_programs::shown::port_values;
-use tenant_slots::names::port_value;
 
 impl Tenant {
     // What it is doing.

@@ -2,26 +2,26 @@
 
 ghost use Rattle.std.specs.Prelude.{◌≡◌, ◌<◌, ◌≤◌, None, length, map};
 ghost use Rattle.std.specs.List.{filter_map, AllByRecursion};
-ghost use Rattle.giotto_rules.specs.Declarations.{period_of_task};
-ghost use Rattle.giotto_check.specs.cited.Slots.{slots_of};
-ghost use Rattle.giotto_check.specs.Slots.{valuation_of};
-ghost use Rattle.giotto_text.specs.Program.{ModeDeclaration};
-ghost use Rattle.tenant_slots.specs.cited.CommonPeriods.{IsCommonPeriod};
-ghost use Rattle.tenant_slots.specs.cited.Due.{IsQuietUntil};
-ghost use Rattle.tenant_slots.specs.cited.Places.{IsModeAt};
+ghost use Rattle.rig_model.specs.rules.Declarations.{period_of_task};
+ghost use Rattle.tenant_exchange.specs.well_formed.cited.Slots.{slots_of};
+ghost use Rattle.tenant_exchange.specs.well_formed.Slots.{valuation_of};
+ghost use Rattle.rig_model.specs.text.Program.{ModeDeclaration};
+ghost use Rattle.tenant_exchange.specs.slots.cited.CommonPeriods.{IsCommonPeriod};
+ghost use Rattle.tenant_exchange.specs.slots.cited.Due.{IsQuietUntil};
+ghost use Rattle.tenant_exchange.specs.slots.cited.Places.{IsModeAt};
 ghost use Rattle.rig_model.specs.Row.{ActiveTask};
 ghost use Rattle.rig_model.specs.SecondHalf.{entry_time};
 ghost use Rattle.tenant_state.specs.Tenants.{active_of};
 ghost use Rattle.tenant_state.specs.inner.Tenants.{IsActiveOf, IsSwitched, entry_happened};
-ghost use Rattle.tenant_trace.specs.cited.Noted.{noted};
+ghost use Rattle.rig_model.specs.trace.cited.Noted.{noted};
 
 use crate::tenants::Active;
-use giotto_check::Checked;
-use tenant_slots::names::mode_name;
-use tenant_slots::periods::{common_multiple, period_of};
-use tenant_slots::switches::take_switch;
-use tenant_trace::records::Happening;
-use tenant_trace::traces::Trace;
+use rig_model::trace::records::Happening;
+use rig_model::trace::traces::Trace;
+use tenant_exchange::slots::names::mode_name;
+use tenant_exchange::slots::periods::{common_multiple, period_of};
+use tenant_exchange::slots::switches::take_switch;
+use tenant_exchange::well_formed::Checked;
 
 /// Where a switch leads.
 #[derive(Drop)]

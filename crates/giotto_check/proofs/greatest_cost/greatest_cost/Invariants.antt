@@ -1,8 +1,8 @@
 use Rattle.std.proofs.Common.{◌≡◌, ◌-◌, ◌^◌, min, max, map, take}
 use Rattle.std.specs.List.{fold}
 use Rattle.giotto_tasks.specs.Cost.{cost_of}
-use Rattle.giotto_text.specs.Program.{TaskDeclaration}
-use Rattle.giotto_text.specs.ProgramTrees.{task_of, mode_of}
+use Rattle.giotto_rules.specs.text.Program.{TaskDeclaration}
+use Rattle.giotto_rules.specs.text.ProgramTrees.{task_of, mode_of}
 use Rattle.giotto_rules.specs.Costs.{greatest, mode_cost}
 use Rattle.giotto_check.proofs.greatest_cost.greatest_cost.Given as goal
 

@@ -2,7 +2,7 @@ use Rattle.std.proofs.Common.{◌≡◌, ◌+◌, ◌-◌, ◌^◌, min, map, ta
 use Rattle.std.specs.List.{sum}
 use Rattle.giotto_tasks.specs.Cost.{operators_of}
 use Rattle.giotto_tasks.specs.Trees.{expression_of}
-use Rattle.giotto_text.specs.ProgramTrees.{guard_of}
+use Rattle.giotto_rules.specs.text.ProgramTrees.{guard_of}
 use Rattle.giotto_rules.specs.Costs.{guard_cost}
 use Rattle.giotto_check.proofs.greatest_cost.invocation_cost.Given as goal
 

@@ -1,6 +1,6 @@
 use Rattle.std.proofs.Common.{◌≡◌, ◌-◌, ◌^◌, min, max, map, take}
 use Rattle.std.specs.List.{fold}
-use Rattle.giotto_text.specs.ProgramTrees.{update_of, switch_of, invocation_of}
+use Rattle.giotto_rules.specs.text.ProgramTrees.{update_of, switch_of, invocation_of}
 use Rattle.giotto_rules.specs.Costs.{greatest, update_cost, switch_cost, invocation_cost}
 use Rattle.giotto_check.proofs.greatest_cost.mode_cost.Given as goal
 

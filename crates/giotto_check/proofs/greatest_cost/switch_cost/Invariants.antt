@@ -3,7 +3,7 @@ use Rattle.std.specs.List.{sum}
 use Rattle.giotto_tasks.specs.declared.names.Name.{Name}
 use Rattle.giotto_tasks.specs.Cost.{operators_of}
 use Rattle.giotto_tasks.specs.Syntax.{Expression}
-use Rattle.giotto_text.specs.ProgramTrees.{guard_of, destination_of}
+use Rattle.giotto_rules.specs.text.ProgramTrees.{guard_of, destination_of}
 use Rattle.giotto_rules.specs.Costs.{guard_cost}
 use Rattle.giotto_check.proofs.greatest_cost.switch_cost.Given as goal
 

@@ -1,6 +1,6 @@
 use Rattle.std.proofs.Common.{map, Some, None, ap, sym, ◌∙◌}
 use Rattle.std.proofs.lemmas.List.{length-map}
-use Rattle.giotto_text.specs.PortNames.{own_port}
+use Rattle.giotto_rules.specs.text.PortNames.{own_port}
 use Rattle.giotto_check.specs.Slots.{port_names}
 use Rattle.giotto_rules.specs.Ports.{ports_of, shown_name}
 use Rattle.giotto_check.proofs.cited.SlotLemmas.{name_at_slot, names_at_slots, names_in_row, shared_shown}

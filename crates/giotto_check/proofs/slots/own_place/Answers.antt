@@ -3,7 +3,7 @@ use Rattle.std.specs.List.{position_from}
 use Rattle.giotto_tasks.specs.declared.names.Name.{Name}
 use Rattle.giotto_tasks.specs.Names.{same_name}
 use Rattle.giotto_tasks.specs.Syntax.{TaskBody}
-use Rattle.giotto_text.specs.ProgramTrees.{task_of}
+use Rattle.giotto_rules.specs.text.ProgramTrees.{task_of}
 use Rattle.giotto_rules.proofs.cited.ProgramParts.{names_of_states}
 use Rattle.giotto_check.proofs.cited.PlaceLemmas.{place_within}
 use Rattle.giotto_check.proofs.cited.SlotLemmas.{other_task, own_inputs, own_states}

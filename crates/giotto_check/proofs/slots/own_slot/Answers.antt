@@ -1,7 +1,7 @@
 use Rattle.std.proofs.Common.{◌+◌, Some, length, map, drop, ap, sym, arith, ◌∙◌}
 use Rattle.std.specs.List.{flat_map, position_from}
 use Rattle.std.proofs.lemmas.List.{length-append, length-map}
-use Rattle.giotto_text.specs.ProgramTrees.{task_of}
+use Rattle.giotto_rules.specs.text.ProgramTrees.{task_of}
 use Rattle.giotto_rules.specs.Declarations.{driver_ports}
 use Rattle.giotto_rules.specs.Ports.{is_port, ports_of_task, shared_port}
 use Rattle.giotto_check.proofs.cited.EachLemmas.{left_at}

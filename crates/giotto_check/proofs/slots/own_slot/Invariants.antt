@@ -1,6 +1,6 @@
 use Rattle.std.proofs.Common.{◌≡◌, ◌+◌, Some, length, map, drop}
 use Rattle.std.specs.List.{flat_map, position_from}
-use Rattle.giotto_text.specs.ProgramTrees.{task_of}
+use Rattle.giotto_rules.specs.text.ProgramTrees.{task_of}
 use Rattle.giotto_rules.specs.Ports.{is_port, ports_of_task, slot_of}
 use Rattle.giotto_check.specs.cited.Slots.{slots_of}
 use Rattle.giotto_check.proofs.slots.own_slot.Given as goal

@@ -1,6 +1,6 @@
 use Rattle.std.proofs.Common.{◌+◌, length, ap, sym, ◌∙◌}
 use Rattle.giotto_tasks.specs.Syntax.{TaskBody}
-use Rattle.giotto_text.specs.ProgramTrees.{task_of}
+use Rattle.giotto_rules.specs.text.ProgramTrees.{task_of}
 use Rattle.giotto_rules.proofs.cited.ProgramParts.{names_of_states}
 use Rattle.giotto_check.proofs.cited.SlotLemmas.{ports_long}
 use Rattle.giotto_check.proofs.slots.own_slots.Goals as goal

@@ -1,7 +1,7 @@
 use Rattle.std.proofs.Common.{◌≡◌, drop, [], None, ap, sym, ◌∙◌, map, ◌++◌}
 use Rattle.std.specs.List.{flat_map, position_from}
 use Rattle.std.proofs.lemmas.List.{drop_all}
-use Rattle.giotto_text.specs.ProgramTrees.{output_of}
+use Rattle.giotto_rules.specs.text.ProgramTrees.{output_of}
 use Rattle.giotto_rules.specs.Ports.{is_port, ports_of_task, shared_port}
 use Rattle.giotto_check.proofs.cited.SlotLemmas.{no_shared}
 use Rattle.giotto_check.proofs.slots.shared_slot.Goals as goal

@@ -1,6 +1,6 @@
 use Rattle.std.proofs.Common.{◌≡◌, ◌+◌, ◌++◌, None, length, map, drop}
 use Rattle.std.specs.List.{flat_map, position_from}
-use Rattle.giotto_text.specs.ProgramTrees.{sensor_of, actuator_of, output_of}
+use Rattle.giotto_rules.specs.text.ProgramTrees.{sensor_of, actuator_of, output_of}
 use Rattle.giotto_rules.specs.Declarations.{actuator_names, output_names}
 use Rattle.giotto_rules.specs.Ports.{is_port, ports_of_task, shared_port, slot_of}
 use Rattle.giotto_check.specs.cited.Slots.{slots_of}

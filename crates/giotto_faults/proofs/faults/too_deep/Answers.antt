@@ -1,5 +1,5 @@
 use Rattle.std.proofs.Common.{◌≡◌, Ok, None, length, sym, ◌∙◌, ap}
-use Rattle.giotto_text.specs.Tokens.{tokens_of}
+use Rattle.giotto_read.specs.text.Tokens.{tokens_of}
 use Rattle.giotto_faults.specs.Nesting.{first_too_deep}
 use Rattle.giotto_faults.proofs.DeepTokens.{deep_somewhere}
 use Rattle.giotto_faults.proofs.faults.too_deep.Goals as goal

@@ -1,5 +1,5 @@
 use Rattle.std.proofs.Common.{sym}
-use Rattle.giotto_text.specs.ProgramTrees.{mode_of, update_of, switch_of, invocation_of}
+use Rattle.giotto_breaks.specs.text.ProgramTrees.{mode_of, update_of, switch_of, invocation_of}
 use Rattle.giotto_reports.specs.Parts.{update, switch, invocation}
 use Rattle.giotto_reports.proofs.Searching.{all_passed, behind, in_front, part_found, part_passed}
 use Rattle.giotto_reports.proofs.parts.driver_of_cost.Goals as goal

@@ -1,5 +1,5 @@
 use Rattle.std.proofs.Common.{◌≡◌, None, map, take}
-use Rattle.giotto_text.specs.ProgramTrees.{mode_of, update_of, switch_of, invocation_of}
+use Rattle.giotto_breaks.specs.text.ProgramTrees.{mode_of, update_of, switch_of, invocation_of}
 use Rattle.giotto_reports.specs.Parts.{update, switch, invocation, first_of_cost}
 use Rattle.giotto_reports.proofs.parts.driver_of_cost.Given as goal
 

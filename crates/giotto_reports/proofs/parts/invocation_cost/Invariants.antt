@@ -2,8 +2,8 @@ use Rattle.std.proofs.Common.{◌≡◌, ◌+◌, ◌-◌, ◌^◌, min, map, ta
 use Rattle.std.specs.List.{sum}
 use Rattle.giotto_tasks.specs.Cost.{operators_of}
 use Rattle.giotto_tasks.specs.Trees.{expression_of}
-use Rattle.giotto_text.specs.ProgramTrees.{guard_of}
-use Rattle.giotto_rules.specs.Costs.{guard_cost}
+use Rattle.giotto_breaks.specs.text.ProgramTrees.{guard_of}
+use Rattle.giotto_breaks.specs.rules.Costs.{guard_cost}
 use Rattle.giotto_reports.proofs.parts.invocation_cost.Given as goal
 
 abbrev pub invariant-loop-argument : goal.invariant-loop-argument

@@ -1,5 +1,5 @@
 use Rattle.std.proofs.Common.{rules, sym}
-use Rattle.giotto_text.specs.ProgramTrees.{task_of, mode_of}
+use Rattle.giotto_breaks.specs.text.ProgramTrees.{task_of, mode_of}
 use Rattle.giotto_reports.specs.Parts.{body, drivers_of}
 use Rattle.giotto_reports.proofs.Searching.{all_among, all_passed, behind, found_among, in_front, part_found, part_passed, passed_among}
 use Rattle.giotto_reports.proofs.parts.part_of_cost.Goals as goal

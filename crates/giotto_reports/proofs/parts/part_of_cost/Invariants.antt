@@ -1,6 +1,6 @@
 use Rattle.std.proofs.Common.{◌≡◌, None, map, take}
 use Rattle.std.specs.List.{flat_map}
-use Rattle.giotto_text.specs.ProgramTrees.{task_of, mode_of}
+use Rattle.giotto_breaks.specs.text.ProgramTrees.{task_of, mode_of}
 use Rattle.giotto_reports.specs.Parts.{body, drivers_of, first_of_cost}
 use Rattle.giotto_reports.proofs.parts.part_of_cost.Given as goal
 

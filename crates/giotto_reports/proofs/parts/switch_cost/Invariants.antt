@@ -3,8 +3,8 @@ use Rattle.std.specs.List.{sum}
 use Rattle.giotto_tasks.specs.declared.names.Name.{Name}
 use Rattle.giotto_tasks.specs.Cost.{operators_of}
 use Rattle.giotto_tasks.specs.Syntax.{Expression}
-use Rattle.giotto_text.specs.ProgramTrees.{guard_of, destination_of}
-use Rattle.giotto_rules.specs.Costs.{guard_cost}
+use Rattle.giotto_breaks.specs.text.ProgramTrees.{guard_of, destination_of}
+use Rattle.giotto_breaks.specs.rules.Costs.{guard_cost}
 use Rattle.giotto_reports.proofs.parts.switch_cost.Given as goal
 
 abbrev pub invariant-loop-destination : goal.invariant-loop-destination

@@ -1,5 +1,5 @@
 use Rattle.std.proofs.Common.{ap, string_bytes}
-use Rattle.giotto_text.specs.ProgramTrees.{mode_of}
+use Rattle.giotto_breaks.specs.text.ProgramTrees.{mode_of}
 use Rattle.giotto_reports.specs.Summaries.{ended, line_of_mode}
 use Rattle.giotto_reports.proofs.Writing.{written_more}
 use Rattle.giotto_reports.proofs.summary.add_modes.Goals as goal

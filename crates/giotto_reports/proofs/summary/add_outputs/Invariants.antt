@@ -1,6 +1,6 @@
 use Rattle.std.proofs.Common.{◌≡◌, ◌++◌, map, take, string_bytes}
 use Rattle.std.specs.List.{flat_map}
-use Rattle.giotto_text.specs.ProgramTrees.{output_of}
+use Rattle.giotto_breaks.specs.text.ProgramTrees.{output_of}
 use Rattle.giotto_reports.specs.Summaries.{ended, line_of_output}
 use Rattle.giotto_reports.proofs.summary.add_outputs.Given as goal
 

@@ -1,6 +1,6 @@
 use Rattle.std.proofs.Common.{◌≡◌, ◌++◌, map, take, string_bytes}
 use Rattle.std.specs.List.{flat_map}
-use Rattle.giotto_text.specs.ProgramTrees.{sensor_of}
+use Rattle.giotto_breaks.specs.text.ProgramTrees.{sensor_of}
 use Rattle.giotto_reports.specs.Summaries.{ended, line_of_sensor}
 use Rattle.giotto_reports.proofs.summary.add_sensors.Given as goal
 

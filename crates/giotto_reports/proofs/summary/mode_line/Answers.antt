@@ -1,5 +1,5 @@
 use Rattle.std.proofs.lemmas.List.{length-map}
-use Rattle.giotto_text.specs.ProgramTrees.{update_of, switch_of, invocation_of}
+use Rattle.giotto_breaks.specs.text.ProgramTrees.{update_of, switch_of, invocation_of}
 use Rattle.giotto_reports.proofs.summary.mode_line.Goals as goal
 
 pub returns : goal.returns

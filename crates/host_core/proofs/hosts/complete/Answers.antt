@@ -4,7 +4,7 @@ use Rattle.rig_model.specs.declared.events.Event.TheVariants.{Done}
 use Rattle.rig_model.specs.Host.{after_event}
 use Rattle.host_core.specs.HostStanding.{Stands, awaited_in}
 use Rattle.rig_model.specs.declared.jobs.JobId.{JobId}
-use Rattle.tenant_jobs.specs.Jobs.{JobValue}
+use Rattle.instant_engine.specs.job_table.Jobs.{JobValue}
 use Rattle.host_core.proofs.HostSteps.{awaited_name_in}
 use Rattle.host_core.proofs.hosts.complete.Goals as goal
 

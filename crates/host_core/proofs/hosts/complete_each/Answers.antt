@@ -5,10 +5,10 @@ use Rattle.std.specs.List.{sum_by}
 use Rattle.instant_engine.specs.Tenants.{tenant_at}
 use Rattle.instant_engine.specs.cited.Tenants.{is_active_among}
 use Rattle.rig_model.specs.declared.jobs.JobId.{JobId}
-use Rattle.tenant_jobs.specs.Finished.{entry_in, has_result}
+use Rattle.instant_engine.specs.job_table.Finished.{entry_in, has_result}
 use Rattle.rig_model.specs.Jobs.{job_of}
-use Rattle.tenant_state.specs.Standing.{Standing, no_tenant}
-use Rattle.tenant_state.specs.cited.Standing.{HasItsResults, has_active}
+use Rattle.instant_engine.specs.state.Standing.{Standing, no_tenant}
+use Rattle.instant_engine.specs.state.cited.Standing.{HasItsResults, has_active}
 use Rattle.giotto_tasks.proofs.cited.ListLemmas.{all_of, same_filter}
 use Rattle.giotto_tasks.proofs.cited.TestLemmas.{or_assoc}
 use Rattle.host_core.proofs.HostTables.{active_more, has_its_entries, none_before, table_completed}

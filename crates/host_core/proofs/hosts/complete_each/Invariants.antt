@@ -3,7 +3,7 @@ use Rattle.std.specs.List.{sum_by}
 use Rattle.instant_engine.specs.cited.Tables.{IsTaskTable}
 use Rattle.instant_engine.specs.cited.Tenants.{is_active_among}
 use Rattle.rig_model.specs.declared.jobs.JobId.{JobId}
-use Rattle.tenant_jobs.specs.Finished.{has_result}
+use Rattle.instant_engine.specs.job_table.Finished.{has_result}
 use Rattle.host_core.proofs.cited.Outstanding.{number_outstanding}
 use Rattle.host_core.proofs.hosts.complete_each.Given as goal
 

@@ -2,7 +2,7 @@ use Rattle.std.proofs.Common.{length, take, [], ◌∷◌, ap, ◌∙◌, arith,
 use Rattle.std.specs.List.{sum_by}
 use Rattle.std.proofs.lemmas.List.{take_all, take_more}
 use Rattle.std.proofs.lemmas.List.Sums.{sum_by-append}
-use Rattle.rig_config.specs.declared.TenantConfig.{TenantConfig}
+use Rattle.rig_model.specs.declared.config.TenantConfig.{TenantConfig}
 use Rattle.host_core.proofs.new_tenants.places.Goals as goal
 
 pub loop-bind-init : goal.loop-bind-init

@@ -1,7 +1,7 @@
 use Rattle.std.proofs.Common.{◌≡◌, [], ◌∷◌, ◌++◌, get_or, map, sym, ap, ◌∙◌, arith}
 use Rattle.std.proofs.lemmas.List.{get_or-map, length-map, take_more}
 use Rattle.giotto_tasks.specs.declared.names.Name.{Name}
-use Rattle.rig_config.specs.declared.TenantConfig.{TenantConfig}
+use Rattle.rig_model.specs.declared.config.TenantConfig.{TenantConfig}
 use Rattle.host_core.proofs.new_tenants.roster.Goals as goal
 
 pub loop-tenant-preserved : goal.loop-tenant-preserved

@@ -1,5 +1,5 @@
 use Rattle.std.proofs.Common.{◌≡◌, map, take}
-use Rattle.rig_config.specs.declared.TenantConfig.{TenantConfig}
+use Rattle.rig_model.specs.declared.config.TenantConfig.{TenantConfig}
 use Rattle.host_core.proofs.new_tenants.roster.Given as goal
 
 abbrev pub invariant-loop-tenant : goal.invariant-loop-tenant

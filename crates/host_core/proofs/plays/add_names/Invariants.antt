@@ -1,7 +1,7 @@
 use Rattle.std.proofs.Common.{◌≡◌, ◌||◌, length}
 use Rattle.std.specs.List.{list_any}
 use Rattle.rig_model.specs.declared.jobs.JobId.{JobId}
-use Rattle.tenant_jobs.specs.Jobs.{JobValue}
+use Rattle.instant_engine.specs.job_table.Jobs.{JobValue}
 use Rattle.rig_model.specs.Jobs.{same_job}
 use Rattle.host_core.proofs.plays.add_names.Given as goal
 

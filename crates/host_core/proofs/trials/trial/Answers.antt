@@ -1,5 +1,5 @@
 use Rattle.std.proofs.Common.{◌<◌, Err, length, ap, arith}
-use Rattle.rig_config.specs.Roster.{Rig}
+use Rattle.rig_model.specs.config.Roster.{Rig}
 use Rattle.host_core.specs.declared.plays.PlayFault.TheVariants.{Illegal}
 use Rattle.host_core.specs.inner.Trials.{AreBoth}
 use Rattle.host_core.proofs.Played.{passed_on}

@@ -3,7 +3,7 @@ use Rattle.std.specs.Prelude.{option_map}
 use Rattle.std.proofs.lemmas.List.{get_or_default}
 use Rattle.giotto_tasks.specs.declared.names.Name.{Name}
 use Rattle.instant_engine.specs.Tenants.{tenant_at}
-use Rattle.tenant_grants.specs.Grants.{bind_at, name_of_place}
+use Rattle.rig_model.specs.grants.Grants.{bind_at, name_of_place}
 use Rattle.tenant_state.specs.Standing.{Standing, no_tenant}
 use Rattle.instant_engine.proofs.Granting.{bound_within, granted_there, name_there}
 use Rattle.instant_engine.proofs.grants.granted_by.Goals as goal

@@ -1,6 +1,6 @@
 use Rattle.std.proofs.Common.{◌≡◌, ◌<◌, ◌-◌, ◌^◌, cond, map, Some, None, refl, ap, subst, ◌∙◌, arith}
 use Rattle.rig_model.specs.declared.jobs.JobId.{JobId}
-use Rattle.tenant_jobs.specs.Finished.{entry_in}
+use Rattle.tenant_state.specs.job_table.Finished.{entry_in}
 use Rattle.instant_engine.specs.cited.Halves.{AreGranted, AreSecondHalves, is_released_among}
 use Rattle.tenant_state.specs.cited.Standing.{without_ended}
 use Rattle.instant_engine.specs.cited.Tenants.{binds_of}

@@ -1,6 +1,6 @@
 use Rattle.std.proofs.Common.{◌+◌, ◌<◌, ◌++◌, cond, length, Some, None, sym, ap, ◌∙◌, arith}
 use Rattle.std.specs.List.{flat_map}
-use Rattle.tenant_jobs.specs.Finished.{result_in}
+use Rattle.tenant_state.specs.job_table.Finished.{result_in}
 use Rattle.tenant_state.specs.Standing.{no_tenant}
 use Rattle.rig_model.specs.Tenancies.{Tenancy}
 use Rattle.instant_engine.specs.cited.Halves.{last_jobs}

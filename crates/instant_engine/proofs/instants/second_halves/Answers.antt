@@ -1,8 +1,8 @@
 use Rattle.std.proofs.Common.{◌≡◌, ◌+◌, ◌-◌, ◌<◌, ◌≤◌, take, false, cond, length, length-drop, drop, get_or, Some, None, refl, ap, sym, subst, ◌∙◌, arith}
 use borrow.Rule.Slice.PartMut.{put_mid, put_same}
 use Rattle.std.specs.List.{AllByRecursion}
-use Rattle.tenant_jobs.specs.Finished.{entry_in}
-use Rattle.tenant_jobs.specs.cited.Finished.{is_entered}
+use Rattle.tenant_state.specs.job_table.Finished.{entry_in}
+use Rattle.tenant_state.specs.job_table.cited.Finished.{is_entered}
 use Rattle.rig_model.specs.Jobs.{has_job, job_of}
 use Rattle.rig_model.specs.FirstHalf.{due_tasks}
 use Rattle.rig_model.specs.Row.{ActiveTask}

@@ -1,6 +1,6 @@
 use Rattle.std.proofs.Common.{◌≢◌}
-use Rattle.tenant_lines.specs.declared.replies.Refusal.TheVariants.{Memory}
-use Rattle.tenant_lines.specs.declared.replies.Reply.TheVariants.{Refused}
+use Rattle.rig_model.specs.declared.lines.replies.Refusal.TheVariants.{Memory}
+use Rattle.rig_model.specs.declared.lines.replies.Reply.TheVariants.{Refused}
 use Rattle.locked_book.proofs.Copied.{listed}
 use Rattle.locked_book.proofs.carried.reply_of.Goals as goal
 

@@ -1,6 +1,6 @@
 use Rattle.std.proofs.Common.{◌≡◌, ◌+◌, [], ◌∷◌, ◌++◌, Ok, take, sym, ap, subst, ◌∙◌}
 use Rattle.std.proofs.lemmas.List.{take_more}
-use Rattle.tenant_lines.specs.declared.commands.Command.{Command}
+use Rattle.rig_model.specs.declared.lines.commands.Command.{Command}
 use Rattle.rig_model.specs.declared.logged.Call.{Call}
 use Rattle.locked_book.specs.Books.{AreCalled, BookValue, PassValue, asking}
 use Rattle.locked_book.specs.inner.Books.{AreMade}

@@ -1,5 +1,5 @@
 use Rattle.std.proofs.Common.{codes, length, string_bytes}
-use Rattle.giotto_rules.specs.Ports.{ports_of}
+use Rattle.rig_model.specs.rules.Ports.{ports_of}
 use Rattle.rig_model.specs.Admission.{steps_of_program}
 use Rattle.program_checks.proofs.Telling.{joined}
 use Rattle.program_checks.specs.Budgets.{heading_of, row_of, row_of_lines}

@@ -1,6 +1,6 @@
 use Rattle.std.proofs.Common.{◌≡◌, List, sym, ap, subst, refl, ◌∙◌}
 use Rattle.std.specs.Prelude.{Ok}
-use Rattle.host_core.specs.HostStanding.{HostStanding, Stands}
+use Rattle.tenant_sources.specs.host.HostStanding.{HostStanding, Stands}
 use Rattle.rig_model.specs.Base.{Setting, new_base}
 use Rattle.rig_retests.specs.declared.recordings.RecordedLine.{RecordedLine}
 use Rattle.rig_retests.specs.inner.Recording.{has_tenant}

@@ -1,8 +1,8 @@
 use Rattle.std.proofs.Common.{◌≡◌, ap, ◌∙◌}
 use Rattle.rig_model.specs.HostState.{row_at}
 use Rattle.rig_model.specs.Views.{after_command}
-use Rattle.tenant_lines.specs.declared.replies.Refusal.TheVariants.{Memory}
-use Rattle.tenant_lines.specs.declared.replies.Reply.TheVariants.{Refused}
+use Rattle.rig_model.specs.declared.lines.replies.Refusal.TheVariants.{Memory}
+use Rattle.rig_model.specs.declared.lines.replies.Reply.TheVariants.{Refused}
 use Rattle.rig_script.specs.cited.HostAnswers.{Adds}
 use Rattle.rig_script.proofs.Steps.{told_for_each}
 use Rattle.rig_script.proofs.host_answers.answer_command.Goals as goal

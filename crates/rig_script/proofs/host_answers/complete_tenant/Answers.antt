@@ -1,6 +1,6 @@
 use Rattle.std.proofs.Common.{◌≡◌, ◌<◌, List, Some, length, map, refl, sym, ap, subst, ◌∙◌}
 use Rattle.std.proofs.lemmas.List.{reverse-reverse}
-use Rattle.rig_config.specs.Roster.{Rig, place_of}
+use Rattle.rig_model.specs.config.Roster.{Rig, place_of}
 use Rattle.rig_model.specs.declared.events.Event.TheVariants.{Done}
 use Rattle.rig_model.specs.declared.jobs.JobId.{JobId}
 use Rattle.rig_model.specs.Script.{outstanding_at, work_step}

@@ -1,7 +1,7 @@
 use Rattle.std.proofs.Common.{◌≡◌, ◌<◌, [], ◌∷◌, List, ℕ, codes, length, refl, ap, ◌∙◌, sym, subst, arith}
 use Rattle.std.proofs.lemmas.Bool.Decides.{nat_tests}
-use Rattle.tenant_lines.specs.Words.{words_of, first_word_of}
-use Rattle.tenant_lines.proofs.cited.WordLemmas.{words_none}
+use Rattle.rig_model.specs.lines.Words.{words_of, first_word_of}
+use Rattle.rig_model.proofs.of_lines.WordLemmas.{words_none}
 use Rattle.rig_model.specs.Script.{operator_line_of}
 use Rattle.rig_script.specs.inner.Records.{AreNone}
 use Rattle.rig_script.proofs.Steps.{lines_told, lines_with_more, operator_refused, none_told}

@@ -2,7 +2,7 @@ use Rattle.std.proofs.Common.{◌≡◌, ℕ, false, List, codes, ◌∷◌, ref
 use Rattle.std.proofs.lemmas.Bool.{false≢true}
 use Rattle.giotto_tasks.specs.Names.{same_name}
 use Rattle.giotto_tasks.proofs.cited.NameLemmas.{same_name_is, same_name_self}
-use Rattle.tenant_lines.specs.Words.{words_of}
+use Rattle.rig_model.specs.lines.Words.{words_of}
 use Rattle.rig_script.specs.cited.HostAnswers.{Adds, IsHostAfter}
 use Rattle.rig_script.specs.inner.Script.{IsCarriedOut}
 use Rattle.rig_model.specs.Script.{operator_step}

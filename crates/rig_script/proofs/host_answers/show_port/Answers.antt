@@ -1,8 +1,8 @@
 use Rattle.std.proofs.Common.{rules, ap, sym, ◌∙◌, w64, FitsSigned as SFits}
 use Rattle.std.proofs.lemmas.Int.{to_z-of_z}
 use Rattle.host_core.specs.Questions.{reply_of_port}
-use Rattle.tenant_lines.specs.declared.commands.Command.TheVariants.{ShowPort}
-use Rattle.tenant_lines.specs.declared.replies.Reply.TheVariants.{Port, Refused}
+use Rattle.rig_model.specs.declared.lines.commands.Command.TheVariants.{ShowPort}
+use Rattle.rig_model.specs.declared.lines.replies.Reply.TheVariants.{Port, Refused}
 use Rattle.rig_script.specs.cited.HostAnswers.{Adds}
 use Rattle.rig_script.proofs.Steps.{told_for_each}
 use Rattle.rig_script.proofs.host_answers.show_port.Goals as goal

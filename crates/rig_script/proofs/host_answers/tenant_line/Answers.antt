@@ -1,6 +1,6 @@
 use Rattle.std.proofs.Common.{None, ◌∷◌, [], subst}
 use Rattle.rig_model.specs.declared.events.Event.TheVariants.{Own}
-use Rattle.tenant_lines.specs.declared.commands.Command.TheVariants.{ShowPort}
+use Rattle.rig_model.specs.declared.lines.commands.Command.TheVariants.{ShowPort}
 use Rattle.rig_script.specs.cited.HostAnswers.{Adds}
 use Rattle.rig_script.specs.inner.Records.{IsTold}
 use Rattle.rig_script.proofs.Steps.{command_answered, on_ok}

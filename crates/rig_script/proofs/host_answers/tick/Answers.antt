@@ -2,7 +2,7 @@ use Rattle.std.proofs.Common.{rules, ◌≡◌, ◌<◌, ◌^◌, Some, None, Er
 use Rattle.rig_model.specs.Host.{host_after}
 use Rattle.rig_model.specs.declared.events.Event.TheVariants.{Tick}
 use Rattle.rig_script.specs.inner.Records.{IsTold}
-use Rattle.tenant_lines.specs.Words.{words_of, values_of_words}
+use Rattle.rig_model.specs.lines.Words.{words_of, values_of_words}
 use Rattle.rig_script.proofs.Steps.{tick_done, tick_refused, tick_ended, operator_refused, none_told}
 use Rattle.rig_script.proofs.host_answers.tick.Goals as goal
 

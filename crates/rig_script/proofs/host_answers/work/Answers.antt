@@ -1,8 +1,8 @@
 use Rattle.std.proofs.Common.{◌≡◌, ◌<◌, ◌∷◌, [], true, false, List, ℕ, codes, length, refl, ap, ◌∙◌, sym, subst, arith}
 use Rattle.std.proofs.lemmas.Bool.Decides.{nat_tests}
-use Rattle.giotto_text.specs.Bytes.{is_name}
-use Rattle.tenant_lines.specs.Words.{words_of, first_word_of, behind_first_word}
-use Rattle.tenant_lines.proofs.cited.WordLemmas.{words_none}
+use Rattle.rig_model.specs.text.Bytes.{is_name}
+use Rattle.rig_model.specs.lines.Words.{words_of, first_word_of, behind_first_word}
+use Rattle.rig_model.proofs.of_lines.WordLemmas.{words_none}
 use Rattle.rig_script.specs.cited.HostAnswers.{Adds, IsHostAfter}
 use Rattle.rig_script.specs.inner.Script.{IsCarriedOut}
 use Rattle.rig_model.specs.Script.{operator_step, work_step_of}

@@ -1,5 +1,5 @@
 use Rattle.std.proofs.Common.{◌≡◌, ◌∷◌, IfOk, codes, sym, ap, ◌∙◌, subst, arith}
-use Rattle.tenant_lines.specs.Words.{words_of}
+use Rattle.rig_model.specs.lines.Words.{words_of}
 use Rattle.rig_server.specs.OperatorLines.{line_of, served_line_of}
 use Rattle.rig_server.proofs.ServedLines.{words_with, blank_line, other_line, lines_line, wait_line, halt_line}
 use Rattle.rig_server.proofs.operator_lines.operator_line.Goals as goal

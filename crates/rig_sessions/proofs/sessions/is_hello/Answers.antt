@@ -1,7 +1,7 @@
 use Rattle.std.proofs.Common.{◌≡◌, ◌<◌, ◌==◌, true, false, length, sym, ap, ◌∙◌, arith}
 use Rattle.std.proofs.lemmas.Bool.Decides.{nat_tests}
-use Rattle.giotto_text.specs.Bytes.{is_name}
-use Rattle.tenant_lines.specs.Words.{first_word_of, behind_first_word}
+use Rattle.rig_model.specs.text.Bytes.{is_name}
+use Rattle.rig_model.specs.lines.Words.{first_word_of, behind_first_word}
 use Rattle.rig_sessions.proofs.SessionLines.{no_name, no_key, name_and_key}
 use Rattle.rig_sessions.proofs.sessions.is_hello.Goals as goal
 

@@ -1,5 +1,5 @@
 use Rattle.std.proofs.Common.{Err, refl, ap, ◌∙◌}
-use Rattle.tenant_lines.specs.CommandLine.{command_of_line}
+use Rattle.rig_model.specs.lines.CommandLine.{command_of_line}
 use Rattle.rig_sessions.proofs.SessionLines.{some_command}
 use Rattle.rig_sessions.proofs.sessions.unasked.Goals as goal
 

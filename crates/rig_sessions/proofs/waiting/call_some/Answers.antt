@@ -1,6 +1,6 @@
 use Rattle.std.proofs.Common.{◌≡◌, ◌≢◌, ℕ, List, length, drop, Result, Err, IfErr, refl, sym, ap, subst, ◌∙◌}
 use Rattle.std.proofs.lemmas.Result.{err_from_is_err_and}
-use Rattle.rig_config.specs.Roster.{Rig}
+use Rattle.rig_model.specs.config.Roster.{Rig}
 use Rattle.locked_book.specs.declared.faults.DeskFault.TheVariants as desk
 use Rattle.rig_model.specs.Sessions.{State}
 use Rattle.rig_sessions.specs.inner.Answered.{AreUnanswered, AreWaiting}

@@ -3,8 +3,8 @@ use Rattle.std.proofs.lemmas.Bool.Decides.{nat_tests}
 use Rattle.std.proofs.lemmas.List.{length-drop}
 use Rattle.std.proofs.lemmas.Result.{err_from_is_err_and}
 use Rattle.std.specs.Io.KnownBytes.{Appends}
-use Rattle.rig_config.specs.Roster.{Rig}
-use Rattle.tenant_lines.specs.declared.commands.Command.{Command}
+use Rattle.rig_model.specs.config.Roster.{Rig}
+use Rattle.rig_model.specs.declared.lines.commands.Command.{Command}
 use Rattle.rig_model.specs.Sessions.{State}
 use Rattle.rig_sessions.specs.inner.Answered.{AreAnswered, AreUnanswered, AreWaiting}
 use Rattle.rig_sessions.specs.declared.faults.TalkFault.{TalkFault}

@@ -1,6 +1,6 @@
 use Rattle.std.proofs.Common.{◌≡◌, ◌≤◌, ◌-◌, ℕ, List, length, take}
 use Rattle.std.specs.Io.KnownBytes.{Appends}
-use Rattle.rig_config.specs.Roster.{Rig}
+use Rattle.rig_model.specs.config.Roster.{Rig}
 use Rattle.rig_model.specs.Sessions.{State}
 use Rattle.rig_sessions.specs.inner.Answered.{AreAnswered, AreWaiting}
 use Rattle.rig_sessions.proofs.waiting.call_waiting.Given as goal

@@ -1,6 +1,6 @@
 use denote.Param.Send.{sendable}
 use Rattle.std.proofs.Crossing.{crosses}
-use Rattle.locked_book.proofs.cited.Crossing.{desk_sync}
+use Rattle.worker_pool.proofs.of_book.Crossing.{desk_sync}
 use Rattle.rig_tests.proofs.suppliers.whole_day.Goals as goal
 
 pub both_talk-requires-sync-D : goal.both_talk-requires-sync-D

@@ -1,6 +1,6 @@
 use Rattle.std.proofs.Common.{◌≡◌, ◌+◌, ◌++◌, ◌∙◌, List, ℕ, ap, arith, refl, string_bytes}
-use Rattle.giotto_faults.specs.declared.findings.Severity.TheVariants.{Note}
-use Rattle.tenant_lines.specs.Words.{behind_first_word}
+use Rattle.program_checks.specs.declared.faults.findings.Severity.TheVariants.{Note}
+use Rattle.rig_model.specs.lines.Words.{behind_first_word}
 use Rattle.script_checks.proofs.Showing.{one_note}
 use Rattle.script_checks.specs.Grants.{place_of_note}
 use Rattle.script_checks.specs.LineTexts.{offset_of_word, text_or_none}

@@ -1,7 +1,7 @@
 use Rattle.std.proofs.Common.{◌≡◌, drop, map}
 use Rattle.std.specs.List.{list_any}
 use Rattle.script_checks.specs.Grants.{drives}
-use Rattle.giotto_text.specs.ProgramTrees.{actuator_of}
+use Rattle.rig_model.specs.text.ProgramTrees.{actuator_of}
 use Rattle.script_checks.proofs.binds.is_among_actuators.Given as goal
 
 abbrev pub invariant-loop-declared : goal.invariant-loop-declared

@@ -1,7 +1,7 @@
 use Rattle.std.proofs.Common.{◌≡◌, ◌<◌, List, ℕ, [], length, refl, ap, ◌∙◌, sym, subst, arith}
 use Rattle.std.proofs.lemmas.Bool.Decides.{nat_tests}
-use Rattle.tenant_lines.specs.Words.{words_of, first_word_of}
-use Rattle.tenant_lines.proofs.cited.WordLemmas.{words_none}
+use Rattle.rig_model.specs.lines.Words.{words_of, first_word_of}
+use Rattle.rig_model.proofs.of_lines.WordLemmas.{words_none}
 use Rattle.rig_model.proofs.cited.OperatorWords.{lines_with_more}
 use Rattle.script_checks.specs.Scripts.{fault_of_operator}
 use Rattle.script_checks.proofs.operators.fault_of_lines.Goals as goal

@@ -1,8 +1,8 @@
 use Rattle.std.proofs.Common.{◌≡◌, ◌<◌, [], true, false, List, ℕ, length, refl, ap, ◌∙◌, sym, subst, arith}
 use Rattle.std.proofs.lemmas.Bool.Decides.{nat_tests}
-use Rattle.giotto_text.specs.Bytes.{is_name}
-use Rattle.tenant_lines.specs.Words.{words_of, first_word_of, behind_first_word}
-use Rattle.tenant_lines.proofs.cited.WordLemmas.{words_none}
+use Rattle.rig_model.specs.text.Bytes.{is_name}
+use Rattle.rig_model.specs.lines.Words.{words_of, first_word_of, behind_first_word}
+use Rattle.rig_model.proofs.of_lines.WordLemmas.{words_none}
 use Rattle.rig_model.proofs.cited.OperatorWords.{work_with_name, work_with_no_name, work_with_more}
 use Rattle.script_checks.specs.Scripts.{fault_of_operator}
 use Rattle.rig_model.specs.Script.{work_of}

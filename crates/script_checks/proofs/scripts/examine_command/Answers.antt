@@ -1,6 +1,6 @@
 use Rattle.std.proofs.Common.{◌≡◌, Some, rules}
-use Rattle.tenant_lines.specs.CommandLine.{command_of_line}
-use Rattle.tenant_lines.specs.Words.{behind_first_word}
+use Rattle.rig_model.specs.lines.CommandLine.{command_of_line}
+use Rattle.rig_model.specs.lines.Words.{behind_first_word}
 use Rattle.script_checks.proofs.Tellings.{tells_program}
 use Rattle.script_checks.specs.Told.{program_in}
 use Rattle.script_checks.proofs.scripts.examine_command.Goals as goal

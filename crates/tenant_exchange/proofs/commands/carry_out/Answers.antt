@@ -1,8 +1,8 @@
 use Rattle.std.proofs.Common.{◌≡◌, false, is_ok, List, refl, unwrap_or}
-use Rattle.tenant_grants.specs.Grants.{offered, unoffered, bound}
-use Rattle.tenant_grants.specs.declared.rows.Offer.{Offer}
-use Rattle.tenant_lines.specs.declared.replies.Budget.TheVariants.{Offers, Binds}
-use Rattle.tenant_lines.specs.declared.replies.Reply.TheVariants.{Offered, Unoffered, Bound}
+use Rattle.rig_model.specs.grants.Grants.{offered, unoffered, bound}
+use Rattle.rig_model.specs.declared.grants.rows.Offer.{Offer}
+use Rattle.rig_model.specs.declared.lines.replies.Budget.TheVariants.{Offers, Binds}
+use Rattle.rig_model.specs.declared.lines.replies.Reply.TheVariants.{Offered, Unoffered, Bound}
 use Rattle.rig_model.specs.GrantCommands.{with_offers, with_binds}
 use Rattle.tenant_exchange.proofs.Told.{more_told, less_told, refused_told, offer_faults, bind_faults}
 use Rattle.tenant_exchange.proofs.commands.carry_out.Goals as goal

@@ -2,7 +2,7 @@ use Rattle.std.proofs.Common.{ℕ, ◌≤◌, ◌<◌, length, None, Some, inl, 
 use Rattle.std.specs.Option.{option_map}
 use Rattle.std.proofs.lemmas.Int.{to_z-of_z}
 use Rattle.giotto_tasks.specs.declared.names.Name.{Name}
-use Rattle.giotto_check.specs.Slots.{valuation_of}
+use Rattle.tenant_slots.specs.well_formed.Slots.{valuation_of}
 use Rattle.rig_model.specs.Readings.{readings_within}
 use Rattle.tenant_slots.specs.cited.Grants.{with_granted}
 use Rattle.tenant_exchange.proofs.GrantedAlong.{all_taken, none_past, nothing_taken, value_taken, what_stands, written_as_it_stands}

@@ -1,7 +1,7 @@
 use Rattle.std.proofs.Common.{◌≡◌, [], length}
 use Rattle.giotto_tasks.specs.Names.{Valuation}
-use Rattle.giotto_check.specs.cited.Slots.{slots_of}
-use Rattle.giotto_check.specs.Slots.{valuation_of}
+use Rattle.tenant_slots.specs.well_formed.cited.Slots.{slots_of}
+use Rattle.tenant_slots.specs.well_formed.Slots.{valuation_of}
 use Rattle.rig_model.specs.Readings.{readings_within}
 use Rattle.tenant_slots.specs.cited.Readings.{with_readings}
 use Rattle.tenant_exchange.proofs.GrantedAlong.{granted_before}

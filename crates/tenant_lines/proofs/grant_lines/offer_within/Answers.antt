@@ -1,7 +1,7 @@
 use Rattle.std.proofs.Common.{◌≡◌, ℕ, List, Some, codes, sym, ap, ◌∙◌}
 use Rattle.std.specs.Prelude.{Option}
 use Rattle.std.specs.Option.{option_and_then}
-use Rattle.rig_config.specs.Intervals.{Interval}
+use Rattle.tenant_grants.specs.config.Intervals.{Interval}
 use Rattle.tenant_lines.specs.GrantLines.{bounds_of_words, offer_command}
 use Rattle.tenant_lines.specs.Words.{words_of, first_word_of, behind_first_word}
 use Rattle.tenant_lines.specs.inner.GrantWords.{offer_within, word_behind}

@@ -1,6 +1,6 @@
 use Rattle.std.proofs.Common.{◌≡◌, refl, sym, ap, ◌∙◌}
 use Rattle.std.specs.Prelude.{Err}
-use Rattle.giotto_text.specs.declared.faults.ReadFault.TheVariants.{Memory}
+use Rattle.rig_model.specs.declared.text.faults.ReadFault.TheVariants.{Memory}
 use Rattle.rig_model.specs.Admission.{program_read, refusal_of_text}
 use Rattle.tenant_programs.proofs.admission.read_program.Goals as goal
 

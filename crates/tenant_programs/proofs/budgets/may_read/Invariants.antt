@@ -1,6 +1,6 @@
 use Rattle.std.proofs.Common.{◌≡◌, drop}
 use Rattle.std.specs.List.{list_all}
-use Rattle.rig_config.specs.Roster.{may_use}
+use Rattle.rig_model.specs.config.Roster.{may_use}
 use Rattle.tenant_programs.proofs.ProgramLines.{lines_of_sensors}
 use Rattle.tenant_programs.proofs.budgets.may_read.Given as goal
 

@@ -1,8 +1,8 @@
 use Rattle.std.proofs.Common.{◌≡◌, ◌++◌, map, take}
 use Rattle.std.specs.List.{flat_map}
-use Rattle.giotto_text.specs.declared.programs.Sensor.{Sensor}
-use Rattle.giotto_text.specs.declared.programs.Actuator.{Actuator}
-use Rattle.giotto_text.specs.declared.programs.Output.{Output}
+use Rattle.rig_model.specs.declared.text.programs.Sensor.{Sensor}
+use Rattle.rig_model.specs.declared.text.programs.Actuator.{Actuator}
+use Rattle.rig_model.specs.declared.text.programs.Output.{Output}
 use Rattle.tenant_programs.specs.inner.ShownPorts.{name_of_shared_port}
 use Rattle.tenant_programs.proofs.ShownPorts.{names_of_task}
 use Rattle.tenant_programs.proofs.shown.port_names.Given as goal

@@ -1,7 +1,7 @@
 use Rattle.std.proofs.Common.{◌≡◌, map, subst, ap, ◌∙◌}
 use Rattle.std.specs.Prelude.{IfOk}
 use Rattle.std.specs.List.{zip}
-use Rattle.giotto_rules.specs.Ports.{ports_of}
+use Rattle.rig_model.specs.rules.Ports.{ports_of}
 use Rattle.tenant_programs.specs.inner.ShownPorts.{name_of_port, with_its_value}
 use Rattle.tenant_programs.proofs.ShownPorts.{shown_values}
 use Rattle.tenant_programs.proofs.shown.port_values.Goals as goal

@@ -1,6 +1,6 @@
 use Rattle.std.proofs.Common.{Some, ap, sym, ◌∙◌}
 use Rattle.std.proofs.lemmas.Option.{slice_get-get_or}
-use Rattle.giotto_text.specs.Program.{GiottoProgram}
+use Rattle.rig_model.specs.text.Program.{GiottoProgram}
 use Rattle.tenant_slots.proofs.ActuatorPlaces.{actuator_first, actuator_once}
 use Rattle.tenant_slots.proofs.actuators.actuator_place.Goals as goal
 

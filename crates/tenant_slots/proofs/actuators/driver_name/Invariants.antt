@@ -1,5 +1,5 @@
 use Rattle.std.proofs.Common.{◌≡◌, find, drop}
-use Rattle.giotto_text.specs.declared.programs.Actuator.{Actuator}
+use Rattle.rig_model.specs.declared.text.programs.Actuator.{Actuator}
 use Rattle.rig_model.specs.LineValues.{drives}
 use Rattle.tenant_slots.proofs.actuators.driver_name.Given as goal
 

@@ -1,9 +1,9 @@
 use Rattle.std.proofs.Common.{◌≡◌, ◌+◌, length, map, drop, sym, ap, ◌∙◌, arith, rules}
 use Rattle.std.specs.List.{range_with_len}
 use Rattle.std.proofs.lemmas.List.{drop_all, length-map}
-use Rattle.giotto_text.specs.declared.programs.Actuator.{Actuator}
-use Rattle.giotto_text.specs.Program.{ActuatorDeclaration, GiottoProgram}
-use Rattle.giotto_text.specs.ProgramTrees.{actuator_of, sensor_of}
+use Rattle.rig_model.specs.declared.text.programs.Actuator.{Actuator}
+use Rattle.rig_model.specs.text.Program.{ActuatorDeclaration, GiottoProgram}
+use Rattle.rig_model.specs.text.ProgramTrees.{actuator_of, sensor_of}
 use Rattle.giotto_check.specs.cited.Slots.{with_slots}
 use Rattle.tenant_slots.proofs.ActuatorSlots.{map_both, next_slot, reset_by_slots}
 use Rattle.tenant_slots.proofs.actuators.reset_actuators.Goals as goal

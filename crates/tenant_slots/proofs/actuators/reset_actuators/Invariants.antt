@@ -1,6 +1,6 @@
 use Rattle.std.proofs.Common.{◌≡◌, ◌+◌, length, map, drop}
 use Rattle.std.specs.List.{range_with_len}
-use Rattle.giotto_text.specs.declared.programs.Actuator.{Actuator}
+use Rattle.rig_model.specs.declared.text.programs.Actuator.{Actuator}
 use Rattle.giotto_check.specs.cited.Slots.{with_slots}
 use Rattle.tenant_slots.proofs.actuators.reset_actuators.Given as goal
 

@@ -2,16 +2,16 @@ use Rattle.std.proofs.Common.{◌≡◌, ℕ, ◌+◌, ◌-◌, ◌<◌, ◌≤�
 use Rattle.std.proofs.lemmas.Bool.{and_left, and_right}
 use Rattle.std.proofs.lemmas.Int.{to_z-of_z}
 use Rattle.std.proofs.lemmas.List.{drop_all, length-map}
-use Rattle.giotto_text.specs.Program.{ActuatorUpdate, ModeDeclaration, GiottoProgram}
-use Rattle.giotto_text.specs.declared.programs.Actuator.{Actuator}
-use Rattle.giotto_text.specs.ProgramTrees.{actuator_of, sensor_of}
+use Rattle.rig_model.specs.text.Program.{ActuatorUpdate, ModeDeclaration, GiottoProgram}
+use Rattle.rig_model.specs.declared.text.programs.Actuator.{Actuator}
+use Rattle.rig_model.specs.text.ProgramTrees.{actuator_of, sensor_of}
 use Rattle.giotto_check.specs.declared.timetables.SlotUpdate.{SlotUpdate}
 use Rattle.giotto_check.specs.Slots.{valuation_of}
 use Rattle.giotto_check.specs.cited.Timetables.{IsUpdate, value_over}
 use Rattle.giotto_check.proofs.cited.EachLemmas.{each_long}
 use Rattle.giotto_tasks.proofs.cited.ListLemmas.{all_at}
-use Rattle.tenant_trace.specs.Trace.{LastRecords}
-use Rattle.tenant_trace.specs.cited.Noted.{noted}
+use Rattle.rig_model.specs.trace.Trace.{LastRecords}
+use Rattle.rig_model.specs.trace.cited.Noted.{noted}
 use Rattle.rig_model.specs.Ports.{holds}
 use Rattle.rig_model.specs.Updates.{all_updated, updates_happened}
 use Rattle.tenant_slots.proofs.ActuatorPlaces.{entry_slot, entry_within, name_at}

@@ -1,8 +1,8 @@
 use Rattle.std.proofs.Common.{◌≡◌, ◌≤◌, Some, length, drop, slice_get}
-use Rattle.giotto_text.specs.Program.{ModeDeclaration}
+use Rattle.rig_model.specs.text.Program.{ModeDeclaration}
 use Rattle.giotto_check.specs.cited.Slots.{slots_of}
 use Rattle.giotto_check.specs.Slots.{valuation_of}
-use Rattle.tenant_trace.specs.cited.Noted.{noted}
+use Rattle.rig_model.specs.trace.cited.Noted.{noted}
 use Rattle.rig_model.specs.Updates.{all_updated, updates_happened}
 use Rattle.tenant_slots.proofs.actuators.update_due.Given as goal
 

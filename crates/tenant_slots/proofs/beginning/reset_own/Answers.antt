@@ -5,7 +5,7 @@ use Rattle.std.proofs.lemmas.List.Edits.{paste-paste}
 use Rattle.std.proofs.lemmas.Slice.{put_mid-paste}
 use borrow.Rule.Slice.PartMut.{put_mid}
 use Rattle.giotto_tasks.specs.declared.names.Name.{Name}
-use Rattle.giotto_text.specs.ProgramTrees.{task_of}
+use Rattle.rig_model.specs.text.ProgramTrees.{task_of}
 use Rattle.giotto_check.specs.cited.Slots.{with_range}
 use Rattle.tenant_slots.proofs.InitialValues.{task_values, task_long}
 use Rattle.tenant_slots.proofs.WrittenRanges.{range_is, zeros_are}

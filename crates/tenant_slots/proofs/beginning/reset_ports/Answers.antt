@@ -3,11 +3,11 @@ use Rattle.std.specs.List.{flat_map}
 use Rattle.std.proofs.lemmas.List.{take_all, length-append, length-map}
 use Rattle.giotto_tasks.specs.declared.names.Name.{Name}
 use Rattle.giotto_check.specs.cited.Slots.{slots_of, with_range}
-use Rattle.giotto_text.specs.Program.{GiottoProgram}
-use Rattle.giotto_text.specs.ProgramTrees.{task_of}
-use Rattle.giotto_text.specs.declared.programs.Sensor.{Sensor}
-use Rattle.giotto_text.specs.declared.programs.Actuator.{Actuator}
-use Rattle.giotto_text.specs.declared.programs.Output.{Output}
+use Rattle.rig_model.specs.text.Program.{GiottoProgram}
+use Rattle.rig_model.specs.text.ProgramTrees.{task_of}
+use Rattle.rig_model.specs.declared.text.programs.Sensor.{Sensor}
+use Rattle.rig_model.specs.declared.text.programs.Actuator.{Actuator}
+use Rattle.rig_model.specs.declared.text.programs.Output.{Output}
 use Rattle.rig_model.specs.Ports.{initial_of_task, initial_ports}
 use Rattle.tenant_slots.proofs.InitialValues.{values_in, values_of_task, values_long, ports_are, next_task, all_counted, all_values}
 use Rattle.tenant_slots.proofs.WrittenRanges.{next_value, none_written, range_more, whole_range, begin_none, begin_more}

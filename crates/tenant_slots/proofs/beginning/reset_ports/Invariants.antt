@@ -1,9 +1,9 @@
 use Rattle.std.proofs.Common.{◌≡◌, ◌≤◌, ◌+◌, map, take, drop, length}
 use Rattle.std.proofs.Math.Seq.{paste}
 use Rattle.std.specs.List.{flat_map}
-use Rattle.giotto_text.specs.declared.programs.Sensor.{Sensor}
-use Rattle.giotto_text.specs.declared.programs.Actuator.{Actuator}
-use Rattle.giotto_text.specs.declared.programs.Output.{Output}
+use Rattle.rig_model.specs.declared.text.programs.Sensor.{Sensor}
+use Rattle.rig_model.specs.declared.text.programs.Actuator.{Actuator}
+use Rattle.rig_model.specs.declared.text.programs.Output.{Output}
 use Rattle.giotto_check.specs.cited.Slots.{with_range}
 use Rattle.tenant_slots.proofs.InitialValues.{values_of_task}
 use Rattle.tenant_slots.proofs.beginning.reset_ports.Given as goal

@@ -3,10 +3,10 @@ use Rattle.std.specs.Prelude.{slice_get}
 use Rattle.std.specs.Option.{option_and_then, option_map}
 use Rattle.giotto_tasks.specs.declared.names.Name.{Name}
 use Rattle.giotto_tasks.specs.Names.{value_at}
-use Rattle.giotto_text.specs.Program.{GiottoProgram}
+use Rattle.rig_model.specs.text.Program.{GiottoProgram}
 use Rattle.giotto_check.specs.cited.Facts.{ProgramFits}
 use Rattle.giotto_check.specs.Slots.{port_names, valuation_of}
-use Rattle.giotto_rules.specs.Ports.{shown_name, slot_of}
+use Rattle.rig_model.specs.rules.Ports.{shown_name, slot_of}
 use Rattle.giotto_check.proofs.cited.SlotLemmas.{name_at_slot}
 use Rattle.giotto_check.proofs.cited.Valuations.{value_at_place}
 use Rattle.rig_model.specs.Ports.{value_of_port}

@@ -1,7 +1,7 @@
 use Rattle.std.proofs.Common.{sym, ◌∙◌, arith}
 use Rattle.giotto_tasks.specs.Names.{same_name}
-use Rattle.giotto_text.specs.declared.programs.Actuator.{Actuator}
-use Rattle.giotto_text.specs.declared.programs.Output.{Output}
+use Rattle.rig_model.specs.declared.text.programs.Actuator.{Actuator}
+use Rattle.rig_model.specs.declared.text.programs.Output.{Output}
 use Rattle.giotto_check.proofs.cited.PlaceLemmas.{place_within}
 use Rattle.tenant_slots.proofs.SharedSlots.{actuator_slot, no_slot, output_slot, sensor_slot, shared_within}
 use Rattle.tenant_slots.proofs.names.shared_slot.Goals as goal

@@ -1,8 +1,8 @@
 use Rattle.std.proofs.Common.{◌≡◌, Some, None, sym, ap, subst, ◌∙◌, arith}
 use Rattle.std.specs.Prelude.{IsSomeAnd, slice_get}
 use Rattle.std.specs.List.{position_from}
-use Rattle.giotto_text.specs.Program.{ModeDeclaration, GiottoProgram}
-use Rattle.giotto_text.specs.declared.programs.Mode.{Mode}
+use Rattle.rig_model.specs.text.Program.{ModeDeclaration, GiottoProgram}
+use Rattle.rig_model.specs.declared.text.programs.Mode.{Mode}
 use Rattle.giotto_tasks.specs.Names.{same_name}
 use Rattle.giotto_tasks.proofs.cited.NameLemmas.{same_name_is}
 use Rattle.giotto_check.proofs.cited.EntryLemmas.{mode_found, mode_there}

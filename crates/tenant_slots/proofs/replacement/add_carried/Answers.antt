@@ -1,6 +1,6 @@
 use Rattle.std.proofs.Common.{◌≡◌, ◌+◌, List, filter, take, Vec, Global, None, sym, ap, subst, ◌∙◌}
 use Rattle.giotto_tasks.specs.cited.Places.{place_from}
-use Rattle.giotto_rules.specs.Ports.{slot_of}
+use Rattle.rig_model.specs.rules.Ports.{slot_of}
 use Rattle.giotto_check.proofs.cited.SlotLemmas.{slot_shared}
 use Rattle.tenant_slots.specs.cited.Replacement.{AreCarried, is_carried}
 use Rattle.tenant_slots.specs.declared.replacement.Carried.{Carried}

@@ -1,7 +1,7 @@
 use Rattle.std.proofs.Common.{length, sym, ap, ◌∙◌}
 use Rattle.std.proofs.lemmas.List.{length-map}
-use Rattle.giotto_text.specs.Program.{GiottoProgram}
-use Rattle.giotto_text.specs.ProgramTrees.{actuator_of, sensor_of}
+use Rattle.rig_model.specs.text.Program.{GiottoProgram}
+use Rattle.rig_model.specs.text.ProgramTrees.{actuator_of, sensor_of}
 use Rattle.tenant_slots.proofs.CarryTables.{actuator_by_slot, none_before}
 use Rattle.tenant_slots.proofs.replacement.is_actuator.Goals as goal
 

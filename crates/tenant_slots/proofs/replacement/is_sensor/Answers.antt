@@ -1,7 +1,7 @@
 use Rattle.std.proofs.Common.{length, sym, ap, ◌∙◌}
 use Rattle.std.proofs.lemmas.List.{length-map}
-use Rattle.giotto_text.specs.Program.{GiottoProgram}
-use Rattle.giotto_text.specs.ProgramTrees.{sensor_of}
+use Rattle.rig_model.specs.text.Program.{GiottoProgram}
+use Rattle.rig_model.specs.text.ProgramTrees.{sensor_of}
 use Rattle.tenant_slots.proofs.CarryTables.{sensor_by_slot}
 use Rattle.tenant_slots.proofs.replacement.is_sensor.Goals as goal
 

@@ -1,5 +1,5 @@
 use Rattle.std.proofs.Common.{ap, sym, ◌∙◌}
-use Rattle.rig_config.specs.Roster.{may_use}
+use Rattle.rig_model.specs.config.Roster.{may_use}
 use Rattle.tenant_slots.proofs.ReadLines.{reading_in_frame, no_reading, contained, copied_at}
 use Rattle.tenant_slots.proofs.sensors.line_value.Goals as goal
 

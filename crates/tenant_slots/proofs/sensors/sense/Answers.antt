@@ -1,7 +1,7 @@
 use Rattle.std.proofs.Common.{[], ap, ◌∙◌, arith, w64}
 use Rattle.std.proofs.lemmas.List.{length-set}
 use Rattle.std.proofs.lemmas.Int.{to_z-of_z}
-use Rattle.giotto_text.specs.Program.{GiottoProgram}
+use Rattle.rig_model.specs.text.Program.{GiottoProgram}
 use Rattle.rig_model.specs.Readings.{readings_within, reading_taken}
 use Rattle.tenant_slots.proofs.SensedSlots.{sensed_next}
 use Rattle.tenant_slots.proofs.sensors.sense.Goals as goal

@@ -1,10 +1,10 @@
 use Rattle.std.proofs.Common.{◌≡◌, [], length, map, drop}
-use Rattle.giotto_text.specs.Program.{SensorDeclaration}
-use Rattle.giotto_text.specs.ProgramTrees.{sensor_of}
-use Rattle.giotto_rules.specs.Declarations.{sensor_names}
+use Rattle.rig_model.specs.text.Program.{SensorDeclaration}
+use Rattle.rig_model.specs.text.ProgramTrees.{sensor_of}
+use Rattle.rig_model.specs.rules.Declarations.{sensor_names}
 use Rattle.giotto_check.specs.cited.Slots.{slots_of}
 use Rattle.giotto_check.specs.Slots.{valuation_of}
-use Rattle.giotto_text.specs.PortNames.{with_values}
+use Rattle.rig_model.specs.text.PortNames.{with_values}
 use Rattle.rig_model.specs.Readings.{readings_within, reading_taken}
 use Rattle.tenant_slots.proofs.sensors.sense.Given as goal
 

@@ -3,7 +3,7 @@ use Rattle.std.specs.Prelude.{IsSomeAnd}
 use Rattle.std.specs.List.{find}
 use Rattle.std.proofs.lemmas.Bool.{and_from, and_left, and_right}
 use Rattle.std.proofs.lemmas.List.{drop_all}
-use Rattle.giotto_text.specs.Program.{ModeSwitch}
+use Rattle.rig_model.specs.text.Program.{ModeSwitch}
 use Rattle.giotto_check.specs.Slots.{valuation_of}
 use Rattle.giotto_check.specs.cited.Timetables.{IsExit}
 use Rattle.giotto_check.proofs.cited.EachLemmas.{each_long}

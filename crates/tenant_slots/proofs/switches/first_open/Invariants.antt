@@ -1,6 +1,6 @@
 use Rattle.std.proofs.Common.{◌≡◌, length, drop}
 use Rattle.std.specs.List.{find}
-use Rattle.giotto_text.specs.Program.{ModeDeclaration, GiottoProgram}
+use Rattle.rig_model.specs.text.Program.{ModeDeclaration, GiottoProgram}
 use Rattle.giotto_check.specs.cited.Slots.{slots_of}
 use Rattle.giotto_check.specs.Slots.{valuation_of}
 use Rattle.giotto_check.specs.cited.Timetables.{AreEach, IsExit}

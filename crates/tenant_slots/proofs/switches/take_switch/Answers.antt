@@ -1,8 +1,8 @@
 use Rattle.std.proofs.Common.{◌<◌, List, length, IsTrue, refl, sym, ap, subst, ◌∙◌}
 use Rattle.std.specs.List.{AllByRecursion}
 use Rattle.std.specs.Option.{option_and_then, option_map_or}
-use Rattle.giotto_text.specs.Program.{ModeSwitch}
-use Rattle.giotto_rules.specs.Names.{all_different_numbers}
+use Rattle.rig_model.specs.text.Program.{ModeSwitch}
+use Rattle.rig_model.specs.rules.Names.{all_different_numbers}
 use Rattle.giotto_check.specs.Slots.{valuation_of}
 use Rattle.giotto_check.specs.cited.Slots.{with_slots}
 use Rattle.giotto_check.specs.cited.Timetables.{IsExit, place_of_mode}

@@ -2,7 +2,7 @@ use Rattle.std.proofs.Common.{◌≡◌, ℤ, List, [], ◌∷◌, length, map, 
 use Rattle.std.proofs.lemmas.List.{take_all}
 use Rattle.giotto_tasks.specs.Meaning.{value_of}
 use Rattle.giotto_tasks.specs.Syntax.{Expression}
-use Rattle.giotto_text.specs.Program.{GiottoProgram}
+use Rattle.rig_model.specs.text.Program.{GiottoProgram}
 use Rattle.giotto_check.specs.cited.Slots.{slots_of}
 use Rattle.giotto_check.specs.Slots.{valuation_of}
 use Rattle.giotto_check.specs.cited.Timetables.{AreEach, IsExpression, value_over}

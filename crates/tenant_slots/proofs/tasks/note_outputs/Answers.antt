@@ -1,7 +1,7 @@
 use Rattle.std.proofs.Common.{◌≡◌, ◌+◌, [], ◌∷◌, ◌++◌, length, length-append, min, drop, w64, to_z, of_z, rules, sym, ap, ◌∙◌, arith}
 use Rattle.std.proofs.lemmas.Slice.Zip.{zip_turn, zip_end}
-use Rattle.tenant_trace.specs.cited.Noted.{noted, pushed}
-use Rattle.tenant_trace.specs.declared.records.Happening.TheVariants as happening
+use Rattle.rig_model.specs.trace.cited.Noted.{noted, pushed}
+use Rattle.rig_model.specs.declared.trace.records.Happening.TheVariants as happening
 use Rattle.rig_model.specs.FirstHalf.{outputs_happened}
 use Rattle.tenant_slots.proofs.Recorded.{next_noted, all_noted}
 use Rattle.tenant_slots.proofs.tasks.note_outputs.Goals as goal

@@ -1,5 +1,5 @@
 use Rattle.std.proofs.Common.{◌≡◌, length, drop}
-use Rattle.tenant_trace.specs.cited.Noted.{noted}
+use Rattle.rig_model.specs.trace.cited.Noted.{noted}
 use Rattle.rig_model.specs.FirstHalf.{outputs_happened}
 use Rattle.tenant_slots.proofs.tasks.note_outputs.Given as goal
 

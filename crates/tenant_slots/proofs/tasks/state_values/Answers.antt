@@ -1,5 +1,5 @@
 use Rattle.std.proofs.Common.{◌≡◌, Some, length, take, drop, slice_get, sym, ap, ◌∙◌, arith}
-use Rattle.giotto_text.specs.Program.{TaskDeclaration, GiottoProgram, body_of, names_of}
+use Rattle.rig_model.specs.text.Program.{TaskDeclaration, GiottoProgram, body_of, names_of}
 use Rattle.giotto_tasks.proofs.cited.SoundLemmas.{sound_small}
 use Rattle.tenant_slots.proofs.cited.Numbered.{task_fits_at}
 use Rattle.tenant_slots.proofs.TaskValues.{states_counted, row_within, row_read, of_task}

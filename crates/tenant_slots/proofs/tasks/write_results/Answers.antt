@@ -1,9 +1,9 @@
 use Rattle.std.proofs.Common.{◌≡◌, ◌<◌, length, subst, sym, ap, ◌∙◌, arith}
 use Rattle.std.specs.List.{AllByRecursion}
 use Rattle.std.proofs.lemmas.List.{length-map}
-use Rattle.giotto_text.specs.PortNames.{own_ports, with_values}
+use Rattle.rig_model.specs.text.PortNames.{own_ports, with_values}
 use Rattle.giotto_tasks.specs.Syntax.{TaskBody}
-use Rattle.giotto_text.specs.Program.{GiottoProgram, names_of}
+use Rattle.rig_model.specs.text.Program.{GiottoProgram, names_of}
 use Rattle.giotto_check.specs.Slots.{valuation_of}
 use Rattle.tenant_slots.proofs.TaskValues.{row_within, row_written, of_task, all_within, all_written_at, outputs_named}
 use Rattle.tenant_slots.proofs.tasks.write_results.Goals as goal

@@ -1,11 +1,11 @@
 use Rattle.std.proofs.Common.{◌≡◌, ◌<◌, ◌∙◌, List, length, ap, subst, sym}
 use Rattle.std.proofs.lemmas.List.{get_or_default}
 use Rattle.std.specs.Prelude.{◌↔◌, IsSome}
-use Rattle.rig_config.specs.Roster.{Rig}
+use Rattle.rig_model.specs.config.Roster.{Rig}
 use Rattle.instant_engine.specs.Tenants.{tenant_at}
-use Rattle.tenant_grants.specs.Grants.{bind_at}
-use Rattle.tenant_grants.specs.declared.rows.Bind.{Bind}
-use Rattle.tenant_state.specs.Standing.{Standing, no_tenant}
+use Rattle.rig_model.specs.grants.Grants.{bind_at}
+use Rattle.rig_model.specs.declared.grants.rows.Bind.{Bind}
+use Rattle.instant_engine.specs.state.Standing.{Standing, no_tenant}
 use Rattle.rig_model.specs.Tenancies.{Tenancy, roster_of}
 use Rattle.rig_model.specs.HostState.{row_at}
 use Rattle.host_core.specs.HostStanding.{HostStanding}

@@ -6,11 +6,11 @@ use Rattle.host_core.specs.HostStanding.{HostStanding, Stands, outstanding_count
 use Rattle.host_core.specs.inner.HostStanding.{IsWhole}
 use Rattle.host_core.specs.Questions.{LeavesRow}
 use Rattle.instant_engine.specs.Tenants.{tenant_at}
-use Rattle.tenant_jobs.specs.Finished.{TaskTable}
-use Rattle.tenant_state.specs.Memory.{takes_memory}
+use Rattle.instant_engine.specs.job_table.Finished.{TaskTable}
+use Rattle.instant_engine.specs.state.Memory.{takes_memory}
 use Rattle.rig_model.specs.Tenancies.{Tenancy}
-use Rattle.tenant_state.specs.Standing.{Standing, at_rest, no_tenant}
-use Rattle.tenant_state.specs.cited.Standing.{without_ended}
+use Rattle.instant_engine.specs.state.Standing.{Standing, at_rest, no_tenant}
+use Rattle.instant_engine.specs.state.cited.Standing.{without_ended}
 use Rattle.host_core.proofs.AtRest.{here_at_rest, outstanding_at_rest, standing, stands_inside, stands_outside}
 use Rattle.host_core.proofs.HostSteps.{own_outcome, stands_after_command}
 use Rattle.instant_engine.specs.cited.Instants.{IsBetween}
@@ -18,7 +18,7 @@ use Rattle.host_core.proofs.Listed.{Leaves, asked_leaves, listed_leaves, nothing
 use Rattle.host_core.proofs.HostTables.{command_still, outstanding_behind, whole_behind}
 use Rattle.host_core.proofs.hosts.Host.carry_out.Goals as goal
 use Rattle.host_core.proofs.hosts.Host.carry_out.Goals.{After-self-1}
-use Rattle.rig_config.specs.Roster.{Rig}
+use Rattle.rig_model.specs.config.Roster.{Rig}
 
 module _ (c : After-self-1) where
   -- the tenant of the command is one of the host's

@@ -2,11 +2,11 @@ use Rattle.std.proofs.Common.{◌≡◌, ◌||◌, List, length, map, sym, ap, s
 use Rattle.instant_engine.specs.cited.Tables.{IsTaskTable}
 use Rattle.instant_engine.specs.cited.Tenants.{is_active_among}
 use Rattle.rig_model.specs.declared.jobs.JobId.{JobId}
-use Rattle.tenant_jobs.specs.Finished.{has_result}
+use Rattle.instant_engine.specs.job_table.Finished.{has_result}
 use Rattle.rig_model.specs.Host.{host_after}
 use Rattle.rig_model.specs.HostState.{HostState}
 use Rattle.host_core.specs.HostStanding.{HostStanding, Stands, outstanding_from, outstanding_jobs}
-use Rattle.tenant_state.specs.Standing.{Standing, at_rest}
+use Rattle.instant_engine.specs.state.Standing.{Standing, at_rest}
 use Rattle.host_core.proofs.AtRest.{standing, stands_inside, stands_outside, outstanding_at_rest}
 use Rattle.host_core.proofs.Completed.{after_done, host_after_done, stands_completed}
 use Rattle.host_core.proofs.hosts.Host.complete_all.Goals as goal

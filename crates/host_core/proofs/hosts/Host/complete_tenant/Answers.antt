@@ -2,9 +2,9 @@ use Rattle.std.proofs.Common.{◌≡◌, ◌<◌, ◌||◌, false, map, length, 
 use Rattle.std.proofs.lemmas.List.{get_or_default}
 use Rattle.instant_engine.specs.Tenants.{tenant_at}
 use Rattle.rig_model.specs.declared.jobs.JobId.{JobId}
-use Rattle.tenant_jobs.specs.Finished.{entry_in, has_result}
-use Rattle.tenant_state.specs.Standing.{Standing, at_rest, no_tenant}
-use Rattle.tenant_state.specs.cited.Standing.{HasItsResults, has_active}
+use Rattle.instant_engine.specs.job_table.Finished.{entry_in, has_result}
+use Rattle.instant_engine.specs.state.Standing.{Standing, at_rest, no_tenant}
+use Rattle.instant_engine.specs.state.cited.Standing.{HasItsResults, has_active}
 use Rattle.rig_model.specs.Host.{host_after}
 use Rattle.rig_model.specs.HostState.{HostState}
 use Rattle.host_core.specs.HostStanding.{HostStanding, Stands, outstanding_of}

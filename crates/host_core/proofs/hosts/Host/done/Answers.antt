@@ -2,9 +2,9 @@ use Rattle.std.proofs.Common.{◌≡◌, ◌<◌, ◌≤◌, ◌+◌, true, fals
 use Rattle.std.proofs.lemmas.List.{get_or_default}
 use Rattle.instant_engine.specs.Tenants.{tenant_at}
 use Rattle.rig_model.specs.declared.jobs.JobId.{JobId}
-use Rattle.tenant_jobs.specs.Finished.{has_result}
-use Rattle.tenant_jobs.specs.cited.Finished.{is_entered}
-use Rattle.tenant_state.specs.Standing.{Standing, at_rest, no_tenant, released_job}
+use Rattle.instant_engine.specs.job_table.Finished.{has_result}
+use Rattle.instant_engine.specs.job_table.cited.Finished.{is_entered}
+use Rattle.instant_engine.specs.state.Standing.{Standing, at_rest, no_tenant, released_job}
 use Rattle.host_core.specs.HostStanding.{HostStanding, Stands, IsOwn, outstanding_jobs}
 use Rattle.rig_model.specs.HostState.{HostState}
 use Rattle.rig_model.specs.Base.{Setting}

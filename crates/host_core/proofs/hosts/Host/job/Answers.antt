@@ -4,7 +4,7 @@ use Rattle.rig_model.specs.HostState.{is_awaited}
 use Rattle.host_core.specs.HostStanding.{HostStanding, ForEachState, awaited_in}
 use Rattle.host_core.proofs.AtRest.{awaited_here, standing}
 use Rattle.host_core.proofs.HostSteps.{job_awaits, told_as}
-use Rattle.tenant_state.specs.Standing.{awaited_job}
+use Rattle.instant_engine.specs.state.Standing.{awaited_job}
 use Rattle.host_core.proofs.hosts.Host.job.Goals as goal
 
 pub returns-clause-job : goal.returns-clause-job

@@ -3,12 +3,12 @@ use Rattle.std.specs.List.{enumerate_from}
 use Rattle.std.proofs.lemmas.Simd.{map-map}
 use Rattle.host_core.specs.HostStanding.{Stands, new_host}
 use Rattle.rig_model.specs.Base.{new_base}
-use Rattle.tenant_jobs.specs.Finished.{TaskTable}
-use Rattle.tenant_state.specs.Standing.{Standing, at_rest}
+use Rattle.instant_engine.specs.job_table.Finished.{TaskTable}
+use Rattle.instant_engine.specs.state.Standing.{Standing, at_rest}
 use Rattle.host_core.proofs.NewHost.{begun, new_stands}
 use Rattle.host_core.proofs.NewTenants.{new_more, new_all, new_whole}
 use Rattle.host_core.proofs.hosts.Host.new.Goals as goal
-use Rattle.rig_config.specs.Roster.{Rig}
+use Rattle.rig_model.specs.config.Roster.{Rig}
 
 pub loop-place-preserved : goal.loop-place-preserved
 loop-place-preserved c =

@@ -5,7 +5,7 @@ use Rattle.std.specs.Prelude.{OnSome}
 use Rattle.std.specs.Vec.{vec_items, with_items}
 use Rattle.instant_engine.specs.Tenants.{most_of, released_from}
 use Rattle.instant_engine.specs.cited.Halves.{IsReady}
-use Rattle.tenant_state.specs.Standing.{IsKnown, Standing, at_rest}
+use Rattle.instant_engine.specs.state.Standing.{IsKnown, Standing, at_rest}
 use Rattle.host_core.specs.HostStanding.{HostStanding, Stands, outstanding_count, outstanding_from}
 use Rattle.host_core.specs.declared.hosts.Host.TheInside.{Inside}
 use Rattle.host_core.specs.inner.HostStanding.{IsWhole, most_binds}

@@ -1,7 +1,7 @@
 use Rattle.std.proofs.Common.{◌≡◌, List, length, take, sym, ap, ◌∙◌}
 use Rattle.std.proofs.lemmas.List.{take_all}
 use Rattle.host_core.specs.HostStanding.{HostStanding, outstanding_from, outstanding_jobs}
-use Rattle.tenant_state.specs.Standing.{Standing}
+use Rattle.instant_engine.specs.state.Standing.{Standing}
 use Rattle.host_core.proofs.AtRest.{outstanding_at_rest}
 use Rattle.host_core.proofs.cited.Outstanding.{counted_in_all}
 use Rattle.host_core.proofs.hosts.Host.outstanding.Goals as goal

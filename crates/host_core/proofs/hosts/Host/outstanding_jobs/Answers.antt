@@ -4,7 +4,7 @@ use Rattle.host_core.specs.HostStanding.{HostStanding, outstanding_from, outstan
 use Rattle.instant_engine.specs.Tenants.{ArePlaced, tenant_at}
 use Rattle.rig_model.specs.Jobs.{job_of}
 use Rattle.rig_model.specs.declared.jobs.JobId.{JobId}
-use Rattle.tenant_state.specs.Standing.{Standing, no_tenant, outstanding_tasks}
+use Rattle.instant_engine.specs.state.Standing.{Standing, no_tenant, outstanding_tasks}
 use Rattle.host_core.proofs.AtRest.{outstanding_at_rest}
 use Rattle.host_core.proofs.cited.Outstanding.{named_more, some_of_all}
 use Rattle.host_core.proofs.hosts.Host.outstanding_jobs.Goals as goal

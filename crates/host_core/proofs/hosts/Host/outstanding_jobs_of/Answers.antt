@@ -4,7 +4,7 @@ use Rattle.instant_engine.specs.Tenants.{tenant_at}
 use Rattle.host_core.specs.HostStanding.{HostStanding, outstanding_of}
 use Rattle.rig_model.specs.declared.jobs.JobId.{JobId}
 use Rattle.rig_model.specs.Jobs.{job_of}
-use Rattle.tenant_state.specs.Standing.{Standing, no_tenant, outstanding_tasks}
+use Rattle.instant_engine.specs.state.Standing.{Standing, no_tenant, outstanding_tasks}
 use Rattle.host_core.proofs.AtRest.{standing, outstanding_at_rest_of}
 use Rattle.host_core.proofs.hosts.Host.outstanding_jobs_of.Goals as goal
 

@@ -1,7 +1,7 @@
 use Rattle.std.proofs.Common.{◌≡◌, ◌≢◌, ◌<◌, ◌∙◌, ◌&&◌, ℤ, Bool, true, false, List, length, set, Result, Ok, Err, refl, ap, subst, sym}
 use Rattle.std.specs.Prelude.{IfErr, IfOk}
 use Rattle.std.proofs.lemmas.List.{get_or_default, set-get_or}
-use Rattle.rig_config.specs.Roster.{Rig}
+use Rattle.rig_model.specs.config.Roster.{Rig}
 use Rattle.rig_model.specs.Base.{Setting}
 use Rattle.rig_model.specs.Commands.{commanded, show_port}
 use Rattle.rig_model.specs.Host.{after_event}
@@ -12,15 +12,15 @@ use Rattle.rig_model.specs.declared.events.Event.TheVariants.{Own}
 use Rattle.rig_model.specs.declared.jobs.JobId.{JobId}
 use Rattle.instant_engine.specs.Tenants.{tenant_at}
 use Rattle.instant_engine.specs.cited.Tenants.{is_active_among}
-use Rattle.tenant_jobs.specs.Finished.{TableEntry, has_result}
-use Rattle.tenant_jobs.specs.cited.Finished.{is_entered}
-use Rattle.tenant_lines.specs.declared.commands.Command.TheVariants.{ShowPort}
-use Rattle.tenant_lines.specs.declared.ports.PortName.{PortName}
-use Rattle.tenant_lines.specs.declared.replies.Refusal.{Refusal}
-use Rattle.tenant_lines.specs.declared.replies.Refusal.TheVariants.{Memory}
-use Rattle.tenant_lines.specs.declared.replies.Reply.TheVariants.{Port, Refused}
-use Rattle.tenant_state.specs.Standing.{Standing, StandsFor, no_tenant}
-use Rattle.tenant_state.specs.cited.Standing.{IsOutcome, IsRefused}
+use Rattle.instant_engine.specs.job_table.Finished.{TableEntry, has_result}
+use Rattle.instant_engine.specs.job_table.cited.Finished.{is_entered}
+use Rattle.rig_model.specs.declared.lines.commands.Command.TheVariants.{ShowPort}
+use Rattle.rig_model.specs.declared.lines.ports.PortName.{PortName}
+use Rattle.rig_model.specs.declared.lines.replies.Refusal.{Refusal}
+use Rattle.rig_model.specs.declared.lines.replies.Refusal.TheVariants.{Memory}
+use Rattle.rig_model.specs.declared.lines.replies.Reply.TheVariants.{Port, Refused}
+use Rattle.instant_engine.specs.state.Standing.{Standing, StandsFor, no_tenant}
+use Rattle.instant_engine.specs.state.cited.Standing.{IsOutcome, IsRefused}
 use Rattle.host_core.specs.HostStanding.{HostStanding, Stands}
 use Rattle.host_core.specs.Questions.{reply_of_port}
 use Rattle.host_core.proofs.AtRest.{standing, stands_inside, stands_outside}

@@ -3,7 +3,7 @@ use Rattle.rig_model.specs.Legal.{may_follow}
 use Rattle.host_core.proofs.Played.{tick_legal}
 use Rattle.host_core.proofs.ReleasedNames.{found_in}
 use Rattle.host_core.proofs.plays.Stage.may_follow.Goals as goal
-use Rattle.rig_config.specs.Roster.{Rig}
+use Rattle.rig_model.specs.config.Roster.{Rig}
 
 pub returns-then-as_slice-lines-clause-legal : goal.returns-then-as_slice-lines-clause-legal
 returns-then-as_slice-lines-clause-legal c = λ setting past played.

@@ -6,7 +6,7 @@ use Rattle.rig_model.specs.HostState.{row_at}
 use Rattle.host_core.specs.HostStanding.{Stands}
 use Rattle.rig_model.specs.Views.{after_command}
 use Rattle.rig_model.specs.declared.events.Event.TheVariants.{Own}
-use Rattle.tenant_lines.specs.Replies.{text_of_reply}
+use Rattle.rig_model.specs.lines.Replies.{text_of_reply}
 use Rattle.host_core.proofs.Played.{step_own}
 use Rattle.host_core.proofs.plays.Stage.own.Goals as goal
 

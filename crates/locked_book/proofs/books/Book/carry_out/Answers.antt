@@ -2,9 +2,9 @@ use Rattle.std.proofs.Common.{◌≡◌, ◌≢◌, Result, Err, refl, sym, ap, 
 use Rattle.std.proofs.lemmas.Result.{err_from_is_err_and}
 use Rattle.locked_book.specs.declared.faults.DeskFault.{DeskFault}
 use Rattle.locked_book.specs.declared.faults.DeskFault.TheVariants.{Strange}
-use Rattle.tenant_lines.specs.declared.replies.Refusal.TheVariants.{Memory}
-use Rattle.tenant_lines.specs.declared.replies.Reply.{Reply}
-use Rattle.tenant_lines.specs.declared.replies.Reply.TheVariants.{Refused}
+use Rattle.rig_model.specs.declared.lines.replies.Refusal.TheVariants.{Memory}
+use Rattle.rig_model.specs.declared.lines.replies.Reply.{Reply}
+use Rattle.rig_model.specs.declared.lines.replies.Reply.TheVariants.{Refused}
 use Rattle.locked_book.specs.Books.{IsAnswered}
 use Rattle.locked_book.specs.inner.Carried.{call_with}
 use Rattle.locked_book.proofs.books.Book.carry_out.Goals as goal

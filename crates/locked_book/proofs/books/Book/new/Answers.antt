@@ -1,5 +1,5 @@
 use Rattle.std.proofs.Common.{◌≡◌, arith, sym, ap, ◌∙◌, subst, length}
-use Rattle.rig_config.specs.Roster.{Rig}
+use Rattle.rig_model.specs.config.Roster.{Rig}
 use Rattle.rig_model.specs.Base.{new_base}
 use Rattle.host_core.specs.HostStanding.{Stands, new_host, outstanding_count}
 use Rattle.locked_book.specs.Books.{beginning, new_setting}

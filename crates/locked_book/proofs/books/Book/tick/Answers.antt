@@ -1,8 +1,8 @@
 use Rattle.std.proofs.Common.{◌≡◌, ◌≢◌, ◌-◌, ◌^◌, ⊎_elim, arith, length, refl, sym, ap, ◌∙◌, subst}
 use Rattle.std.proofs.lemmas.Bool.{cases_eq}
-use Rattle.rig_config.specs.Roster.{Rig}
+use Rattle.rig_model.specs.config.Roster.{Rig}
 use Rattle.rig_model.specs.declared.events.Event.TheVariants as event
-use Rattle.instant_engine.specs.Tenants.{most_of}
+use Rattle.host_core.specs.engine.Tenants.{most_of}
 use Rattle.host_core.specs.HostStanding.{HostStanding, Stands, outstanding_count}
 use Rattle.rig_model.specs.declared.logged.Logged.TheVariants as logged
 use Rattle.locked_book.specs.Books.{BookValue}

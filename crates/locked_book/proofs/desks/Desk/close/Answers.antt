@@ -1,6 +1,6 @@
 use Rattle.std.proofs.Common.{List, reverse, Some, sym, ap, ◌∙◌, subst}
 use Rattle.locked_book.specs.Books.{BookValue, IsMismatch, IsMissing, PassValue, new_setting}
-use Rattle.rig_laws.proofs.cited.Replays.{log_kept_answers}
+use Rattle.host_core.proofs.of_laws.Replays.{log_kept_answers}
 use Rattle.locked_book.proofs.desks.Desk.close.Goals as goal
 
 pub returns-in-None-clause-answers : goal.returns-in-None-clause-answers

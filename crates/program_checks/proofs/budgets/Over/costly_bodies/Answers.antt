@@ -1,7 +1,7 @@
 use Rattle.giotto_reports.specs.Parts.{body}
-use Rattle.giotto_text.specs.ProgramTrees.{task_of}
+use Rattle.rig_model.specs.text.ProgramTrees.{task_of}
 use Rattle.program_checks.specs.Excess.{words_of_part}
-use Rattle.giotto_text.specs.declared.programs.Task.{Task}
+use Rattle.rig_model.specs.declared.text.programs.Task.{Task}
 use Rattle.program_checks.proofs.Telling.{told_further}
 use Rattle.program_checks.proofs.budgets.Over.costly_bodies.Goals as goal
 

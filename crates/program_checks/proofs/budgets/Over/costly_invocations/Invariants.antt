@@ -1,9 +1,9 @@
 use Rattle.std.proofs.Common.{take}
 use Rattle.std.specs.List.{flat_map}
 use Rattle.giotto_reports.specs.Parts.{invocation}
-use Rattle.giotto_text.specs.ProgramTrees.{mode_of, invocation_of}
+use Rattle.rig_model.specs.text.ProgramTrees.{mode_of, invocation_of}
 use Rattle.program_checks.specs.Excess.{words_of_part}
-use Rattle.giotto_text.specs.declared.programs.Invocation.{Invocation}
+use Rattle.rig_model.specs.declared.text.programs.Invocation.{Invocation}
 use Rattle.program_checks.specs.inner.Telling.{AreTold}
 use Rattle.program_checks.proofs.budgets.Over.costly_invocations.Given as goal
 

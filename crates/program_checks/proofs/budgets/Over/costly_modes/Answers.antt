@@ -1,8 +1,8 @@
 use Rattle.std.specs.List.{flat_map}
 use Rattle.giotto_reports.specs.Parts.{drivers_of}
-use Rattle.giotto_text.specs.ProgramTrees.{mode_of}
+use Rattle.rig_model.specs.text.ProgramTrees.{mode_of}
 use Rattle.program_checks.specs.Excess.{words_of_part}
-use Rattle.giotto_text.specs.declared.programs.Mode.{Mode}
+use Rattle.rig_model.specs.declared.text.programs.Mode.{Mode}
 use Rattle.program_checks.proofs.Telling.{told_further}
 use Rattle.program_checks.proofs.budgets.Over.costly_modes.Goals as goal
 

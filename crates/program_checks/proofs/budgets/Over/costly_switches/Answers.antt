@@ -1,7 +1,7 @@
 use Rattle.giotto_reports.specs.Parts.{switch}
-use Rattle.giotto_text.specs.ProgramTrees.{mode_of, switch_of}
+use Rattle.rig_model.specs.text.ProgramTrees.{mode_of, switch_of}
 use Rattle.program_checks.specs.Excess.{words_of_part}
-use Rattle.giotto_text.specs.declared.programs.Switch.{Switch}
+use Rattle.rig_model.specs.declared.text.programs.Switch.{Switch}
 use Rattle.program_checks.proofs.Telling.{told_further}
 use Rattle.program_checks.proofs.budgets.Over.costly_switches.Goals as goal
 

@@ -1,6 +1,6 @@
-use Rattle.giotto_text.specs.ProgramTrees.{actuator_of}
+use Rattle.rig_model.specs.text.ProgramTrees.{actuator_of}
 use Rattle.program_checks.specs.Excess.{words_of_actuator}
-use Rattle.giotto_text.specs.declared.programs.Actuator.{Actuator}
+use Rattle.rig_model.specs.declared.text.programs.Actuator.{Actuator}
 use Rattle.program_checks.proofs.Telling.{told_further}
 use Rattle.program_checks.proofs.budgets.Over.foreign_actuators.Goals as goal
 

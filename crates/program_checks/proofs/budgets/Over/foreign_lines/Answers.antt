@@ -1,7 +1,7 @@
 use Rattle.std.proofs.Common.{List, ℕ, sym, ap, subst, ◌∙◌}
 use Rattle.std.specs.List.{flat_map}
 use Rattle.std.proofs.lemmas.List.Folds.{flat_map-map}
-use Rattle.giotto_text.specs.ProgramTrees.{actuator_of, sensor_of}
+use Rattle.rig_model.specs.text.ProgramTrees.{actuator_of, sensor_of}
 use Rattle.program_checks.proofs.Telling.{both_told}
 use Rattle.program_checks.specs.Excess.{words_of_actuator, words_of_sensor}
 use Rattle.program_checks.specs.inner.Telling.{AreTold}

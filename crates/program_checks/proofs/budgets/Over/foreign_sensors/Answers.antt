@@ -1,6 +1,6 @@
-use Rattle.giotto_text.specs.ProgramTrees.{sensor_of}
+use Rattle.rig_model.specs.text.ProgramTrees.{sensor_of}
 use Rattle.program_checks.specs.Excess.{words_of_sensor}
-use Rattle.giotto_text.specs.declared.programs.Sensor.{Sensor}
+use Rattle.rig_model.specs.declared.text.programs.Sensor.{Sensor}
 use Rattle.program_checks.proofs.Telling.{told_further}
 use Rattle.program_checks.proofs.budgets.Over.foreign_sensors.Goals as goal
 

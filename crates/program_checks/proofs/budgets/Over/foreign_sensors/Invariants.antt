@@ -1,8 +1,8 @@
 use Rattle.std.proofs.Common.{take}
 use Rattle.std.specs.List.{flat_map}
-use Rattle.giotto_text.specs.ProgramTrees.{sensor_of}
+use Rattle.rig_model.specs.text.ProgramTrees.{sensor_of}
 use Rattle.program_checks.specs.Excess.{words_of_sensor}
-use Rattle.giotto_text.specs.declared.programs.Sensor.{Sensor}
+use Rattle.rig_model.specs.declared.text.programs.Sensor.{Sensor}
 use Rattle.program_checks.specs.inner.Telling.{AreTold}
 use Rattle.program_checks.proofs.budgets.Over.foreign_sensors.Given as goal
 

@@ -1,6 +1,6 @@
 use Rattle.std.proofs.Common.{◌≡◌, Err, sym, ap, subst, ◌∙◌}
 use Rattle.std.proofs.lemmas.Result.{err_from_is_err_and}
-use Rattle.host_core.specs.HostStanding.{HostStanding}
+use Rattle.rig_script.specs.host.HostStanding.{HostStanding}
 use Rattle.rig_model.specs.Script.{past_behind}
 use Rattle.rig_script.specs.cited.HostAnswers.{IsHostAfter}
 use Rattle.rig_script.specs.declared.faults.Unanswered.{Unanswered}

@@ -1,8 +1,8 @@
 use Rattle.std.proofs.Common.{rules, ◌≡◌, List, [], length, map, reverse, sym, ap, subst, ◌∙◌}
 use Rattle.std.proofs.lemmas.List.{reverse-append}
 use Rattle.std.specs.Prelude.{vec_len}
-use Rattle.host_core.specs.HostStanding.{HostStanding}
-use Rattle.rig_config.specs.Roster.{Rig}
+use Rattle.tenant_sources.specs.host.HostStanding.{HostStanding}
+use Rattle.rig_model.specs.config.Roster.{Rig}
 use Rattle.rig_model.specs.Script.{line_step, past_behind, speaker_of}
 use Rattle.rig_script.specs.cited.HostAnswers.{IsHostAfter}
 use Rattle.rig_retests.proofs.Noting.{noted_on}

@@ -1,8 +1,8 @@
 use Rattle.std.proofs.Common.{◌≡◌, Err, sym, ap, subst, ◌∙◌}
 use Rattle.std.proofs.lemmas.Result.{err_from_is_err_and}
-use Rattle.rig_config.specs.Roster.{Rig}
+use Rattle.rig_model.specs.config.Roster.{Rig}
 use Rattle.rig_retests.proofs.Noting.{noted_on}
-use Rattle.host_core.specs.HostStanding.{HostStanding}
+use Rattle.tenant_sources.specs.host.HostStanding.{HostStanding}
 use Rattle.tenant_sources.specs.Links.{IsLinkTable, Links}
 use Rattle.rig_script.specs.cited.HostAnswers.{IsHostAfter}
 use Rattle.rig_script.specs.declared.faults.Unanswered.{Unanswered}

@@ -1,5 +1,5 @@
 use Rattle.std.proofs.Common.{◌≡◌, Err, refl, sym, ap, ◌∙◌}
-use Rattle.tenant_lines.specs.CommandLine.{command_of_line}
+use Rattle.rig_model.specs.lines.CommandLine.{command_of_line}
 use Rattle.rig_model.specs.Sessions.{says, stranger, tenant}
 use Rattle.rig_sessions.specs.inner.Steps.{SessionValue, state_of}
 use Rattle.rig_sessions.proofs.SessionLines.{form_unasked, text_found_no_memory}

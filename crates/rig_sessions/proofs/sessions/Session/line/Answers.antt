@@ -3,7 +3,7 @@ use Rattle.std.proofs.lemmas.Bool.{false≢true}
 use Rattle.std.proofs.lemmas.Bool.Decides.{nat_tests}
 use Rattle.giotto_tasks.specs.Names.{same_name}
 use Rattle.giotto_tasks.proofs.cited.NameLemmas.{same_name_is, same_name_self}
-use Rattle.tenant_lines.specs.Words.{words_of}
+use Rattle.rig_model.specs.lines.Words.{words_of}
 use Rattle.rig_model.specs.Sessions.{form_step, hello_of, quit_of}
 use Rattle.rig_sessions.specs.inner.Steps.{IsStep, IsCallWithText}
 use Rattle.rig_sessions.proofs.SessionLines.{blank_line, hello_line, quit_line, other_line, form_blank, no_byte, some_word}

@@ -1,6 +1,6 @@
 use Rattle.std.proofs.Common.{◌≡◌, ◌<◌, ◌==◌, true, false, length, refl, sym, ap, ◌∙◌, arith}
 use Rattle.std.proofs.lemmas.Bool.Decides.{nat_tests}
-use Rattle.tenant_lines.specs.Words.{first_word_of}
+use Rattle.rig_model.specs.lines.Words.{first_word_of}
 use Rattle.rig_model.specs.Sessions.{form_step, ended}
 use Rattle.rig_sessions.proofs.SessionLines.{quit_alone, quit_refused, form_quit, form_refused}
 use Rattle.rig_sessions.proofs.sessions.Session.quit.Goals as goal

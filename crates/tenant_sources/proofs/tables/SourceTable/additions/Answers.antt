@@ -2,8 +2,8 @@ use Rattle.std.proofs.Common.{◌≡◌, ◌≤◌, [], List, length, min, sym, 
 use Rattle.std.specs.List.{All}
 use Rattle.tenant_sources.specs.declared.tables.Addition.{Addition}
 use Rattle.rig_model.specs.HostState.{row_at}
-use Rattle.rig_config.specs.Roster.{Rig}
-use Rattle.rig_config.specs.declared.TenantConfig.{TenantConfig}
+use Rattle.rig_model.specs.config.Roster.{Rig}
+use Rattle.rig_model.specs.declared.config.TenantConfig.{TenantConfig}
 use Rattle.tenant_sources.specs.cited.Additions.{IsPlaceOf}
 use Rattle.tenant_sources.specs.inner.Links.{Adds, IsSquare, next_link}
 use Rattle.tenant_sources.proofs.LinkAdditions.{first_ones, none_without_binds, tenants_begin, tenants_none, tenants_one}

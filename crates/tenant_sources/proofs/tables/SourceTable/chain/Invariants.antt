@@ -3,7 +3,7 @@ use Rattle.rig_model.specs.declared.events.Event.{Event}
 use Rattle.rig_model.specs.Legal.{is_legal}
 use Rattle.tenant_sources.specs.Links.{IsLinkTable, is_source_of, link_in}
 use Rattle.rig_model.specs.Base.{Setting}
-use Rattle.rig_config.specs.Roster.{is_tenant}
+use Rattle.rig_model.specs.config.Roster.{is_tenant}
 use Rattle.tenant_sources.proofs.Chains.{IsWalked}
 use Rattle.tenant_sources.proofs.tables.SourceTable.chain.Given as goal
 

@@ -5,8 +5,8 @@ use Rattle.giotto_tasks.specs.declared.names.Name.{Name}
 use Rattle.rig_model.specs.HostState.{row_at}
 use Rattle.tenant_sources.specs.cited.Additions.{has_source}
 use Rattle.rig_model.specs.Tenancies.{roster_of}
-use Rattle.tenant_grants.specs.Grants.{with_place}
-use Rattle.tenant_grants.specs.declared.rows.Bind.{Bind}
+use Rattle.rig_model.specs.grants.Grants.{with_place}
+use Rattle.rig_model.specs.declared.grants.rows.Bind.{Bind}
 use Rattle.tenant_sources.proofs.FirstLinks.{Placed, found_next, found_before}
 use Rattle.tenant_sources.proofs.tables.SourceTable.next_link.Goals as goal
 

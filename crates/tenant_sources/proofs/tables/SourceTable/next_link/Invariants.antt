@@ -3,7 +3,7 @@ use Rattle.host_core.specs.HostStanding.{ForEachState}
 use Rattle.rig_model.specs.HostState.{row_at}
 use Rattle.tenant_sources.specs.cited.Additions.{has_source}
 use Rattle.rig_model.specs.Tenancies.{roster_of}
-use Rattle.tenant_grants.specs.Grants.{with_place}
+use Rattle.rig_model.specs.grants.Grants.{with_place}
 use Rattle.tenant_sources.proofs.FirstLinks.{Placed}
 use Rattle.tenant_sources.proofs.tables.SourceTable.next_link.Given as goal
 

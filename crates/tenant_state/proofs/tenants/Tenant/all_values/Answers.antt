@@ -1,8 +1,8 @@
 use Rattle.std.proofs.Common.{◌≡◌, ◌<◌, true, List, [], ◌∷◌, length, map, nat_lt, Some, refl, sym, ap, ◌∙◌, arith}
 use Rattle.std.proofs.lemmas.Bool.Decides.{nat_tests}
-use Rattle.giotto_text.specs.Program.{GiottoProgram}
-use Rattle.giotto_rules.specs.Ports.{ProgramPort, ports_of}
-use Rattle.tenant_lines.specs.declared.replies.Reply.TheVariants.{All}
+use Rattle.rig_model.specs.text.Program.{GiottoProgram}
+use Rattle.rig_model.specs.rules.Ports.{ProgramPort, ports_of}
+use Rattle.rig_model.specs.declared.lines.replies.Reply.TheVariants.{All}
 use Rattle.rig_model.specs.Commands.{port_with_value, show_all}
 use Rattle.rig_model.specs.Row.{Row}
 use Rattle.tenant_state.specs.Standing.{Standing, StandsFor}

@@ -6,19 +6,19 @@ use Rattle.std.specs.Vec.{vec_items, with_items}
 use Rattle.std.proofs.lemmas.List.{length-map}
 use Rattle.std.proofs.lemmas.Option.{slice_get_within}
 use Rattle.giotto_tasks.proofs.cited.ListLemmas.{all_map, whole_slice, some_same}
-use Rattle.giotto_text.specs.declared.programs.Mode.{Mode}
-use Rattle.giotto_text.specs.Program.{ModeDeclaration, GiottoProgram}
-use Rattle.giotto_text.specs.ProgramTrees.{mode_of}
-use Rattle.giotto_check.specs.Slots.{valuation_of}
+use Rattle.rig_model.specs.declared.text.programs.Mode.{Mode}
+use Rattle.rig_model.specs.text.Program.{ModeDeclaration, GiottoProgram}
+use Rattle.rig_model.specs.text.ProgramTrees.{mode_of}
+use Rattle.tenant_exchange.specs.well_formed.Slots.{valuation_of}
 use Rattle.giotto_tasks.specs.Names.{Valuation}
 use Rattle.rig_model.specs.Granted.{granted_along}
 use Rattle.rig_model.specs.Readings.{Readings, readings_within}
-use Rattle.tenant_slots.proofs.cited.Numbered.{mode_fits_at}
+use Rattle.tenant_exchange.proofs.of_slots.Numbered.{mode_fits_at}
 use Rattle.tenant_state.specs.Tenants.{active_of, standing_of}
 use Rattle.tenant_state.specs.declared.tenants.State.TheVariants.{Running}
 use Rattle.tenant_state.specs.cited.Standing.{IsSettled}
 use Rattle.tenant_state.specs.inner.Invoked.{IsInvokedIn}
-use Rattle.tenant_trace.specs.cited.Noted.{noted}
+use Rattle.rig_model.specs.trace.cited.Noted.{noted}
 use Rattle.tenant_state.specs.inner.Tenants.{AreInvoked, IsActiveIn, IsActiveOf, IsSwitched, IsTraceOf, entry_happened}
 use Rattle.tenant_state.proofs.Records.{trace_noted}
 use Rattle.tenant_state.proofs.EndedTasks.{as_running, its_mode}

@@ -1,7 +1,7 @@
 use Rattle.std.proofs.Common.{Option, ◌≡◌, map, None, Some, sym, ap, ◌∙◌}
 use Rattle.std.specs.Arc.{arc_value}
 use Rattle.std.specs.Option.{option_map}
-use Rattle.giotto_text.specs.Program.{GiottoProgram}
+use Rattle.rig_model.specs.text.Program.{GiottoProgram}
 use Rattle.tenant_state.specs.declared.tenants.waiting.Waiting.{Waiting}
 use Rattle.rig_model.specs.Row.{Row}
 use Rattle.rig_model.specs.SecondHalf.{replaced_if_due}

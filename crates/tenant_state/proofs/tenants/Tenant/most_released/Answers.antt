@@ -1,5 +1,5 @@
 use Rattle.std.proofs.Common.{◌≡◌, is_some, slice_get, sym, ap, ◌∙◌}
-use Rattle.giotto_text.specs.Program.{ModeDeclaration}
+use Rattle.rig_model.specs.text.Program.{ModeDeclaration}
 use Rattle.rig_model.specs.Row.{is_running, is_running_state}
 use Rattle.tenant_state.specs.Tenants.{state_of}
 use Rattle.tenant_state.specs.Standing.{Standing, most_released}

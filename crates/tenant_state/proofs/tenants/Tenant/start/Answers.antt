@@ -3,14 +3,14 @@ use Rattle.std.specs.Prelude.{slice_get}
 use Rattle.std.specs.Option.{option_map_or}
 use Rattle.std.specs.Vec.{with_items}
 use Rattle.giotto_tasks.proofs.cited.ListLemmas.{whole_slice}
-use Rattle.giotto_text.specs.Program.{ModeDeclaration}
-use Rattle.tenant_lines.specs.declared.replies.Refusal.{Refusal}
+use Rattle.rig_model.specs.text.Program.{ModeDeclaration}
+use Rattle.rig_model.specs.declared.lines.replies.Refusal.{Refusal}
 use Rattle.tenant_state.specs.declared.tenants.State.TheVariants.{Running}
 use Rattle.rig_model.specs.Commands.{refused, start_program}
 use Rattle.rig_model.specs.Row.{Row, is_running}
 use Rattle.tenant_state.specs.Standing.{Standing, with_last}
-use Rattle.tenant_trace.specs.declared.records.Happening.TheVariants as happening
-use Rattle.tenant_trace.specs.cited.Noted.{noted}
+use Rattle.rig_model.specs.declared.trace.records.Happening.TheVariants as happening
+use Rattle.rig_model.specs.trace.cited.Noted.{noted}
 use Rattle.tenant_state.proofs.EndedTasks.{some_of}
 use Rattle.tenant_state.proofs.Records.{recorded_behind}
 use Rattle.tenant_state.proofs.Stops.{row_of}

@@ -1,12 +1,12 @@
 use Rattle.std.proofs.Common.{None, ◌≡◌, [], ◌∷◌, Some, sym, ap, subst, ◌∙◌, arith}
 use Rattle.giotto_tasks.proofs.cited.ListLemmas.{whole_slice}
 use Rattle.std.specs.Vec.{with_items}
-use Rattle.giotto_check.specs.Slots.{valuation_of}
+use Rattle.tenant_exchange.specs.well_formed.Slots.{valuation_of}
 use Rattle.rig_model.specs.Ports.{actuators_reset}
 use Rattle.tenant_state.specs.declared.tenants.State.TheVariants.{Stopped}
 use Rattle.tenant_state.specs.Standing.{Standing, with_last}
 use Rattle.rig_model.specs.FirstHalf.{happening_of}
-use Rattle.tenant_trace.specs.cited.Noted.{noted}
+use Rattle.rig_model.specs.trace.cited.Noted.{noted}
 use Rattle.tenant_state.specs.Tenants.{ports_in, reason_of}
 use Rattle.tenant_state.proofs.Stops.{reset_in, row_of, stands_stopped}
 use Rattle.tenant_state.proofs.tenants.Tenant.stop_with.Goals as goal

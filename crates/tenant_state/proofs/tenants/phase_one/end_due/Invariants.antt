@@ -1,10 +1,10 @@
 use Rattle.std.proofs.Common.{◌≡◌, ◌<◌, None, map, drop, length}
 use Rattle.std.specs.List.{find, flat_map, AllByRecursion}
-use Rattle.giotto_check.specs.cited.Slots.{slots_of}
-use Rattle.giotto_check.specs.Slots.{valuation_of}
-use Rattle.giotto_check.specs.cited.Timetables.{AreEach, IsInvocation}
-use Rattle.giotto_check.specs.declared.timetables.SlotInvocation.{SlotInvocation}
-use Rattle.giotto_text.specs.Program.{ModeDeclaration}
+use Rattle.tenant_exchange.specs.well_formed.cited.Slots.{slots_of}
+use Rattle.tenant_exchange.specs.well_formed.Slots.{valuation_of}
+use Rattle.tenant_exchange.specs.well_formed.cited.Timetables.{AreEach, IsInvocation}
+use Rattle.tenant_exchange.specs.declared.well_formed.timetables.SlotInvocation.{SlotInvocation}
+use Rattle.rig_model.specs.text.Program.{ModeDeclaration}
 use Rattle.rig_model.specs.FirstHalf.{all_ended}
 use Rattle.tenant_state.specs.Tenants.{active_of}
 use Rattle.tenant_state.proofs.DueTasks.{group}

@@ -1,7 +1,7 @@
 use Rattle.std.proofs.Common.{◌+◌, ◌++◌, ◌∷◌, [], nat_eq, length, map, drop, refl, sym, ap, subst, ◌∙◌, arith}
 use Rattle.std.specs.Arc.{arc_value}
 use Rattle.giotto_tasks.proofs.cited.ListLemmas.{all_at, all_filter, stepped}
-use Rattle.giotto_text.specs.Program.{GiottoProgram}
+use Rattle.rig_model.specs.text.Program.{GiottoProgram}
 use Rattle.tenant_state.specs.inner.Tenants.{IsActiveOf, its_job, released_in}
 use Rattle.tenant_state.proofs.AddedJobs.{AreLeft, all_left, left_more, job_ready, released_next, none_next}
 use Rattle.tenant_state.proofs.Shares.{share_set}

@@ -1,8 +1,8 @@
 use Rattle.std.proofs.Common.{◌<◌, [], length, sym, ap, ◌∙◌, arith}
 use Rattle.std.specs.Option.{option_map_or}
 use Rattle.std.proofs.lemmas.List.{length-map}
-use Rattle.giotto_text.specs.Program.{TaskDeclaration}
-use Rattle.giotto_text.specs.ProgramTrees.{task_of}
+use Rattle.rig_model.specs.text.Program.{TaskDeclaration}
+use Rattle.rig_model.specs.text.ProgramTrees.{task_of}
 use Rattle.tenant_state.proofs.Shares.{task_at}
 use Rattle.tenant_state.proofs.tenants.phase_two.job_for.Goals as goal
 

@@ -1,6 +1,6 @@
 use Rattle.std.proofs.Common.{◌≡◌, ◌≤◌, ◌%◌, ◌==◌, Some, length, max, filter, take, drop, slice_get}
-use Rattle.giotto_check.specs.declared.timetables.SlotInvocation.{SlotInvocation}
-use Rattle.giotto_text.specs.Program.{ModeDeclaration}
+use Rattle.tenant_exchange.specs.declared.well_formed.timetables.SlotInvocation.{SlotInvocation}
+use Rattle.rig_model.specs.text.Program.{ModeDeclaration}
 use Rattle.tenant_state.specs.Standing.{most_at}
 use Rattle.tenant_state.proofs.Shares.{most_entered}
 use Rattle.tenant_state.proofs.tenants.readiness.most_at.Given as goal

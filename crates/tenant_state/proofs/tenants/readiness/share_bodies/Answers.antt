@@ -4,8 +4,8 @@ use Rattle.std.specs.Option.{option_map}
 use Rattle.std.proofs.lemmas.Bool.{and_from}
 use Rattle.std.proofs.lemmas.List.{length-map}
 use Rattle.std.proofs.lemmas.List.Folds.{list_all_more}
-use Rattle.giotto_check.proofs.cited.EachLemmas.{each_long}
-use Rattle.giotto_text.specs.ProgramTrees.{task_of}
+use Rattle.tenant_exchange.proofs.of_well_formed.EachLemmas.{each_long}
+use Rattle.rig_model.specs.text.ProgramTrees.{task_of}
 use Rattle.tenant_state.specs.inner.Tenants.{IsShareOf}
 use Rattle.tenant_state.proofs.Shares.{share_made}
 use Rattle.tenant_state.proofs.tenants.readiness.share_bodies.Goals as goal

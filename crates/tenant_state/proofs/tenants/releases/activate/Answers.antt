@@ -1,9 +1,9 @@
 use Rattle.std.proofs.Common.{length, sym, ap, subst, ◌∙◌, arith}
 use Rattle.std.specs.Prelude.{IsSomeAnd}
 use Rattle.std.proofs.lemmas.List.{length-map}
-use Rattle.giotto_text.specs.Program.{names_of}
-use Rattle.giotto_text.specs.PortNames.{own_ports}
-use Rattle.giotto_check.specs.cited.Timetables.{AreEach, IsExpression}
+use Rattle.rig_model.specs.text.Program.{names_of}
+use Rattle.rig_model.specs.text.PortNames.{own_ports}
+use Rattle.tenant_exchange.specs.well_formed.cited.Timetables.{AreEach, IsExpression}
 use Rattle.tenant_state.specs.inner.Tenants.{IsActiveAs}
 use Rattle.tenant_state.specs.declared.tenants.Active.{Active}
 use Rattle.tenant_state.proofs.tenants.releases.activate.Goals as goal

@@ -1,6 +1,6 @@
 use Rattle.std.proofs.Common.{map, None, List, ap, ◌∙◌, subst, sym}
-use Rattle.giotto_check.specs.cited.Timetables.{AreEach}
-use Rattle.giotto_text.specs.Program.{GiottoProgram, TaskDeclaration}
+use Rattle.tenant_exchange.specs.well_formed.cited.Timetables.{AreEach}
+use Rattle.rig_model.specs.text.Program.{GiottoProgram, TaskDeclaration}
 use Rattle.tenant_state.specs.inner.Tenants.{IsShareOf}
 use Rattle.tenant_state.proofs.TenantCommands.{none_of_each, none_shared}
 use Rattle.tenant_state.proofs.tenants.waiting.beginning_of.Goals as goal

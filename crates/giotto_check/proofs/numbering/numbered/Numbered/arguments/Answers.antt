@@ -1,6 +1,6 @@
 use Rattle.giotto_tasks.specs.Names.{is_among}
 use Rattle.giotto_tasks.specs.Trees.{expression_of}
-use Rattle.giotto_text.specs.Depth.{is_shallow}
+use Rattle.giotto_rules.specs.text.Depth.{is_shallow}
 use Rattle.giotto_rules.specs.Declarations.{driver_ports, names_read}
 use Rattle.giotto_check.specs.cited.Timetables.{IsExpression}
 use Rattle.giotto_check.proofs.cited.EachLemmas.{each_next}

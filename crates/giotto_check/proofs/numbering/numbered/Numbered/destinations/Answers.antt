@@ -1,8 +1,8 @@
 use Rattle.giotto_tasks.specs.declared.names.Name.{Name}
 use Rattle.giotto_tasks.specs.Names.{is_among}
 use Rattle.giotto_tasks.specs.Syntax.{Expression}
-use Rattle.giotto_text.specs.Depth.{is_shallow}
-use Rattle.giotto_text.specs.ProgramTrees.{destination_of}
+use Rattle.giotto_rules.specs.text.Depth.{is_shallow}
+use Rattle.giotto_rules.specs.text.ProgramTrees.{destination_of}
 use Rattle.giotto_rules.specs.Declarations.{driver_ports, names_read, output_names}
 use Rattle.giotto_check.specs.cited.Timetables.{IsDestination}
 use Rattle.giotto_check.proofs.cited.EachLemmas.{each_next}

@@ -1,5 +1,5 @@
 use Rattle.std.proofs.Common.{map, take}
-use Rattle.giotto_text.specs.ProgramTrees.{destination_of}
+use Rattle.giotto_rules.specs.text.ProgramTrees.{destination_of}
 use Rattle.giotto_check.specs.cited.Timetables.{AreEach, IsDestination}
 use Rattle.giotto_check.proofs.numbering.numbered.Numbered.destinations.Given as goal
 

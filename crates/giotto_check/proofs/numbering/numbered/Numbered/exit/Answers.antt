@@ -3,8 +3,8 @@ use Rattle.std.proofs.lemmas.Bool.{and_parts}
 use Rattle.giotto_tasks.specs.declared.names.Name.{Name}
 use Rattle.giotto_tasks.specs.Names.{is_among}
 use Rattle.giotto_tasks.specs.Syntax.{Expression}
-use Rattle.giotto_text.specs.Depth.{is_shallow, has_shallow_guard}
-use Rattle.giotto_text.specs.ProgramTrees.{mode_of, switch_of}
+use Rattle.giotto_rules.specs.text.Depth.{is_shallow, has_shallow_guard}
+use Rattle.giotto_rules.specs.text.ProgramTrees.{mode_of, switch_of}
 use Rattle.giotto_rules.specs.Declarations.{driver_ports, names_read}
 use Rattle.giotto_rules.specs.Reads.{names_in_guard, names_in_switch}
 use Rattle.giotto_check.proofs.DriverReads.{readable_are_ports}

@@ -1,5 +1,5 @@
 use Rattle.std.proofs.Common.{ap, map, subst}
-use Rattle.giotto_text.specs.ProgramTrees.{mode_of, switch_of}
+use Rattle.giotto_rules.specs.text.ProgramTrees.{mode_of, switch_of}
 use Rattle.giotto_check.specs.cited.Facts.{ProgramFits, SwitchFits}
 use Rattle.giotto_check.specs.cited.Timetables.{IsExit}
 use Rattle.giotto_check.proofs.cited.EachLemmas.{all_item, each_next}

@@ -2,8 +2,8 @@ use Rattle.std.proofs.Common.{length, arith, refl}
 use Rattle.std.specs.List.{flat_map, list_all}
 use Rattle.std.proofs.lemmas.Bool.{and_parts}
 use Rattle.giotto_tasks.specs.Names.{is_among}
-use Rattle.giotto_text.specs.Depth.{is_shallow, has_shallow_guard}
-use Rattle.giotto_text.specs.ProgramTrees.{mode_of, invocation_of}
+use Rattle.giotto_rules.specs.text.Depth.{is_shallow, has_shallow_guard}
+use Rattle.giotto_rules.specs.text.ProgramTrees.{mode_of, invocation_of}
 use Rattle.giotto_rules.specs.Declarations.{driver_ports, names_read}
 use Rattle.giotto_rules.specs.Reads.{names_in_guard, names_in_invocation}
 use Rattle.giotto_check.proofs.DriverReads.{readable_are_ports}

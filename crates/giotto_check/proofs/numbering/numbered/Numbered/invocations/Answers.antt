@@ -1,5 +1,5 @@
 use Rattle.std.proofs.Common.{ap, map}
-use Rattle.giotto_text.specs.ProgramTrees.{mode_of, invocation_of}
+use Rattle.giotto_rules.specs.text.ProgramTrees.{mode_of, invocation_of}
 use Rattle.giotto_check.specs.cited.Facts.{InvocationFits}
 use Rattle.giotto_check.specs.cited.Timetables.{IsInvocation}
 use Rattle.giotto_check.proofs.cited.EachLemmas.{all_item, each_next}

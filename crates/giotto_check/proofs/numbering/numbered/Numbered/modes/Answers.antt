@@ -1,5 +1,5 @@
 use Rattle.std.proofs.Common.{subst}
-use Rattle.giotto_text.specs.ProgramTrees.{mode_of}
+use Rattle.giotto_rules.specs.text.ProgramTrees.{mode_of}
 use Rattle.giotto_check.specs.cited.Facts.{ModeFits}
 use Rattle.giotto_check.specs.cited.Timetables.{IsTimetable}
 use Rattle.giotto_check.proofs.cited.EachLemmas.{all_item, each_next}

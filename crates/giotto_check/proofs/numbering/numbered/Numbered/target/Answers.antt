@@ -1,5 +1,5 @@
 use Rattle.std.proofs.Common.{ap, ◌∙◌}
-use Rattle.giotto_text.specs.Program.{GiottoProgram}
+use Rattle.giotto_rules.specs.text.Program.{GiottoProgram}
 use Rattle.giotto_check.proofs.cited.EntryLemmas.{mode_found, mode_there}
 use Rattle.giotto_check.proofs.numbering.numbered.Numbered.target.Goals as goal
 

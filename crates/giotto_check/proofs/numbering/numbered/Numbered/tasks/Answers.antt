@@ -1,7 +1,7 @@
 use Rattle.std.proofs.Common.{◌+◌, length, map, take, drop, ap, sym, subst, arith, ◌∙◌}
 use Rattle.giotto_tasks.specs.Syntax.{TaskBody}
-use Rattle.giotto_text.specs.Program.{GiottoProgram}
-use Rattle.giotto_text.specs.ProgramTrees.{task_of}
+use Rattle.giotto_rules.specs.text.Program.{GiottoProgram}
+use Rattle.giotto_rules.specs.text.ProgramTrees.{task_of}
 use Rattle.giotto_rules.proofs.cited.ProgramParts.{names_of_states}
 use Rattle.giotto_check.specs.cited.Facts.{ProgramFits, TaskFits}
 use Rattle.giotto_check.specs.cited.Timetables.{AreTaskSlots}

@@ -1,6 +1,6 @@
 use Rattle.std.proofs.Common.{◌≡◌, ◌+◌, ◌*◌, ◌++◌, ◌≤◌, length, map, take}
 use Rattle.std.specs.List.{flat_map}
-use Rattle.giotto_text.specs.ProgramTrees.{task_of}
+use Rattle.giotto_rules.specs.text.ProgramTrees.{task_of}
 use Rattle.giotto_rules.specs.Declarations.{driver_ports}
 use Rattle.giotto_rules.specs.Ports.{ports_of_task, shared_port}
 use Rattle.giotto_check.specs.cited.Timetables.{AreEach, AreTaskSlots}

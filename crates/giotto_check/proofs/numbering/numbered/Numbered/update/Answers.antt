@@ -1,11 +1,11 @@
 use Rattle.giotto_tasks.specs.Names.{is_among}
 use Rattle.giotto_tasks.specs.Trees.{expression_of}
 use Rattle.std.proofs.lemmas.Bool.{and_parts}
-use Rattle.giotto_text.specs.Depth.{is_shallow, has_shallow_guard}
-use Rattle.giotto_text.specs.ProgramTrees.{mode_of, guard_of}
+use Rattle.giotto_rules.specs.text.Depth.{is_shallow, has_shallow_guard}
+use Rattle.giotto_rules.specs.text.ProgramTrees.{mode_of, guard_of}
 use Rattle.giotto_rules.specs.Declarations.{names_read}
 use Rattle.giotto_rules.specs.Reads.{names_in_guard, names_in_update}
-use Rattle.giotto_text.specs.ProgramTrees.{update_of}
+use Rattle.giotto_rules.specs.text.ProgramTrees.{update_of}
 use Rattle.giotto_check.proofs.DriverReads.{actuator_is_port, mode_ports_are_ports}
 use Rattle.giotto_check.proofs.TestLists.{all_in_parts}
 use Rattle.giotto_rules.specs.Declarations.{driver_ports}

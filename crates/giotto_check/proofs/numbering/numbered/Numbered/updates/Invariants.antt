@@ -1,5 +1,5 @@
 use Rattle.std.proofs.Common.{map, take}
-use Rattle.giotto_text.specs.ProgramTrees.{mode_of, update_of}
+use Rattle.giotto_rules.specs.text.ProgramTrees.{mode_of, update_of}
 use Rattle.giotto_check.specs.cited.Timetables.{AreEach, IsUpdate}
 use Rattle.giotto_check.proofs.numbering.numbered.Numbered.updates.Given as goal
 

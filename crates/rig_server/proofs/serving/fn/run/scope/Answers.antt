@@ -1,6 +1,6 @@
 use denote.Param.Send.{sendable}
 use Rattle.std.proofs.Crossing.{crosses}
-use Rattle.locked_book.proofs.cited.Crossing.{desk_sync}
+use Rattle.worker_pool.proofs.of_book.Crossing.{desk_sync}
 use Rattle.rig_server.proofs.serving.fn.run.scope.Goals as goal
 
 pub start-started-requires-sync-D : goal.start-started-requires-sync-D
