@@ -9,6 +9,7 @@ need no search of their own: the definition that gives a value names the value's
 import os
 import re
 
+from passed_on import origin
 from planting import Crate
 from sources import TOP, crates, files_of, read
 
@@ -155,10 +156,10 @@ class Sources:
         crate, _, rest = module.partition(".specs.")
         if crate not in crates():
             return module, False
-        if rest.startswith("declared."):
-            parts = [*rest.split(".")[1:], *([name] if rest.endswith(".TheConstants") else [])]
-            return self.declared(crate, parts), True
-        file = self.definitions.get(f"crates/{crate}/specs/{rest.replace('.', '/')}.antt")
+        crate, names = origin(crate, "specs", rest.split("."))
+        if names[0] == "declared":
+            return self.declared(crate, [*names[1:], *([name] if names[-1] == "TheConstants" else [])]), True
+        file = self.definitions.get(f"crates/{crate}/specs/{'/'.join(names)}.antt")
         found = file.own.get(name) if file else None
         if found is None:
             raise LookupError(f"{module} has no {name}")
@@ -166,28 +167,15 @@ class Sources:
 
     def declared(self, crate, parts):
         """The type or the constant of src/ that a module of specs.declared is made from."""
-        parts = [it for it in parts if not it.startswith("The")]
+        crate, parts = origin(crate, "src", [it for it in parts if not it.startswith("The")])
         own = [it for path, it in self.sources.items() if path.startswith(f"crates/{crate}/src/")]
         for path in (f"crates/{crate}/src/{'/'.join(parts[:-1]) or 'lib'}.rt", f"crates/{crate}/src/main.rt"):
             if path in self.sources and parts[-1] in self.sources[path].own:
                 return self.sources[path].own[parts[-1]]
         found = [it.own[parts[-1]] for it in own if parts[-1] in it.own]
-        below = None if found else self.exported(crate, parts[-1])
-        if below:
-            return self.declared(below[0], below[1:])
         if len(found) != 1:
             raise LookupError(f"{crate} has {len(found)} types {parts[-1]}")
         return found[0]
-
-    def exported(self, crate, name):
-        """Where a type of a lower crate is that this one exports, as a list of crate, modules and name."""
-        texts = [it.text for path, it in self.sources.items() if path.startswith(f"crates/{crate}/src/")]
-        for path, braced in (found for text in texts for found in RUST_USE.findall(text)):
-            whole = [f"{path}::{it.strip()}" for it in braced.split(",")] if braced else [path]
-            for parts in (it.split("::") for it in whole):
-                if parts[-1] == name and parts[0] in crates() and parts[0] != crate:
-                    return parts
-        return None
 
     def lead(self, item, text, around, scope, aliases):
         """Notes on an item what the words of this text lead to."""
