@@ -4,7 +4,7 @@ ghost use Rattle.std.specs.Prelude.{◌≡◌, ◌||◌, ◌+◌, ◌-◌, ◌^�
 ghost use Rattle.rig_retests.specs.Speaking.{is_tenants};
 
 use crate::courses::is_tenants;
-use crate::shared_lines::SharedLines;
+use crate::plant_lines::PlantLines;
 use rig_model::lines::words;
 use rig_script::speakers::Speaker;
 use std::alloc::{AllocError, Global};
@@ -16,7 +16,7 @@ pub struct Notes {
     /// Blank ones too.
     pub answered: usize,
     pub has_tenant: bool,
-    pub lines: SharedLines,
+    pub lines: PlantLines,
     /// Whether all could be noted so far.
     pub is_whole: bool,
 }
@@ -30,7 +30,7 @@ impl Notes {
         Notes {
             answered: 0,
             has_tenant: false,
-            lines: SharedLines::new(alloc),
+            lines: PlantLines::new(alloc),
             is_whole: true,
         }
     }
@@ -51,7 +51,7 @@ impl Notes {
 // Adds the program that a line gave a tenant, if it gave one.
 fn add_given(
     alloc: Global,
-    lines: &mut SharedLines,
+    lines: &mut PlantLines,
     speaker: Speaker,
     line: &str,
     reply: &str,

@@ -16,7 +16,7 @@ ghost use Rattle.rig_model.specs.Script.{past_after};
 
 use crate::courses::{Course, course_of};
 use crate::notes::Notes;
-use crate::shared_lines::SharedLines;
+use crate::plant_lines::PlantLines;
 use rig_model::config::{Config, TenantId};
 use rig_script::answers::{Answers, answer_lines};
 use rig_script::faults::{ScriptFault, Unanswered};
@@ -34,7 +34,7 @@ pub struct Retests {
     table: SourceTable,
     // The line that gave each tick, from tick 0 on.
     lines: Vec<usize>,
-    shared: SharedLines,
+    plant: PlantLines,
     course: Course,
 }
 
@@ -88,8 +88,8 @@ impl Retests {
     }
 
     /// The rig lines that the programs of the script use.
-    pub fn shared_lines(&self) -> &SharedLines {
-        &self.shared
+    pub fn plant_lines(&self) -> &PlantLines {
+        &self.plant
     }
 
     /// How the script went.
@@ -186,7 +186,7 @@ pub fn retests_of<R: Read>(
     Ok(Retests {
         table,
         lines,
-        shared: notes.lines,
+        plant: notes.lines,
         course: course_of(ending, notes.answered, notes.has_tenant),
     })
 }

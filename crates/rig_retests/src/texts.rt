@@ -4,6 +4,7 @@ ghost use Rattle.std.specs.Prelude.{◌≡◌, IfOk, string_bytes};
 ghost use Rattle.rig_retests.specs.inner.Texts.{text_of_bind, text_of_place};
 
 use crate::columns::Columns;
+use crate::plant_lines::Direction;
 use crate::tables::Retests;
 use rig_model::config::{Config, TenantId};
 use std::alloc::{AllocError, Global};
@@ -11,8 +12,8 @@ use tenant_sources::tables::Link;
 
 // What stands below the table.
 const REMARKS: &str = "
-A bind counts from the first tick behind it on, whether its value is offered or not.
-Whoever isn't named in a tenant's rows can change without a retest of that tenant.
+A bind counts from the first tick after it, whether its value is offered or not.
+The table knows binds, not the plant: a change may also pass from any line that is driven, through the plant, to any line that is read.
 ";
 
 /// The table: for each tenant, in the order of the roster, a row for each other tenant whose change calls for its retest, or one row
@@ -36,11 +37,11 @@ pub fn text_of_retests(
     let changes = text_of_changes(alloc, config, retests)?;
     text.push_str(changes.as_str())?;
     text.push_str(REMARKS)?;
-    let shared = retests.shared_lines().text(alloc, config)?;
-    writeln!(
-        text,
-        "What comes back through the plant isn't seen. Lines that one tenant drives here and another reads: {shared}."
-    )?;
+    let lines = retests.plant_lines();
+    let drivers = lines.users(alloc, config, Direction::Driven)?;
+    let readers = lines.users(alloc, config, Direction::Read)?;
+    writeln!(text, "Tenants that drive lines: {drivers}.")?;
+    writeln!(text, "Tenants that read lines: {readers}.")?;
     Ok(text)
 }
 
