@@ -7,6 +7,3 @@
 
 pub mod commands;
 pub mod sensors;
-
-pub use tenant_slots as slots;
-pub use tenant_slots::well_formed;

@@ -13,11 +13,11 @@ use Rattle.giotto_tasks.specs.Syntax.{TaskBody}
 use Rattle.giotto_tasks.proofs.cited.ListLemmas.{all_map, all_at, all_pass}
 use Rattle.giotto_tasks.proofs.cited.NameLemmas.{same_name_self}
 use Rattle.rig_model.specs.text.Program.{TaskDeclaration, GiottoProgram, body_of}
-use Rattle.tenant_exchange.specs.well_formed.cited.Timetables.{AreEach}
-use Rattle.tenant_exchange.proofs.of_well_formed.EachLemmas.{each_at, each_long}
-use Rattle.tenant_exchange.specs.well_formed.cited.Facts.{ProgramFits}
-use Rattle.tenant_exchange.specs.slots.Places.{name_of_task}
-use Rattle.tenant_exchange.proofs.of_slots.Numbered.{task_here, task_fits_at}
+use Rattle.tenant_slots.specs.well_formed.cited.Timetables.{AreEach}
+use Rattle.tenant_slots.proofs.of_well_formed.EachLemmas.{each_at, each_long}
+use Rattle.tenant_slots.specs.well_formed.cited.Facts.{ProgramFits}
+use Rattle.tenant_slots.specs.Places.{name_of_task}
+use Rattle.tenant_slots.proofs.cited.Numbered.{task_here, task_fits_at}
 use Rattle.tenant_state.proofs.EndedTasks.{some_of}
 use Rattle.tenant_state.specs.declared.tenants.Active.{Active}
 use Rattle.tenant_jobs.specs.cited.Jobs.{IsComputable}

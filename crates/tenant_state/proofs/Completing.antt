@@ -14,8 +14,8 @@ use Rattle.giotto_tasks.specs.Syntax.{TaskBody, finished}
 use Rattle.rig_model.specs.text.Program.{GiottoProgram, body_of}
 use Rattle.rig_model.specs.text.ProgramTrees as trees
 use Rattle.rig_model.specs.declared.text.programs.Task.{Task}
-use Rattle.tenant_exchange.specs.well_formed.cited.Facts.{ProgramFits}
-use Rattle.tenant_exchange.proofs.of_slots.Numbered.{task_here, task_fits_at}
+use Rattle.tenant_slots.specs.well_formed.cited.Facts.{ProgramFits}
+use Rattle.tenant_slots.proofs.cited.Numbered.{task_here, task_fits_at}
 use Rattle.rig_model.specs.declared.jobs.JobId.{JobId}
 use Rattle.tenant_jobs.specs.Finished.{TableEntry, entry_in, result_in, has_result}
 use Rattle.tenant_jobs.specs.cited.Finished.{is_entered, result_of}

@@ -17,16 +17,16 @@ use Rattle.giotto_tasks.proofs.cited.ListLemmas.{all_if_any, all_map, any_if_all
 use Rattle.giotto_tasks.proofs.cited.TestLemmas.{and_false, and_true}
 use Rattle.giotto_tasks.proofs.cited.NameLemmas.{same_name_is}
 use Rattle.rig_model.specs.text.Program.{TaskDeclaration, TaskInvocation, ModeDeclaration, GiottoProgram, body_of, names_of}
-use Rattle.tenant_exchange.specs.well_formed.cited.Facts.{ProgramFits}
-use Rattle.tenant_exchange.specs.well_formed.Slots.{valuation_of}
-use Rattle.tenant_exchange.specs.well_formed.cited.Timetables.{AreEach, IsInvocation, place_of_task}
-use Rattle.tenant_exchange.specs.declared.well_formed.timetables.SlotInvocation.{SlotInvocation}
-use Rattle.tenant_exchange.proofs.of_well_formed.PlaceLemmas.{passes_there, place_within}
+use Rattle.tenant_slots.specs.well_formed.cited.Facts.{ProgramFits}
+use Rattle.tenant_slots.specs.well_formed.Slots.{valuation_of}
+use Rattle.tenant_slots.specs.well_formed.cited.Timetables.{AreEach, IsInvocation, place_of_task}
+use Rattle.tenant_slots.specs.declared.well_formed.timetables.SlotInvocation.{SlotInvocation}
+use Rattle.tenant_slots.proofs.of_well_formed.PlaceLemmas.{passes_there, place_within}
 use Rattle.rig_model.specs.Due.{is_due_at}
-use Rattle.tenant_exchange.specs.slots.cited.Due.{IsQuietAt, is_among_due}
-use Rattle.tenant_exchange.specs.slots.Places.{name_of_task}
+use Rattle.tenant_slots.specs.cited.Due.{IsQuietAt, is_among_due}
+use Rattle.tenant_slots.specs.Places.{name_of_task}
 use Rattle.rig_model.specs.Updates.{all_updated, updates_happened}
-use Rattle.tenant_exchange.proofs.of_slots.Numbered.{invocation_due, mode_here, same_task, task_here}
+use Rattle.tenant_slots.proofs.cited.Numbered.{invocation_due, mode_here, same_task, task_here}
 use Rattle.rig_model.specs.grants.Grants.{GrantRows}
 use Rattle.tenant_state.specs.declared.tenants.Active.{Active}
 use Rattle.tenant_state.specs.declared.tenants.waiting.Waiting.{Waiting}

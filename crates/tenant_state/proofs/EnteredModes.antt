@@ -7,9 +7,9 @@ use Rattle.std.proofs.lemmas.Option.{slice_get_cases}
 use Rattle.giotto_tasks.specs.Names.{Valuation, same_name}
 use Rattle.rig_model.specs.text.Program.{ModeDeclaration, ModeSwitch, GiottoProgram}
 use Rattle.rig_model.specs.rules.Declarations.{mode_named}
-use Rattle.tenant_exchange.specs.well_formed.Slots.{valuation_of}
-use Rattle.tenant_exchange.specs.well_formed.cited.Timetables.{place_of_mode}
-use Rattle.tenant_exchange.proofs.of_well_formed.PlaceLemmas.{found_there, place_if_found, place_within}
+use Rattle.tenant_slots.specs.well_formed.Slots.{valuation_of}
+use Rattle.tenant_slots.specs.well_formed.cited.Timetables.{place_of_mode}
+use Rattle.tenant_slots.proofs.of_well_formed.PlaceLemmas.{found_there, place_if_found, place_within}
 use Rattle.rig_model.specs.Due.{is_due_at}
 use Rattle.rig_model.specs.Ports.{holds}
 use Rattle.rig_model.specs.Switches.{switch_taken, with_destinations}

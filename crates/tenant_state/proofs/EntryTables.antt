@@ -8,7 +8,7 @@ use Rattle.std.proofs.lemmas.Map.Views.{any-filter_same}
 use Rattle.giotto_tasks.proofs.cited.ListLemmas.{all_filter}
 use Rattle.tenant_state.specs.inner.EntryTable.{IsTableOf, is_task_open}
 use Rattle.tenant_state.specs.declared.tenants.Active.{Active}
-use Rattle.tenant_exchange.specs.declared.slots.due.TheConstants.{TABLED_TASKS}
+use Rattle.tenant_slots.specs.declared.due.TheConstants.{TABLED_TASKS}
 
 -- one entry more, of a task that has none yet
 pub table_more : (items : List Active) (i : ℕ) (d : Active) (table : List ℕ) → i < length items → length table ≡ TABLED_TASKS → (get_or items i d).task < TABLED_TASKS → get_or table (get_or items i d).task 0 ≡ 0

@@ -9,7 +9,7 @@ use Rattle.giotto_tasks.proofs.cited.TestLemmas.{and_false}
 use Rattle.rig_model.specs.text.Program.{ActuatorUpdate, TaskInvocation, ModeDeclaration, GiottoProgram}
 use Rattle.rig_model.specs.rules.Declarations.{mode_named}
 use Rattle.rig_model.specs.Due.{is_due_at}
-use Rattle.tenant_exchange.specs.slots.cited.Due.{IsQuietAt}
+use Rattle.tenant_slots.specs.cited.Due.{IsQuietAt}
 use Rattle.rig_model.specs.Ports.{holds}
 use Rattle.rig_model.specs.Updates.{all_updated, updated, updates_happened}
 use Rattle.rig_model.specs.declared.trace.records.Happening.TheVariants as happening

@@ -12,14 +12,14 @@ use Rattle.giotto_tasks.specs.Syntax.{TaskBody}
 use Rattle.rig_model.specs.text.PortNames.{with_values}
 use Rattle.rig_model.specs.text.Program.{TaskDeclaration, TaskInvocation, ModeDeclaration, GiottoProgram}
 use Rattle.rig_model.specs.rules.Declarations.{task_named, sensor_names}
-use Rattle.tenant_exchange.specs.well_formed.cited.Facts.{ProgramFits}
-use Rattle.tenant_exchange.specs.well_formed.Slots.{valuation_of}
+use Rattle.tenant_slots.specs.well_formed.cited.Facts.{ProgramFits}
+use Rattle.tenant_slots.specs.well_formed.Slots.{valuation_of}
 use Rattle.rig_model.specs.declared.config.Budgets.{Budgets}
 use Rattle.rig_model.specs.grants.Grants.{GrantRows}
 use Rattle.rig_model.specs.Due.{is_due_at}
-use Rattle.tenant_exchange.specs.slots.Places.{name_of_mode}
+use Rattle.tenant_slots.specs.Places.{name_of_mode}
 use Rattle.rig_model.specs.Readings.{Readings, reading_taken}
-use Rattle.tenant_exchange.proofs.of_slots.Numbered.{mode_here}
+use Rattle.tenant_slots.proofs.cited.Numbered.{mode_here}
 use Rattle.tenant_state.specs.declared.tenants.Active.{Active}
 use Rattle.tenant_state.specs.declared.tenants.waiting.Waiting.{Waiting}
 use Rattle.tenant_state.specs.declared.tenants.State.TheVariants.{Running}

@@ -14,7 +14,7 @@ use Rattle.tenant_state.specs.cited.Halves.{IsSecondHalf}
 use Rattle.tenant_state.specs.cited.Standing.{AreReleased, IsBehind}
 use Rattle.tenant_state.proofs.Replaced.{installed_first}
 use Rattle.giotto_tasks.specs.Syntax.{TaskBody}
-use Rattle.tenant_exchange.specs.well_formed.cited.Facts.{ProgramFits}
+use Rattle.tenant_slots.specs.well_formed.cited.Facts.{ProgramFits}
 use Rattle.rig_model.specs.declared.config.Budgets.{Budgets}
 use Rattle.rig_model.specs.grants.Grants.{GrantRows}
 use Rattle.rig_model.specs.trace.Trace.{LastRecords}

@@ -16,13 +16,13 @@ use Rattle.rig_model.specs.rules.cited.KeepsRules.{KeepsRules}
 use Rattle.rig_model.specs.rules.Rules.{switches_keep_periods}
 use Rattle.rig_model.specs.rules.Switches.{goes_on_with, is_period, keeps_period, mode_keeps_periods, switch_keeps_periods}
 use Rattle.rig_model.proofs.of_rules.RulesKept.{rule_kept}
-use Rattle.tenant_exchange.specs.well_formed.cited.Facts.{ProgramFits}
+use Rattle.tenant_slots.specs.well_formed.cited.Facts.{ProgramFits}
 use Rattle.rig_model.specs.grants.Grants.{GrantRows}
 use Rattle.rig_model.specs.Due.{is_due_at}
-use Rattle.tenant_exchange.specs.slots.Places.{name_of_mode}
+use Rattle.tenant_slots.specs.Places.{name_of_mode}
 use Rattle.rig_model.specs.Switches.{is_open, switch_taken}
-use Rattle.tenant_exchange.proofs.of_slots.CommonMultiples.{divides, is_divided}
-use Rattle.tenant_exchange.proofs.of_slots.Numbered.{mode_here}
+use Rattle.tenant_slots.proofs.cited.CommonMultiples.{divides, is_divided}
+use Rattle.tenant_slots.proofs.cited.Numbered.{mode_here}
 use Rattle.tenant_state.specs.declared.tenants.Active.{Active}
 use Rattle.tenant_state.specs.declared.tenants.waiting.Waiting.{Waiting}
 use Rattle.tenant_state.specs.declared.tenants.switches.Entry.{Entry}

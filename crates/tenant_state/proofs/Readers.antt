@@ -15,18 +15,18 @@ use Rattle.rig_model.specs.text.ProgramTrees.{actuator_of, sensor_of}
 use Rattle.rig_model.specs.declared.text.programs.Actuator.{Actuator}
 use Rattle.rig_model.specs.declared.text.programs.Sensor.{Sensor}
 use Rattle.rig_model.specs.rules.Declarations.{sensor_names, actuator_names, output_names}
-use Rattle.tenant_exchange.specs.well_formed.cited.Facts.{ProgramFits}
-use Rattle.tenant_exchange.specs.well_formed.Slots.{port_names, valuation_of}
+use Rattle.tenant_slots.specs.well_formed.cited.Facts.{ProgramFits}
+use Rattle.tenant_slots.specs.well_formed.Slots.{port_names, valuation_of}
 use Rattle.rig_model.specs.rules.Ports.{ports_of, ports_of_task, shown_name}
-use Rattle.tenant_exchange.specs.well_formed.cited.Slots.{slots_of}
-use Rattle.tenant_exchange.specs.well_formed.cited.Timetables.{AreEach, IsInvocation}
-use Rattle.tenant_exchange.specs.declared.well_formed.timetables.SlotInvocation.{SlotInvocation}
-use Rattle.tenant_exchange.proofs.of_well_formed.PlaceLemmas.{passes_there, place-map, place_if_found}
-use Rattle.tenant_exchange.proofs.of_well_formed.SlotLemmas.{port_names_begin}
-use Rattle.tenant_exchange.proofs.of_well_formed.Valuations.{value_at_place}
+use Rattle.tenant_slots.specs.well_formed.cited.Slots.{slots_of}
+use Rattle.tenant_slots.specs.well_formed.cited.Timetables.{AreEach, IsInvocation}
+use Rattle.tenant_slots.specs.declared.well_formed.timetables.SlotInvocation.{SlotInvocation}
+use Rattle.tenant_slots.proofs.of_well_formed.PlaceLemmas.{passes_there, place-map, place_if_found}
+use Rattle.tenant_slots.proofs.of_well_formed.SlotLemmas.{port_names_begin}
+use Rattle.tenant_slots.proofs.of_well_formed.Valuations.{value_at_place}
 use Rattle.rig_model.specs.Due.{is_due_at}
-use Rattle.tenant_exchange.specs.slots.Places.{name_of_task}
-use Rattle.tenant_exchange.proofs.of_slots.Numbered.{invocation_due, mode_here, same_task}
+use Rattle.tenant_slots.specs.Places.{name_of_task}
+use Rattle.tenant_slots.proofs.cited.Numbered.{invocation_due, mode_here, same_task}
 use Rattle.rig_model.specs.declared.jobs.JobId.{JobId}
 use Rattle.rig_model.specs.grants.Grants.{GrantRows}
 use Rattle.rig_model.specs.config.Roster.{no_budgets}

@@ -8,15 +8,15 @@ use Rattle.std.proofs.lemmas.Option.{slice_get_cases}
 use Rattle.giotto_tasks.specs.Names.{Valuation}
 use Rattle.rig_model.specs.text.Program.{TaskDeclaration, TaskInvocation, ModeDeclaration, GiottoProgram, body_of}
 use Rattle.rig_model.specs.rules.Declarations.{task_named}
-use Rattle.tenant_exchange.specs.well_formed.cited.Facts.{InvocationFits, ProgramFits}
-use Rattle.tenant_exchange.specs.well_formed.cited.Timetables.{AreEach, IsExpression, IsInvocation}
-use Rattle.tenant_exchange.specs.declared.well_formed.timetables.SlotInvocation.{SlotInvocation}
+use Rattle.tenant_slots.specs.well_formed.cited.Facts.{InvocationFits, ProgramFits}
+use Rattle.tenant_slots.specs.well_formed.cited.Timetables.{AreEach, IsExpression, IsInvocation}
+use Rattle.tenant_slots.specs.declared.well_formed.timetables.SlotInvocation.{SlotInvocation}
 use Rattle.giotto_tasks.proofs.cited.ListLemmas.{all_middle, stepped}
 use Rattle.giotto_tasks.proofs.cited.SoundLemmas.{sound_small}
-use Rattle.tenant_exchange.proofs.of_well_formed.EachLemmas.{each_long}
+use Rattle.tenant_slots.proofs.of_well_formed.EachLemmas.{each_long}
 use Rattle.rig_model.specs.Due.{is_due_at}
-use Rattle.tenant_exchange.proofs.of_slots.Numbered.{mode_fits_at, task_fits_at, task_of_place, invocation_interval}
-use Rattle.tenant_exchange.proofs.of_slots.Updates.{each_item}
+use Rattle.tenant_slots.proofs.cited.Numbered.{mode_fits_at, task_fits_at, task_of_place, invocation_interval}
+use Rattle.tenant_slots.proofs.cited.Updates.{each_item}
 use Rattle.tenant_state.specs.ActiveTasks.{TaskList}
 use Rattle.rig_model.specs.SecondHalf.{is_invoked, released, with_inputs, all_invoked, all_released}
 use Rattle.tenant_state.specs.Tenants.{active_of}

@@ -11,8 +11,8 @@ use Rattle.tenant_state.specs.declared.tenants.Active.{Active}
 use Rattle.tenant_state.specs.declared.tenants.State.TheVariants.{Running}
 use Rattle.tenant_state.specs.declared.tenants.waiting.Waiting.{Waiting}
 use Rattle.rig_model.specs.grants.Grants.{GrantRows}
-use Rattle.tenant_exchange.specs.well_formed.Slots.{valuation_of}
-use Rattle.tenant_exchange.specs.slots.Places.{name_of_mode}
+use Rattle.tenant_slots.specs.well_formed.Slots.{valuation_of}
+use Rattle.tenant_slots.specs.Places.{name_of_mode}
 use Rattle.rig_model.specs.declared.trace.records.Happening.TheVariants as happening
 use Rattle.rig_model.specs.trace.Trace.{LastRecords}
 use Rattle.rig_model.specs.trace.cited.Noted.{noted}
@@ -21,8 +21,8 @@ use Rattle.rig_model.specs.SecondHalf.{counted, installed, invoked_in_mode, move
 use Rattle.rig_model.specs.declared.trace.records.Record.{Record}
 use Rattle.std.specs.Option.{option_map_or}
 use Rattle.rig_model.specs.rules.Declarations.{mode_named}
-use Rattle.tenant_exchange.specs.well_formed.cited.Facts.{ProgramFits}
-use Rattle.tenant_exchange.proofs.of_slots.Numbered.{mode_here}
+use Rattle.tenant_slots.specs.well_formed.cited.Facts.{ProgramFits}
+use Rattle.tenant_slots.proofs.cited.Numbered.{mode_here}
 use Rattle.tenant_state.specs.Standing.{most_at, most_in_mode, most_released, with_last}
 use Rattle.tenant_state.specs.cited.Standing.{IsSettled}
 use Rattle.tenant_state.proofs.Records.{recorded_behind}

@@ -9,14 +9,14 @@ use Rattle.giotto_tasks.specs.declared.names.Name.{Name}
 use Rattle.giotto_tasks.specs.Names.{Valuation, same_name}
 use Rattle.rig_model.specs.text.Program.{ModeSwitch, TaskInvocation, ModeDeclaration, GiottoProgram}
 use Rattle.rig_model.specs.rules.Declarations.{mode_named, period_of_task}
-use Rattle.tenant_exchange.specs.well_formed.cited.Facts.{ProgramFits}
-use Rattle.tenant_exchange.specs.well_formed.Slots.{valuation_of}
+use Rattle.tenant_slots.specs.well_formed.cited.Facts.{ProgramFits}
+use Rattle.tenant_slots.specs.well_formed.Slots.{valuation_of}
 use Rattle.rig_model.specs.Due.{is_due_at}
-use Rattle.tenant_exchange.specs.slots.cited.Due.{IsQuietUntil}
-use Rattle.tenant_exchange.specs.slots.Places.{name_of_mode}
+use Rattle.tenant_slots.specs.cited.Due.{IsQuietUntil}
+use Rattle.tenant_slots.specs.Places.{name_of_mode}
 use Rattle.rig_model.specs.Ports.{holds}
 use Rattle.rig_model.specs.Readings.{Readings}
-use Rattle.tenant_exchange.proofs.of_slots.Numbered.{mode_fits_at}
+use Rattle.tenant_slots.proofs.cited.Numbered.{mode_fits_at}
 use Rattle.tenant_state.specs.declared.tenants.switches.Entry.{Entry}
 use Rattle.rig_model.specs.declared.trace.records.Happening.TheVariants as happening
 use Rattle.rig_model.specs.declared.trace.records.Happening.{Happening}

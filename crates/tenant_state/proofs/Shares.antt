@@ -17,13 +17,13 @@ use Rattle.rig_model.specs.text.ProgramTrees as trees
 use Rattle.giotto_tasks.proofs.cited.ListLemmas.{all_same, some_same, is_some-option_map}
 use Rattle.rig_model.specs.rules.Declarations.{mode_named}
 use Rattle.rig_model.specs.rules.Costs.{greatest}
-use Rattle.tenant_exchange.specs.well_formed.cited.Timetables.{AreEach, IsInvocation, place_of_mode}
-use Rattle.tenant_exchange.specs.well_formed.cited.Facts.{ProgramFits}
-use Rattle.tenant_exchange.specs.declared.well_formed.timetables.SlotInvocation.{SlotInvocation}
-use Rattle.tenant_exchange.proofs.of_well_formed.EachLemmas.{each_long}
-use Rattle.tenant_exchange.proofs.of_well_formed.PlaceLemmas.{found_there, place_if_found}
+use Rattle.tenant_slots.specs.well_formed.cited.Timetables.{AreEach, IsInvocation, place_of_mode}
+use Rattle.tenant_slots.specs.well_formed.cited.Facts.{ProgramFits}
+use Rattle.tenant_slots.specs.declared.well_formed.timetables.SlotInvocation.{SlotInvocation}
+use Rattle.tenant_slots.proofs.of_well_formed.EachLemmas.{each_long}
+use Rattle.tenant_slots.proofs.of_well_formed.PlaceLemmas.{found_there, place_if_found}
 use Rattle.rig_model.specs.Due.{is_due_at}
-use Rattle.tenant_exchange.proofs.of_slots.Numbered.{mode_here}
+use Rattle.tenant_slots.proofs.cited.Numbered.{mode_here}
 use Rattle.tenant_state.proofs.DueTasks.{none_passes}
 use Rattle.tenant_state.proofs.GreatestOf.{greatest_more}
 use Rattle.tenant_state.proofs.TenantFacts.{body_of_task}

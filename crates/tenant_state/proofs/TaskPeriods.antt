@@ -12,17 +12,17 @@ use Rattle.giotto_tasks.specs.declared.names.Name.{Name}
 use Rattle.giotto_tasks.proofs.cited.ListLemmas.{some_same}
 use Rattle.rig_model.specs.text.Program.{ModeDeclaration, GiottoProgram}
 use Rattle.rig_model.specs.rules.Declarations.{period_of_task}
-use Rattle.tenant_exchange.specs.well_formed.cited.Facts.{ModeFits, ProgramFits}
-use Rattle.tenant_exchange.specs.slots.Places.{name_of_task}
-use Rattle.tenant_exchange.proofs.of_slots.Numbered.{mode_fits_at}
+use Rattle.tenant_slots.specs.well_formed.cited.Facts.{ModeFits, ProgramFits}
+use Rattle.tenant_slots.specs.Places.{name_of_task}
+use Rattle.tenant_slots.proofs.cited.Numbered.{mode_fits_at}
 use Rattle.tenant_state.specs.declared.tenants.Active.{Active}
 use Rattle.rig_model.specs.CommonPeriods.{is_common_multiple}
-use Rattle.tenant_exchange.specs.slots.cited.CommonPeriods.{IsLeastCommonMultiple, IsCommonPeriod}
+use Rattle.tenant_slots.specs.cited.CommonPeriods.{IsLeastCommonMultiple, IsCommonPeriod}
 use Rattle.rig_model.specs.Row.{ActiveTask}
 use Rattle.rig_model.specs.SecondHalf.{time_before_end}
 use Rattle.tenant_state.specs.Tenants.{active_of}
-use Rattle.tenant_exchange.proofs.of_slots.CommonMultiples.{is_divided, least_is, of_more, of_one}
-use Rattle.tenant_exchange.proofs.of_slots.InvokedPeriods.{period_divides}
+use Rattle.tenant_slots.proofs.cited.CommonMultiples.{is_divided, least_is, of_more, of_one}
+use Rattle.tenant_slots.proofs.cited.InvokedPeriods.{period_divides}
 
 -- the periods of those of the tasks that the mode invokes
 abbrev pub periods_of : ModeDeclaration → List ActiveTask → List ℕ

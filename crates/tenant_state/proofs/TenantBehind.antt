@@ -16,10 +16,10 @@ use Rattle.giotto_tasks.specs.Syntax.{TaskBody}
 use Rattle.rig_model.specs.declared.text.programs.Mode.{Mode}
 use Rattle.rig_model.specs.text.ProgramTrees as tree
 use Rattle.rig_model.specs.text.Program.{TaskDeclaration, TaskInvocation, ModeDeclaration, GiottoProgram}
-use Rattle.tenant_exchange.specs.well_formed.cited.Facts.{ProgramFits}
-use Rattle.tenant_exchange.specs.slots.cited.Due.{IsQuietUntil}
-use Rattle.tenant_exchange.specs.slots.Places.{name_of_task}
-use Rattle.tenant_exchange.proofs.of_slots.Numbered.{mode_fits_at}
+use Rattle.tenant_slots.specs.well_formed.cited.Facts.{ProgramFits}
+use Rattle.tenant_slots.specs.cited.Due.{IsQuietUntil}
+use Rattle.tenant_slots.specs.Places.{name_of_task}
+use Rattle.tenant_slots.proofs.cited.Numbered.{mode_fits_at}
 use Rattle.tenant_state.specs.declared.tenants.Active.{Active}
 use Rattle.tenant_state.specs.Jobs.{job_in, released_at}
 use Rattle.rig_model.specs.config.Intervals.{whole}

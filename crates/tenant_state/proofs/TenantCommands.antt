@@ -8,10 +8,10 @@ use Rattle.tenant_state.specs.declared.tenants.State as code
 use Rattle.rig_model.specs.Commands.{at_beginning}
 use Rattle.rig_model.specs.declared.text.programs.Task.{Task}
 use Rattle.rig_model.specs.text.ProgramTrees.{task_of}
-use Rattle.tenant_exchange.specs.well_formed.cited.Timetables.{AreEach}
-use Rattle.tenant_exchange.specs.well_formed.Slots.{valuation_of}
+use Rattle.tenant_slots.specs.well_formed.cited.Timetables.{AreEach}
+use Rattle.tenant_slots.specs.well_formed.Slots.{valuation_of}
 use Rattle.rig_model.specs.grants.Grants.{GrantRows}
-use Rattle.tenant_exchange.specs.slots.Places.{name_of_mode}
+use Rattle.tenant_slots.specs.Places.{name_of_mode}
 use Rattle.rig_model.specs.Ports.{initial_ports}
 use Rattle.rig_model.specs.Row.{Row}
 use Rattle.tenant_state.specs.Standing.{with_last}

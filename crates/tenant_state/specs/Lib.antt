@@ -6,4 +6,4 @@ pub mod Tenants
 pub mod cited
 pub mod inner
 pub use Rattle.tenant_jobs.specs as job_table
-pub use Rattle.tenant_exchange.specs.well_formed
+pub use Rattle.tenant_slots.specs.well_formed

@@ -6,10 +6,10 @@ use Rattle.giotto_tasks.specs.declared.names.Name.{Name}
 use Rattle.giotto_tasks.specs.Names.{Valuation}
 use Rattle.giotto_tasks.specs.Syntax.{TaskBody}
 use Rattle.rig_model.specs.text.Program.{GiottoProgram}
-use Rattle.tenant_exchange.specs.well_formed.Slots.{valuation_of}
+use Rattle.tenant_slots.specs.well_formed.Slots.{valuation_of}
 use Rattle.rig_model.specs.declared.config.Budgets.{Budgets}
 use Rattle.rig_model.specs.grants.Grants.{GrantRows}
-use Rattle.tenant_exchange.specs.slots.Places.{name_of_task, name_of_mode}
+use Rattle.tenant_slots.specs.Places.{name_of_task, name_of_mode}
 use Rattle.tenant_state.specs.declared.tenants.Active.{Active}
 use Rattle.tenant_state.specs.declared.tenants.Reason.{Reason}
 use Rattle.tenant_state.specs.declared.tenants.Reason.TheVariants.{Asked, Overrun}

@@ -29,8 +29,8 @@ use rig_model::trace::traces::Trace;
 use std::alloc::{AllocError, Global};
 use std::marker::Model;
 use std::sync::Arc;
-use tenant_exchange::well_formed::Checked;
 use tenant_jobs::jobs::Key;
+use tenant_slots::well_formed::Checked;
 
 /// Why a tenant was stopped.
 #[derive(Drop)]

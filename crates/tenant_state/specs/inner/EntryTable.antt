@@ -1,8 +1,8 @@
 -- The active entries, by the places of the tasks.
 use Rattle.std.specs.Prelude.{◌≡◌, ◌<◌, ◌≤◌, ◌-◌, ◌%◌, ◌==◌, ◌&&◌, ℕ, ℤ, nat_eq, Bool, not, List, [], ◌∷◌, map, filter, get_or, take, drop}
 use Rattle.std.specs.List.{list_any}
-use Rattle.tenant_exchange.specs.well_formed.Slots.{valuation_of}
-use Rattle.tenant_exchange.specs.declared.well_formed.timetables.SlotInvocation.{SlotInvocation}
+use Rattle.tenant_slots.specs.well_formed.Slots.{valuation_of}
+use Rattle.tenant_slots.specs.declared.well_formed.timetables.SlotInvocation.{SlotInvocation}
 use Rattle.rig_model.specs.text.Program.{GiottoProgram, ModeDeclaration}
 use Rattle.tenant_state.specs.declared.tenants.Active.{Active}
 use Rattle.rig_model.specs.FirstHalf.{all_ended, due_among, outputs_of_end}
@@ -12,7 +12,7 @@ use Rattle.std.specs.Option.{option_map_or}
 use Rattle.rig_model.specs.trace.Trace.{LastRecords}
 use Rattle.rig_model.specs.trace.cited.Noted.{noted}
 use Rattle.tenant_state.specs.Tenants.{active_of}
-use Rattle.tenant_exchange.specs.declared.slots.due.TheConstants.{TABLED_TASKS}
+use Rattle.tenant_slots.specs.declared.due.TheConstants.{TABLED_TASKS}
 
 -- the active entries of the task at this place
 abbrev pub entries_at : ℕ → List Active → List Active

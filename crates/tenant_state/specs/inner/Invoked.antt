@@ -2,7 +2,7 @@
 use Rattle.std.specs.Prelude.{IsSome}
 use Rattle.rig_model.specs.rules.Declarations.{period_of_task}
 use Rattle.rig_model.specs.text.Program.{GiottoProgram, ModeDeclaration}
-use Rattle.tenant_exchange.specs.slots.Places.{name_of_task}
+use Rattle.tenant_slots.specs.Places.{name_of_task}
 use Rattle.tenant_state.specs.declared.tenants.Active.{Active}
 
 -- the mode invokes the active task

@@ -1,12 +1,12 @@
 -- What an entry of a mode's timetable stands for, where its task is released.
 use Rattle.std.specs.Prelude.{◌≡◌, ◌≤◌, ℕ, ℤ, List, length}
-use Rattle.tenant_exchange.specs.well_formed.Slots.{valuation_of}
-use Rattle.tenant_exchange.specs.well_formed.cited.Timetables.{IsInvocation}
-use Rattle.tenant_exchange.specs.declared.well_formed.timetables.SlotInvocation.{SlotInvocation}
+use Rattle.tenant_slots.specs.well_formed.Slots.{valuation_of}
+use Rattle.tenant_slots.specs.well_formed.cited.Timetables.{IsInvocation}
+use Rattle.tenant_slots.specs.declared.well_formed.timetables.SlotInvocation.{SlotInvocation}
 use Rattle.rig_model.specs.text.Program.{GiottoProgram, ModeDeclaration, TaskDeclaration, TaskInvocation}
 use Rattle.rig_model.specs.Row.{ActiveTask}
 use Rattle.rig_model.specs.SecondHalf.{released, with_inputs}
-use Rattle.tenant_exchange.specs.slots.cited.Places.{IsTaskAt}
+use Rattle.tenant_slots.specs.cited.Places.{IsTaskAt}
 
 -- the entry stands for an invocation in one of the modes, with as many arguments as its task has inputs, at most 16
 pub record IsEntryOf (p : GiottoProgram) (entry : SlotInvocation) : Type 0 where

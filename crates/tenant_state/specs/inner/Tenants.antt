@@ -9,23 +9,23 @@ use Rattle.tenant_state.specs.Standing.{all_different_releases}
 use Rattle.tenant_state.specs.declared.tenants.Active.{Active}
 use Rattle.giotto_tasks.specs.Names.{same_name, Valuation}
 use Rattle.rig_model.specs.text.Program.{GiottoProgram, TaskDeclaration, body_of, ModeDeclaration, ModeSwitch}
-use Rattle.tenant_exchange.specs.slots.Places.{name_of_mode, name_of_task}
-use Rattle.tenant_exchange.specs.slots.cited.Places.{IsModeAt}
+use Rattle.tenant_slots.specs.Places.{name_of_mode, name_of_task}
+use Rattle.tenant_slots.specs.cited.Places.{IsModeAt}
 use Rattle.rig_model.specs.declared.jobs.JobId.{JobId}
 use Rattle.tenant_jobs.specs.declared.jobs.JobResult.{JobResult}
 use Rattle.tenant_state.specs.Tenants.{active_of, tasks_in}
 use Rattle.rig_model.specs.Row.{ActiveTask, TenantState, is_running_state}
 use Rattle.std.specs.List.{AllByRecursion}
-use Rattle.tenant_exchange.specs.well_formed.cited.Slots.{slots_of}
-use Rattle.tenant_exchange.specs.well_formed.Slots.{valuation_of}
+use Rattle.tenant_slots.specs.well_formed.cited.Slots.{slots_of}
+use Rattle.tenant_slots.specs.well_formed.Slots.{valuation_of}
 use Rattle.rig_model.specs.SecondHalf.{all_invoked, all_released, entry_time}
 use Rattle.rig_model.specs.rules.Declarations.{mode_named}
 use Rattle.rig_model.specs.Switches.{switch_taken, with_destinations}
 use Rattle.tenant_state.specs.declared.tenants.switches.Entry.{Entry}
 use Rattle.giotto_tasks.specs.Syntax.{TaskBody}
-use Rattle.tenant_exchange.specs.well_formed.cited.Timetables.{AreEach}
-use Rattle.tenant_exchange.specs.slots.cited.Due.{IsQuietUntil}
-use Rattle.tenant_exchange.specs.slots.cited.Replacement.{IsCarryTable}
+use Rattle.tenant_slots.specs.well_formed.cited.Timetables.{AreEach}
+use Rattle.tenant_slots.specs.cited.Due.{IsQuietUntil}
+use Rattle.tenant_slots.specs.cited.Replacement.{IsCarryTable}
 use Rattle.rig_model.specs.Ports.{initial_ports}
 use Rattle.tenant_state.specs.declared.tenants.waiting.Beginning.{Beginning}
 use Rattle.tenant_state.specs.declared.tenants.waiting.Waiting.{Waiting}

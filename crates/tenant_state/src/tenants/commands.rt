@@ -20,11 +20,11 @@ use rig_model::lines::ports::PortValue;
 use rig_model::lines::replies::{Refusal, Reply};
 use rig_model::trace::records::Happening;
 use tenant_exchange::commands;
-use tenant_exchange::slots::beginning::reset_ports;
-use tenant_exchange::slots::names::{mode_name, start_place};
-use tenant_exchange::well_formed::Checked;
 use tenant_programs::budgets::broken_budget;
 use tenant_programs::prepared::{Prepared, Reading, prepare, program_by_reading};
+use tenant_slots::beginning::reset_ports;
+use tenant_slots::names::{mode_name, start_place};
+use tenant_slots::well_formed::Checked;
 
 impl Tenant {
     /// Carries out a command, as `carry_out`. Its text, if it has one, is read first.

@@ -4,9 +4,9 @@ ghost use Rattle.std.specs.Prelude.{◌≡◌, ◌<◌, ◌↔◌, ◌||◌, ◌
 ghost use Rattle.std.specs.Arc.{arc_value};
 ghost use Rattle.std.specs.List.{AllByRecursion};
 ghost use Rattle.std.specs.Option.{option_and_then};
-ghost use Rattle.tenant_exchange.specs.well_formed.cited.Facts.{ProgramFits};
+ghost use Rattle.tenant_slots.specs.well_formed.cited.Facts.{ProgramFits};
 ghost use Rattle.rig_model.specs.text.ProgramTrees.{task_of};
-ghost use Rattle.tenant_exchange.specs.slots.cited.Places.{IsTaskAt};
+ghost use Rattle.tenant_slots.specs.cited.Places.{IsTaskAt};
 ghost use Rattle.tenant_jobs.specs.Finished.{entry_in, has_result, result_in};
 ghost use Rattle.tenant_jobs.specs.cited.Finished.{entry_put, is_entered};
 ghost use Rattle.rig_model.specs.Jobs.{job_of, same_job};
@@ -21,9 +21,9 @@ use rig_model::config::TenantId;
 use rig_model::text::programs::Task;
 use std::alloc::AllocError;
 use std::sync::Arc;
-use tenant_exchange::well_formed::Checked;
 use tenant_jobs::finished::Finished;
 use tenant_jobs::jobs::{Done, Job, JobId, JobResult};
+use tenant_slots::well_formed::Checked;
 
 impl Tenant {
     /// Whether this is the result of an active task's job: the task is active with the job's release, and the job's body, inputs and

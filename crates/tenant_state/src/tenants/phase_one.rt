@@ -4,14 +4,14 @@ ghost use Rattle.std.specs.Prelude.{◌≡◌, ◌<◌, ◌≤◌, not, true, fa
 ghost use Rattle.std.specs.List.{find, list_any, AllByRecursion};
 ghost use Rattle.std.specs.Option.{option_map};
 ghost use Rattle.rig_model.specs.text.Program.{ModeDeclaration};
-ghost use Rattle.tenant_exchange.specs.well_formed.cited.Slots.{slots_of};
-ghost use Rattle.tenant_exchange.specs.well_formed.Slots.{valuation_of};
-ghost use Rattle.tenant_exchange.specs.well_formed.cited.Timetables.{AreEach, IsInvocation};
-ghost use Rattle.tenant_exchange.specs.slots.Places.{name_of_task};
+ghost use Rattle.tenant_slots.specs.well_formed.cited.Slots.{slots_of};
+ghost use Rattle.tenant_slots.specs.well_formed.Slots.{valuation_of};
+ghost use Rattle.tenant_slots.specs.well_formed.cited.Timetables.{AreEach, IsInvocation};
+ghost use Rattle.tenant_slots.specs.Places.{name_of_task};
 ghost use Rattle.tenant_jobs.specs.cited.Finished.{is_entered};
 ghost use Rattle.tenant_state.specs.declared.tenants.Active.{Active};
 ghost use Rattle.rig_model.specs.Jobs.{job_of};
-ghost use Rattle.tenant_exchange.specs.slots.cited.Due.{MarksDue, is_among_due};
+ghost use Rattle.tenant_slots.specs.cited.Due.{MarksDue, is_among_due};
 ghost use Rattle.tenant_state.specs.inner.EntryTable.{IsTableOf, AreDueEnded, AreEndsNoted, ends_noted, entries_at, is_left_open, is_task_open};
 ghost use Rattle.rig_model.specs.FirstHalf.{all_ended, due_tasks};
 ghost use Rattle.tenant_state.specs.cited.Halves.{IsFirstHalf};
@@ -25,13 +25,13 @@ use crate::tenants::completions::result_of;
 use crate::tenants::{Active, Reason, State, Tenant};
 use rig_model::config::TenantId;
 use rig_model::trace::traces::Trace;
-use tenant_exchange::slots::actuators::update_due;
-use tenant_exchange::slots::due::{Due, TABLED_TASKS, ends_at, is_task_due, mark_due};
-use tenant_exchange::slots::names::task_name;
-use tenant_exchange::slots::tasks::write_results;
-use tenant_exchange::well_formed::Checked;
-use tenant_exchange::well_formed::timetables::SlotInvocation;
 use tenant_jobs::finished::Finished;
+use tenant_slots::actuators::update_due;
+use tenant_slots::due::{Due, TABLED_TASKS, ends_at, is_task_due, mark_due};
+use tenant_slots::names::task_name;
+use tenant_slots::tasks::write_results;
+use tenant_slots::well_formed::Checked;
+use tenant_slots::well_formed::timetables::SlotInvocation;
 
 impl Tenant {
     /// The first half of an instant. The due tasks write their results, which are in this table, and the due actuators are updated; or

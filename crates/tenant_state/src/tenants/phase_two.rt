@@ -4,12 +4,12 @@ ghost use Rattle.std.specs.Prelude.{◌≡◌, ◌<◌, ◌≤◌, ◌+◌, ◌-
 ghost use Rattle.std.specs.Arc.{arc_value};
 ghost use Rattle.std.specs.List.{AllByRecursion, list_all};
 ghost use Rattle.std.specs.Option.{option_map};
-ghost use Rattle.tenant_exchange.specs.well_formed.cited.Timetables.{AreEach};
+ghost use Rattle.tenant_slots.specs.well_formed.cited.Timetables.{AreEach};
 ghost use Rattle.giotto_tasks.specs.Sound.{all_different};
 ghost use Rattle.rig_model.specs.text.Program.{ModeDeclaration};
-ghost use Rattle.tenant_exchange.specs.slots.cited.Due.{IsQuietUntil};
-ghost use Rattle.tenant_exchange.specs.slots.Places.{name_of_task};
-ghost use Rattle.tenant_exchange.specs.slots.cited.Places.{IsModeAt};
+ghost use Rattle.tenant_slots.specs.cited.Due.{IsQuietUntil};
+ghost use Rattle.tenant_slots.specs.Places.{name_of_task};
+ghost use Rattle.tenant_slots.specs.cited.Places.{IsModeAt};
 ghost use Rattle.rig_model.specs.FirstHalf.{due_tasks};
 ghost use Rattle.tenant_state.specs.cited.Halves.{IsSecondHalf};
 ghost use Rattle.tenant_jobs.specs.cited.Jobs.{IsComputable};
@@ -30,9 +30,9 @@ use rig_model::text::programs::Program;
 use std::alloc::Global;
 use std::sync::Arc;
 use tenant_exchange::sensors::read_sensors;
-use tenant_exchange::slots::due::due_behind;
-use tenant_exchange::well_formed::Checked;
 use tenant_jobs::jobs::{Job, JobId, Jobs};
+use tenant_slots::due::due_behind;
+use tenant_slots::well_formed::Checked;
 
 impl Tenant {
     /// The second half of an instant whose number is below the greatest, with the jobs of the tasks that it releases. Each due task ended

@@ -4,13 +4,13 @@ ghost use Rattle.std.specs.Prelude.{◌≡◌, map, is_some, true, Some, IsOk, I
 ghost use Rattle.std.specs.Arc.{arc_value};
 ghost use Rattle.std.specs.List.{list_all};
 ghost use Rattle.std.specs.Option.{option_map};
-ghost use Rattle.tenant_exchange.specs.well_formed.cited.Timetables.{AreEach};
+ghost use Rattle.tenant_slots.specs.well_formed.cited.Timetables.{AreEach};
 ghost use Rattle.rig_model.specs.text.Program.{ModeDeclaration};
 ghost use Rattle.rig_model.specs.text.ProgramTrees.{task_of};
 ghost use Rattle.tenant_state.specs.cited.Standing.{HasRoom, HasShares, IsSettled};
 ghost use Rattle.tenant_state.specs.Standing.{most_at, most_released};
 ghost use Rattle.tenant_state.specs.inner.Tenants.{IsShareOf};
-ghost use Rattle.tenant_exchange.specs.slots.cited.Places.{IsModeAt};
+ghost use Rattle.tenant_slots.specs.cited.Places.{IsModeAt};
 
 use crate::tenants::waiting::Waiting;
 use crate::tenants::{State, Tenant};
@@ -18,9 +18,9 @@ use giotto_tasks::bodies::Body;
 use rig_model::text::programs::Task;
 use std::alloc::{AllocError, Global};
 use std::sync::Arc;
-use tenant_exchange::slots::due::Due;
-use tenant_exchange::slots::names::start_place;
-use tenant_exchange::well_formed::Checked;
+use tenant_slots::due::Due;
+use tenant_slots::names::start_place;
+use tenant_slots::well_formed::Checked;
 
 impl Tenant {
     /// Makes what the next instant needs: places for the tasks that become active, and shares of their bodies. How many jobs

@@ -2,23 +2,23 @@
 
 ghost use Rattle.std.specs.Prelude.{◌≡◌, ◌≤◌, ◌<◌, ◌+◌, ◌++◌, ◌∷◌, [], length, map, filter};
 ghost use Rattle.std.specs.List.{AllByRecursion};
-ghost use Rattle.tenant_exchange.specs.well_formed.cited.Slots.{slots_of};
-ghost use Rattle.tenant_exchange.specs.well_formed.Slots.{valuation_of};
+ghost use Rattle.tenant_slots.specs.well_formed.cited.Slots.{slots_of};
+ghost use Rattle.tenant_slots.specs.well_formed.Slots.{valuation_of};
 ghost use Rattle.rig_model.specs.text.Program.{ModeDeclaration, TaskInvocation};
 ghost use Rattle.rig_model.specs.Due.{is_due_at};
-ghost use Rattle.tenant_exchange.specs.slots.cited.Due.{IsQuietUntil};
+ghost use Rattle.tenant_slots.specs.cited.Due.{IsQuietUntil};
 ghost use Rattle.tenant_state.specs.inner.Releases.{IsEntryOf, AreInputsGiven, ForItsInvocation, released_by};
 ghost use Rattle.tenant_state.specs.Tenants.{active_of};
 ghost use Rattle.tenant_state.specs.inner.Tenants.{AreInvoked, IsActiveIn};
-ghost use Rattle.tenant_exchange.specs.slots.cited.Places.{IsModeAt};
+ghost use Rattle.tenant_slots.specs.cited.Places.{IsModeAt};
 
 use crate::tenants::Active;
 use crate::tenants::active_tasks::ActiveTasks;
-use tenant_exchange::slots::drivers::holds;
-use tenant_exchange::slots::due::Due;
-use tenant_exchange::slots::tasks::{argument_values, state_values, write_inputs};
-use tenant_exchange::well_formed::Checked;
-use tenant_exchange::well_formed::timetables::SlotInvocation;
+use tenant_slots::drivers::holds;
+use tenant_slots::due::Due;
+use tenant_slots::tasks::{argument_values, state_values, write_inputs};
+use tenant_slots::well_formed::Checked;
+use tenant_slots::well_formed::timetables::SlotInvocation;
 
 // The invocations of the mode at this place that are due, in text order: where its guard holds, its task becomes active. None is due
 // before mode time `next`.

@@ -14,8 +14,8 @@ use giotto_tasks::lists::List;
 use giotto_tasks::names::Name;
 use rig_model::lines::ports::{PortName, PortValue};
 use rig_model::lines::replies::{Refusal, Status};
-use tenant_exchange::slots::names::port_value;
 use tenant_programs::shown::port_values;
+use tenant_slots::names::port_value;
 
 impl Tenant {
     // What it is doing.

@@ -8,7 +8,7 @@ ghost use Rattle.tenant_state.specs.Tenants.{reason_of};
 
 use crate::tenants::{Reason, State, Tenant};
 use rig_model::trace::records::Happening;
-use tenant_exchange::slots::actuators::reset_actuators;
+use tenant_slots::actuators::reset_actuators;
 
 impl Tenant {
     // Stops the tenant: its actuators are initial, no task is active, and no program waits.

@@ -3,12 +3,12 @@
 ghost use Rattle.std.specs.Prelude.{◌≡◌, ◌<◌, ◌≤◌, None, length, map};
 ghost use Rattle.std.specs.List.{filter_map, AllByRecursion};
 ghost use Rattle.rig_model.specs.rules.Declarations.{period_of_task};
-ghost use Rattle.tenant_exchange.specs.well_formed.cited.Slots.{slots_of};
-ghost use Rattle.tenant_exchange.specs.well_formed.Slots.{valuation_of};
+ghost use Rattle.tenant_slots.specs.well_formed.cited.Slots.{slots_of};
+ghost use Rattle.tenant_slots.specs.well_formed.Slots.{valuation_of};
 ghost use Rattle.rig_model.specs.text.Program.{ModeDeclaration};
-ghost use Rattle.tenant_exchange.specs.slots.cited.CommonPeriods.{IsCommonPeriod};
-ghost use Rattle.tenant_exchange.specs.slots.cited.Due.{IsQuietUntil};
-ghost use Rattle.tenant_exchange.specs.slots.cited.Places.{IsModeAt};
+ghost use Rattle.tenant_slots.specs.cited.CommonPeriods.{IsCommonPeriod};
+ghost use Rattle.tenant_slots.specs.cited.Due.{IsQuietUntil};
+ghost use Rattle.tenant_slots.specs.cited.Places.{IsModeAt};
 ghost use Rattle.rig_model.specs.Row.{ActiveTask};
 ghost use Rattle.rig_model.specs.SecondHalf.{entry_time};
 ghost use Rattle.tenant_state.specs.Tenants.{active_of};
@@ -18,10 +18,10 @@ ghost use Rattle.rig_model.specs.trace.cited.Noted.{noted};
 use crate::tenants::Active;
 use rig_model::trace::records::Happening;
 use rig_model::trace::traces::Trace;
-use tenant_exchange::slots::names::mode_name;
-use tenant_exchange::slots::periods::{common_multiple, period_of};
-use tenant_exchange::slots::switches::take_switch;
-use tenant_exchange::well_formed::Checked;
+use tenant_slots::names::mode_name;
+use tenant_slots::periods::{common_multiple, period_of};
+use tenant_slots::switches::take_switch;
+use tenant_slots::well_formed::Checked;
 
 /// Where a switch leads.
 #[derive(Drop)]

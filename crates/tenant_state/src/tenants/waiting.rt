@@ -4,7 +4,7 @@ ghost use Rattle.std.specs.Prelude.{◌≡◌, ◌≢◌, [], true, None, Some, 
 ghost use Rattle.std.specs.Arc.{arc_value};
 ghost use Rattle.std.specs.List.{list_all};
 ghost use Rattle.std.specs.Option.{option_map};
-ghost use Rattle.tenant_exchange.specs.well_formed.cited.Timetables.{AreEach};
+ghost use Rattle.tenant_slots.specs.well_formed.cited.Timetables.{AreEach};
 ghost use Rattle.rig_model.specs.declared.lines.commands.Command.{Command};
 ghost use Rattle.rig_model.specs.declared.lines.replies.Refusal.{Refusal};
 ghost use Rattle.rig_model.specs.declared.lines.replies.Reply.{Reply};
@@ -16,7 +16,7 @@ ghost use Rattle.tenant_programs.specs.cited.Prepared.{IsReadingOf};
 ghost use Rattle.tenant_state.specs.Standing.{StandsFor, most_released};
 ghost use Rattle.tenant_state.specs.cited.Standing.{AreTasksKept, IsAnswered, IsBehind, IsRefused, IsSettled};
 ghost use Rattle.tenant_state.specs.inner.Tenants.{IsBeginning, IsShareOf, IsWaitingFor};
-ghost use Rattle.tenant_exchange.specs.slots.cited.Replacement.{IsCarryTable};
+ghost use Rattle.tenant_slots.specs.cited.Replacement.{IsCarryTable};
 
 use crate::tenants::Tenant;
 use crate::tenants::readiness::share_bodies;
@@ -25,12 +25,12 @@ use rig_model::lines::replies::Refusal;
 use rig_model::trace::records::Happening;
 use std::alloc::{AllocError, Global};
 use std::sync::Arc;
-use tenant_exchange::slots::beginning::{initial_values, no_shares};
-use tenant_exchange::slots::names::{mode_name, start_place};
-use tenant_exchange::slots::replacement::{Carried, carried_slots, carry_over};
-use tenant_exchange::well_formed::Checked;
 use tenant_programs::budgets::broken_budget;
 use tenant_programs::prepared::{Reading, program_by_reading};
+use tenant_slots::beginning::{initial_values, no_shares};
+use tenant_slots::names::{mode_name, start_place};
+use tenant_slots::replacement::{Carried, carried_slots, carry_over};
+use tenant_slots::well_formed::Checked;
 
 /// What a program begins with: the value of each port, by its slot, and a place for a share of each task's body.
 #[derive(Drop)]

@@ -6,7 +6,7 @@ use Rattle.std.proofs.lemmas.Bool.{and_parts}
 use Rattle.std.proofs.lemmas.List.{length-map}
 use Rattle.giotto_tasks.specs.Sound.{all_different}
 use Rattle.giotto_tasks.proofs.cited.ListLemmas.{all_map}
-use Rattle.tenant_exchange.specs.slots.Places.{name_of_task}
+use Rattle.tenant_slots.specs.Places.{name_of_task}
 use Rattle.tenant_state.specs.Jobs.{released_at}
 use Rattle.tenant_state.specs.Standing.{Standing}
 use Rattle.tenant_state.specs.Tenants.{tasks_in}

@@ -1,8 +1,8 @@
 use Rattle.std.proofs.Common.{◌%◌, ◌==◌, ◌&&◌, nat_eq, sym, ap, ◌∙◌}
 use Rattle.std.specs.List.{list_any}
-use Rattle.tenant_exchange.specs.declared.well_formed.timetables.SlotInvocation.{SlotInvocation}
+use Rattle.tenant_slots.specs.declared.well_formed.timetables.SlotInvocation.{SlotInvocation}
 use Rattle.giotto_tasks.proofs.cited.ListLemmas.{all_map}
-use Rattle.tenant_exchange.proofs.of_slots.Quiet.{invocations_positive}
+use Rattle.tenant_slots.proofs.cited.Quiet.{invocations_positive}
 use Rattle.tenant_state.specs.declared.tenants.Active.{Active}
 use Rattle.tenant_state.specs.inner.Tenants.{IsActiveIn, IsActiveOf}
 use Rattle.tenant_state.proofs.EndedTasks.{its_mode, map_none, map_some}

@@ -3,13 +3,13 @@ use Rattle.std.specs.Arc.{arc_value}
 use Rattle.std.specs.List.{find, flat_map, AllByRecursion}
 use Rattle.std.specs.Option.{option_map}
 use Rattle.std.proofs.lemmas.Bool.{false≢true}
-use Rattle.tenant_exchange.specs.well_formed.Slots.{valuation_of}
-use Rattle.tenant_exchange.specs.declared.well_formed.timetables.SlotInvocation.{SlotInvocation}
+use Rattle.tenant_slots.specs.well_formed.Slots.{valuation_of}
+use Rattle.tenant_slots.specs.declared.well_formed.timetables.SlotInvocation.{SlotInvocation}
 use Rattle.giotto_tasks.proofs.cited.ListLemmas.{all_filter, filter_shorter, found_has, whole_slice}
 use Rattle.giotto_tasks.proofs.cited.TestLemmas.{and_true}
 use Rattle.tenant_jobs.specs.Finished.{has_result}
-use Rattle.tenant_exchange.specs.slots.Places.{name_of_task}
-use Rattle.tenant_exchange.proofs.of_slots.Quiet.{invocations_positive}
+use Rattle.tenant_slots.specs.Places.{name_of_task}
+use Rattle.tenant_slots.proofs.cited.Quiet.{invocations_positive}
 use Rattle.rig_model.specs.FirstHalf.{all_ended, due_among, ends_happened}
 use Rattle.rig_model.specs.Jobs.{job_of}
 use Rattle.rig_model.specs.Row.{ActiveTask, is_running_state}
@@ -17,7 +17,7 @@ use Rattle.tenant_state.specs.Standing.{Standing, all_different_releases, most_r
 use Rattle.tenant_state.specs.Tenants.{active_of, ports_in, standing_of, state_of, tasks_in}
 use Rattle.std.specs.Vec.{with_items}
 use Rattle.tenant_state.proofs.Replaced.{released_as_before}
-use Rattle.tenant_exchange.specs.slots.cited.Due.{is_among_due}
+use Rattle.tenant_slots.specs.cited.Due.{is_among_due}
 use Rattle.tenant_state.specs.inner.EntryTable.{ends_noted, is_left_open}
 use Rattle.tenant_state.specs.cited.Halves.{first_half_by}
 use Rattle.tenant_state.specs.inner.Invoked.{IsInvokedIn}

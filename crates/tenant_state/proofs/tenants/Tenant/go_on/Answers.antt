@@ -9,11 +9,11 @@ use Rattle.giotto_tasks.proofs.cited.ListLemmas.{all_map, whole_slice, some_same
 use Rattle.rig_model.specs.declared.text.programs.Mode.{Mode}
 use Rattle.rig_model.specs.text.Program.{ModeDeclaration, GiottoProgram}
 use Rattle.rig_model.specs.text.ProgramTrees.{mode_of}
-use Rattle.tenant_exchange.specs.well_formed.Slots.{valuation_of}
+use Rattle.tenant_slots.specs.well_formed.Slots.{valuation_of}
 use Rattle.giotto_tasks.specs.Names.{Valuation}
 use Rattle.rig_model.specs.Granted.{granted_along}
 use Rattle.rig_model.specs.Readings.{Readings, readings_within}
-use Rattle.tenant_exchange.proofs.of_slots.Numbered.{mode_fits_at}
+use Rattle.tenant_slots.proofs.cited.Numbered.{mode_fits_at}
 use Rattle.tenant_state.specs.Tenants.{active_of, standing_of}
 use Rattle.tenant_state.specs.declared.tenants.State.TheVariants.{Running}
 use Rattle.tenant_state.specs.cited.Standing.{IsSettled}

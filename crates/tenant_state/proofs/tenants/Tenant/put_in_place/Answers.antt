@@ -7,12 +7,12 @@ use Rattle.std.specs.Vec.{with_items}
 use Rattle.std.proofs.lemmas.Bool.{and_from}
 use Rattle.std.proofs.lemmas.List.{with_items_is}
 use Rattle.std.proofs.lemmas.Option.{slice_get_within}
-use Rattle.tenant_exchange.specs.well_formed.cited.Slots.{slots_of}
-use Rattle.tenant_exchange.specs.well_formed.Slots.{valuation_of}
+use Rattle.tenant_slots.specs.well_formed.cited.Slots.{slots_of}
+use Rattle.tenant_slots.specs.well_formed.Slots.{valuation_of}
 use Rattle.rig_model.specs.text.Program.{GiottoProgram, ModeDeclaration}
-use Rattle.tenant_exchange.specs.slots.Places.{name_of_mode}
+use Rattle.tenant_slots.specs.Places.{name_of_mode}
 use Rattle.rig_model.specs.Replacement.{carried_ports}
-use Rattle.tenant_exchange.specs.slots.cited.Replacement.{IsCarryTable}
+use Rattle.tenant_slots.specs.cited.Replacement.{IsCarryTable}
 use Rattle.rig_model.specs.declared.trace.records.Happening.TheVariants as happening
 use Rattle.rig_model.specs.trace.cited.Noted.{noted}
 use Rattle.tenant_state.specs.declared.tenants.waiting.Waiting.{Waiting}

@@ -1,7 +1,7 @@
 use Rattle.std.proofs.Common.{None, ◌≡◌, [], ◌∷◌, Some, sym, ap, subst, ◌∙◌, arith}
 use Rattle.giotto_tasks.proofs.cited.ListLemmas.{whole_slice}
 use Rattle.std.specs.Vec.{with_items}
-use Rattle.tenant_exchange.specs.well_formed.Slots.{valuation_of}
+use Rattle.tenant_slots.specs.well_formed.Slots.{valuation_of}
 use Rattle.rig_model.specs.Ports.{actuators_reset}
 use Rattle.tenant_state.specs.declared.tenants.State.TheVariants.{Stopped}
 use Rattle.tenant_state.specs.Standing.{Standing, with_last}

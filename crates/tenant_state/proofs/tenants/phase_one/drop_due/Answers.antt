@@ -3,7 +3,7 @@ use Rattle.std.specs.List.{list_any}
 use Rattle.std.proofs.lemmas.List.Filters.{FiltersInPlace-more_here, FiltersInPlace-more_no, FiltersInPlace-more_swap}
 use Rattle.tenant_state.specs.declared.tenants.Active.{Active}
 use Rattle.tenant_state.specs.ActiveTasks.{TaskList}
-use Rattle.tenant_exchange.specs.slots.cited.Due.{is_among_due}
+use Rattle.tenant_slots.specs.cited.Due.{is_among_due}
 use Rattle.tenant_state.proofs.Dropped.{all_behind, behind_here, behind_more, behind_swap}
 use Rattle.tenant_state.proofs.tenants.phase_one.drop_due.Goals as goal
 use Rattle.tenant_state.proofs.tenants.phase_one.drop_due.Goals.{then-not-is_ending, then-kept-i, else-kept-i, else-not-is_ending}

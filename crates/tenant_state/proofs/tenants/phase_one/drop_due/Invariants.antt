@@ -1,7 +1,7 @@
 use Rattle.std.proofs.Common.{◌≡◌, Bool, not}
 use Rattle.std.proofs.lemmas.List.Filters.{FiltersInPlace}
 use Rattle.tenant_state.specs.declared.tenants.Active.{Active}
-use Rattle.tenant_exchange.specs.slots.cited.Due.{is_among_due}
+use Rattle.tenant_slots.specs.cited.Due.{is_among_due}
 use Rattle.tenant_state.proofs.Dropped.{AreBehind}
 use Rattle.tenant_state.proofs.tenants.phase_one.drop_due.Given as goal
 

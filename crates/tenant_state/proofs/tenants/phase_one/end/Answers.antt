@@ -1,11 +1,11 @@
 use Rattle.std.proofs.Common.{◌≡◌, [], ap, sym, subst, ◌∙◌}
 use Rattle.std.specs.Prelude.{IfSome, option_copied, slice_get}
 use Rattle.std.specs.Option.{option_map_or}
-use Rattle.tenant_exchange.specs.well_formed.Slots.{valuation_of}
+use Rattle.tenant_slots.specs.well_formed.Slots.{valuation_of}
 use Rattle.rig_model.specs.text.PortNames.{own_ports, with_values}
 use Rattle.rig_model.specs.text.Program.{names_of}
 use Rattle.tenant_jobs.specs.cited.Finished.{result_of}
-use Rattle.tenant_exchange.proofs.of_slots.Numbered.{task_here}
+use Rattle.tenant_slots.proofs.cited.Numbered.{task_here}
 use Rattle.rig_model.specs.FirstHalf.{ended_with, outputs_of_end, outputs_happened}
 use Rattle.rig_model.specs.trace.cited.Noted.{noted}
 use Rattle.tenant_state.specs.Jobs.{job_in}

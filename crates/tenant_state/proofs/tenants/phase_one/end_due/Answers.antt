@@ -1,12 +1,12 @@
 use Rattle.std.proofs.Common.{refl, ◌≡◌, ℕ, ◌+◌, ◌<◌, ◌%◌, ◌==◌, ◌&&◌, true, [], drop, map, length, ap, sym, subst, ◌∙◌, arith}
 use Rattle.std.specs.List.{flat_map, AllByRecursion}
 use Rattle.std.proofs.lemmas.List.{drop_all, drop_more}
-use Rattle.tenant_exchange.specs.well_formed.Slots.{valuation_of}
-use Rattle.tenant_exchange.specs.well_formed.cited.Timetables.{AreEach, IsInvocation}
+use Rattle.tenant_slots.specs.well_formed.Slots.{valuation_of}
+use Rattle.tenant_slots.specs.well_formed.cited.Timetables.{AreEach, IsInvocation}
 use Rattle.rig_model.specs.text.Program.{ModeDeclaration}
-use Rattle.tenant_exchange.specs.declared.well_formed.timetables.SlotInvocation.{SlotInvocation}
-use Rattle.tenant_exchange.proofs.of_well_formed.EachLemmas.{each_long}
-use Rattle.tenant_exchange.proofs.of_slots.Updates.{each_item}
+use Rattle.tenant_slots.specs.declared.well_formed.timetables.SlotInvocation.{SlotInvocation}
+use Rattle.tenant_slots.proofs.of_well_formed.EachLemmas.{each_long}
+use Rattle.tenant_slots.proofs.cited.Updates.{each_item}
 use Rattle.rig_model.specs.FirstHalf.{all_ended}
 use Rattle.tenant_state.specs.Tenants.{active_of}
 use Rattle.tenant_state.specs.inner.Tenants.{IsActiveOf, IsResultRight, is_done}

@@ -1,9 +1,9 @@
 use Rattle.std.proofs.Common.{◌≡◌, ◌<◌, None, map, drop, length}
 use Rattle.std.specs.List.{find, flat_map, AllByRecursion}
-use Rattle.tenant_exchange.specs.well_formed.cited.Slots.{slots_of}
-use Rattle.tenant_exchange.specs.well_formed.Slots.{valuation_of}
-use Rattle.tenant_exchange.specs.well_formed.cited.Timetables.{AreEach, IsInvocation}
-use Rattle.tenant_exchange.specs.declared.well_formed.timetables.SlotInvocation.{SlotInvocation}
+use Rattle.tenant_slots.specs.well_formed.cited.Slots.{slots_of}
+use Rattle.tenant_slots.specs.well_formed.Slots.{valuation_of}
+use Rattle.tenant_slots.specs.well_formed.cited.Timetables.{AreEach, IsInvocation}
+use Rattle.tenant_slots.specs.declared.well_formed.timetables.SlotInvocation.{SlotInvocation}
 use Rattle.rig_model.specs.text.Program.{ModeDeclaration}
 use Rattle.rig_model.specs.FirstHalf.{all_ended}
 use Rattle.tenant_state.specs.Tenants.{active_of}

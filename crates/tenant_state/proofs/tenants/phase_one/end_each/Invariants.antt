@@ -1,7 +1,7 @@
 use Rattle.std.proofs.Common.{◌≡◌, false, map, drop, length}
 use Rattle.std.specs.List.{AllByRecursion}
-use Rattle.tenant_exchange.specs.well_formed.cited.Slots.{slots_of}
-use Rattle.tenant_exchange.specs.well_formed.Slots.{valuation_of}
+use Rattle.tenant_slots.specs.well_formed.cited.Slots.{slots_of}
+use Rattle.tenant_slots.specs.well_formed.Slots.{valuation_of}
 use Rattle.rig_model.specs.FirstHalf.{all_ended}
 use Rattle.tenant_state.specs.Tenants.{active_of}
 use Rattle.tenant_state.specs.inner.EntryTable.{ends_noted, entries_at, is_task_open}

@@ -1,7 +1,7 @@
 use Rattle.std.proofs.Common.{◌≡◌, ◌+◌, ◌++◌, length, map, drop}
 use Rattle.std.specs.Arc.{arc_value}
 use Rattle.std.specs.Option.{option_map}
-use Rattle.tenant_exchange.specs.well_formed.cited.Timetables.{AreEach}
+use Rattle.tenant_slots.specs.well_formed.cited.Timetables.{AreEach}
 use Rattle.tenant_state.specs.inner.Tenants.{IsShareOf, its_job, released_in}
 use Rattle.tenant_state.proofs.AddedJobs.{AreLeft}
 use Rattle.tenant_state.proofs.tenants.phase_two.add_jobs.Given as goal

@@ -1,5 +1,5 @@
 use Rattle.std.proofs.Common.{◌≡◌, find, drop}
-use Rattle.tenant_exchange.specs.slots.Places.{name_of_task}
+use Rattle.tenant_slots.specs.Places.{name_of_task}
 use Rattle.giotto_tasks.specs.Names.{same_name}
 use Rattle.tenant_state.specs.declared.tenants.Active.{Active}
 use Rattle.tenant_state.proofs.tenants.readers.active_place.Given as goal

@@ -2,15 +2,15 @@ use Rattle.std.proofs.Common.{◌≡◌, ℕ, ◌<◌, ◌%◌, ◌==◌, [], le
 use Rattle.std.proofs.Math.Nat.{max-zero}
 use Rattle.std.proofs.lemmas.List.{drop_all, take_all}
 use Rattle.rig_model.specs.text.Program.{TaskInvocation}
-use Rattle.tenant_exchange.specs.well_formed.cited.Timetables.{IsExit, IsInvocation}
-use Rattle.tenant_exchange.specs.declared.well_formed.timetables.SlotExit.{SlotExit}
-use Rattle.tenant_exchange.specs.declared.well_formed.timetables.SlotInvocation.{SlotInvocation}
-use Rattle.tenant_exchange.proofs.of_well_formed.EachLemmas.{each_long}
+use Rattle.tenant_slots.specs.well_formed.cited.Timetables.{IsExit, IsInvocation}
+use Rattle.tenant_slots.specs.declared.well_formed.timetables.SlotExit.{SlotExit}
+use Rattle.tenant_slots.specs.declared.well_formed.timetables.SlotInvocation.{SlotInvocation}
+use Rattle.tenant_slots.proofs.of_well_formed.EachLemmas.{each_long}
 use Rattle.giotto_tasks.proofs.cited.ListLemmas.{all_at}
 use Rattle.rig_model.specs.Due.{is_due_at}
-use Rattle.tenant_exchange.proofs.of_slots.Numbered.{exit_due, invocation_due}
-use Rattle.tenant_exchange.proofs.of_slots.Quiet.{exits_positive, invocations_positive}
-use Rattle.tenant_exchange.proofs.of_slots.Updates.{each_item}
+use Rattle.tenant_slots.proofs.cited.Numbered.{exit_due, invocation_due}
+use Rattle.tenant_slots.proofs.cited.Quiet.{exits_positive, invocations_positive}
+use Rattle.tenant_slots.proofs.cited.Updates.{each_item}
 use Rattle.tenant_state.proofs.Shares.{due_each, most_entered, invoked_there, enters, stays}
 use Rattle.tenant_state.proofs.tenants.readiness.most_at.Goals as goal
 use Rattle.tenant_state.proofs.tenants.readiness.most_at.Goals.{then-is_due-2, else-is_due-2}

@@ -4,7 +4,7 @@ use Rattle.std.specs.Option.{option_map}
 use Rattle.std.proofs.lemmas.Bool.{and_from}
 use Rattle.std.proofs.lemmas.List.{length-map}
 use Rattle.std.proofs.lemmas.List.Folds.{list_all_more}
-use Rattle.tenant_exchange.proofs.of_well_formed.EachLemmas.{each_long}
+use Rattle.tenant_slots.proofs.of_well_formed.EachLemmas.{each_long}
 use Rattle.rig_model.specs.text.ProgramTrees.{task_of}
 use Rattle.tenant_state.specs.inner.Tenants.{IsShareOf}
 use Rattle.tenant_state.proofs.Shares.{share_made}

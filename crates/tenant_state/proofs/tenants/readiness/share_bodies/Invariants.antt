@@ -2,7 +2,7 @@ use Rattle.std.proofs.Common.{◌≡◌, is_some, true, length, map, take}
 use Rattle.std.specs.Arc.{arc_value}
 use Rattle.std.specs.List.{list_all}
 use Rattle.std.specs.Option.{option_map}
-use Rattle.tenant_exchange.specs.well_formed.cited.Timetables.{AreEach}
+use Rattle.tenant_slots.specs.well_formed.cited.Timetables.{AreEach}
 use Rattle.rig_model.specs.text.ProgramTrees.{task_of}
 use Rattle.tenant_state.specs.inner.Tenants.{IsShareOf}
 use Rattle.tenant_state.proofs.tenants.readiness.share_bodies.Given as goal

@@ -3,7 +3,7 @@ use Rattle.std.specs.Prelude.{IsSomeAnd}
 use Rattle.std.proofs.lemmas.List.{length-map}
 use Rattle.rig_model.specs.text.Program.{names_of}
 use Rattle.rig_model.specs.text.PortNames.{own_ports}
-use Rattle.tenant_exchange.specs.well_formed.cited.Timetables.{AreEach, IsExpression}
+use Rattle.tenant_slots.specs.well_formed.cited.Timetables.{AreEach, IsExpression}
 use Rattle.tenant_state.specs.inner.Tenants.{IsActiveAs}
 use Rattle.tenant_state.specs.declared.tenants.Active.{Active}
 use Rattle.tenant_state.proofs.tenants.releases.activate.Goals as goal

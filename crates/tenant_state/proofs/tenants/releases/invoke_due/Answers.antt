@@ -2,10 +2,10 @@ use Rattle.std.proofs.Common.{◌≡◌, ℕ, true, ◌%◌, ◌==◌, [], Some,
 use Rattle.std.proofs.lemmas.Bool.{and_from, and_left, and_right}
 use Rattle.std.proofs.lemmas.List.{drop_all}
 use Rattle.rig_model.specs.text.Program.{ModeDeclaration}
-use Rattle.tenant_exchange.specs.well_formed.cited.Timetables.{IsInvocation}
-use Rattle.tenant_exchange.proofs.of_well_formed.EachLemmas.{each_long}
-use Rattle.tenant_exchange.proofs.of_slots.Numbered.{invocation_due}
-use Rattle.tenant_exchange.specs.well_formed.Slots.{valuation_of}
+use Rattle.tenant_slots.specs.well_formed.cited.Timetables.{IsInvocation}
+use Rattle.tenant_slots.proofs.of_well_formed.EachLemmas.{each_long}
+use Rattle.tenant_slots.proofs.cited.Numbered.{invocation_due}
+use Rattle.tenant_slots.specs.well_formed.Slots.{valuation_of}
 use Rattle.tenant_state.specs.Tenants.{active_of}
 use Rattle.tenant_state.proofs.HalfStands.{none_due}
 use Rattle.tenant_state.proofs.Released.{its_entry, some_entry, left_as, its_room, waits, happens}

@@ -1,7 +1,7 @@
 use Rattle.std.proofs.Common.{◌≡◌, ◌+◌, [], Some, drop, slice_get}
 use Rattle.std.specs.List.{AllByRecursion}
 use Rattle.rig_model.specs.text.Program.{ModeDeclaration}
-use Rattle.tenant_exchange.specs.well_formed.Slots.{valuation_of}
+use Rattle.tenant_slots.specs.well_formed.Slots.{valuation_of}
 use Rattle.tenant_state.specs.inner.Tenants.{IsActiveIn}
 use Rattle.tenant_state.proofs.Released.{IsInvokedTo}
 use Rattle.tenant_state.proofs.tenants.releases.invoke_due.Given as goal

@@ -3,10 +3,10 @@ use Rattle.std.specs.List.{cons_option}
 use Rattle.std.proofs.lemmas.List.{take_all}
 use Rattle.rig_model.specs.text.Program.{ModeDeclaration}
 use Rattle.rig_model.specs.rules.Declarations.{period_of_task}
-use Rattle.tenant_exchange.specs.slots.Places.{name_of_task}
-use Rattle.tenant_exchange.proofs.of_slots.InvokedPeriods.{period_divides}
-use Rattle.tenant_exchange.proofs.of_slots.Numbered.{mode_fits_at}
-use Rattle.tenant_exchange.specs.slots.cited.CommonPeriods.{IsCommonPeriod}
+use Rattle.tenant_slots.specs.Places.{name_of_task}
+use Rattle.tenant_slots.proofs.cited.InvokedPeriods.{period_divides}
+use Rattle.tenant_slots.proofs.cited.Numbered.{mode_fits_at}
+use Rattle.tenant_slots.specs.cited.CommonPeriods.{IsCommonPeriod}
 use Rattle.tenant_state.specs.Tenants.{active_of}
 use Rattle.tenant_state.proofs.TaskPeriods.{periods_more, periods_of, small_product, with_first, with_more, with_none}
 use Rattle.tenant_state.proofs.tenants.switches.common_period.Goals as goal

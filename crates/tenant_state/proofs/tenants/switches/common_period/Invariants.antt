@@ -1,7 +1,7 @@
 use Rattle.std.proofs.Common.{◌≡◌, ◌≤◌, length, map, take, Some, None}
 use Rattle.std.specs.Prelude.{slice_get}
 use Rattle.rig_model.specs.text.Program.{ModeDeclaration}
-use Rattle.tenant_exchange.specs.slots.cited.CommonPeriods.{IsCommonPeriod}
+use Rattle.tenant_slots.specs.cited.CommonPeriods.{IsCommonPeriod}
 use Rattle.tenant_state.specs.Tenants.{active_of}
 use Rattle.tenant_state.proofs.TaskPeriods.{periods_of}
 use Rattle.tenant_state.proofs.tenants.switches.common_period.Given as goal

@@ -3,7 +3,7 @@ use Rattle.std.specs.Prelude.{slice_get}
 use Rattle.std.proofs.Math.Nat.{mod-lt}
 use Rattle.rig_model.specs.text.Program.{ModeDeclaration, GiottoProgram}
 use Rattle.rig_model.specs.text.ProgramTrees.{mode_of}
-use Rattle.tenant_exchange.proofs.of_slots.Numbered.{mode_fits_at}
+use Rattle.tenant_slots.proofs.cited.Numbered.{mode_fits_at}
 use Rattle.tenant_state.specs.Tenants.{active_of}
 use Rattle.tenant_state.proofs.TaskPeriods.{before_end, before_end_none, common_positive, mapped_there, periods_common, periods_of}
 use Rattle.tenant_state.proofs.tenants.switches.entry_time.Goals as goal

@@ -1,5 +1,5 @@
 use Rattle.std.proofs.Common.{map, None, List, ap, ◌∙◌, subst, sym}
-use Rattle.tenant_exchange.specs.well_formed.cited.Timetables.{AreEach}
+use Rattle.tenant_slots.specs.well_formed.cited.Timetables.{AreEach}
 use Rattle.rig_model.specs.text.Program.{GiottoProgram, TaskDeclaration}
 use Rattle.tenant_state.specs.inner.Tenants.{IsShareOf}
 use Rattle.tenant_state.proofs.TenantCommands.{none_of_each, none_shared}
