@@ -3,13 +3,12 @@
 
 ghost use Rattle.std.specs.Prelude.{◌≡◌};
 
-use crate::instants::{host_of, roster};
 use call_history::histories::NewHistory;
 use call_history::naming::Naming;
 use host_core::hosts::Host;
 use locked_book::desks::Desk;
 use locked_book::passes::Pass;
-use rig_config::{Config, TenantId};
+use rig_config::{Config, TenantId, read_config};
 use std::alloc::Global;
 use std::marker::Brand;
 use std::sync::Wait;
@@ -26,6 +25,63 @@ const CALLS: u64 = 32;
 const CALLS_BEHIND: u64 = 64;
 
 const FIRST: TenantId = 0;
+
+// Four tenants with all that a budget can be, which may read the one line.
+const CONFIG: &str = "version = 1
+lines = 1
+[[tenant]]
+name = \"t0\"
+key = \"k\"
+reads = [0]
+writes = []
+bytes = 16000
+ports = 1024
+tasks = 64
+modes = 64
+steps = 1000000
+trace = 1
+offers = 64
+binds = 64
+[[tenant]]
+name = \"t1\"
+key = \"k\"
+reads = [0]
+writes = []
+bytes = 16000
+ports = 1024
+tasks = 64
+modes = 64
+steps = 1000000
+trace = 1
+offers = 64
+binds = 64
+[[tenant]]
+name = \"t2\"
+key = \"k\"
+reads = [0]
+writes = []
+bytes = 16000
+ports = 1024
+tasks = 64
+modes = 64
+steps = 1000000
+trace = 1
+offers = 64
+binds = 64
+[[tenant]]
+name = \"t3\"
+key = \"k\"
+reads = [0]
+writes = []
+bytes = 16000
+ports = 1024
+tasks = 64
+modes = 64
+steps = 1000000
+trace = 1
+offers = 64
+binds = 64
+";
 
 /// What is done at a desk.
 #[derive(Clone, Copy)]
@@ -44,7 +100,8 @@ pub(crate) enum Work {
 
 /// As many times 32 commands of a host without a lock, with four tenants. How many were answered; -1 where the host has no tenant.
 pub(crate) fn calls_of_host(alloc: Global, times: u64) -> anyhow::Result<i64> {
-    let mut host = host_of(alloc, 4)?;
+    let config = read_config(alloc, CONFIG)?;
+    let mut host = Host::new(alloc, &config, 0)?;
     Ok(answered_by(&mut host, times))
 }
 
@@ -71,7 +128,7 @@ pub(crate) fn worked<R: Threads + Wait + Sync>(
     work: Work,
     times: u64,
 ) -> anyhow::Result<i64> {
-    let config = roster(alloc, 4)?;
+    let config = read_config(alloc, CONFIG)?;
     let done = on_desk::<Brand, _>(rt, alloc, &config, NewHistory::new(), work, times);
     Ok(done.and_then(|done| i64::try_from(done).ok()).unwrap_or(-1))
 }
@@ -89,12 +146,25 @@ fn on_desk<N: Naming + Send + Sync, R: Threads + Wait + Sync>(
     requires history { history ≡ N.history }
 {
     let desk = Desk::<N>::new(alloc, config, 0, Some(history)).ok()?;
+    if let Work::Closed = work {
+        return entries_closed(rt, alloc, desk, times);
+    }
+    calls_at(rt, alloc, &desk, work, times)
+}
+
+// Work at a desk that stays open.
+fn calls_at<N: Naming + Send + Sync, R: Threads + Wait + Sync>(
+    rt: &R,
+    alloc: Global,
+    desk: &Desk<N>,
+    work: Work,
+    times: u64,
+) -> Option<u64> {
     match work {
-        Work::Calls(threads) => Some(calls_of_threads(rt, &desk, threads, times)),
-        Work::Kept => Some(kept(rt, alloc, &desk, times)?.len() as u64),
-        Work::Behind => calls_behind(rt, alloc, &desk, times),
-        Work::Closed => entries_closed(rt, alloc, desk, times),
-        Work::OnePass => calls_of_new_pass(rt, &desk, times),
+        Work::Calls(threads) => Some(calls_of_threads(rt, desk, threads, times)),
+        Work::Kept | Work::Closed => passes_kept(rt, alloc, desk, times),
+        Work::Behind => calls_behind(rt, alloc, desk, times),
+        Work::OnePass => calls_of_new_pass(rt, desk, times),
     }
 }
 
@@ -164,11 +234,27 @@ fn kept<N: Naming>(
 ) -> Option<Vec<Pass<N>>> {
     let mut passes = Vec::new(alloc);
     for _pass in 0..number {
-        let mut pass = desk.pass(rt).ok()?;
-        let _ = call_often(rt, desk, &mut pass, CALLS)?;
-        passes.push(pass).ok()?;
+        passes.push(called_pass(rt, desk)?).ok()?;
     }
     Some(passes)
+}
+
+// A pass of 32 calls.
+fn called_pass<N: Naming>(rt: &impl Wait, desk: &Desk<N>) -> Option<Pass<N>> {
+    let mut pass = desk.pass(rt).ok()?;
+    let _ = call_often(rt, desk, &mut pass, CALLS)?;
+    Some(pass)
+}
+
+// How many passes there are of so many that are kept.
+fn passes_kept<N: Naming>(
+    rt: &impl Wait,
+    alloc: Global,
+    desk: &Desk<N>,
+    number: u64,
+) -> Option<u64> {
+    let passes = kept(rt, alloc, desk, number)?;
+    Some(passes.len() as u64)
 }
 
 // The calls of one pass more, behind so many passes of others.

@@ -9,7 +9,7 @@ use instant_engine::{Job, Jobs, run_job};
 use locked_book::desks::Desk;
 use locked_book::passes::Pass;
 use rig_model::logged::Logged;
-use std::alloc::Global;
+use std::alloc::{AllocError, Global};
 use std::sync::{Barrier, Mutex, Wait};
 use tenant_lines::command_lines::command_of;
 use tenant_lines::replies::print_reply;
@@ -152,11 +152,17 @@ fn tick<N: Naming>(rt: &impl Wait, table: &Table<'_, N>, voice: &mut Voice<N>) -
 // Lays these jobs to the others.
 fn lay<N: Naming>(rt: &impl Wait, table: &Table<'_, N>, mut jobs: Jobs) -> Option<()> {
     let mut guard = table.jobs.lock(rt);
-    let all = &mut *guard;
+    lay_all(&mut *guard, &mut jobs).ok()
+}
+
+/// Lays all of these jobs to the others, as far as there is memory.
+pub(crate) fn lay_all(all: &mut Vec<Job>, jobs: &mut Jobs) -> Result<(), AllocError> {
     for _job in 0..jobs.len() {
-        all.push(jobs.take()?).ok()?;
+        if let Some(job) = jobs.take() {
+            all.push(job)?;
+        }
     }
-    Some(())
+    Ok(())
 }
 
 // The completion of any job that lies there.
