@@ -21,9 +21,6 @@ use tenant_lines::replies::Reply;
 // How many calls each pass has that isn't one alone.
 const CALLS: u64 = 32;
 
-// How many calls are made behind a long log.
-const CALLS_BEHIND: u64 = 64;
-
 const FIRST: TenantId = 0;
 
 // Four tenants with all that a budget can be, which may read the one line.
@@ -86,14 +83,19 @@ binds = 64
 /// What is done at a desk.
 #[derive(Clone, Copy)]
 pub(crate) enum Work {
-    /// So many passes of 32 calls each, by each of these threads.
-    Calls(u64),
-    /// So many passes of 32 calls each, all of which are kept.
-    Kept,
-    /// These, and 64 calls of one pass more.
-    Behind,
-    /// These, and a close with all of them.
+    /// Calls at a desk that stays open.
+    Open(Calls),
+    /// So many passes of 32 calls each, and a close with all of them.
     Closed,
+}
+
+/// What is called at a desk.
+#[derive(Clone, Copy)]
+pub(crate) enum Calls {
+    /// So many passes of 32 calls each, by each of these threads.
+    OfThreads(u64),
+    /// So many passes of 32 calls each, all of which are kept, and these calls of one pass more.
+    Behind(u64),
     /// So many calls of one pass.
     OnePass,
 }
@@ -120,7 +122,7 @@ fn answered_by(host: &mut Host, times: u64) -> i64 {
     answered
 }
 
-/// Work at a desk of four tenants. How many calls were answered, or for a close how many entries the log has; -1 where a call or the
+/// Work at a desk of four tenants. How many calls were answered last, or for a close how many entries the log has; -1 where a call or the
 /// close is refused.
 pub(crate) fn worked<R: Threads + Wait + Sync>(
     rt: &R,
@@ -146,25 +148,24 @@ fn on_desk<N: Naming + Send + Sync, R: Threads + Wait + Sync>(
     requires history { history ≡ N.history }
 {
     let desk = Desk::<N>::new(alloc, config, 0, Some(history)).ok()?;
-    if let Work::Closed = work {
-        return entries_closed(rt, alloc, desk, times);
+    match work {
+        Work::Open(calls) => called(rt, alloc, &desk, calls, times),
+        Work::Closed => entries_closed(rt, alloc, desk, times),
     }
-    calls_at(rt, alloc, &desk, work, times)
 }
 
-// Work at a desk that stays open.
-fn calls_at<N: Naming + Send + Sync, R: Threads + Wait + Sync>(
+// How many calls were answered.
+fn called<N: Naming + Send + Sync, R: Threads + Wait + Sync>(
     rt: &R,
     alloc: Global,
     desk: &Desk<N>,
-    work: Work,
+    calls: Calls,
     times: u64,
 ) -> Option<u64> {
-    match work {
-        Work::Calls(threads) => Some(calls_of_threads(rt, desk, threads, times)),
-        Work::Kept | Work::Closed => passes_kept(rt, alloc, desk, times),
-        Work::Behind => calls_behind(rt, alloc, desk, times),
-        Work::OnePass => calls_of_new_pass(rt, desk, times),
+    match calls {
+        Calls::OfThreads(threads) => Some(calls_of_threads(rt, desk, threads, times)),
+        Calls::Behind(calls) => calls_behind(rt, alloc, desk, calls, times),
+        Calls::OnePass => calls_of_new_pass(rt, desk, times),
     }
 }
 
@@ -225,7 +226,8 @@ fn call_often<N: Naming>(
     Some(calls)
 }
 
-// So many passes of 32 calls each.
+// So many passes of 32 calls each. It isn't inlined, so that each work takes as many instructions for it.
+#[inline(never)]
 fn kept<N: Naming>(
     rt: &impl Wait,
     alloc: Global,
@@ -246,26 +248,16 @@ fn called_pass<N: Naming>(rt: &impl Wait, desk: &Desk<N>) -> Option<Pass<N>> {
     Some(pass)
 }
 
-// How many passes there are of so many that are kept.
-fn passes_kept<N: Naming>(
-    rt: &impl Wait,
-    alloc: Global,
-    desk: &Desk<N>,
-    number: u64,
-) -> Option<u64> {
-    let passes = kept(rt, alloc, desk, number)?;
-    Some(passes.len() as u64)
-}
-
-// The calls of one pass more, behind so many passes of others.
+// So many calls of one pass more, behind so many passes of others.
 fn calls_behind<N: Naming>(
     rt: &impl Wait,
     alloc: Global,
     desk: &Desk<N>,
+    calls: u64,
     number: u64,
 ) -> Option<u64> {
     let _passes = kept(rt, alloc, desk, number)?;
-    calls_of_new_pass(rt, desk, CALLS_BEHIND)
+    calls_of_new_pass(rt, desk, calls)
 }
 
 // How many entries the log has that is closed with so many passes.

@@ -1,9 +1,14 @@
 //! All works, by name.
 
+use crate::desks::Calls;
+use crate::desks::Work::{Closed, Open};
 use crate::{desks, requests, schedules};
 use std::alloc::Global;
 use std::sync::Wait;
 use std::thread::Threads;
+
+// How many calls are made behind a long log.
+const CALLS_BEHIND: u64 = 64;
 
 /// What is done so many times.
 #[derive(Clone, Copy)]
@@ -24,13 +29,13 @@ pub(crate) fn work_of(name: &str) -> Option<Work> {
         "desk-schedules" => Work::Schedules,
         "desk-memory" => Work::Memory,
         "host-calls" => Work::HostCalls,
-        "desk-calls" => Work::Desk(desks::Work::Calls(1)),
-        "desk-calls-2" => Work::Desk(desks::Work::Calls(2)),
-        "desk-calls-4" => Work::Desk(desks::Work::Calls(4)),
-        "desk-kept" => Work::Desk(desks::Work::Kept),
-        "desk-log" => Work::Desk(desks::Work::Behind),
-        "desk-close" => Work::Desk(desks::Work::Closed),
-        "desk-pass" => Work::Desk(desks::Work::OnePass),
+        "desk-calls" => Work::Desk(Open(Calls::OfThreads(1))),
+        "desk-calls-2" => Work::Desk(Open(Calls::OfThreads(2))),
+        "desk-calls-4" => Work::Desk(Open(Calls::OfThreads(4))),
+        "desk-kept" => Work::Desk(Open(Calls::Behind(0))),
+        "desk-log" => Work::Desk(Open(Calls::Behind(CALLS_BEHIND))),
+        "desk-pass" => Work::Desk(Open(Calls::OnePass)),
+        "desk-close" => Work::Desk(Closed),
         _ => return None,
     };
     Some(work)
