@@ -3,7 +3,7 @@
 
 ghost use Rattle.std.specs.Prelude.{◌≡◌, ◌≤◌};
 
-use crate::desks::{both, entries};
+use crate::desks::{both, entries, load_and_start};
 use call_history::histories::NewHistory;
 use call_history::naming::Naming;
 use instant_engine::{JobId, Jobs};
@@ -18,9 +18,7 @@ use std::thread;
 use std::thread::Threads;
 use std::time::{Clock, Duration};
 use tenant_lines::command_lines::command_of;
-use tenant_lines::commands::Command;
 use tenant_lines::replies::print_reply;
-use tenant_lines::texts::Text;
 use worker_pool::gates::{Free, Gate};
 use worker_pool::pools::Pool;
 
@@ -140,21 +138,6 @@ impl Gate for UnderLock {
         *entered = entered.wrapping_add(1);
         self.gate.enter(rt, id);
     }
-}
-
-// The tenant loads this program and starts it.
-fn load_and_start<N: Naming>(
-    rt: &impl Wait,
-    alloc: Global,
-    desk: &Desk<N>,
-    pass: &mut Pass<N>,
-    tenant: TenantId,
-    program: &str,
-) -> Option<()> {
-    let text = Text::from_str(alloc, program).ok()?;
-    let _ = desk.call(rt, pass, tenant, Command::Load(text)).ok()?;
-    let _ = desk.call(rt, pass, tenant, Command::Start).ok()?;
-    Some(())
 }
 
 // Alpha starts the pair and beta the adder, each on its own pass.
