@@ -3,8 +3,8 @@ use denote.RattleType.{RattleType}
 use denote.Ref.{NamedLft}
 use denote.Param.Send.{IsSend, IsSync, sendable}
 use Rattle.std.proofs.Crossing.{crosses}
-use Rattle.worker_pool.specs.declared.book.naming.Naming.{Ghosts}
-use Rattle.worker_pool.proofs.of_book.Crossing.{desk_sync, pass_send, job_send, logged_send}
+use Rattle.locked_book.specs.declared.naming.Naming.{Ghosts}
+use Rattle.locked_book.proofs.cited.Crossing.{desk_sync, pass_send, job_send, logged_send}
 use Rattle.measure.proofs.voices.Heard.TheSendSync as heard
 use Rattle.measure.specs.contracts.voices.Table as Table
 use Rattle.measure.specs.contracts.voices.Heard as Heard

@@ -3,8 +3,12 @@
 
 ghost use Rattle.std.specs.Prelude.{◌≡◌};
 
-use crate::instants::{host_of, roster};
-use rig_model::config::{Config, TenantId};
+use locked_book::desks::Desk;
+use locked_book::histories::NewHistory;
+use locked_book::host::hosts::Host;
+use locked_book::naming::Naming;
+use locked_book::passes::Pass;
+use rig_model::config::{Config, TenantId, read_config};
 use rig_model::lines::commands::Command;
 use rig_model::lines::replies::Reply;
 use std::alloc::Global;
@@ -13,38 +17,93 @@ use std::sync::Wait;
 use std::sync::atomic::{AtomicU64, Ordering};
 use std::thread;
 use std::thread::Threads;
-use worker_pool::book::desks::Desk;
-use worker_pool::book::histories::NewHistory;
-use worker_pool::book::naming::Naming;
-use worker_pool::book::passes::Pass;
-use worker_pool::host::hosts::Host;
 
 // How many calls each pass has that isn't one alone.
 const CALLS: u64 = 32;
 
-// How many calls are made behind a long log.
-const CALLS_BEHIND: u64 = 64;
-
 const FIRST: TenantId = 0;
+
+// Four tenants with all that a budget can be, which may read the one line.
+const CONFIG: &str = "version = 1
+lines = 1
+[[tenant]]
+name = \"t0\"
+key = \"k\"
+reads = [0]
+writes = []
+bytes = 16000
+ports = 1024
+tasks = 64
+modes = 64
+steps = 1000000
+trace = 1
+offers = 64
+binds = 64
+[[tenant]]
+name = \"t1\"
+key = \"k\"
+reads = [0]
+writes = []
+bytes = 16000
+ports = 1024
+tasks = 64
+modes = 64
+steps = 1000000
+trace = 1
+offers = 64
+binds = 64
+[[tenant]]
+name = \"t2\"
+key = \"k\"
+reads = [0]
+writes = []
+bytes = 16000
+ports = 1024
+tasks = 64
+modes = 64
+steps = 1000000
+trace = 1
+offers = 64
+binds = 64
+[[tenant]]
+name = \"t3\"
+key = \"k\"
+reads = [0]
+writes = []
+bytes = 16000
+ports = 1024
+tasks = 64
+modes = 64
+steps = 1000000
+trace = 1
+offers = 64
+binds = 64
+";
 
 /// What is done at a desk.
 #[derive(Clone, Copy)]
 pub(crate) enum Work {
-    /// So many passes of 32 calls each, by each of these threads.
-    Calls(u64),
-    /// So many passes of 32 calls each, all of which are kept.
-    Kept,
-    /// These, and 64 calls of one pass more.
-    Behind,
-    /// These, and a close with all of them.
+    /// Calls at a desk that stays open.
+    Open(Calls),
+    /// So many passes of 32 calls each, and a close with all of them.
     Closed,
+}
+
+/// What is called at a desk.
+#[derive(Clone, Copy)]
+pub(crate) enum Calls {
+    /// So many passes of 32 calls each, by each of these threads.
+    OfThreads(u64),
+    /// So many passes of 32 calls each, all of which are kept, and these calls of one pass more.
+    Behind(u64),
     /// So many calls of one pass.
     OnePass,
 }
 
 /// As many times 32 commands of a host without a lock, with four tenants. How many were answered; -1 where the host has no tenant.
 pub(crate) fn calls_of_host(alloc: Global, times: u64) -> anyhow::Result<i64> {
-    let mut host = host_of(alloc, 4)?;
+    let config = read_config(alloc, CONFIG)?;
+    let mut host = Host::new(alloc, &config, 0)?;
     Ok(answered_by(&mut host, times))
 }
 
@@ -63,7 +122,7 @@ fn answered_by(host: &mut Host, times: u64) -> i64 {
     answered
 }
 
-/// Work at a desk of four tenants. How many calls were answered, or for a close how many entries the log has; -1 where a call or the
+/// Work at a desk of four tenants. How many calls were answered last, or for a close how many entries the log has; -1 where a call or the
 /// close is refused.
 pub(crate) fn worked<R: Threads + Wait + Sync>(
     rt: &R,
@@ -71,7 +130,7 @@ pub(crate) fn worked<R: Threads + Wait + Sync>(
     work: Work,
     times: u64,
 ) -> anyhow::Result<i64> {
-    let config = roster(alloc, 4)?;
+    let config = read_config(alloc, CONFIG)?;
     let done = on_desk::<Brand, _>(rt, alloc, &config, NewHistory::new(), work, times);
     Ok(done.and_then(|done| i64::try_from(done).ok()).unwrap_or(-1))
 }
@@ -90,11 +149,23 @@ fn on_desk<N: Naming + Send + Sync, R: Threads + Wait + Sync>(
 {
     let desk = Desk::<N>::new(alloc, config, 0, Some(history)).ok()?;
     match work {
-        Work::Calls(threads) => Some(calls_of_threads(rt, &desk, threads, times)),
-        Work::Kept => Some(kept(rt, alloc, &desk, times)?.len() as u64),
-        Work::Behind => calls_behind(rt, alloc, &desk, times),
+        Work::Open(calls) => called(rt, alloc, &desk, calls, times),
         Work::Closed => entries_closed(rt, alloc, desk, times),
-        Work::OnePass => calls_of_new_pass(rt, &desk, times),
+    }
+}
+
+// How many calls were answered.
+fn called<N: Naming + Send + Sync, R: Threads + Wait + Sync>(
+    rt: &R,
+    alloc: Global,
+    desk: &Desk<N>,
+    calls: Calls,
+    times: u64,
+) -> Option<u64> {
+    match calls {
+        Calls::OfThreads(threads) => Some(calls_of_threads(rt, desk, threads, times)),
+        Calls::Behind(calls) => calls_behind(rt, alloc, desk, calls, times),
+        Calls::OnePass => calls_of_new_pass(rt, desk, times),
     }
 }
 
@@ -155,7 +226,8 @@ fn call_often<N: Naming>(
     Some(calls)
 }
 
-// So many passes of 32 calls each.
+// So many passes of 32 calls each. It isn't inlined, so that each work takes as many instructions for it.
+#[inline(never)]
 fn kept<N: Naming>(
     rt: &impl Wait,
     alloc: Global,
@@ -164,22 +236,28 @@ fn kept<N: Naming>(
 ) -> Option<Vec<Pass<N>>> {
     let mut passes = Vec::new(alloc);
     for _pass in 0..number {
-        let mut pass = desk.pass(rt).ok()?;
-        let _ = call_often(rt, desk, &mut pass, CALLS)?;
-        passes.push(pass).ok()?;
+        passes.push(called_pass(rt, desk)?).ok()?;
     }
     Some(passes)
 }
 
-// The calls of one pass more, behind so many passes of others.
+// A pass of 32 calls.
+fn called_pass<N: Naming>(rt: &impl Wait, desk: &Desk<N>) -> Option<Pass<N>> {
+    let mut pass = desk.pass(rt).ok()?;
+    let _ = call_often(rt, desk, &mut pass, CALLS)?;
+    Some(pass)
+}
+
+// So many calls of one pass more, behind so many passes of others.
 fn calls_behind<N: Naming>(
     rt: &impl Wait,
     alloc: Global,
     desk: &Desk<N>,
+    calls: u64,
     number: u64,
 ) -> Option<u64> {
     let _passes = kept(rt, alloc, desk, number)?;
-    calls_of_new_pass(rt, desk, CALLS_BEHIND)
+    calls_of_new_pass(rt, desk, calls)
 }
 
 // How many entries the log has that is closed with so many passes.

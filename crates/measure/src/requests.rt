@@ -2,6 +2,14 @@
 
 ghost use Rattle.std.specs.Prelude.{◌≡◌};
 
+use crate::voices::lay_all;
+use locked_book::desks::Desk;
+use locked_book::engine::{Job, run_job};
+use locked_book::faults::{CloseFault, DeskFault, PassFault};
+use locked_book::histories::NewHistory;
+use locked_book::host::hosts::{Counted, TickFault};
+use locked_book::naming::Naming;
+use locked_book::passes::Pass;
 use rig_model::config::{Config, TenantId, built_in};
 use rig_model::lines::command_lines::{LineFault, command_of};
 use rig_model::lines::commands::Command;
@@ -9,13 +17,6 @@ use rig_model::lines::replies::{Reply, print_reply};
 use std::alloc::{AllocError, Global};
 use std::marker::Brand;
 use std::sync::Wait;
-use worker_pool::book::desks::Desk;
-use worker_pool::book::faults::{CloseFault, DeskFault, PassFault};
-use worker_pool::book::histories::NewHistory;
-use worker_pool::book::naming::Naming;
-use worker_pool::book::passes::Pass;
-use worker_pool::engine::{Job, Jobs, run_job};
-use worker_pool::host::hosts::{Counted, TickFault};
 
 const ALPHA: TenantId = 0;
 
@@ -115,22 +116,39 @@ fn at_desk<N: Naming, R: Wait>(
     requires history { history ≡ N.history }
 {
     let desk = Desk::<N>::new(alloc, config, 0, Some(history)).ok()?;
-    let mut scene = Scene {
+    let mut scene = new_scene(alloc)?;
+    let taken = taken_at(rt, &desk, &mut scene, times);
+    Some(taken.wrapping_add(taken_at_last(desk, scene, times)))
+}
+
+fn new_scene<N: Naming>(alloc: Global) -> Option<Scene<N>> {
+    let passes = Vec::with_capacity(alloc, 4).ok()?;
+    let jobs = Vec::with_capacity(alloc, 4).ok()?;
+    Some(Scene {
         alloc,
-        passes: Vec::with_capacity(alloc, 4).ok()?,
-        jobs: Vec::with_capacity(alloc, 4).ok()?,
+        passes,
+        jobs,
         entries: 0,
-    };
+    })
+}
+
+// How many of the first steps gave what they have to give.
+fn taken_at<N: Naming>(rt: &impl Wait, desk: &Desk<N>, scene: &mut Scene<N>, times: u64) -> u64 {
     let mut taken = 0u64;
     for (step, _time) in STEPS.iter().zip(0..times) {
-        if is_taken(rt, &desk, &mut scene, step) {
+        if is_taken(rt, desk, scene, step) {
             taken = taken.wrapping_add(1);
         }
     }
-    if times > STEPS.len() as u64 && is_closed(desk, scene) {
-        taken = taken.wrapping_add(1);
+    taken
+}
+
+// 1 where the desk is to be closed behind the steps, and closes.
+fn taken_at_last<N: Naming>(desk: Desk<N>, scene: Scene<N>, times: u64) -> u64 {
+    if times <= STEPS.len() as u64 {
+        return 0;
     }
-    Some(taken)
+    u64::from(is_closed(desk, scene))
 }
 
 fn is_taken<N: Naming>(rt: &impl Wait, desk: &Desk<N>, scene: &mut Scene<N>, step: &Step) -> bool {
@@ -186,13 +204,14 @@ fn is_told<N: Naming>(
     reply: &str,
 ) -> bool {
     for _try in 0..TRIES {
-        let Some(command) = command_at_last(scene.alloc, line) else {
-            return false;
-        };
-        match told(rt, desk, scene, tenant, command) {
-            Outcome::Printed(text) => return text.as_str() == reply,
-            Outcome::AsBefore => {}
+        match told(rt, desk, scene, tenant, line, reply) {
+            Outcome::Right => return true,
             Outcome::Lost => return false,
+            Outcome::Refused => {
+                if !is_as_before(rt, desk, scene) {
+                    return false;
+                }
+            }
         }
     }
     false
@@ -210,53 +229,76 @@ fn command_at_last(alloc: Global, line: &str) -> Option<Command> {
     None
 }
 
-// What came of a call: its printed reply, or a refusal for want of memory that left all as it was, or anything else.
-#[derive(Drop)]
+// What came of a call: the reply that it has to get, or a refusal for want of memory that left the pass as it was, or anything else.
+#[derive(Clone, Copy)]
 enum Outcome {
-    Printed(String),
-    AsBefore,
+    Right,
+    Refused,
     Lost,
 }
 
+// What comes of a line.
 fn told<N: Naming>(
     rt: &impl Wait,
     desk: &Desk<N>,
     scene: &mut Scene<N>,
     tenant: TenantId,
-    command: Command,
+    line: &str,
+    reply: &str,
 ) -> Outcome {
+    let alloc = scene.alloc;
     let Some(pass) = scene.passes.get_mut(tenant) else {
         return Outcome::Lost;
     };
-    let calls = pass.calls().len();
-    let answer = desk.call(rt, pass, tenant, command);
-    let kept = pass.calls().len();
-    match answer {
-        Ok(reply) => {
+    let Some(command) = command_at_last(alloc, line) else {
+        return Outcome::Lost;
+    };
+    match answer_of(rt, desk, pass, tenant, command) {
+        Ok(given) => {
             scene.entries = scene.entries.wrapping_add(1);
-            match printed(scene.alloc, &reply) {
-                Some(text) => Outcome::Printed(text),
-                None => Outcome::Lost,
-            }
+            judged(alloc, &given, reply)
         }
-        Err(DeskFault::Memory) => {
-            if kept == calls && is_as_before(rt, desk, scene) {
-                Outcome::AsBefore
-            } else {
-                Outcome::Lost
-            }
-        }
-        Err(_) => Outcome::Lost,
+        Err(outcome) => outcome,
     }
 }
 
-fn printed(alloc: Global, reply: &Reply) -> Option<String> {
-    for _try in 0..TRIES {
-        if let Ok(text) = print_reply(alloc, reply) {
-            return Some(text);
+// The reply to a call of this pass, or what came of it where it was refused.
+fn answer_of<N: Naming>(
+    rt: &impl Wait,
+    desk: &Desk<N>,
+    pass: &mut Pass<N>,
+    tenant: TenantId,
+    command: Command,
+) -> Result<Reply, Outcome> {
+    let calls = pass.calls().len();
+    match desk.call(rt, pass, tenant, command) {
+        Ok(reply) => Ok(reply),
+        Err(fault) => {
+            if fault == DeskFault::Memory && pass.calls().len() == calls {
+                Err(Outcome::Refused)
+            } else {
+                Err(Outcome::Lost)
+            }
         }
     }
-    None
+}
+
+// What a call came to that was answered so.
+fn judged(alloc: Global, given: &Reply, reply: &str) -> Outcome {
+    for _try in 0..TRIES {
+        if let Ok(text) = print_reply(alloc, given) {
+            return outcome_of(text.as_str() == reply);
+        }
+    }
+    Outcome::Lost
+}
+
+fn outcome_of(is_right: bool) -> Outcome {
+    if is_right {
+        Outcome::Right
+    } else {
+        Outcome::Lost
+    }
 }
 
 // Whether an instant stands behind all entries, and releases so many jobs.
@@ -269,10 +311,10 @@ fn is_released<N: Naming>(
 ) -> bool {
     for _try in 0..TRIES {
         match desk.tick(rt, &[reading]) {
-            Ok((jobs, place)) => {
+            Ok((mut jobs, place)) => {
                 let is_right = place == scene.entries && jobs.len() == number;
                 scene.entries = scene.entries.wrapping_add(1);
-                return lay(scene, jobs).is_ok() && is_right;
+                return lay_all(&mut scene.jobs, &mut jobs).is_ok() && is_right;
             }
             Err(TickFault::Memory) => {
                 if !is_as_before(rt, desk, scene) {
@@ -283,15 +325,6 @@ fn is_released<N: Naming>(
         }
     }
     false
-}
-
-fn lay<N: Naming>(scene: &mut Scene<N>, mut jobs: Jobs) -> Result<(), AllocError> {
-    for _job in 0..jobs.len() {
-        if let Some(job) = jobs.take() {
-            scene.jobs.push(job)?;
-        }
-    }
-    Ok(())
 }
 
 // Whether the completion of the oldest job counts, behind all entries, and nothing is outstanding then.

@@ -4,6 +4,13 @@
 ghost use Rattle.std.specs.Prelude.{◌≡◌};
 
 use crate::voices::{Heard, THREADS, Table, Voice, speak};
+use locked_book::books::Book;
+use locked_book::desks::Desk;
+use locked_book::histories::NewHistory;
+use locked_book::host::events::Event;
+use locked_book::host::plays::play;
+use locked_book::naming::Naming;
+use locked_book::passes::Pass;
 use rig_model::config::{Config, read_config};
 use rig_model::frames::copy_of_frame;
 use rig_model::lines::texts::Text;
@@ -13,13 +20,6 @@ use std::marker::Brand;
 use std::sync::{Barrier, Mutex, Wait};
 use std::thread;
 use std::thread::Threads;
-use worker_pool::book::books::Book;
-use worker_pool::book::desks::Desk;
-use worker_pool::book::histories::NewHistory;
-use worker_pool::book::naming::Naming;
-use worker_pool::book::passes::Pass;
-use worker_pool::host::events::Event;
-use worker_pool::host::plays::play;
 
 // Three tenants, of which two drive a line each.
 const CONFIG: &str = "version = 1
@@ -151,25 +151,61 @@ fn is_played<N: Naming>(
     desk: Desk<N>,
     voices: Vec<Voice<N>>,
 ) -> Option<bool> {
-    let mut passes = Vec::new(alloc);
     let mut all = Vec::new(alloc);
+    let book = closed(alloc, desk, voices, &mut all)?;
+    is_answered(alloc, config, &book, &all)
+}
+
+// The desk's book, and what each voice was told.
+fn closed<N: Naming>(
+    alloc: Global,
+    desk: Desk<N>,
+    voices: Vec<Voice<N>>,
+    all: &mut Vec<Heard>,
+) -> Option<Book<N>> {
+    let passes = passes_of(alloc, voices, all)?;
+    desk.close(passes).ok()
+}
+
+// The passes of the voices, and what each was told.
+fn passes_of<N: Naming>(
+    alloc: Global,
+    voices: Vec<Voice<N>>,
+    all: &mut Vec<Heard>,
+) -> Option<Vec<Pass<N>>> {
+    let mut passes = Vec::new(alloc);
     for voice in voices {
-        let (pass, heard) = voice.into_parts()?;
-        passes.push(pass).ok()?;
-        all.push(heard).ok()?;
+        passes.push(pass_of(voice, all)?).ok()?;
     }
-    let book = closed(desk, passes)?;
-    if !stand(&book, &all) {
+    Some(passes)
+}
+
+// The pass of a voice, and what it was told.
+fn pass_of<N: Naming>(voice: Voice<N>, all: &mut Vec<Heard>) -> Option<Pass<N>> {
+    let (pass, heard) = voice.into_parts()?;
+    all.push(heard).ok()?;
+    Some(pass)
+}
+
+// Whether the log of a book, played, answers what each thread was told.
+fn is_answered<N: Naming>(
+    alloc: Global,
+    config: &Config,
+    book: &Book<N>,
+    all: &[Heard],
+) -> Option<bool> {
+    if !stand(book, all) {
         return Some(false);
     }
-    let events = events_of(alloc, book.log()).ok()?;
-    let texts = play(alloc, config, &events).ok()?;
-    let told = told_in_order(alloc, book.log(), &all, texts.len())?;
+    let texts = played(alloc, config, book.log())?;
+    let told = told_in_order(alloc, book.log(), all, texts.len())?;
     Some(same(&texts, &told))
 }
 
-fn closed<N: Naming>(desk: Desk<N>, passes: Vec<Pass<N>>) -> Option<Book<N>> {
-    desk.close(passes).ok()
+// What `play` answers to a log.
+fn played(alloc: Global, config: &Config, log: &[Logged]) -> Option<Vec<Text>> {
+    let events = events_of(alloc, log).ok()?;
+    play(alloc, config, &events).ok()
 }
 
 // Whether each instant and each completion stands at the place that its thread was told.
@@ -185,17 +221,20 @@ fn stand<N: Naming>(book: &Book<N>, all: &[Heard]) -> bool {
 fn events_of(alloc: Global, log: &[Logged]) -> Result<Vec<Event>, AllocError> {
     let mut events = Vec::new(alloc);
     for entry in log {
-        let event = match entry {
-            Logged::Call(_, kept) => {
-                let call = kept.as_call();
-                Event::Own(call.tenant, call.command.copy(alloc)?)
-            }
-            Logged::Tick(frame) => Event::Tick(copy_of_frame(alloc, frame.as_slice())?),
-            Logged::Done(id) => Event::Done(id.copy()),
-        };
-        events.push(event)?;
+        events.push(event_of(alloc, entry)?)?;
     }
     Ok(events)
+}
+
+fn event_of(alloc: Global, entry: &Logged) -> Result<Event, AllocError> {
+    match entry {
+        Logged::Call(_, kept) => {
+            let call = kept.as_call();
+            Ok(Event::Own(call.tenant, call.command.copy(alloc)?))
+        }
+        Logged::Tick(frame) => Ok(Event::Tick(copy_of_frame(alloc, frame.as_slice())?)),
+        Logged::Done(id) => Ok(Event::Done(id.copy())),
+    }
 }
 
 // What each of so many tenants was told: the replies that the threads heard, in the order of the log. None where a thread heard less or

@@ -3,16 +3,16 @@
 ghost use Rattle.std.specs.Prelude.{◌≡◌, ◌<◌};
 
 use giotto_tasks::lists::List;
+use locked_book::desks::Desk;
+use locked_book::engine::{Job, Jobs, run_job};
+use locked_book::host::hosts::Counted;
+use locked_book::naming::Naming;
+use locked_book::passes::Pass;
 use rig_model::lines::command_lines::command_of;
 use rig_model::lines::replies::print_reply;
 use rig_model::logged::Logged;
-use std::alloc::Global;
+use std::alloc::{AllocError, Global};
 use std::sync::{Barrier, Mutex, Wait};
-use worker_pool::book::desks::Desk;
-use worker_pool::book::naming::Naming;
-use worker_pool::book::passes::Pass;
-use worker_pool::engine::{Job, Jobs, run_job};
-use worker_pool::host::hosts::Counted;
 
 /// How many threads there are.
 pub(crate) const THREADS: usize = 4;
@@ -152,11 +152,17 @@ fn tick<N: Naming>(rt: &impl Wait, table: &Table<'_, N>, voice: &mut Voice<N>) -
 // Lays these jobs to the others.
 fn lay<N: Naming>(rt: &impl Wait, table: &Table<'_, N>, mut jobs: Jobs) -> Option<()> {
     let mut guard = table.jobs.lock(rt);
-    let all = &mut *guard;
+    lay_all(&mut *guard, &mut jobs).ok()
+}
+
+/// Lays all of these jobs to the others, as far as there is memory.
+pub(crate) fn lay_all(all: &mut Vec<Job>, jobs: &mut Jobs) -> Result<(), AllocError> {
     for _job in 0..jobs.len() {
-        all.push(jobs.take()?).ok()?;
+        if let Some(job) = jobs.take() {
+            all.push(job)?;
+        }
     }
-    Some(())
+    Ok(())
 }
 
 // The completion of any job that lies there.

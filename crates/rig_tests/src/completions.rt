@@ -18,7 +18,7 @@ const ALPHA: TenantId = 0;
 const BETA: TenantId = 1;
 
 // The tenant takes this command, if it is one of the host's.
-fn take(host: &mut Host, tenant: TenantId, command: Command) {
+pub(crate) fn take(host: &mut Host, tenant: TenantId, command: Command) {
     if tenant >= host.config().tenants().len() {
         return;
     }
@@ -33,7 +33,7 @@ fn run(alloc: Global, host: &mut Host, tenant: TenantId) -> Option<()> {
     Some(())
 }
 
-fn new_host(alloc: Global) -> Option<Host> {
+pub(crate) fn new_host(alloc: Global) -> Option<Host> {
     let config = built_in(alloc).ok()?;
     Host::new(alloc, &config, 0).ok()
 }
@@ -109,7 +109,7 @@ fn counts_beside_its_own(alloc: Global, host: &mut Host) -> Option<bool> {
 }
 
 // Whether alpha is answered this to a command, if it is one of the host's.
-fn is_answered(alloc: Global, host: &mut Host, command: Command, text: &str) -> bool {
+pub(crate) fn is_answered(alloc: Global, host: &mut Host, command: Command, text: &str) -> bool {
     if ALPHA >= host.config().tenants().len() {
         return false;
     }

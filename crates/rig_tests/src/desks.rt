@@ -4,6 +4,7 @@ ghost use Rattle.std.specs.Prelude.{◌≡◌};
 
 use rig_model::config::{Config, TenantId, built_in};
 use rig_model::lines::commands::Command;
+use rig_model::lines::texts::Text;
 use std::alloc::Global;
 use std::marker::Brand;
 use std::sync::Wait;
@@ -61,6 +62,21 @@ pub(crate) fn other_pass<N: Naming>(rt: &impl Wait, other: &Desk<N>) -> Option<P
     let mut pass = other.pass(rt).ok()?;
     let _ = other.call(rt, &mut pass, ALPHA, Command::ShowMode).ok()?;
     Some(pass)
+}
+
+// The tenant loads this program and starts it.
+pub(crate) fn load_and_start<N: Naming>(
+    rt: &impl Wait,
+    alloc: Global,
+    desk: &Desk<N>,
+    pass: &mut Pass<N>,
+    tenant: TenantId,
+    program: &str,
+) -> Option<()> {
+    let text = Text::from_str(alloc, program).ok()?;
+    let _ = desk.call(rt, pass, tenant, Command::Load(text)).ok()?;
+    let _ = desk.call(rt, pass, tenant, Command::Start).ok()?;
+    Some(())
 }
 
 // Both, the first one first.

@@ -28,6 +28,8 @@ mod readers;
 #[cfg(test)]
 mod sessions;
 #[cfg(test)]
+mod steps;
+#[cfg(test)]
 mod suppliers;
 #[cfg(test)]
 mod threads;

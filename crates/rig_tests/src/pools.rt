@@ -3,12 +3,10 @@
 
 ghost use Rattle.std.specs.Prelude.{◌≡◌, ◌≤◌};
 
-use crate::desks::{both, entries};
+use crate::desks::{both, entries, load_and_start};
 use rig_model::config::{Config, TenantId, built_in};
 use rig_model::lines::command_lines::command_of;
-use rig_model::lines::commands::Command;
 use rig_model::lines::replies::print_reply;
-use rig_model::lines::texts::Text;
 use std::alloc::Global;
 use std::marker::Brand;
 use std::sync::atomic::{AtomicUsize, Ordering};
@@ -140,21 +138,6 @@ impl Gate for UnderLock {
         *entered = entered.wrapping_add(1);
         self.gate.enter(rt, id);
     }
-}
-
-// The tenant loads this program and starts it.
-fn load_and_start<N: Naming>(
-    rt: &impl Wait,
-    alloc: Global,
-    desk: &Desk<N>,
-    pass: &mut Pass<N>,
-    tenant: TenantId,
-    program: &str,
-) -> Option<()> {
-    let text = Text::from_str(alloc, program).ok()?;
-    let _ = desk.call(rt, pass, tenant, Command::Load(text)).ok()?;
-    let _ = desk.call(rt, pass, tenant, Command::Start).ok()?;
-    Some(())
 }
 
 // Alpha starts the pair and beta the adder, each on its own pass.

@@ -9,7 +9,7 @@ use rig_model::lines::replies::{Reply, Status};
 use rig_sessions::calls::Calls;
 use rig_sessions::faults::TalkFault;
 use rig_sessions::talking::talk;
-use std::alloc::Global;
+use std::alloc::{AllocError, Global};
 use std::io;
 use std::io::Read;
 use std::marker::Brand;
@@ -162,28 +162,31 @@ fn ends_at_long_line<N: Naming, R: Wait>(
     config: &Config,
     desk: &Desk<N>,
 ) -> Option<bool> {
+    let is_line = calls_nothing(rt, alloc, config, desk, 16384, b"err bad-command\n")?;
+    let is_longer = calls_nothing(rt, alloc, config, desk, 16385, b"bye bad-line\n")?;
+    Some(is_line && is_longer)
+}
+
+// Whether a session in which a line of so many bytes is answered so makes no call.
+fn calls_nothing<N: Naming, R: Wait>(
+    rt: &R,
+    alloc: Global,
+    config: &Config,
+    desk: &Desk<N>,
+    bytes: u32,
+    expected: &[u8],
+) -> Option<bool> {
+    let text = line_of(alloc, bytes).ok()?;
+    let pass = talked(rt, alloc, config, desk, text.as_slice(), expected)?;
+    Some(pass.calls().is_empty())
+}
+
+fn line_of(alloc: Global, bytes: u32) -> Result<Vec<u8>, AllocError> {
     let mut text = Vec::new(alloc);
-    for _byte in 0..16384u32 {
-        text.push(b'x').ok()?;
+    for _byte in 0..bytes {
+        text.push(b'x')?;
     }
-    let longest = talked(
-        rt,
-        alloc,
-        config,
-        desk,
-        text.as_slice(),
-        b"err bad-command\n".as_slice(),
-    )?;
-    text.push(b'x').ok()?;
-    let longer = talked(
-        rt,
-        alloc,
-        config,
-        desk,
-        text.as_slice(),
-        b"bye bad-line\n".as_slice(),
-    )?;
-    Some(longest.calls().is_empty() && longer.calls().is_empty())
+    Ok(text)
 }
 
 // Answers one call of a pass, and then refuses.
@@ -291,12 +294,18 @@ fn stand_in_one_history<N: Naming, R: Wait>(
 ) -> Option<bool> {
     let alphas = talked(rt, alloc, config, &desk, ALPHAS, ALPHAS_REPLIES)?;
     let betas = talked(rt, alloc, config, &desk, BETAS, BETAS_REPLIES)?;
-    let first = work_at(rt, &desk, 5)?;
-    let second = work_at(rt, &desk, 7)?;
-    let third_instant = work_at(rt, &desk, 9)?;
+    let releases = release_at_first_and_third(rt, &desk)?;
     let third = talked(rt, alloc, config, &desk, THIRDS, THIRDS_REPLIES)?;
     let entries = closed_entries(alloc, desk, alphas, betas, third)?;
-    Some(first && !second && third_instant && entries == 12)
+    Some(releases && entries == 12)
+}
+
+// Whether of three instants the first and the third release a job.
+fn release_at_first_and_third<N: Naming>(rt: &impl Wait, desk: &Desk<N>) -> Option<bool> {
+    let first = work_at(rt, desk, 5)?;
+    let second = work_at(rt, desk, 7)?;
+    let third = work_at(rt, desk, 9)?;
+    Some(first && !second && third)
 }
 
 // Whether an instant with this reading releases a job; it is completed then, and counts.

@@ -2,7 +2,7 @@
 
 ghost use Rattle.std.specs.Prelude.{◌≡◌};
 
-use crate::desks::{NOBODY, book_of, both, entries, is_refused, other_pass};
+use crate::desks::{NOBODY, book_of, both, entries, is_refused, load_and_start, other_pass};
 use giotto_tasks::lists::List;
 use giotto_tasks::names::Name;
 use rig_model::config::{Config, TenantId, built_in};
@@ -74,21 +74,6 @@ fn on_desks<N: Naming + Send + Sync, R: Threads + Wait + Sync>(
         Shown::Late => drops_late_completion(rt, alloc, desk),
         Shown::OneBook => stand_in_one_book(rt, alloc, desk),
     }
-}
-
-// The tenant loads this program and starts it.
-fn load_and_start<N: Naming>(
-    rt: &impl Wait,
-    alloc: Global,
-    desk: &Desk<N>,
-    pass: &mut Pass<N>,
-    tenant: TenantId,
-    program: &str,
-) -> Option<()> {
-    let text = Text::from_str(alloc, program).ok()?;
-    let _ = desk.call(rt, pass, tenant, Command::Load(text)).ok()?;
-    let _ = desk.call(rt, pass, tenant, Command::Start).ok()?;
-    Some(())
 }
 
 // Alpha loads the adder and starts it, and beta the listener, each in a thread of its own and on its own pass.
@@ -169,17 +154,34 @@ fn stand_in_one_history<N: Naming + Send + Sync, R: Threads + Wait + Sync>(
     desk: Desk<N>,
     other: &Desk<N>,
 ) -> Option<bool> {
+    let stranger = other_pass(rt, other)?;
     let mut alphas = desk.pass(rt).ok()?;
     let mut betas = desk.pass(rt).ok()?;
-    both_start(rt, alloc, &desk, &mut alphas, &mut betas);
-    if !has_started(&alphas, ALPHA) || !has_started(&betas, BETA) {
-        return Some(false);
-    }
-    let (tick, done) = tick_and_done(rt, &desk)?;
-    let stranger = other_pass(rt, other)?;
+    let places = run_both(rt, alloc, &desk, &mut alphas, &mut betas)?;
     let book = closed(desk, Vec::new(alloc), alphas, betas, stranger)?;
-    let stand = stand_at(alloc, &book, tick, done)?;
-    let exchanged = stand_at(alloc, &book, done, tick)?;
+    are_at(alloc, &book, places)
+}
+
+// Both start, each in its thread, and an instant and its completion come; their places.
+fn run_both<N: Naming + Send + Sync, R: Threads + Wait + Sync>(
+    rt: &R,
+    alloc: Global,
+    desk: &Desk<N>,
+    alphas: &mut Pass<N>,
+    betas: &mut Pass<N>,
+) -> Option<(u128, u128)> {
+    both_start(rt, alloc, desk, alphas, betas);
+    if !has_started(alphas, ALPHA) || !has_started(betas, BETA) {
+        return None;
+    }
+    tick_and_done(rt, desk)
+}
+
+// Whether the log has 6 entries, and the instant and the completion stand at these places and not in the other turn.
+fn are_at<N: Naming>(alloc: Global, book: &Book<N>, places: (u128, u128)) -> Option<bool> {
+    let (tick, done) = places;
+    let stand = stand_at(alloc, book, tick, done)?;
+    let exchanged = stand_at(alloc, book, done, tick)?;
     Some(book.log().len() == 6 && stand && !exchanged)
 }
 
@@ -249,14 +251,23 @@ fn stand_at<N: Naming>(alloc: Global, book: &Book<N>, tick: u128, done: u128) ->
 // A completion behind a stop is late and not logged, and the next program drives its line at once.
 fn drops_late_completion<N: Naming>(rt: &impl Wait, alloc: Global, desk: Desk<N>) -> Option<bool> {
     let mut pass = desk.pass(rt).ok()?;
-    if !is_late_behind_stop(rt, alloc, &desk, &mut pass)? {
-        return Some(false);
-    }
-    let is_four = is_refused(rt, &desk, &mut pass, NOBODY, DeskFault::Strange(4));
+    let is_late = is_late_behind_stop(rt, alloc, &desk, &mut pass)?;
+    let drives = drives_four(rt, alloc, &desk, &mut pass)?;
+    let is_history = is_its_history(alloc, desk, pass)?;
+    Some(is_late && drives && is_history)
+}
+
+// Whether the desk has four entries, and alpha's next program drives its line.
+fn drives_four<N: Naming>(
+    rt: &impl Wait,
+    alloc: Global,
+    desk: &Desk<N>,
+    pass: &mut Pass<N>,
+) -> Option<bool> {
+    let is_four = is_refused(rt, desk, pass, NOBODY, DeskFault::Strange(4));
     let text = Text::from_str(alloc, FOUR).ok()?;
-    let _ = desk.call(rt, &mut pass, ALPHA, Command::Load(text)).ok()?;
-    let drives = has_line(rt, &desk, 4);
-    Some(is_four && drives && is_its_history(alloc, desk, pass)?)
+    let _ = desk.call(rt, pass, ALPHA, Command::Load(text)).ok()?;
+    Some(is_four && has_line(rt, desk, 4))
 }
 
 // Whether alpha's job, which it stops before it is done, is late.

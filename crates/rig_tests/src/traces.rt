@@ -1,16 +1,15 @@
 //! Traces with ample memory: one that keeps the last of its records, and that of a tenant.
 
+use crate::completions::{is_answered, new_host, take};
 use arrayvec::ArrayVec;
 use giotto_tasks::names::Name;
-use rig_model::config::{TenantId, built_in};
+use rig_model::config::{Budgets, TenantId, built_in};
 use rig_model::grants::grants::Grants;
 use rig_model::lines::commands::Command;
-use rig_model::lines::replies::Reply;
 use rig_model::lines::texts::Text;
 use rig_model::trace::records::{Happening, Record};
 use rig_model::trace::traces::Trace;
 use std::alloc::Global;
-use worker_pool::host::hosts::Host;
 use worker_pool::state::tenants::Tenant;
 
 const ALPHA: TenantId = 0;
@@ -46,35 +45,31 @@ fn lists_the_last_two(alloc: Global) -> Option<bool> {
 
 // The built-in configuration's first tenant, alone.
 fn new_tenant(alloc: Global) -> Option<Tenant> {
-    let config = built_in(alloc).ok()?;
-    let budgets = config.tenants().first()?.budgets.copy(alloc).ok()?;
-    let mut roster = ArrayVec::new();
-    roster.push(Name::new("alpha")?);
-    let (offers, binds) = (budgets.offers, budgets.binds);
-    let bounds = budgets.bounds.copy();
-    let grants = Grants::new(alloc, ALPHA, roster, offers, binds, bounds).ok()?;
+    let budgets = first_budgets(alloc)?;
+    let grants = new_grants(alloc, &budgets)?;
     Tenant::new(alloc, budgets, grants, 0).ok()
 }
 
-// What alpha is answered to this command, if it is one of the host's.
-fn answered(host: &mut Host, command: Command) -> Option<Reply> {
-    if ALPHA >= host.config().tenants().len() {
-        return None;
-    }
-    Some(host.command(ALPHA, command))
+fn first_budgets(alloc: Global) -> Option<Budgets> {
+    let config = built_in(alloc).ok()?;
+    config.tenants().first()?.budgets.copy(alloc).ok()
 }
 
-// How many records alpha is told behind its start.
-fn records_behind_a_start(alloc: Global) -> Option<usize> {
-    let config = built_in(alloc).ok()?;
-    let mut host = Host::new(alloc, &config, 0).ok()?;
+// The rows of a roster of one tenant, which has none yet.
+fn new_grants(alloc: Global, budgets: &Budgets) -> Option<Grants> {
+    let mut roster = ArrayVec::new();
+    roster.push(Name::new("alpha")?);
+    let (offers, binds) = (budgets.offers, budgets.binds);
+    Grants::new(alloc, ALPHA, roster, offers, binds, budgets.bounds.copy()).ok()
+}
+
+// Whether alpha is told the one record behind its start.
+fn is_told_its_start(alloc: Global) -> Option<bool> {
+    let mut host = new_host(alloc)?;
     let text = Text::from_str(alloc, "mode m period 1 { } start m;").ok()?;
-    let _ = answered(&mut host, Command::Load(text))?;
-    let _ = answered(&mut host, Command::Start)?;
-    match answered(&mut host, Command::Trace)? {
-        Reply::Trace(records) => Some(records.as_slice().len()),
-        _ => None,
-    }
+    take(&mut host, ALPHA, Command::Load(text));
+    take(&mut host, ALPHA, Command::Start);
+    Some(is_answered(alloc, &mut host, Command::Trace, "ok trace 0:start:m"))
 }
 
 #[test]
@@ -89,5 +84,5 @@ fn makes_a_tenant(rt: HostRuntime) {
 
 #[test]
 fn trace_of_a_tenant_is_told(rt: HostRuntime) {
-    assert!(rt; records_behind_a_start(rt.alloc()) == Some(1));
+    assert!(rt; is_told_its_start(rt.alloc()) == Some(true));
 }

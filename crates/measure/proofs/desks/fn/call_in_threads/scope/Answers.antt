@@ -1,6 +1,6 @@
 use denote.Param.Send.{sendable}
 use Rattle.std.proofs.Crossing.{crosses}
-use Rattle.worker_pool.proofs.of_book.Crossing.{desk_sync}
+use Rattle.locked_book.proofs.cited.Crossing.{desk_sync}
 use Rattle.measure.proofs.desks.fn.call_in_threads.scope.Goals as goal
 
 pub spawn-requires-send-F : goal.spawn-requires-send-F
