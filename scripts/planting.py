@@ -135,10 +135,19 @@ def functions_in(tokens):
 
 def changed(before, after):
     """From where to where a text differs from another, in bytes of the first."""
-    start = next((at for at, (a, b) in enumerate(zip(before, after)) if a != b), min(len(before), len(after)))
+    start = as_long_as(min(len(before), len(after)), lambda at: before[:at] == after[:at])
     most = min(len(before), len(after)) - start
-    same = next((at for at in range(most) if before[-1 - at] != after[-1 - at]), most)
+    same = as_long_as(most, lambda at: before[len(before) - at :] == after[len(after) - at :])
     return start, len(before) - same
+
+
+def as_long_as(most, is_same):
+    """The greatest length up to this one at which something is the same that is so at each lesser one."""
+    least = 0
+    while least < most:
+        middle = (least + most + 1) // 2
+        least, most = (middle, most) if is_same(middle) else (least, middle - 1)
+    return least
 
 
 class Edit:
@@ -182,7 +191,7 @@ class Crate:
     """The sources of a crate in a folder that this run may write to."""
 
     def __init__(self, folder):
-        self.folder, self.texts, self.found = folder, {}, {}
+        self.folder, self.texts, self.found, self.places = folder, {}, {}, None
 
     def text(self, file):
         """A file's bytes, as they were first read."""
@@ -207,8 +216,9 @@ class Crate:
         module = self.module(file, function)
         own = "/".join([*module, *([function.type] if function.type else [])])
         names = (f"{function.type}/{function.name}", f"{function.type}/+{function.name}")
-        top = f"{self.folder}/proofs"
-        places = [os.path.relpath(at, top) for at, _, _ in os.walk(top) if function.type and at.endswith(names)]
+        if self.places is None:
+            self.places = [os.path.relpath(at, f"{self.folder}/proofs") for at, _, _ in os.walk(f"{self.folder}/proofs")]
+        places = [it for it in self.places if function.type and f"/{it}".endswith(tuple(f"/{own}" for own in names))]
         folders = sorted({os.path.dirname(it) for it in places}, key=lambda it: (it != own, it))
         return folders[0] if folders else own
 
