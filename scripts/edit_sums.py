@@ -60,7 +60,7 @@ class EditSums:
     """The sums of the edits of these crates of the kit's library. All code is read once, when this is made."""
 
     def __init__(self, crates):
-        self.names, self.functions = Meanings(crates), {}
+        self.names, self.functions, self.allowed = Meanings(crates), {}, {}
         with open(f"{rt.KIT}/KIT-ID", "rb") as it:
             # kits of several names have one logic
             self.kit = it.read().partition(b" ")[2]
@@ -91,7 +91,10 @@ class EditSums:
         return next(it for it in self.names.files_of(crate.name) if it.path == path).functions[edit.function.end]
 
     def found(self, crate):
-        return Found(self.names, {crate.name, *(it.name for it in crate.below())})
+        """Nothing yet, of a crate and those below it."""
+        if crate not in self.allowed:
+            self.allowed[crate] = {crate.name, *(it.name for it in crate.below())}
+        return Found(self.names, self.allowed[crate])
 
     def of_function(self, crate, edit):
         """What a function rests on."""

@@ -68,7 +68,7 @@ class Meanings:
 
     def __init__(self, crates):
         self.crates = {it.name: it for it in crates}
-        self.rust, self.antt_files, self.folders = {}, {}, {it: [] for it in self.crates}
+        self.rust, self.antt_files, self.proofs = {}, {}, {it: [] for it in self.crates}
         self.methods, self.of_traits, self.implemented = {}, {}, []
         self.read_antt_paths()
         self.read_rust_files()
@@ -85,11 +85,11 @@ class Meanings:
                 top = f"{crate.folder}/{part}"
                 for at, _, files in os.walk(top):
                     place = tuple(os.path.relpath(at, top).split("/")) if at != top else ()
-                    self.folders[name] += [place] if part == "proofs" and place else []
                     for it in files:
                         if it.endswith(".antt"):
                             own = () if not place and it == "Lib.antt" else (*place, it.removesuffix(".antt"))
                             self.antt_files[name, part, own] = f"{at}/{it}"
+                            self.proofs[name] += [(name, part, own)] if part == "proofs" else []
 
     def read_rust_files(self):
         """Reads all code in one go."""
@@ -110,14 +110,15 @@ class Meanings:
     def add_items(self, file):
         """Makes the nodes of a file of code. Each function has two: what its callers see of it, and the whole of it."""
         for it in file.items:
-            of_type, of_trait = names_in_header(it.around) if it.around and "impl" in [word.text for word in it.around] else (None, None)
+            of_type, of_trait = names_around(it)
             around = code_text(it.around or [])
             if it.keyword == "fn":
                 name = "::".join(filter(None, [of_trait, of_type, it.name]))
                 node = Node(file, name, *texts(without_bodies_attributes(it.head), around))
                 node.whole = Node(file, f"{name} whole", *texts(it.tokens, around))
                 node.whole.text += f"\n{self.inner_of(file)}"
-                node.whole.function = (of_type, it.name, "# [ cycle" in code_text(it.head))
+                cycle = re.search(r"# \[ cycle \( (\w+)", code_text(it.head))
+                node.whole.function = (of_type, it.name, cycle and cycle[1])
                 file.functions[it.end] = node.whole
                 if it.around:
                     self.methods.setdefault((file.crate, of_type), {}).setdefault(it.name, []).append(node)
@@ -126,7 +127,7 @@ class Meanings:
                 node.owner = node.whole.owner = of_type
                 if of_trait:
                     self.implemented.append((node, it.around, file))
-            elif it.keyword not in ("inner", "mod"):
+            elif it.keyword not in ("inner", "mod", None):
                 node = Node(file, f"{it.keyword} {it.name}", *texts(it.tokens, ""))
                 self.add_other(file, it, node)
             else:
@@ -231,7 +232,7 @@ class Meanings:
         if part == "specs" and rest[0] in ("declared", "contracts"):
             found = self.of_made(crate, rest[1:])
         else:
-            found = self.walk(crate, part, rest) or self.of_made(crate, rest, True)
+            found = self.walk(crate, part, rest) or self.of_made(crate, rest)
         return found or self.unknown(crate, part, rest)
 
     def walk(self, crate, part, rest):
@@ -254,16 +255,17 @@ class Meanings:
                 break
         return found
 
-    def of_made(self, crate, names, is_whole=False):
+    def of_made(self, crate, names):
         """What of code the compiler makes a module from: a type, a constant, or the function whose goals it has."""
-        end = next((at for at, it in enumerate(names) if it in OF_FUNCTIONS), len(names))
-        path = tuple(it.lstrip("+") for it in names[:end] if not MADE.fullmatch(it))
-        found = self.of_path(crate, (), path) if path else set()
-        if is_whole and end < len(names):
-            own = {it.whole for it in found if isinstance(it, Node) and it.whole and it.whole.function[1] == path[-1]}
-            more = self.methods.get((crate, path[-2] if len(path) > 1 else None), {}).get(path[-1], [])
-            found = own | {it.whole for it in more}
-        return found
+        end = next((at for at, it in enumerate(names) if it in OF_FUNCTIONS), None)
+        if end is not None:
+            return self.once((crate, "goals", *names[:end]), self.with_goals, crate, (*names[:end], ""))
+        path = tuple(it for it in names if not MADE.fullmatch(it))
+        return self.of_path(crate, (), path) if path else set()
+
+    def with_goals(self, crate, place):
+        """The functions whose proof files stand at this place."""
+        return {it for file in self.files_of(crate) for it in file.functions.values() if is_beside(place, it)}
 
     def unknown(self, crate, part, rest):
         """Where a name can't be followed: all of the crate that has its last part for a name, or else all definitions of the crate."""
@@ -294,13 +296,10 @@ class Meanings:
         return node.found
 
     def beside(self, node):
-        """What belongs to the whole of a function: its proof files, those at its module or at the name of its type; and where
-        it is in a cycle of calls, the others that may be in that."""
-        of_type, name, is_in_cycle = node.function
-        places = [it for it in self.folders[node.crate] if it[-1] in (name, f"+{name}")]
-        own = [it for it in places if it[:-1] == node.file.module or of_type and it[-2:-1] == (of_type,)]
-        keys = [it for it in self.antt_files if it[:2] == (node.crate, "proofs") and any(it[2][: len(at)] == at for at in own)]
-        wholes = [it for file in self.files_of(node.crate) for it in file.functions.values() if it.function[2]] if is_in_cycle else []
+        """What belongs to the whole of a function: its proof files; and where it is in a cycle of calls, the others in that."""
+        _, _, cycle = node.function
+        keys = [it for it in self.proofs[node.crate] if is_beside(it[2], node)]
+        wholes = [it for file in self.files_of(node.crate) for it in file.functions.values() if cycle and it.function[2] == cycle]
         return {*(self.antt_file(*it).whole() for it in keys), *wholes}
 
     def files_of(self, crate):
@@ -343,6 +342,23 @@ class Meanings:
                 if word[:1].isupper() and (word in file.uses or word in file.own):
                     found |= self.of_path(file.crate, file.module, (word,))
         return found
+
+
+def names_around(item):
+    """The type and the trait of the implementation that an item stands in; a trait alone is the type of its own functions."""
+    words = [it.text for it in item.around or []]
+    if "impl" in words:
+        return names_in_header(item.around)
+    return (words[words.index("trait") + 1], None) if "trait" in words else (None, None)
+
+
+def is_beside(place, node):
+    """Whether a place in proofs/ lies in a folder that is named as a function, or as its cycle, below its module or a folder
+    whose name begins as that of its type: a trait's method has one that is named by both."""
+    of_type, name, cycle = node.function
+    module, ends = node.file.module, [at for at, it in enumerate(place[:-1]) if it in (name, f"+{name}", f"+{cycle}")]
+    is_below = place[: len(module)] == module
+    return any(at >= len(module) and is_below or of_type and any(it.startswith(of_type) for it in place[:at]) for at in ends)
 
 
 def texts(tokens, around):

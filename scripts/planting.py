@@ -32,7 +32,8 @@ def tokens_of(*paths):
         if line.startswith(b"file "):
             own = found[paths[int(line[5:])]]
         elif it := ROW.fullmatch(line):
-            own.append(Token(int(it[1]), int(it[2]), int(it[3]), it[4].decode(), json.loads(it[5])))
+            text = json.loads(it[5]) if b"\\" in it[5] else it[5][1:-1].decode()
+            own.append(Token(int(it[1]), int(it[2]), int(it[3]), it[4].decode(), text))
     return found
 
 
