@@ -104,7 +104,7 @@ def item(lines, around, is_of_proofs):
 
 def names_in(head):
     """The names that the head of an item gives."""
-    before = re.split(r" :(?=\s|$)", head)[0]
+    before = re.split(r" [:=](?=\s|$)", head)[0]
     return [it for it in re.split(r"[\s(){};]+", before) if it]
 
 
