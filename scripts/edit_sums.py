@@ -73,12 +73,13 @@ class EditSums:
         return {it.name: self.sum_of(crate, it) for path in rt.edits_of(crate)[0] for it in [Edit(path, copy)]}
 
     def sum_of(self, crate, edit):
+        """The sum of an edit, as a text of 16 digits."""
         text = rtlib.text_of(f"{crate.folder}/must-fail/{edit.name}.edit")
         lines = [it for it in text.split("\n") if it.startswith(LINES)]
-        found = self.of_function(crate, edit).copy() if edit.function else self.of_crate(crate)
-        if edit.function:
+        whole = self.node_of(crate, edit) if edit.function else None
+        found = self.of_function(crate, whole).copy() if whole else self.of_crate(crate)
+        if whole:
             new = "\n".join(it[4:] for it in lines if it.startswith("new:"))
-            whole = self.node_of(crate, edit)
             # its words lead on; its text has no place of its own, since the edit is named by its file
             node = Node(whole.file, f"edit {edit.name}", "", " ".join(re.findall(r"\w+|[^\s\w]", new)), new)
             node.owner = whole.owner
@@ -86,9 +87,9 @@ class EditSums:
         return hashlib.sha256(repr((self.kit, edit.name, lines, found.sum())).encode()).hexdigest()[:16]
 
     def node_of(self, crate, edit):
-        """The node of the function that an edit changes."""
+        """The node of the function that an edit changes; none where it stands in a macro."""
         path = f"{crate.folder}/{edit.file}"
-        return next(it for it in self.names.files_of(crate.name) if it.path == path).functions[edit.function.end]
+        return next(it for it in self.names.files_of(crate.name) if it.path == path).functions.get(edit.function.end)
 
     def found(self, crate):
         """Nothing yet, of a crate and those below it."""
@@ -96,9 +97,8 @@ class EditSums:
             self.allowed[crate] = {crate.name, *(it.name for it in crate.below())}
         return Found(self.names, self.allowed[crate])
 
-    def of_function(self, crate, edit):
+    def of_function(self, crate, node):
         """What a function rests on."""
-        node = self.node_of(crate, edit)
         if node not in self.functions:
             self.functions[node] = self.found(crate).add([node])
         return self.functions[node]

@@ -25,7 +25,10 @@ class AnttFile:
 
     def __init__(self, crate, part, path):
         self.crate, self.path, self.made = crate, path, None
-        items, self.rest, self.imports = read_antt(rtlib.text_of(path), part == "proofs")
+        try:
+            items, self.rest, self.imports = read_antt(rtlib.text_of(path), part == "proofs")
+        except ValueError as error:
+            raise ValueError(f"{path}: {error}") from error
         self.own, self.nodes = {}, []
         for it in items:
             node = Node(self, it.names[0] if it.names else "", f"{it.statement}\n{self.rest}", antt=it.statement)
@@ -98,7 +101,11 @@ class Meanings:
         for path, tokens in tokens_of(*owner).items():
             names = path.removeprefix(f"{owner[path].folder}/src/").removesuffix(".rt").split("/")
             module = tuple(names[:-1] if names[-1] in ("lib", "main", "mod") else names)
-            self.rust.setdefault((owner[path].name, module), []).append(RustFile(owner[path].name, module, path, tokens))
+            try:
+                file = RustFile(owner[path].name, module, path, tokens)
+            except (IndexError, KeyError, StopIteration) as error:
+                raise ValueError(f"{path}: its braces can't be read") from error
+            self.rust.setdefault((owner[path].name, module), []).append(file)
 
     def antt_file(self, crate, part, place):
         """A file of definitions or lemmas, if there is one at this place."""
@@ -210,7 +217,16 @@ class Meanings:
         path = target + rest
         found = self.once((crate, module, target, rest), self.of_path, crate, module, path) if not self.is_begun(crate, module, target) else set()
         is_ours = path[0] in (*self.crates, *OURS) or self.names_something(crate, module, path[0])
-        return found if found or is_ours else {"::".join(path)}
+        if found or self.is_cut:
+            return found
+        # a lone path of ours in small letters may be that of a module, which is nothing by itself
+        named = self.named(path) if is_ours and (rest or path[-1][:1].isupper()) else set()
+        return named if is_ours else {"::".join(path)}
+
+    def named(self, path):
+        """Where a path of ours can't be followed: all items of code that have its last part for a name."""
+        self.unresolved.add(path)
+        return {"::".join(path), *(it for them in self.rust.values() for file in them for it in file.own.get(path[-1], []))}
 
     def is_begun(self, crate, module, target):
         """Whether this very import is followed already, as where a name leads to itself."""

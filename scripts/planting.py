@@ -26,7 +26,7 @@ def tokens_of(*paths):
     """The tokens of each of these files, but for comments, by its path."""
     ran = subprocess.run([rtlib.RATTLE, "fmt", "--tokens", *paths], capture_output=True) if paths else None
     if ran and ran.returncode:
-        raise ValueError(f"rattle can't read {', '.join(paths)}: {ran.stderr.decode(errors='replace').strip()[:200]}")
+        raise ValueError(f"rattle can't read {', '.join(paths[:3])}{', ..' * (len(paths) > 3)}: {ran.stderr.decode(errors='replace').strip()[:200]}")
     found = {path: [] for path in paths}
     for line in ran.stdout.splitlines() if ran else []:
         if line.startswith(b"file "):
@@ -44,13 +44,12 @@ def code_of(tokens):
 
 class Function:
     """A function of a file: its place in bytes (`start` with its attributes, `head` at `fn`, `body` at the brace, `end`),
-    its name, whether it is `pub`, the inline modules and the type that it stands in, whether it is of a trait or in a macro,
-    and whether it can't stand there twice."""
+    its name, the inline modules and the type that it stands in, whether it is of a trait, and whether it can't stand there twice."""
 
-    def __init__(self, start, head, name, is_public):
-        self.start, self.head, self.name, self.is_public = start, head, name, is_public
+    def __init__(self, start, head, name):
+        self.start, self.head, self.name = start, head, name
         self.body = self.end = self.type = None
-        self.modules, self.is_single, self.is_of_trait, self.is_of_macro = [], False, False, False
+        self.modules, self.is_single, self.is_of_trait = [], False, False
 
     def holds(self, start, end):
         """Whether these bytes lie in its body."""
@@ -67,7 +66,6 @@ class Function:
                 self.is_of_trait |= self.type is None
             else:
                 self.is_of_trait = True
-                self.is_of_macro |= header[:1] == ["macro_rules"]
         self.is_single = self.is_of_trait or self.calls_itself(body)
 
     def calls_itself(self, body):
@@ -77,11 +75,6 @@ class Function:
             if body[at].text == self.name and body[at + 1].text == "(" and is_own:
                 return True
         return False
-
-
-def is_public(header):
-    """Whether an item's header begins with `pub` alone, so that other crates can name it."""
-    return re.search(r"\bpub (?!\()", " ".join(header) + " ") is not None
 
 
 def without_attributes(header):
@@ -130,7 +123,7 @@ def functions_in(tokens):
         else:
             since.append(token)
             if at and tokens[at - 1].text == "fn" and re.fullmatch(r"\w+", text):
-                begun = Function(since[0].start, tokens[at - 1].start, text, is_public([it.text for it in since]))
+                begun = Function(since[0].start, tokens[at - 1].start, text)
     return found
 
 
