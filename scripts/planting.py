@@ -26,13 +26,14 @@ def tokens_of(*paths):
     """The tokens of each of these files, but for comments, by its path."""
     ran = subprocess.run([rtlib.RATTLE, "fmt", "--tokens", *paths], capture_output=True) if paths else None
     if ran and ran.returncode:
-        raise ValueError(f"rattle can't read {', '.join(paths)}: {ran.stderr.decode(errors='replace').strip()[:200]}")
+        raise ValueError(f"rattle can't read {', '.join(paths[:3])}{', ..' * (len(paths) > 3)}: {ran.stderr.decode(errors='replace').strip()[:200]}")
     found = {path: [] for path in paths}
     for line in ran.stdout.splitlines() if ran else []:
         if line.startswith(b"file "):
             own = found[paths[int(line[5:])]]
         elif it := ROW.fullmatch(line):
-            own.append(Token(int(it[1]), int(it[2]), int(it[3]), it[4].decode(), json.loads(it[5])))
+            text = json.loads(it[5]) if b"\\" in it[5] else it[5][1:-1].decode()
+            own.append(Token(int(it[1]), int(it[2]), int(it[3]), it[4].decode(), text))
     return found
 
 
@@ -43,13 +44,12 @@ def code_of(tokens):
 
 class Function:
     """A function of a file: its place in bytes (`start` with its attributes, `head` at `fn`, `body` at the brace, `end`),
-    its name, whether it is `pub`, the inline modules and the type that it stands in, whether it is of a trait or in a macro,
-    and whether it can't stand there twice."""
+    its name, the inline modules and the type that it stands in, whether it is of a trait, and whether it can't stand there twice."""
 
-    def __init__(self, start, head, name, is_public):
-        self.start, self.head, self.name, self.is_public = start, head, name, is_public
+    def __init__(self, start, head, name):
+        self.start, self.head, self.name = start, head, name
         self.body = self.end = self.type = None
-        self.modules, self.is_single, self.is_of_trait, self.is_of_macro = [], False, False, False
+        self.modules, self.is_single, self.is_of_trait = [], False, False
 
     def holds(self, start, end):
         """Whether these bytes lie in its body."""
@@ -66,7 +66,6 @@ class Function:
                 self.is_of_trait |= self.type is None
             else:
                 self.is_of_trait = True
-                self.is_of_macro |= header[:1] == ["macro_rules"]
         self.is_single = self.is_of_trait or self.calls_itself(body)
 
     def calls_itself(self, body):
@@ -76,11 +75,6 @@ class Function:
             if body[at].text == self.name and body[at + 1].text == "(" and is_own:
                 return True
         return False
-
-
-def is_public(header):
-    """Whether an item's header begins with `pub` alone, so that other crates can name it."""
-    return re.search(r"\bpub (?!\()", " ".join(header) + " ") is not None
 
 
 def without_attributes(header):
@@ -129,16 +123,25 @@ def functions_in(tokens):
         else:
             since.append(token)
             if at and tokens[at - 1].text == "fn" and re.fullmatch(r"\w+", text):
-                begun = Function(since[0].start, tokens[at - 1].start, text, is_public([it.text for it in since]))
+                begun = Function(since[0].start, tokens[at - 1].start, text)
     return found
 
 
 def changed(before, after):
     """From where to where a text differs from another, in bytes of the first."""
-    start = next((at for at, (a, b) in enumerate(zip(before, after)) if a != b), min(len(before), len(after)))
+    start = as_long_as(min(len(before), len(after)), lambda at: before[:at] == after[:at])
     most = min(len(before), len(after)) - start
-    same = next((at for at in range(most) if before[-1 - at] != after[-1 - at]), most)
+    same = as_long_as(most, lambda at: before[len(before) - at :] == after[len(after) - at :])
     return start, len(before) - same
+
+
+def as_long_as(most, is_same):
+    """The greatest length up to this one at which something is the same that is so at each lesser one."""
+    least = 0
+    while least < most:
+        middle = (least + most + 1) // 2
+        least, most = (middle, most) if is_same(middle) else (least, middle - 1)
+    return least
 
 
 class Edit:
@@ -182,7 +185,7 @@ class Crate:
     """The sources of a crate in a folder that this run may write to."""
 
     def __init__(self, folder):
-        self.folder, self.texts, self.found = folder, {}, {}
+        self.folder, self.texts, self.found, self.places = folder, {}, {}, None
 
     def text(self, file):
         """A file's bytes, as they were first read."""
@@ -207,8 +210,9 @@ class Crate:
         module = self.module(file, function)
         own = "/".join([*module, *([function.type] if function.type else [])])
         names = (f"{function.type}/{function.name}", f"{function.type}/+{function.name}")
-        top = f"{self.folder}/proofs"
-        places = [os.path.relpath(at, top) for at, _, _ in os.walk(top) if function.type and at.endswith(names)]
+        if self.places is None:
+            self.places = [os.path.relpath(at, f"{self.folder}/proofs") for at, _, _ in os.walk(f"{self.folder}/proofs")]
+        places = [it for it in self.places if function.type and f"/{it}".endswith(tuple(f"/{own}" for own in names))]
         folders = sorted({os.path.dirname(it) for it in places}, key=lambda it: (it != own, it))
         return folders[0] if folders else own
 

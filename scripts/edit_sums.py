@@ -1,0 +1,114 @@
+"""One sum for each must-fail edit, of all that the prover's verdict on it rests on.
+
+The sum is of the kit's logic; of the edit's own changes; of the function that it changes, without comments and layout, with its
+attributes and clauses; of the proof files that are its own; and of what all these lead to (scripts/meanings.py): definitions,
+types with what is implemented for them, constants, the statements of lemmas, and the signatures and clauses of the functions
+that are called. From there it goes on, through definitions, types, statements and clauses, in the crate and in those below.
+No body and no proof of another function is followed. A method that is called on a value is taken by its name, of each type
+found. An edit that changes no function, or several, has the sum of its whole crate and of what that leads to.
+"""
+
+import hashlib
+import os
+import re
+
+from items import Node
+from kit import rt, rtlib
+from meanings import Meanings
+from planting import Crate, Edit, code_of, functions_in
+
+LINES = ("file: ", "old: ", "new:")
+
+
+class Found:
+    """What is found so far: the nodes, the types among them, and the names of the methods that are called."""
+
+    def __init__(self, names, allowed):
+        self.names, self.allowed = names, allowed
+        self.nodes, self.types, self.called = set(), set(), set()
+
+    def copy(self):
+        made = Found(self.names, self.allowed)
+        made.nodes, made.types, made.called = {*self.nodes}, {*self.types}, {*self.called}
+        return made
+
+    def add(self, ways):
+        """Adds these nodes and all that they lead to, in the crate and in those below."""
+        ways, methods = [*ways], self.names.methods
+        while ways:
+            node = ways.pop()
+            if isinstance(node, str) or node in self.nodes or node.crate not in self.allowed:
+                continue
+            self.nodes.add(node)
+            ways += self.names.leads(node)
+            ways += node.adjoined
+            if node.type:
+                self.types.add(node.type)
+                own = methods.get(node.type, {})
+                ways += [it for name in self.called & own.keys() for it in own[name]]
+            for name in node.called - self.called:
+                self.called.add(name)
+                ways += self.names.of_traits.get(name, [])
+                ways += [it for own in self.types for it in methods.get(own, {}).get(name, [])]
+        return self
+
+    def sum(self):
+        return hashlib.sha256(b"".join(sorted(it.sum(self.names.leads(it)) for it in self.nodes))).digest()
+
+
+class EditSums:
+    """The sums of the edits of these crates of the kit's library. All code is read once, when this is made."""
+
+    def __init__(self, crates):
+        self.names, self.functions, self.allowed = Meanings(crates), {}, {}
+        with open(f"{rt.KIT}/KIT-ID", "rb") as it:
+            # kits of several names have one logic
+            self.kit = it.read().partition(b" ")[2]
+
+    def of(self, crate):
+        """The sum of each edit of a crate, by its name."""
+        copy = Crate(crate.folder)
+        for it in self.names.files_of(crate.name):
+            copy.found[os.path.relpath(it.path, crate.folder)] = functions_in(code_of(it.tokens))
+        return {it.name: self.sum_of(crate, it) for path in rt.edits_of(crate)[0] for it in [Edit(path, copy)]}
+
+    def sum_of(self, crate, edit):
+        """The sum of an edit, as a text of 16 digits."""
+        text = rtlib.text_of(f"{crate.folder}/must-fail/{edit.name}.edit")
+        lines = [it for it in text.split("\n") if it.startswith(LINES)]
+        whole = self.node_of(crate, edit) if edit.function else None
+        found = self.of_function(crate, whole).copy() if whole else self.of_crate(crate)
+        if whole:
+            new = "\n".join(it[4:] for it in lines if it.startswith("new:"))
+            # its words lead on; its text has no place of its own, since the edit is named by its file
+            node = Node(whole.file, f"edit {edit.name}", "", " ".join(re.findall(r"\w+|[^\s\w]", new)), new)
+            node.owner = whole.owner
+            found.add([node])
+        return hashlib.sha256(repr((self.kit, edit.name, lines, found.sum())).encode()).hexdigest()[:16]
+
+    def node_of(self, crate, edit):
+        """The node of the function that an edit changes; none where it stands in a macro."""
+        path = f"{crate.folder}/{edit.file}"
+        return next(it for it in self.names.files_of(crate.name) if it.path == path).functions.get(edit.function.end)
+
+    def found(self, crate):
+        """Nothing yet, of a crate and those below it."""
+        if crate not in self.allowed:
+            self.allowed[crate] = {crate.name, *(it.name for it in crate.below())}
+        return Found(self.names, self.allowed[crate])
+
+    def of_function(self, crate, node):
+        """What a function rests on."""
+        if node not in self.functions:
+            self.functions[node] = self.found(crate).add([node])
+        return self.functions[node]
+
+    def of_crate(self, crate):
+        """What the whole of a crate rests on."""
+        if crate.name not in self.functions:
+            files = self.names.files_of(crate.name)
+            nodes = [it.whole or it for file in files for it in file.nodes]
+            nodes += [Node(it, "attributes", it.inner) for it in files]
+            nodes += [self.names.antt_file(*it).whole() for it in [*self.names.antt_files] if it[0] == crate.name]
+            self.functions[crate.name] = self.found(crate).add(nodes)
+        return self.functions[crate.name]

@@ -1,0 +1,390 @@
+"""What the words of code, definitions and proofs mean: each name leads to the items that it stands for, wherever they are.
+
+A name is followed through the imports of its file, and through what other modules pass on (`pub use`), to the item itself, so
+that the way by which it is imported doesn't matter. What belongs to the kit stays a name. A local name that hides an imported
+one is taken for it: more is found than is meant, never less.
+"""
+
+import os
+import re
+
+from antt_items import Imports, read_antt
+from items import Node, code_text, words_of_text
+from kit import rtlib
+from planting import tokens_of
+from rust_items import imports_of, names_in_header, read_rust, without_bodies_attributes, without_imports
+
+MADE = re.compile(r"The[A-Z]\w*")
+OF_FUNCTIONS = {"Goals", "Given"}
+OURS = ("crate", "self", "super")
+TYPES = {"struct", "enum", "union", "type"}
+
+
+class AnttFile:
+    """A file of definitions or of lemmas: its items by name, and its imports."""
+
+    def __init__(self, crate, part, path):
+        self.crate, self.path, self.made = crate, path, None
+        try:
+            items, self.rest, self.imports = read_antt(rtlib.text_of(path), part == "proofs")
+        except ValueError as error:
+            raise ValueError(f"{path}: {error}") from error
+        self.own, self.nodes = {}, []
+        for it in items:
+            node = Node(self, it.names[0] if it.names else "", f"{it.statement}\n{self.rest}", antt=it.statement)
+            if it.statement != it.text:
+                node.whole = Node(self, f"{node.name} whole", f"{it.text}\n{self.rest}", antt=it.text)
+            self.nodes.append(node)
+            for name in it.names:
+                self.own.setdefault(name, []).append(node)
+
+    def whole(self):
+        """The file as a proof of its own function: all of it."""
+        if self.made is None:
+            text = "\n".join([*(it.whole.text if it.whole else it.text for it in self.nodes), self.rest])
+            self.made = Node(self, "all", text, antt=text)
+        return self.made
+
+
+class RustFile:
+    """A file of code: its items by name, and its imports."""
+
+    def __init__(self, crate, module, path, tokens):
+        self.crate, self.module, self.path, self.tokens, self.own, self.uses = crate, module, path, tokens, {}, {}
+        ghost, (imports, others) = [], without_imports(tokens)
+        for item in imports:
+            if item[0].kind == "Head":
+                ghost.append(re.sub(r" ?([.{},;]) ?", r"\1", code_text(item)))
+            else:
+                for parts, name in imports_of(item):
+                    self.uses.setdefault(name, []).append(parts)
+        self.imports = Imports("\n".join(ghost))
+        if sum(map(len, [*self.imports.names.values(), *self.imports.aliases.values()])) < len(ghost):
+            raise ValueError(f"{path}: a `ghost use` can't be read")
+        self.items = read_rust(others)
+        self.inner = " ".join(code_text(it.tokens) for it in self.items if it.keyword == "inner")
+        self.nodes, self.functions = [], {}
+
+
+class Meanings:
+    """The files of these crates of the kit's library, and where the names in them lead."""
+
+    def __init__(self, crates):
+        self.crates = {it.name: it for it in crates}
+        self.rust, self.antt_files, self.proofs = {}, {}, {it: [] for it in self.crates}
+        self.methods, self.of_traits, self.implemented = {}, {}, []
+        self.read_antt_paths()
+        self.read_rust_files()
+        self.unresolved, self.known, self.begun, self.is_cut = set(), {}, set(), False
+        for file in [it for them in self.rust.values() for it in them]:
+            self.add_items(file)
+        for node, header, file in self.implemented:
+            self.adjoin(node, header, file)
+
+    def read_antt_paths(self):
+        """Notes where the files of definitions and lemmas are; each is read when a name leads there."""
+        for name, crate in self.crates.items():
+            for part in ("specs", "proofs"):
+                top = f"{crate.folder}/{part}"
+                for at, _, files in os.walk(top):
+                    place = tuple(os.path.relpath(at, top).split("/")) if at != top else ()
+                    for it in files:
+                        if it.endswith(".antt"):
+                            own = () if not place and it == "Lib.antt" else (*place, it.removesuffix(".antt"))
+                            self.antt_files[name, part, own] = f"{at}/{it}"
+                            self.proofs[name] += [(name, part, own)] if part == "proofs" else []
+
+    def read_rust_files(self):
+        """Reads all code in one go."""
+        paths = [path for it in self.crates.values() for path in rtlib.files_of(it.folder) if path.endswith(".rt")]
+        owner = {path: it for it in self.crates.values() for path in paths if path.startswith(f"{it.folder}/src/")}
+        for path, tokens in tokens_of(*owner).items():
+            names = path.removeprefix(f"{owner[path].folder}/src/").removesuffix(".rt").split("/")
+            module = tuple(names[:-1] if names[-1] in ("lib", "main", "mod") else names)
+            try:
+                file = RustFile(owner[path].name, module, path, tokens)
+            except (IndexError, KeyError, StopIteration) as error:
+                raise ValueError(f"{path}: its braces can't be read") from error
+            self.rust.setdefault((owner[path].name, module), []).append(file)
+
+    def antt_file(self, crate, part, place):
+        """A file of definitions or lemmas, if there is one at this place."""
+        path = self.antt_files.get((crate, part, place))
+        if isinstance(path, str):
+            path = self.antt_files[crate, part, place] = AnttFile(crate, part, path)
+        return path
+
+    def add_items(self, file):
+        """Makes the nodes of a file of code. Each function has two: what its callers see of it, and the whole of it."""
+        for it in file.items:
+            of_type, of_trait = names_around(it)
+            around = code_text(it.around or [])
+            if it.keyword == "fn":
+                name = "::".join(filter(None, [of_trait, of_type, it.name]))
+                node = Node(file, name, *texts(without_bodies_attributes(it.head), around))
+                node.whole = Node(file, f"{name} whole", *texts(it.tokens, around))
+                node.whole.text += f"\n{self.inner_of(file)}"
+                cycle = re.search(r"# \[ cycle \( (\w+)", code_text(it.head))
+                node.whole.function = (of_type, it.name, cycle and cycle[1])
+                file.functions[it.end] = node.whole
+                if it.around:
+                    self.methods.setdefault((file.crate, of_type), {}).setdefault(it.name, []).append(node)
+                else:
+                    file.own.setdefault(it.name, []).append(node)
+                node.owner = node.whole.owner = of_type
+                if of_trait:
+                    self.implemented.append((node, it.around, file))
+            elif it.keyword not in ("inner", "mod", None):
+                node = Node(file, f"{it.keyword} {it.name}", *texts(it.tokens, ""))
+                self.add_other(file, it, node)
+            else:
+                continue
+            file.nodes.append(node)
+
+    def add_other(self, file, item, node):
+        """Takes a node of an item that is no function: by its name, or as what is said of the type that it implements for."""
+        if item.keyword == "impl":
+            node.owner = names_in_header(item.head)[0]
+            node.name = code_text(item.head)
+            node.id = f"{node.id} {node.name}"
+            self.implemented.append((node, item.head, file))
+            return
+        node.owner = item.name if item.keyword in TYPES | {"trait"} else None
+        node.type = (file.crate, item.name) if item.keyword in TYPES else None
+        file.own.setdefault(item.name, []).append(node)
+        if item.keyword == "trait":
+            for name in re.findall(r"\bfn (\w+)", code_text(item.tokens)):
+                self.of_traits.setdefault(name, []).append(node)
+
+    def inner_of(self, file):
+        """The attributes of a file and of the modules around it, which say how bodies are proved."""
+        places = [file.module[:end] for end in range(len(file.module) + 1)]
+        return "\n".join(it.inner for place in places for it in self.rust.get((file.crate, place), []))
+
+    def adjoin(self, node, header, file):
+        """Hangs an implementation on its type; where that is none of ours on all of ours that its header names."""
+        of_type, _ = names_in_header(header)
+        types = self.of_path(file.crate, file.module, (of_type,)) if of_type else set()
+        ours = [it for it in types if isinstance(it, Node)]
+        for it in ours or [it for it in self.leads(node) if isinstance(it, Node)]:
+            it.adjoined.append(node)
+
+    # names
+
+    def of_path(self, crate, module, parts):
+        """The items, or the names of the kit, that a path of code means in a module."""
+        return self.once((crate, module, parts), self.path_of, crate, module, parts[0], parts[1:])
+
+    def once(self, key, find, *given):
+        """What `find` finds. Imports that lead to themselves add nothing; what was found on such a way alone isn't kept."""
+        if key in self.known:
+            return self.known[key]
+        if key in self.begun:
+            self.is_cut = True
+            return set()
+        self.begun.add(key)
+        found = find(*given)
+        self.begun.discard(key)
+        if not self.is_cut or not self.begun:
+            self.known[key] = found
+        self.is_cut &= bool(self.begun)
+        return found
+
+    def path_of(self, crate, module, head, rest):
+        if head in OURS:
+            base = {"crate": (), "self": module, "super": module[:-1]}[head]
+            return self.of_path(crate, base, rest) if rest else set()
+        found = self.inside(crate, module, head, rest)
+        return found | self.of_path(head, (), rest) if head in self.crates and rest else found
+
+    def inside(self, crate, module, head, rest):
+        found = set()
+        for file in self.rust.get((crate, module), []):
+            for it in file.own.get(head, []):
+                found.add(it)
+                if it.type and rest:
+                    found.update(self.methods.get(it.type, {}).get(rest[0], []))
+            for target in file.uses.get(head, []):
+                found |= self.passed_on(crate, module, tuple(target), rest)
+            for target in file.uses.get("*", []):
+                found |= self.passed_on(crate, module, (*target[:-1], head), rest) if target[0] in (*self.crates, *OURS) else set()
+        if rest and (crate, (*module, head)) in self.rust:
+            found |= self.of_path(crate, (*module, head), rest)
+        return found
+
+    def passed_on(self, crate, module, target, rest):
+        """What an imported path means with more names behind it: its own name where it is of the kit."""
+        path = target + rest
+        found = self.once((crate, module, target, rest), self.of_path, crate, module, path) if not self.is_begun(crate, module, target) else set()
+        is_ours = path[0] in (*self.crates, *OURS) or self.names_something(crate, module, path[0])
+        if found or self.is_cut:
+            return found
+        # a lone path of ours in small letters may be that of a module, which is nothing by itself
+        named = self.named(path) if is_ours and (rest or path[-1][:1].isupper()) else set()
+        return named if is_ours else {"::".join(path)}
+
+    def named(self, path):
+        """Where a path of ours can't be followed: all items of code that have its last part for a name."""
+        self.unresolved.add(path)
+        return {"::".join(path), *(it for them in self.rust.values() for file in them for it in file.own.get(path[-1], []))}
+
+    def is_begun(self, crate, module, target):
+        """Whether this very import is followed already, as where a name leads to itself."""
+        is_begun = any(it[:3] == (crate, module, target) for it in self.begun if len(it) == 4)
+        self.is_cut |= is_begun
+        return is_begun
+
+    def names_something(self, crate, module, name):
+        """Whether a name of code stands for something of ours in a module."""
+        return (crate, (*module, name)) in self.rust or any(name in it.own for it in self.rust.get((crate, module), []))
+
+    def of_module(self, parts, names):
+        """The items, or the names of the kit, that names behind a module of definitions or lemmas mean."""
+        if parts[0] != "Rattle" or len(parts) < 3 or parts[1] not in self.crates:
+            return {".".join([*parts, *names])}
+        return self.once((*parts, "", *names), self.module_of, parts[1], parts[2], [*parts[3:], *names])
+
+    def module_of(self, crate, part, rest):
+        if part == "specs" and rest[0] in ("declared", "contracts"):
+            found = self.of_made(crate, rest[1:])
+        else:
+            found = self.walk(crate, part, rest) or self.of_made(crate, rest)
+        return found or self.unknown(crate, part, rest)
+
+    def walk(self, crate, part, rest):
+        """What stands where these names lead from the root of the definitions or of the proofs of a crate."""
+        place = ()
+        while True:
+            file, found = self.antt_file(crate, part, place), set()
+            imports = file.imports if file else Imports("")
+            for target in imports.aliases.get(rest[0], []):
+                found |= self.of_module(target, rest[1:]) if rest[1:] else set()
+            end = next((it for it in range(1, len(rest)) if (crate, part, (*place, *rest[:it])) in self.antt_files), None)
+            if found or not end:
+                break
+            place, rest = (*place, *rest[:end]), rest[end:]
+        for it in rest if not found else []:
+            found.update(file.own.get(it, []) if file else [])
+            for target, name in imports.names.get(it, []):
+                found |= self.of_module(target, [name])
+            if found:
+                break
+        return found
+
+    def of_made(self, crate, names):
+        """What of code the compiler makes a module from: a type, a constant, or the function whose goals it has."""
+        end = next((at for at, it in enumerate(names) if it in OF_FUNCTIONS), None)
+        if end is not None:
+            return self.once((crate, "goals", *names[:end]), self.with_goals, crate, (*names[:end], ""))
+        path = tuple(it for it in names if not MADE.fullmatch(it))
+        return self.of_path(crate, (), path) if path else set()
+
+    def with_goals(self, crate, place):
+        """The functions whose proof files stand at this place."""
+        return {it for file in self.files_of(crate) for it in file.functions.values() if is_beside(place, it)}
+
+    def unknown(self, crate, part, rest):
+        """Where a name can't be followed: all of the crate that has its last part for a name, or else all definitions of the crate."""
+        self.unresolved.add((crate, part, *rest))
+        files = [self.antt_file(*it) for it in [*self.antt_files] if it[0] == crate and it[1] == part]
+        files += self.files_of(crate)
+        named = {it for file in files for it in file.own.get(rest[-1], [])}
+        return (named or {it for file in files for it in file.nodes}) | {".".join(["Rattle", crate, part, *rest])}
+
+    # what a text leads to
+
+    def leads(self, node):
+        """What the words of a node lead to, and what it calls by a name alone; found once."""
+        if node.found is None:
+            found = set()
+            if node.code:
+                for path in set(re.findall(r"[A-Za-z_]\w*(?: : : [A-Za-z_]\w*)*", node.code)):
+                    found |= self.of_code(node, tuple(path.split(" : : ")))
+                node.called.update(re.findall(r"\. (\w+) (?:\(|: : <)", node.code), re.findall(r"> : : (\w+)", node.code))
+            if node.antt:
+                found |= self.of_text(node)
+            if node.name.startswith(("const ", "static ")):
+                found = {it.whole or it if isinstance(it, Node) else it for it in found}
+            if node.function:
+                found |= self.beside(node)
+            found.discard(node)
+            node.found = found
+        return node.found
+
+    def beside(self, node):
+        """What belongs to the whole of a function: its proof files; and where it is in a cycle of calls, the others in that."""
+        _, _, cycle = node.function
+        keys = [it for it in self.proofs[node.crate] if is_beside(it[2], node)]
+        wholes = [it for file in self.files_of(node.crate) for it in file.functions.values() if cycle and it.function[2] == cycle]
+        return {*(self.antt_file(*it).whole() for it in keys), *wholes}
+
+    def files_of(self, crate):
+        """The files of code of a crate."""
+        return [it for (own, _), them in self.rust.items() if own == crate for it in them]
+
+    def of_code(self, node, parts):
+        """What a path in code leads to."""
+        file, head = node.file, parts[0]
+        if head == "Self" and node.owner:
+            parts = (node.owner, *parts[1:])
+        is_known = head in (file.uses if isinstance(file, RustFile) else {}) or "*" in file.uses or self.names_something(file.crate, file.module, parts[0])
+        is_path = len(parts) > 1 and (head in OURS or head in self.crates)
+        found = self.of_path(file.crate, file.module, parts) if is_known or is_path else set()
+        if len(parts) > 1 and not any(isinstance(it, Node) and it.name.split("::")[-1] == parts[-1] for it in found):
+            node.called.add(parts[-1])
+        return found
+
+    def of_text(self, node):
+        """What the words of definitions, clauses or proofs lead to."""
+        file, imports = node.file, node.file.imports
+        words, dotted = words_of_text(node.antt)
+        opened = {it for line in re.findall(r"\bunfold(?:ing)?\b (.*)", node.antt) for it in words_of_text(line)[0]}
+        found = set()
+        for name in [*imports.names, *(file.own if isinstance(file, AnttFile) else [])]:
+            if name in words or "◌" in name and is_written(name, words, node.antt):
+                them = {*file.own.get(name, [])} if isinstance(file, AnttFile) else set()
+                for module, own in imports.names.get(name, []):
+                    them |= self.of_module(module, [own])
+                found |= {it.whole or it if isinstance(it, Node) else it for it in them} if name in opened else them
+        for chunk in dotted:
+            parts = chunk.split(".")
+            for module in imports.aliases.get(parts[0], []):
+                them = self.of_module(module, parts[1:])
+                found |= {it.whole or it if isinstance(it, Node) else it for it in them} if parts[-1] in opened else them
+            if parts[0] == "Rattle" and len(parts) > 3 and (*parts[1:3], tuple(parts[3:])) not in self.antt_files:
+                found |= self.of_module(parts[:-1], parts[-1:])
+        if isinstance(file, RustFile):
+            for word in words:
+                if word[:1].isupper() and (word in file.uses or word in file.own):
+                    found |= self.of_path(file.crate, file.module, (word,))
+        return found
+
+
+def names_around(item):
+    """The type and the trait of the implementation that an item stands in; a trait alone is the type of its own functions."""
+    words = [it.text for it in item.around or []]
+    if "impl" in words:
+        return names_in_header(item.around)
+    return (words[words.index("trait") + 1], None) if "trait" in words else (None, None)
+
+
+def is_beside(place, node):
+    """Whether a place in proofs/ lies in a folder that is named as a function, or as its cycle, below its module or a folder
+    whose name begins as that of its type: a trait's method has one that is named by both."""
+    of_type, name, cycle = node.function
+    module, ends = node.file.module, [at for at, it in enumerate(place[:-1]) if it in (name, f"+{name}", f"+{cycle}")]
+    is_below = place[: len(module)] == module
+    return any(at >= len(module) and is_below or of_type and any(it.startswith(of_type) for it in place[:at]) for at in ends)
+
+
+def texts(tokens, around):
+    """The text of a node of code, and its words of code and of clauses."""
+    # a literal names what it prints
+    code = " ".join(it.text if it.kind == "Code" else " ".join(re.findall(r"{(\w+)", it.text)) for it in tokens if it.kind in ("Code", "Literal"))
+    antt = " ".join(it.text for it in tokens if it.kind not in ("Code", "Literal"))
+    return f"{around}\n{code_text(tokens)}", f"{around} {code}", antt
+
+
+def is_written(name, words, text):
+    """Whether an operator's name stands in a text. A `do` block is written for two of them."""
+    return "do" in words and ">>" in name or all(it in text for it in name.split("◌") if it)
