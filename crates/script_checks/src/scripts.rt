@@ -186,7 +186,7 @@ pub fn lines_of(alloc: Global, bytes: &[u8]) -> Result<Vec<&[u8]>, AllocError>
 }
 
 // How many bytes stand before the first LF, or in all where there is none.
-#[tactic(auto, using(rig_model::proofs::of_lines::WordLemmas::prefix_more, rig_model::proofs::of_lines::WordLemmas::prefix_end))]
+#[tactic(auto, using(crate::proofs::Prefixes::prefix_more, crate::proofs::Prefixes::prefix_end))]
 fn line_len(bytes: &[u8]) -> usize
     ensures len { result ≡ position_or_len (λ c. c == 10) bytes.now }
     ensures within { result ≤ length bytes.now }
