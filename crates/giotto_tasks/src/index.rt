@@ -7,17 +7,16 @@ ghost use Rattle.giotto_tasks.specs.Sound as sound;
 
 use crate::names::Name;
 use crate::places::{position_in, stands_in};
+use indexmap::IndexMap;
 use std::alloc::{AllocError, Global};
-use std::collections::BTreeMap;
 use std::marker::Model;
 
-/// A list of names that finds each name in a time that grows with the logarithm of the list's length, whatever the names.
-/// Contracts see it as the list.
+/// A list of names that finds each by a table, mostly in the same time however long the list. Contracts see it as the list.
 #[derive(Drop)]
 pub struct Index {
     names: Vec<Name>,
     // The first place of each name, where there are more than a few.
-    places: BTreeMap<Name, usize>,
+    places: IndexMap<Name, usize>,
     // Whether no name stands twice.
     different: bool,
 }
@@ -59,7 +58,7 @@ impl Index {
         let different = are_different(&names);
         Index {
             names,
-            places: BTreeMap::new(alloc),
+            places: IndexMap::new(alloc),
             different,
         }
     }
@@ -67,7 +66,7 @@ impl Index {
     fn of_many(alloc: Global, names: Vec<Name>) -> Result<Index, AllocError>
         ensures { IfOk result (λ index. index ≡ names.items) }
     {
-        let mut places = BTreeMap::new(alloc);
+        let mut places = IndexMap::with_capacity(alloc, names.len())?;
         let mut different = true;
         // From the last name on, so that a first place is what stays.
         for behind in 0..names.len() {

@@ -2,6 +2,7 @@
 
 ghost use Rattle.std.specs.Prelude.{◌≡◌, ◌<◌, ◌≤◌, ◌↔◌, [], ◌∷◌, ◌++◌, length, IsTrue};
 
+use arrayvec::ArrayVec;
 use std::marker::Model;
 
 /// The values of one task's inputs, outputs or states, in the order in which these are declared:
@@ -9,19 +10,17 @@ use std::marker::Model;
 /// list of numbers.
 #[derive(Drop)]
 pub struct Values {
-    // The values, and zeros or old ones behind them.
-    items: [i64; 16],
-    len: usize,
+    list: ArrayVec<i64, 16>,
 }
 
 impl Model for Values {
-    ghost use Rattle.std.specs.Prelude.{List, ℤ, ◌≤◌, take};
+    ghost use Rattle.std.specs.Prelude.{List, ℤ, ◌≤◌, length};
 
     ghost Value = { List ℤ };
 
-    ghost view = { λ v. take v.len v.items };
+    ghost view = { λ v. v.list.items };
 
-    ghost invariant = { λ v. v.len ≤ 16 };
+    ghost invariant = { λ v. length v.list.items ≤ 16 };
 }
 
 impl Default for Values {
@@ -38,8 +37,7 @@ impl Values {
         ensures { result ≡ [] }
     {
         Values {
-            items: [0; 16],
-            len: 0,
+            list: ArrayVec::new(),
         }
     }
 
@@ -48,8 +46,7 @@ impl Values {
         requires { length self.old < 16 }
         ensures { self.new ≡ self.old ++ value ∷ [] }
     {
-        self.items[self.len] = value;
-        self.len += 1;
+        self.list.push(value);
     }
 
     /// Takes these values in place of its own: at most 16.
@@ -57,13 +54,22 @@ impl Values {
         requires { length values.now ≤ 16 }
         ensures { self.new ≡ values.now }
     {
-        let len = values.len();
-        match values {
-            [] => {}
-            [value] => self.items[0] = *value,
-            _ => self.items[..len].copy_from_slice(values),
+        match (self.list.as_mut_slice(), values) {
+            ([], []) => {}
+            ([own], [value]) => *own = *value,
+            _ => self.begin_with(values),
         }
-        self.len = len;
+    }
+
+    fn begin_with(&mut self, values: &[i64])
+        requires { length values.now ≤ 16 }
+        ensures { self.new ≡ values.now }
+    {
+        self.list = ArrayVec::new();
+        match self.list.try_extend_from_slice(values) {
+            Ok(()) => {}
+            Err(_) => unreachable!(),
+        }
     }
 
     /// How many values there are: at most 16.
@@ -71,14 +77,14 @@ impl Values {
         ensures value { result ≡ length self.now }
         ensures fits { length self.now ≤ 16 }
     {
-        self.as_slice().len()
+        self.list.len()
     }
 
     /// Whether there is no value.
     pub fn is_empty(&self) -> bool
         ensures { IsTrue result ↔ (length self.now ≡ 0) }
     {
-        self.len == 0
+        self.list.is_empty()
     }
 
     /// The values, in their order: at most 16.
@@ -86,17 +92,16 @@ impl Values {
         ensures value { result.now ≡ self.now }
         ensures fits { length self.now ≤ 16 }
     {
-        &self.items[..self.len]
+        self.list.as_slice()
     }
 
     /// Equal values.
     pub fn copy(&self) -> Values
         ensures { result ≡ self.now }
     {
-        Values {
-            items: self.items,
-            len: self.len,
-        }
+        let mut copy = Values::new();
+        copy.set(self.as_slice());
+        copy
     }
 
     /// Whether the values are the same, in the same order.

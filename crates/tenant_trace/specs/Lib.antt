@@ -1,3 +1,2 @@
 pub mod Trace
 pub mod cited
-pub mod inner

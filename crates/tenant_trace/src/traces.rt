@@ -1,10 +1,10 @@
 //! A trace: the last records, in a ring.
 
-ghost use Rattle.std.specs.Prelude.{◌≡◌, ◌<◌, ◌≤◌, ◌++◌, [], length, reverse, IfOk, IsErr, OnOk};
+ghost use Rattle.std.specs.Prelude.{◌≡◌, ◌<◌, ◌++◌, [], length, reverse, IfOk, IsErr, OnOk};
 ghost use Rattle.tenant_trace.specs.cited.Noted.{noted, pushed};
-ghost use Rattle.tenant_trace.specs.inner.Rings.{from_place};
 
 use crate::records::{Happening, Record};
+use circular_buffer::HeapCircularBuffer;
 use giotto_tasks::lists::List;
 use std::alloc::{AllocError, Global};
 use std::marker::Model;
@@ -12,22 +12,18 @@ use std::marker::Model;
 /// The last records of a tenant. Contracts see it as how many records it keeps at most and those that it has, the newest first.
 #[derive(Drop)]
 pub struct Trace {
-    // The oldest stands at `oldest`, the later ones behind it, and then from the first place on.
-    records: Vec<Record>,
-    oldest: usize,
-    most: usize,
+    ring: HeapCircularBuffer<Record, Global>,
 }
 
 impl Model for Trace {
-    ghost use Rattle.std.specs.Prelude.{◌≡◌, ◌<◌, ◌≤◌, ◌++◌, drop, length, reverse, take, vec_capacity};
+    ghost use Rattle.std.specs.Prelude.{◌≤◌, length, reverse};
     ghost use Rattle.tenant_trace.specs.Trace.{LastRecords};
 
     ghost Value = { LastRecords };
 
-    ghost view = { λ t. record { most = t.most; records = reverse (drop t.oldest t.records.items ++ take t.oldest t.records.items) } };
+    ghost view = { λ t. record { most = t.ring.capacity; records = reverse t.ring.items } };
 
-    ghost invariant = { λ t. (length t.records.items ≤ t.most) × (t.most ≤ vec_capacity t.records)
-        × (t.oldest ≤ length t.records.items) × (length t.records.items < t.most → t.oldest ≡ 0) };
+    ghost invariant = { λ t. length t.ring.items ≤ t.ring.capacity };
 }
 
 impl Trace {
@@ -38,27 +34,15 @@ impl Trace {
     pub fn new(alloc: Global, most: usize) -> Result<Trace, AllocError>
         ensures { IfOk result (λ trace. trace ≡ record { most = most; records = [] }) }
     {
-        let records = Vec::with_capacity(alloc, most)?;
-        Ok(Trace {
-            records,
-            oldest: 0,
-            most,
-        })
+        let ring = HeapCircularBuffer::with_capacity(alloc, most)?;
+        Ok(Trace { ring })
     }
 
     /// Adds a record. One that is full gives up its oldest for it. Takes no memory.
     pub fn push(&mut self, latest: Record)
         ensures { self.new ≡ pushed latest self.old }
     {
-        if self.records.len() < self.most {
-            self.records.push_reserved(latest);
-            return;
-        }
-        let place = place_of_oldest(self.oldest, self.records.as_slice());
-        if let Some(oldest) = self.records.get_mut(place) {
-            *oldest = latest;
-            self.oldest = place + 1;
-        }
+        let _oldest = self.ring.push_back(latest);
     }
 
     /// Adds the record of what happens at this tick. Takes no memory.
@@ -76,22 +60,12 @@ impl Trace {
         ensures records { IfOk result (λ records. records ≡ reverse self.now.records) }
         ensures memory { IsErr result → 0 < length self.now.records }
     {
-        let (newer, older) = self.records.as_slice().split_at(self.oldest);
+        let (older, newer) = self.ring.as_slices();
         let mut records = Vec::new(alloc);
         add_copies(&mut records, older)?;
         add_copies(&mut records, newer)?;
         Ok(List::from_vec(records))
     }
-}
-
-// The place of the oldest of these records: the first one, where none stands at this place or behind it.
-#[inline(always)]
-fn place_of_oldest(oldest: usize, records: &[Record]) -> usize
-    requires { oldest ≤ length records.now }
-    ensures same { from_place result records.now ≡ from_place oldest records.now }
-    ensures within { 0 < length records.now → result < length records.now }
-{
-    if oldest < records.len() { oldest } else { 0 }
 }
 
 // Adds a copy of each of these records.

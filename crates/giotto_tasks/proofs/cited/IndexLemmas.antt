@@ -1,10 +1,8 @@
 -- Places of names in a list, as an index keeps them.
 use Rattle.std.proofs.Common.{◌≡◌, ℕ, suc, ◌+◌, ◌<◌, Bool, true, false, not, cond, ◌&&◌, ◌||◌, List, [], ◌∷◌, length, drop, get_or, ℤ, pos, Option, Some, None, refl, sym, ap, ◌∙◌, arith}
 use Rattle.std.specs.Prelude.{is_some, unwrap_or}
-use Rattle.std.specs.Ordering.{nat_cmp}
-use Rattle.std.specs.Cmp.Lexicographic.{slice_cmp, texts_ties}
 use Rattle.std.specs.List.{zip}
-use Rattle.std.specs.BTreeMap.{BTreeMap, get, Updates}
+use Rattle.indexmap.specs.IndexMap.{IndexMap, get, Updates}
 use Rattle.std.proofs.lemmas.List.{drop_more}
 use Rattle.giotto_tasks.specs.declared.names.Name.{Name}
 use Rattle.giotto_tasks.specs.cited.DriverCode.{number_at}
@@ -22,20 +20,19 @@ is_some-place_from i (n ∷ ns) x = at_head (same_name n x) (is_some-place_from 
     at_head false rest = rest
 
 -- one name more at the front
-pub places_before : (names : List Name) (i v : ℕ) (name : Name) (old new : BTreeMap Name ℕ) → i < length names → name ≡ get_or names i name → v ≡ i
-    → HasPlaces (i + 1) (drop (i + 1) names) old → Updates (slice_cmp nat_cmp) old new name (Some v) → HasPlaces i (drop i names) new
+pub places_before : {S : Type 0} (names : List Name) (i v : ℕ) (name : Name) (old new : IndexMap Name ℕ S) → i < length names → name ≡ get_or names i name → v ≡ i
+    → HasPlaces (i + 1) (drop (i + 1) names) old → Updates same_name old new name (Some v) → HasPlaces i (drop i names) new
 places_before names i v name old new within is at has updates = λ q.
     let here = updates.0 q in
-    let tie = ap (λ b. cond b (Some v) (get (slice_cmp nat_cmp) old q)) (sym (texts_ties name q)) in
     let before = ap (λ r. cond (same_name name q) (Some v) r) (has q) in
     let placed = ap (λ j. cond (same_name name q) (Some j) (place_from (i + 1) (drop (i + 1) names) q)) at in
     let named = ap (λ n. cond (same_name n q) (Some i) (place_from (i + 1) (drop (i + 1) names) q)) is in
     let front = ap (λ xs. place_from i xs q) (sym (drop_more names i name within)) in
-    here ∙ (tie ∙ (before ∙ (placed ∙ (named ∙ front))))
+    here ∙ (before ∙ (placed ∙ (named ∙ front)))
 
 -- the names stay different where the map didn't have the one at the front
-pub different_before : (names : List Name) (i : ℕ) (name : Name) (places : BTreeMap Name ℕ) (old : Option ℕ) (first different : Bool) → i < length names
-    → name ≡ get_or names i name → HasPlaces (i + 1) (drop (i + 1) names) places → old ≡ get (slice_cmp nat_cmp) places name → is_some old ≡ not first
+pub different_before : {S : Type 0} (names : List Name) (i : ℕ) (name : Name) (places : IndexMap Name ℕ S) (old : Option ℕ) (first different : Bool) → i < length names
+    → name ≡ get_or names i name → HasPlaces (i + 1) (drop (i + 1) names) places → old ≡ get same_name places name → is_some old ≡ not first
     → different ≡ all_different (drop (i + 1) names) → (first && different) ≡ all_different (drop i names)
 different_before names i name places old first different within is has was found others =
     let rest = drop (i + 1) names in

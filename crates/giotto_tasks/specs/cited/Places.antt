@@ -1,8 +1,6 @@
 -- Where names stand in a list.
 use Rattle.std.specs.Prelude.{◌≡◌, ℕ, List, Option}
-use Rattle.std.specs.Ordering.{nat_cmp}
-use Rattle.std.specs.Cmp.Lexicographic.{slice_cmp}
-use Rattle.std.specs.BTreeMap.{BTreeMap, get}
+use Rattle.indexmap.specs.IndexMap.{IndexMap, get}
 use Rattle.std.specs.List.{position_from}
 use Rattle.giotto_tasks.specs.declared.names.Name.{Name}
 use Rattle.giotto_tasks.specs.Names.{same_name}
@@ -12,5 +10,5 @@ abbrev pub place_from : ℕ → List Name → Name → Option ℕ
 place_from i names x = position_from (λ n. same_name n x) i names
 
 -- the map has the first place of each name, where the list begins at place i
-abbrev pub HasPlaces : ℕ → List Name → BTreeMap Name ℕ → Type 0
-HasPlaces i names places = (x : Name) → get (slice_cmp nat_cmp) places x ≡ place_from i names x
+abbrev pub HasPlaces : {S : Type 0} → ℕ → List Name → IndexMap Name ℕ S → Type 0
+HasPlaces i names places = (x : Name) → get same_name places x ≡ place_from i names x
