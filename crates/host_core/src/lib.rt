@@ -15,4 +15,4 @@ pub mod plays;
 pub mod trials;
 
 pub use instant_engine as engine;
-pub use instant_engine::{job_table, programs, reading, state, well_formed};
+pub use instant_engine::{job_table, programs, state, well_formed};

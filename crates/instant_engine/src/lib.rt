@@ -15,4 +15,4 @@ pub mod instants;
 pub use tenant_state as state;
 pub use tenant_state::job_table::finished::Finished;
 pub use tenant_state::job_table::jobs::{Done, Job, JobId, Jobs, run_job};
-pub use tenant_state::{job_table, programs, reading, well_formed};
+pub use tenant_state::{job_table, programs, well_formed};

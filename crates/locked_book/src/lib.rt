@@ -25,4 +25,4 @@ mod standing;
 mod windows;
 
 pub use host_core as host;
-pub use host_core::{engine, job_table, programs, reading, state, well_formed};
+pub use host_core::{engine, job_table, state};

@@ -21,5 +21,3 @@ pub mod admission;
 pub mod budgets;
 pub mod prepared;
 pub mod shown;
-
-pub use giotto_read as reading;

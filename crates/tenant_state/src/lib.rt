@@ -19,5 +19,4 @@ pub use rig_model::lines::commands::Command;
 pub use rig_model::lines::replies::{Reply, print_reply};
 pub use tenant_jobs as job_table;
 pub use tenant_programs as programs;
-pub use tenant_programs::reading;
 pub use tenant_slots::well_formed;

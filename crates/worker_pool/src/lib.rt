@@ -12,4 +12,4 @@ pub mod gates;
 pub mod pools;
 
 pub use locked_book as book;
-pub use locked_book::{engine, host, job_table, programs, reading, state, well_formed};
+pub use locked_book::{engine, host, job_table, state};
