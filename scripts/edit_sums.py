@@ -4,7 +4,8 @@ The sum is of the kit's logic; of the edit's own changes; of the function that i
 attributes and clauses; of the proof files that are its own; and of what all these lead to (scripts/meanings.py): definitions,
 types with what is implemented for them, constants, the statements of lemmas, and the signatures and clauses of the functions
 that are called. From there it goes on, through definitions, types, statements and clauses, in the crate and in those below.
-No body and no proof of another function is followed. A method that is called on a value is taken by its name, of each type
+No body and no proof of another function is followed. Of a type of a crate below that contracts see as another value, by its model, its
+fields and its view can't be seen, and don't count; how it is hashed counts where something may hash it. A method that is called on a value is taken by its name, of each type
 found. An edit that changes no function, or several, has the sum of its whole crate and of what that leads to.
 """
 
@@ -18,18 +19,21 @@ from meanings import Meanings
 from planting import Crate, Edit, code_of, functions_in
 
 LINES = ("file: ", "old: ", "new:")
+HASHES = re.compile(r"\bhash\b|\b(?:Hash|Index)(?:Map|Set)\b")
 
 
 class Found:
-    """What is found so far: the nodes, the types among them, and the names of the methods that are called."""
+    """What is found so far for a crate: the nodes, the types among them, the names of the methods that are called, and how values are
+    hashed, which counts only where something may hash them."""
 
-    def __init__(self, names, allowed):
-        self.names, self.allowed = names, allowed
-        self.nodes, self.types, self.called = set(), set(), set()
+    def __init__(self, names, crate, allowed):
+        self.names, self.crate, self.allowed = names, crate, allowed
+        self.nodes, self.types, self.called, self.hashes, self.may_hash = set(), set(), set(), set(), False
 
     def copy(self):
-        made = Found(self.names, self.allowed)
-        made.nodes, made.types, made.called = {*self.nodes}, {*self.types}, {*self.called}
+        made = Found(self.names, self.crate, self.allowed)
+        made.may_hash = self.may_hash
+        made.nodes, made.types, made.called, made.hashes = {*self.nodes}, {*self.types}, {*self.called}, {*self.hashes}
         return made
 
     def add(self, ways):
@@ -37,11 +41,17 @@ class Found:
         ways, methods = [*ways], self.names.methods
         while ways:
             node = ways.pop()
-            if isinstance(node, str) or node in self.nodes or node.crate not in self.allowed:
+            if isinstance(node, str) or node.crate not in self.allowed:
+                continue
+            node = node.outer if node.outer and node.crate != self.crate else node
+            if node in self.nodes:
                 continue
             self.nodes.add(node)
             ways += self.names.leads(node)
-            ways += node.adjoined
+            ways += [it for it in node.adjoined if it.trait != "Hash"]
+            self.hashes.update(it for it in node.adjoined if it.trait == "Hash")
+            self.may_hash = self.may_hash or HASHES.search(node.text) is not None
+            ways += self.hashes if self.may_hash else []
             if node.type:
                 self.types.add(node.type)
                 own = methods.get(node.type, {})
@@ -95,7 +105,7 @@ class EditSums:
         """Nothing yet, of a crate and those below it."""
         if crate not in self.allowed:
             self.allowed[crate] = {crate.name, *(it.name for it in crate.below())}
-        return Found(self.names, self.allowed[crate])
+        return Found(self.names, crate.name, self.allowed[crate])
 
     def of_function(self, crate, node):
         """What a function rests on."""

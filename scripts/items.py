@@ -9,12 +9,13 @@ CHUNK = re.compile(r"[^\s(){};,\"]+")
 
 class Node:
     """Something that a sum may rest on: its file, its name, its text without comments, its words of code and of clauses,
-    the type that it belongs to, and what is said of it elsewhere (`adjoined`)."""
+    the type that it belongs to, what is said of it elsewhere (`adjoined`), the trait that it implements, and what other crates
+    can see of it, where that is less (`outer`)."""
 
     def __init__(self, file, name, text, code="", antt=""):
         self.file, self.name, self.text, self.code, self.antt = file, name, text, code, antt
         self.crate, self.id = file.crate, f"{file.path.rpartition(f'/{file.crate}/')[2]}: {file.crate}: {name}"
-        self.whole = self.owner = self.type = self.function = self.found = self.made = None
+        self.whole = self.owner = self.type = self.function = self.trait = self.outer = self.found = self.made = None
         self.adjoined, self.called = [], set()
 
     def sum(self, leads):

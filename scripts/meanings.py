@@ -18,6 +18,8 @@ MADE = re.compile(r"The[A-Z]\w*")
 OF_FUNCTIONS = {"Goals", "Given"}
 OURS = ("crate", "self", "super")
 TYPES = {"struct", "enum", "union", "type"}
+# the items of a model of which contracts of other crates speak
+OF_VALUES = {"Value", "coded"}
 
 
 class AnttFile:
@@ -80,6 +82,8 @@ class Meanings:
             self.add_items(file)
         for node, header, file in self.implemented:
             self.adjoin(node, header, file)
+        for it in [it for them in self.rust.values() for file in them for it in file.nodes if it.type]:
+            self.see_from_outside(it)
 
     def read_antt_paths(self):
         """Notes where the files of definitions and lemmas are; each is read when a name leads there."""
@@ -143,6 +147,7 @@ class Meanings:
 
     def add_other(self, file, item, node):
         """Takes a node of an item that is no function: by its name, or as what is said of the type that it implements for."""
+        node.outer = outer_of(item, node)
         if item.keyword == "impl":
             node.owner = names_in_header(item.head)[0]
             node.name = code_text(item.head)
@@ -163,11 +168,18 @@ class Meanings:
 
     def adjoin(self, node, header, file):
         """Hangs an implementation on its type; where that is none of ours on all of ours that its header names."""
-        of_type, _ = names_in_header(header)
+        of_type, node.trait = names_in_header(header)
         types = self.of_path(file.crate, file.module, (of_type,)) if of_type else set()
         ours = [it for it in types if isinstance(it, Node)]
         for it in ours or [it for it in self.leads(node) if isinstance(it, Node)]:
             it.adjoined.append(node)
+
+    def see_from_outside(self, node):
+        """Keeps the outer side of a type that contracts see as a value of another kind, and of no other."""
+        if any(it.trait == "Model" for it in node.adjoined):
+            node.outer.type, node.outer.adjoined = node.type, node.adjoined
+        else:
+            node.outer = None
 
     # names
 
@@ -358,6 +370,18 @@ class Meanings:
                 if word[:1].isupper() and (word in file.uses or word in file.own):
                     found |= self.of_path(file.crate, file.module, (word,))
         return found
+
+
+def outer_of(item, node):
+    """What other crates can see of a type with a model, if this is one: its header, without fields; of the model what the value is."""
+    if item.keyword == "struct":
+        return Node(node.file, f"{node.name} outside", *texts(item.head, ""))
+    if item.keyword != "impl" or names_in_header(item.head)[1] != "Model":
+        return None
+    starts = [at for at, it in enumerate(item.tokens) if it.text in OF_VALUES and item.tokens[at - 1].text == "ghost"]
+    ends = [next(end for end in range(at, len(item.tokens)) if item.tokens[end].text == ";") for at in starts]
+    kept = [it for at, end in zip(starts, ends) for it in item.tokens[at:end]]
+    return Node(node.file, f"{code_text(item.head)} outside", *texts([*item.head, *kept], ""))
 
 
 def names_around(item):
