@@ -61,6 +61,20 @@ impl<'a> Indexed<'a> {
         self.program.modes()
     }
 
+    /// The names of the tasks.
+    pub(crate) fn tasks_by_name(&self) -> &Index
+        ensures { result.now ≡ declared.task_names self.now }
+    {
+        &self.tasks
+    }
+
+    /// The names of the modes.
+    pub(crate) fn modes_by_name(&self) -> &Index
+        ensures { result.now ≡ declared.mode_names self.now }
+    {
+        &self.modes
+    }
+
     /// The task of this name.
     pub(crate) fn task(&self, name: &Name) -> Option<&Task>
         ensures found { IfSome result
