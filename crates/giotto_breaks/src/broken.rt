@@ -47,7 +47,6 @@ pub fn broken_rule(
 }
 
 // What is told of the places of this text that break the rule.
-#[tactic(auto, using(crate::proofs::Telling::error_pushed))]
 fn findings_of(alloc: Global, rule: usize, text: &str) -> Result<Vec<Finding>, AllocError>
     ensures { IfOk result (λ findings. TellFault findings.items) }
 {
@@ -57,11 +56,24 @@ fn findings_of(alloc: Global, rule: usize, text: &str) -> Result<Vec<Finding>, A
         Err(_) => Vec::new(alloc),
     };
     let outline = outline_of(alloc, &tokens)?;
-    let breaks = breaks_of(alloc, rule, &outline)?;
+    findings_in(alloc, rule, text, &outline)
+}
+
+// The same, where the outline of the text is this one.
+#[tactic(auto, using(crate::proofs::Telling::error_pushed))]
+fn findings_in(
+    alloc: Global,
+    rule: usize,
+    text: &str,
+    outline: &Outline,
+) -> Result<Vec<Finding>, AllocError>
+    ensures { IfOk result (λ findings. TellFault findings.items) }
+{
+    let breaks = breaks_of(alloc, rule, outline)?;
     let mut findings = Vec::new(alloc);
     for found in &breaks {
         let words = words_once(alloc, rule, findings.is_empty())?;
-        add_break(alloc, &mut findings, words, (&outline, text), found)?;
+        add_break(alloc, &mut findings, words, (outline, text), found)?;
     }
     if findings.is_empty() {
         findings.push(without_place(alloc, rule)?)?;

@@ -187,6 +187,8 @@ impl fmt::Display for RuleBreak<'_> {
             | RuleBreak::ReadsOther { .. }
             | RuleBreak::GivesOther { .. }
             | RuleBreak::GivesTwice { .. } => write_driver(f, self),
+            RuleBreak::Assigned { .. } | RuleBreak::Read { .. } => write_body(f, self),
+            RuleBreak::Period { .. } | RuleBreak::Frequency { .. } => write_period(f, self),
             _ => write_other(f, self),
         }
     }
@@ -296,8 +298,8 @@ fn write_driver<W: fmt::Write>(f: &mut fmt::Formatter<W>, what: &RuleBreak) -> f
     }
 }
 
-// Rules 3 to 8, and 10.
-fn write_other<W: fmt::Write>(f: &mut fmt::Formatter<W>, what: &RuleBreak) -> fmt::Result {
+// Rule 3.
+fn write_body<W: fmt::Write>(f: &mut fmt::Formatter<W>, what: &RuleBreak) -> fmt::Result {
     match what {
         RuleBreak::Assigned { name, task } => {
             let (name, task) = (name.as_str(), task.as_str());
@@ -313,6 +315,13 @@ fn write_other<W: fmt::Write>(f: &mut fmt::Formatter<W>, what: &RuleBreak) -> fm
                 "the body of `{task}` reads `{name}`, which is no input, state or output of `{task}`"
             )
         }
+        _ => Ok(()),
+    }
+}
+
+// Rule 4.
+fn write_period<W: fmt::Write>(f: &mut fmt::Formatter<W>, what: &RuleBreak) -> fmt::Result {
+    match what {
         RuleBreak::Period { mode, period } => {
             let mode = mode.as_str();
             write!(
@@ -334,6 +343,13 @@ fn write_other<W: fmt::Write>(f: &mut fmt::Formatter<W>, what: &RuleBreak) -> fm
                 "the frequency {frequency} doesn't divide {period}, the period of `{mode}`"
             )
         }
+        _ => Ok(()),
+    }
+}
+
+// Rules 5 to 8, and 10.
+fn write_other<W: fmt::Write>(f: &mut fmt::Formatter<W>, what: &RuleBreak) -> fmt::Result {
+    match what {
         RuleBreak::InvokedTwice { task, mode } => {
             let (task, mode) = (task.as_str(), mode.as_str());
             write!(f, "`{task}` is invoked twice in mode `{mode}`")

@@ -15,36 +15,41 @@ pub(crate) fn assigned_hint(
     name: &Name,
     task: &Name,
 ) -> Result<Option<String>, AllocError> {
-    let (words, owner) = (name.as_str(), task.as_str());
-    let hint = match kind_of(outline, name) {
-        Some("a sensor") => {
-            String::from_str(
-                alloc,
-                "a sensor has its reading, and nothing gives it a value",
-            )?
-        }
-        Some("an actuator") => format!(in alloc;
-            "an update gives an actuator its value, as in `actfreq 1 do {words} := o;` with an output `o` of the task"
-        )?,
-        Some("an output") => format!(in alloc;
-            "name it among the outputs of the task: `task {owner}(..) output {words} {{`"
-        )?,
-        Some("an input of a task") => {
-            String::from_str(
-                alloc,
-                "an input can't be assigned; a state can: `state k := 0`",
-            )?
-        }
-        Some("a state of a task") => {
-            String::from_str(
-                alloc,
-                "a state is its own task's alone: give this task one too",
-            )?
-        }
-        Some(kind) => format!(in alloc; "the name is that of {kind}")?,
-        None => return unknown_hint(alloc, outline, name, task),
+    let Some(kind) = kind_of(outline, name) else {
+        return unknown_hint(alloc, outline, name, task);
     };
-    Ok(Some(hint))
+    if let Some(hint) = fixed_hint(kind) {
+        return Ok(Some(String::from_str(alloc, hint)?));
+    }
+    Ok(Some(hint_with_names(alloc, kind, name.as_str(), task.as_str())?))
+}
+
+// The hint on a name of this kind that a body assigns, where it has no name in it.
+fn fixed_hint(kind: &str) -> Option<&'static str> {
+    match kind {
+        "a sensor" => Some("a sensor has its reading, and nothing gives it a value"),
+        "an input of a task" => Some("an input can't be assigned; a state can: `state k := 0`"),
+        "a state of a task" => Some("a state is its own task's alone: give this task one too"),
+        _ => None,
+    }
+}
+
+// The hint on a name of another kind that the body of a task assigns.
+fn hint_with_names(
+    alloc: Global,
+    kind: &str,
+    words: &str,
+    task: &str,
+) -> Result<String, AllocError> {
+    match kind {
+        "an actuator" => format!(in alloc;
+            "an update gives an actuator its value, as in `actfreq 1 do {words} := o;` with an output `o` of the task"
+        ),
+        "an output" => format!(in alloc;
+            "name it among the outputs of the task: `task {task}(..) output {words} {{`"
+        ),
+        _ => format!(in alloc; "the name is that of {kind}"),
+    }
 }
 
 // A hint on a name that a body assigns, and that nothing declares.
