@@ -3,59 +3,20 @@
 ghost use Rattle.std.specs.Prelude.{◌≡◌, true, false, IsOk, Err};
 
 use crate::Failure;
-use crate::command_line::check_arguments;
 use crate::configuration::{ConfigurationFault, read_configuration, read_text};
 use crate::outputs::print;
 use crate::tenants::place_of;
-use clap::ArgMatches;
-use clap::error::ErrorKind;
 use config_checks::check_configuration;
 use config_checks::checked_programs::programs::check_program;
 use config_checks::reports::{Report, Wish, report_on};
+use rig_arguments::requests::CheckRequest;
+use rig_arguments::subcommands::Subcommand;
 use rig_model::config::faults::ConfigFault;
 use rig_model::config::{Config, TenantConfig, read_config};
 use rig_retests::script::faults::ScriptFault;
 use script_checks::scripts::check_script;
-use std::alloc::{AllocError, Global};
+use std::alloc::Global;
 use std::{fs, io};
-
-/// What is checked, and what is wanted of it.
-#[derive(Drop)]
-pub struct CheckRequest<'a> {
-    /// The path of the configuration; `None` for the built-in one.
-    pub config: Option<&'a str>,
-    /// The name of the tenant against whose budgets programs are held; `None` where they aren't.
-    pub tenant: Option<&'a str>,
-    pub wish: Wish<'a>,
-    /// The paths of the files.
-    pub files: Vec<&'a str>,
-}
-
-/// Which files are to be checked, if any.
-///
-/// # Errors
-/// Want of memory.
-pub fn check_of<'a>(
-    alloc: Global,
-    matches: &ArgMatches<'a>,
-) -> Result<Option<CheckRequest<'a>>, AllocError> {
-    let Some(words) = matches.subcommand_matches("check") else {
-        return Ok(None);
-    };
-    let wish = match words.get_str("load") {
-        Some(name) => Wish::Load(name),
-        None if words.get_flag("print") => Wish::Print,
-        None if words.get_flag("pretty") => Wish::Pretty,
-        None => Wish::Summary,
-    };
-    let files = words.get_strs("files").unwrap_or(&[]);
-    Ok(Some(CheckRequest {
-        config: words.get_str("config"),
-        tenant: words.get_str("tenant"),
-        wish,
-        files: Vec::from_slice(alloc, files)?,
-    }))
-}
 
 /// Checks the files, in their order. What is wrong stands on standard output, and so does what they have; where the text of programs is
 /// wanted, what is wrong stands on standard error, and nothing else is written unless all are good. What can't be read is told on standard
@@ -73,10 +34,11 @@ pub fn check_files(rt: &HostRuntime, request: &CheckRequest<'_>) -> Result<(), F
             .iter()
             .all(|path| kind_of(path) == Kind::Program)
     {
-        return Err(wrong(
+        return Err(Failure::wrong(
             rt.alloc(),
+            Subcommand::Check,
             "'--load', '--print' and '--pretty' are for files of programs",
-        )?);
+        ));
     }
     let mut texts = String::new(rt.alloc());
     let (mut all_read, mut all_good) = (true, true);
@@ -221,7 +183,11 @@ fn tenant_of<'a>(
     let name = match (request.wish, request.tenant) {
         (Wish::Load(loader), Some(name)) => {
             if loader != name {
-                return Err(wrong(alloc, "'--load' and '--tenant' name two tenants")?);
+                return Err(Failure::wrong(
+                    alloc,
+                    Subcommand::Check,
+                    "'--load' and '--tenant' name two tenants",
+                ));
             }
             name
         }
@@ -229,12 +195,6 @@ fn tenant_of<'a>(
         (_, Some(name)) => name,
         (_, None) => return Ok(None),
     };
-    let words = check_arguments(alloc)?;
-    let place = place_of(alloc, words, config, request.config, name)?;
+    let place = place_of(alloc, Subcommand::Check, config, request.config, name)?;
     Ok(config.tenants().get(place))
-}
-
-// Arguments that are wrong in this way.
-fn wrong(alloc: Global, text: &str) -> Result<Failure, Failure> {
-    Ok(Failure::Arguments(check_arguments(alloc)?.error(ErrorKind::ValueValidation, text)?))
 }

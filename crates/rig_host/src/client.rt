@@ -1,8 +1,8 @@
 //! A client of the server on a port of this machine.
 
 use crate::Failure;
-use crate::command_line::connect_arguments;
-use clap::error::ErrorKind;
+use rig_arguments::requests::ConnectRequest;
+use rig_arguments::subcommands::Subcommand;
 use rig_client::answers::Server;
 use rig_client::conversing::{converse, greet};
 use rig_client::faults::ClientFault;
@@ -10,7 +10,6 @@ use rig_client::keys::{first_line, is_key};
 use rig_client::programs::{FileFault, ProgramFiles};
 use rig_client::users::User;
 use rig_model::text::name_bytes::is_name;
-use std::alloc::Global;
 use std::env::VarError;
 use std::io::{BufReader, BufWriter, IsTerminal, Read, Write};
 use std::net::TcpStream;
@@ -18,17 +17,6 @@ use std::{env, fs, io};
 
 // The environment variable of the key.
 const KEY: &str = "RIG_HOST_KEY";
-
-/// What `connect` is started with.
-#[derive(Clone, Copy)]
-pub struct ConnectRequest<'a> {
-    /// The port of the server on this machine.
-    pub port: u16,
-    /// The name of the tenant.
-    pub name: &'a str,
-    /// The path of the file with the key; `None` for that of the environment, or of the question.
-    pub key_file: Option<&'a str>,
-}
 
 // The files of this machine.
 #[derive(Drop)]
@@ -60,7 +48,11 @@ impl<'a> ProgramFiles for Disk<'a> {
 pub fn run_client(rt: &HostRuntime, request: &ConnectRequest<'_>) -> Result<(), Failure> {
     let alloc = rt.alloc();
     if !is_name(request.name.as_bytes()) {
-        return Err(wrong(alloc, "NAME isn't the name of a tenant")?);
+        return Err(Failure::wrong(
+            alloc,
+            Subcommand::Connect,
+            "NAME isn't the name of a tenant",
+        ));
     }
     let Ok(output) = BufWriter::new(alloc, io::writer(rt)) else {
         return Err(Failure::Client(ClientFault::Memory));
@@ -129,10 +121,11 @@ fn key_of<I: Read, O: Write, E: Write>(
             return Ok(key);
         }
     }
-    Err(wrong(
+    Err(Failure::wrong(
         rt.alloc(),
+        Subcommand::Connect,
         "there is no key: name its file by '--key-file', set RIG_HOST_KEY, or connect at a terminal",
-    )?)
+    ))
 }
 
 // The first line of the file of this path.
@@ -141,9 +134,4 @@ fn key_of_file(rt: &HostRuntime, path: &str) -> Result<String, ClientFault> {
         return Err(ClientFault::KeyFile);
     };
     Ok(String::from_str(rt.alloc(), first_line(text.as_str()))?)
-}
-
-// Arguments that are wrong in this way.
-fn wrong(alloc: Global, text: &str) -> Result<Failure, Failure> {
-    Ok(Failure::Arguments(connect_arguments(alloc)?.error(ErrorKind::ValueValidation, text)?))
 }

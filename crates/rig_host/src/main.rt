@@ -16,7 +16,6 @@ ghost use Rattle.rig_retests.specs.declared.script.faults.ScriptFault.TheVariant
 
 mod checks;
 mod client;
-mod command_line;
 mod configuration;
 mod outputs;
 mod pictures;
@@ -25,21 +24,21 @@ mod scripts;
 mod server;
 mod tenants;
 
-use checks::{CheckRequest, check_files, check_of};
-use clap::ArgMatches;
-use clap::error::ErrorKind;
-use client::{ConnectRequest, run_client};
-use command_line::arguments;
+use checks::check_files;
+use client::run_client;
 use configuration::{ConfigurationFault, read_configuration};
-use pictures::{PictureFault, TimelineRequest, run_timeline};
-use retests::{RetestRequest, TrialRequest, run_retest, run_trial};
+use pictures::{PictureFault, run_timeline};
+use retests::{run_retest, run_trial};
+use rig_arguments::requests::Request;
+use rig_arguments::subcommands::Subcommand;
+use rig_arguments::{ArgumentFault, read_arguments, unreadable};
 use rig_client::faults::ClientFault;
 use rig_reports::script_notes::told::Report;
 use rig_retests::courses::Shortfall;
 use rig_retests::script::faults::ScriptFault;
 use rig_server::faults::ServeFault;
-use scripts::{RunFileFault, ScriptRequest, run_script, script_of};
-use server::{ServeRequest, run_server};
+use scripts::{RunFileFault, run_script};
+use server::run_server;
 use std::alloc::{AllocError, Global};
 use std::process::ExitCode;
 use std::sync::Wait;
@@ -56,27 +55,6 @@ fn main(rt: HostRuntime) -> ExitCode {
             failure.status()
         }
     }
-}
-
-/// What the arguments ask for.
-#[derive(Drop)]
-enum Request<'a> {
-    /// A text for standard output, as of `--help`.
-    Text(clap::Error),
-    /// What is wrong with files.
-    Check(CheckRequest<'a>),
-    /// A script, on standard input or of a run.
-    Script(ScriptRequest<'a>),
-    /// The server of a rig.
-    Serve(ServeRequest<'a>),
-    /// A session of a server.
-    Connect(ConnectRequest<'a>),
-    /// The timeline of one tenant in a script of a file.
-    Timeline(TimelineRequest<'a>),
-    /// Whose change calls for whose retest in the script on standard input.
-    Retest(RetestRequest<'a>),
-    /// The trial of one tenant in the script on standard input.
-    Trial(TrialRequest<'a>),
 }
 
 /// Why the program ends with another status than 0. Its `Display` is for standard error.
@@ -107,6 +85,14 @@ enum Failure {
 }
 
 impl Failure {
+    // That the words of the subcommand are wrong in the way that the text says.
+    fn wrong(alloc: Global, subcommand: Subcommand, text: &str) -> Failure {
+        match subcommand.error(alloc, text) {
+            Ok(error) => Failure::Arguments(error),
+            Err(error) => Failure::from(error),
+        }
+    }
+
     // The status of the program that ends so.
     fn status(&self) -> ExitCode
         ensures arguments { (error : ArgumentError) → self.now ≡ Failure.Arguments error → exit_status result ≡ 2 }
@@ -148,6 +134,22 @@ impl fmt::Display for Failure {
             Failure::Run(fault) => writeln!(f, "{fault}"),
             Failure::Told(report) => write!(f, "{}", report.as_str()),
             Failure::Short(shortfall) => writeln!(f, "{shortfall}"),
+        }
+    }
+}
+
+impl From<ArgumentFault> for Failure {
+    ghost use Rattle.rig_arguments.specs.declared.ArgumentFault.TheVariants as argument;
+    ghost use Rattle.rig_host.specs.declared.Failure.TheVariants as failures;
+
+    ghost from_gives = { λ fault failure.
+        ((error : _) → fault ≡ argument.Wrong error → failure ≡ failures.Arguments error)
+        × (fault ≡ argument.Memory → failure ≡ Fault Memory) };
+
+    fn from(fault: ArgumentFault) -> Failure {
+        match fault {
+            ArgumentFault::Wrong(error) => Failure::Arguments(error),
+            ArgumentFault::Memory => Failure::Fault(ScriptFault::Memory),
         }
     }
 }
@@ -225,108 +227,9 @@ fn run<T: Threads + Wait + Clock + Sync>(rt: &HostRuntime, threads: &T) -> Resul
 fn read_words(rt: &HostRuntime) -> Result<Vec<String>, Failure> {
     match env::args(rt) {
         Ok(words) => Ok(words.collect(rt.alloc())?),
-        Err(error) => Err(unreadable(rt.alloc(), &error)?),
-    }
-}
-
-// What the words ask for.
-fn read_arguments<'a>(alloc: Global, words: &'a [String]) -> Result<Request<'a>, Failure> {
-    match arguments(alloc)?.try_get_matches_from(words) {
-        Ok(matches) => match check_of(alloc, &matches)? {
-            Some(request) => Ok(Request::Check(request)),
-            None => Ok(request_of(&matches)),
+        Err(error) => match error.kind() {
+            io::ErrorKind::InvalidData => Err(Failure::Arguments(unreadable(rt.alloc())?)),
+            _ => Err(Failure::Fault(ScriptFault::Memory)),
         },
-        Err(error) => without_matches(error),
-    }
-}
-
-// What the arguments ask for, by their subcommand.
-fn request_of<'a>(matches: &ArgMatches<'a>) -> Request<'a> {
-    if let Some(request) = timeline_of(matches) {
-        return Request::Timeline(request);
-    }
-    if let Some(request) = server_of(matches) {
-        return Request::Serve(request);
-    }
-    if let Some(request) = client_of(matches) {
-        return Request::Connect(request);
-    }
-    if let Some(request) = retest_of(matches) {
-        return Request::Retest(request);
-    }
-    if let Some(request) = trial_of(matches) {
-        return Request::Trial(request);
-    }
-    Request::Script(script_of(matches))
-}
-
-// Which server is asked for, if one is.
-fn server_of<'a>(matches: &ArgMatches<'a>) -> Option<ServeRequest<'a>> {
-    let words = matches.subcommand_matches("serve")?;
-    Some(ServeRequest {
-        config: words.get_str("config"),
-        port: words.get_one::<u16>("port").unwrap_or(0),
-        workers: words.get_one::<u8>("workers").unwrap_or(2),
-        idle: words.get_one::<u32>("idle"),
-    })
-}
-
-// Which session is asked for, if one is.
-fn client_of<'a>(matches: &ArgMatches<'a>) -> Option<ConnectRequest<'a>> {
-    let words = matches.subcommand_matches("connect")?;
-    Some(ConnectRequest {
-        port: words.get_one::<u16>("port")?,
-        name: words.get_str("name")?,
-        key_file: words.get_str("key-file"),
-    })
-}
-
-// Which table of retests is asked for, if one is.
-fn retest_of<'a>(matches: &ArgMatches<'a>) -> Option<RetestRequest<'a>> {
-    let words = matches.subcommand_matches("retest")?;
-    Some(RetestRequest {
-        config: words.get_str("config"),
-        graph: words.get_str("dot"),
-    })
-}
-
-// Which trial is asked for, if one is.
-fn trial_of<'a>(matches: &ArgMatches<'a>) -> Option<TrialRequest<'a>> {
-    let words = matches.subcommand_matches("trial")?;
-    Some(TrialRequest {
-        config: words.get_str("config"),
-        tenant: words.get_str("tenant")?,
-        is_summary: words.get_flag("summary"),
-    })
-}
-
-// Which timeline is asked for, if one is.
-fn timeline_of<'a>(matches: &ArgMatches<'a>) -> Option<TimelineRequest<'a>> {
-    let words = matches.subcommand_matches("timeline")?;
-    Some(TimelineRequest {
-        config: words.get_str("config"),
-        script: words.get_str("script")?,
-        tenant: words.get_str("tenant"),
-        picture: words.get_str("output")?,
-    })
-}
-
-// Why the arguments can't be read: one isn't UTF-8, or there is want of memory.
-fn unreadable(alloc: Global, error: &io::Error) -> Result<Failure, AllocError> {
-    match error.kind() {
-        io::ErrorKind::InvalidData => Ok(Failure::Arguments(arguments(alloc)?.error(
-            ErrorKind::ValueValidation,
-            "an argument isn't UTF-8",
-        )?)),
-        _ => Ok(Failure::Fault(ScriptFault::Memory)),
-    }
-}
-
-// What arguments without matches ask for, or how they are wrong.
-fn without_matches<'a>(error: clap::Error) -> Result<Request<'a>, Failure> {
-    match error.kind() {
-        ErrorKind::DisplayHelp | ErrorKind::DisplayVersion => Ok(Request::Text(error)),
-        ErrorKind::OutOfMemory => Err(Failure::Fault(ScriptFault::Memory)),
-        _ => Err(Failure::Arguments(error)),
     }
 }

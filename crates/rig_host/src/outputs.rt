@@ -6,9 +6,9 @@ ghost use Rattle.giotto_tasks.specs.Names.{same_name};
 ghost use Rattle.rig_host.specs.inner.Outputs.{is_same_file};
 
 use crate::Failure;
-use clap::Command;
-use clap::error::ErrorKind;
+use rig_arguments::subcommands::Subcommand;
 use rig_retests::script::faults::ScriptFault;
+use std::alloc::AllocError;
 use std::io::Write;
 use std::path::PathBuf;
 use std::{fs, io};
@@ -49,13 +49,13 @@ pub fn print(rt: &HostRuntime, text: &str) -> Result<(), ScriptFault> {
     }
 }
 
-/// Looks that a file that is to be written isn't one of those that are read. The words are those of the subcommand.
+/// Looks that a file that is to be written isn't one of those that are read.
 ///
 /// # Errors
 /// `Arguments` where it is one of them, by its path as given or by the path to which the system resolves it; want of memory.
 pub fn check_output(
     rt: &HostRuntime,
-    words: Command<'_>,
+    subcommand: Subcommand,
     inputs: &[Option<&str>],
     output: Option<&str>,
 ) -> Result<(), Failure> {
@@ -68,7 +68,7 @@ pub fn check_output(
     for input in inputs {
         if let Some(input) = input {
             if is_read(rt, input, output) {
-                return Err(overwritten(rt, words, output)?);
+                return Err(overwritten(rt, subcommand, output)?);
             }
         }
     }
@@ -113,7 +113,11 @@ fn is_same_file(
 }
 
 // The fault of arguments by which a file that is read would be written.
-fn overwritten(rt: &HostRuntime, mut words: Command<'_>, path: &str) -> Result<Failure, Failure> {
+fn overwritten(
+    rt: &HostRuntime,
+    subcommand: Subcommand,
+    path: &str,
+) -> Result<Failure, AllocError> {
     let text = format!(in rt.alloc(); "'{path}' is read, and would be overwritten")?;
-    Ok(Failure::Arguments(words.error(ErrorKind::ValueValidation, text.as_str())?))
+    Ok(Failure::wrong(rt.alloc(), subcommand, text.as_str()))
 }

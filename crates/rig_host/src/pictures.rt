@@ -4,10 +4,11 @@ ghost use Rattle.std.specs.Prelude.{◌≡◌};
 ghost use Rattle.rig_host.specs.inner.Faults.{text_of_fault};
 
 use crate::Failure;
-use crate::command_line::timeline_arguments;
 use crate::configuration::read_configuration;
 use crate::outputs::{check_output, is_standard, write_to};
 use crate::tenants::place_of;
+use rig_arguments::requests::TimelineRequest;
+use rig_arguments::subcommands::Subcommand;
 use rig_model::config::{Config, TenantId};
 use rig_reports::pictures::{script_with_dump, timeline};
 use rig_retests::script::faults::ScriptFault;
@@ -63,33 +64,22 @@ pub fn write_dump(rt: &HostRuntime, config: &Config, path: &str) -> Result<(), F
     )
 }
 
-/// Which timeline is drawn, and where.
-#[derive(Clone, Copy)]
-pub struct TimelineRequest<'a> {
-    /// The path of the configuration; `None` for the built-in one.
-    pub config: Option<&'a str>,
-    /// The path of the script.
-    pub script: &'a str,
-    /// The name of the tenant; `None` for the first that loads a program.
-    pub tenant: Option<&'a str>,
-    /// The path of the picture.
-    pub picture: &'a str,
-}
-
 /// Draws the run of a tenant in a script, or that of the first tenant that loads a program.
 ///
 /// # Errors
 /// Faults of arguments, of the configuration and of the script; `Script` and `Timeline` where a file can't be read or written.
 pub fn run_timeline(rt: &HostRuntime, request: &TimelineRequest<'_>) -> Result<(), Failure> {
-    let words = timeline_arguments(rt.alloc())?;
     let inputs = [request.config, Some(request.script)];
-    check_output(rt, words, &inputs, Some(request.picture))?;
+    check_output(rt, Subcommand::Timeline, &inputs, Some(request.picture))?;
     let config = read_configuration(rt, request.config)?;
     let tenant = match request.tenant {
-        Some(name) => {
-            let words = timeline_arguments(rt.alloc())?;
-            Some(place_of(rt.alloc(), words, &config, request.config, name)?)
-        }
+        Some(name) => Some(place_of(
+            rt.alloc(),
+            Subcommand::Timeline,
+            &config,
+            request.config,
+            name,
+        )?),
         None => None,
     };
     write_timeline(rt, &config, request, tenant)

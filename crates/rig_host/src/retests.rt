@@ -3,35 +3,16 @@
 ghost use Rattle.std.specs.Prelude.{◌≡◌, ◌↔◌, true, IsOk, None};
 
 use crate::Failure;
-use crate::command_line::{retest_arguments, trial_arguments};
 use crate::configuration::read_configuration;
 use crate::outputs::{check_output, is_standard, print, write_to};
 use crate::pictures::PictureFault;
 use crate::tenants::place_of;
+use rig_arguments::requests::{RetestRequest, TrialRequest};
+use rig_arguments::subcommands::Subcommand;
 use rig_model::config::Config;
 use rig_retests::courses::Course;
 use rig_retests::tables::{Retests, retests_of};
 use rig_retests::{TrialForm, graph_of_retests, text_of_retests, text_of_trial};
-
-/// Which table of retests is printed.
-#[derive(Clone, Copy)]
-pub struct RetestRequest<'a> {
-    /// The path of the configuration; `None` for the built-in one.
-    pub config: Option<&'a str>,
-    /// The path of the graph, where one is wanted.
-    pub graph: Option<&'a str>,
-}
-
-/// Which trial is printed.
-#[derive(Clone, Copy)]
-pub struct TrialRequest<'a> {
-    /// The path of the configuration; `None` for the built-in one.
-    pub config: Option<&'a str>,
-    /// The name of the tenant.
-    pub tenant: &'a str,
-    /// Whether a summary is printed in place of the lines.
-    pub is_summary: bool,
-}
 
 /// Prints whose change calls for whose retest in the script on standard input, and writes it as a graph, if that is asked for; where the
 /// graph goes to standard output, it stands there in place of the table.
@@ -40,8 +21,7 @@ pub struct TrialRequest<'a> {
 /// Faults of arguments and of the configuration; as the script, and `Graph` where the file can't be written. Nothing was written to it where
 /// the script ended by a fault. `Short` where the script was cut off, or no line was a tenant's.
 pub fn run_retest(rt: &HostRuntime, request: &RetestRequest<'_>) -> Result<(), Failure> {
-    let words = retest_arguments(rt.alloc())?;
-    check_output(rt, words, &[request.config], request.graph)?;
+    check_output(rt, Subcommand::Retest, &[request.config], request.graph)?;
     let config = read_configuration(rt, request.config)?;
     let retests = retests_of(rt.alloc(), &mut rt.reader(), &config)?;
     print_retests(rt, &config, &retests, request.graph)?;
@@ -77,8 +57,13 @@ fn print_retests(
 /// Faults of arguments and of the configuration; as the script. `Short` where the script was cut off, or no line was a tenant's.
 pub fn run_trial(rt: &HostRuntime, request: &TrialRequest<'_>) -> Result<(), Failure> {
     let config = read_configuration(rt, request.config)?;
-    let words = trial_arguments(rt.alloc())?;
-    let tenant = place_of(rt.alloc(), words, &config, request.config, request.tenant)?;
+    let tenant = place_of(
+        rt.alloc(),
+        Subcommand::Trial,
+        &config,
+        request.config,
+        request.tenant,
+    )?;
     let form = if request.is_summary {
         TrialForm::Summary
     } else {

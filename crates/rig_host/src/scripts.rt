@@ -3,11 +3,11 @@
 ghost use Rattle.std.specs.Prelude.{◌≡◌, ◌↔◌, [], IsOk, IsErr};
 
 use crate::Failure;
-use crate::command_line::script_arguments;
 use crate::configuration::read_configuration;
 use crate::outputs::{check_output, is_standard, print, write_to};
 use crate::pictures::write_dump;
-use clap::ArgMatches;
+use rig_arguments::requests::{ExpectRequest, ScriptRequest, Way};
+use rig_arguments::subcommands::Subcommand;
 use rig_model::config::Config;
 use rig_reports::script_notes::differences::text_of_differences;
 use rig_reports::script_notes::runs::{RunFault, RunLine, configuration_of, read_run};
@@ -18,36 +18,6 @@ use rig_retests::script::faults::ScriptFault;
 use rig_retests::script::script;
 use std::io::BufWriter;
 use std::{fmt, fs, io};
-
-/// Which script is answered, and how.
-#[derive(Clone, Copy)]
-pub struct ScriptRequest<'a> {
-    /// The path of the configuration; `None` for the built-in one, or that which a run names.
-    pub config: Option<&'a str>,
-    pub way: Way<'a>,
-}
-
-/// How a script is answered.
-#[derive(Clone, Copy)]
-pub enum Way<'a> {
-    /// With nothing beside it.
-    Plain,
-    /// With a report of what went wrong in it.
-    Strict,
-    /// With a value change dump in the file of this path.
-    Dump(&'a str),
-    /// The lines of a run, whose replies are compared.
-    Expect(ExpectRequest<'a>),
-}
-
-/// Which run is compared.
-#[derive(Clone, Copy)]
-pub struct ExpectRequest<'a> {
-    /// The path of the run.
-    pub run: &'a str,
-    /// The path of the suite, where one is wanted.
-    pub suite: Option<&'a str>,
-}
 
 /// What is wrong with the files of a run. Its `Display` is the line of standard error.
 #[derive(Clone, Copy, Debug, PartialEq, Eq)]
@@ -73,38 +43,6 @@ impl fmt::Display for RunFileFault {
     }
 }
 
-/// What `script` is asked for.
-pub fn script_of<'a>(matches: &ArgMatches<'a>) -> ScriptRequest<'a> {
-    match matches.subcommand_matches("script") {
-        Some(words) => ScriptRequest {
-            config: words.get_str("config"),
-            way: way_of(words),
-        },
-        None => ScriptRequest {
-            config: None,
-            way: Way::Plain,
-        },
-    }
-}
-
-// How a script is answered, by the words of `script`.
-fn way_of<'a>(words: &ArgMatches<'a>) -> Way<'a> {
-    if let Some(run) = words.get_str("expect") {
-        return Way::Expect(ExpectRequest {
-            run,
-            suite: words.get_str("junit"),
-        });
-    }
-    if let Some(path) = words.get_str("vcd") {
-        return Way::Dump(path);
-    }
-    if words.get_flag("strict") {
-        Way::Strict
-    } else {
-        Way::Plain
-    }
-}
-
 /// Answers a script as it is asked for.
 ///
 /// # Errors
@@ -127,8 +65,7 @@ fn refuse_overwriting(rt: &HostRuntime, request: &ScriptRequest<'_>) -> Result<(
         Way::Dump(path) => (None, Some(path)),
         Way::Expect(expected) => (Some(expected.run), expected.suite),
     };
-    let words = script_arguments(rt.alloc())?;
-    check_output(rt, words, &[request.config, run], output)
+    check_output(rt, Subcommand::Script, &[request.config, run], output)
 }
 
 // Answers the script on standard input.
@@ -174,7 +111,7 @@ fn run_expected(
         Err(RunFault::Memory) => return Err(Failure::Fault(ScriptFault::Memory)),
     };
     let config = config.or(configuration_of(text.as_str()));
-    check_output(rt, script_arguments(rt.alloc())?, &[config], expected.suite)?;
+    check_output(rt, Subcommand::Script, &[config], expected.suite)?;
     let config = read_configuration(rt, config)?;
     compare(rt, &config, expected, lines.as_slice())
 }

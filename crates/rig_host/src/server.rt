@@ -1,6 +1,7 @@
 //! The server on a port of this machine.
 
 use crate::Failure;
+use rig_arguments::requests::ServeRequest;
 use rig_model::config::Config;
 use rig_server::faults::ServeFault;
 use rig_server::pool::gates::Free;
@@ -11,19 +12,6 @@ use std::net::TcpListener;
 use std::sync::Wait;
 use std::thread::Threads;
 use std::time::{Clock, Duration};
-
-/// What `serve` is started with.
-#[derive(Clone, Copy)]
-pub struct ServeRequest<'a> {
-    /// The path of the configuration; `None` for the built-in one.
-    pub config: Option<&'a str>,
-    /// The port; 0 for one that the system chooses.
-    pub port: u16,
-    /// How many workers run jobs. Fewer than 1 are 1, more than 64 are 64.
-    pub workers: u8,
-    /// How many seconds a session may be silent, if there is a bound.
-    pub idle: Option<u32>,
-}
 
 /// Serves the rig on a port of 127.0.0.1, with the operator's lines on standard input.
 ///

@@ -1,19 +1,17 @@
 //! The tenant that the arguments name.
 
 use crate::Failure;
-use clap::Command;
-use clap::error::ErrorKind;
+use rig_arguments::subcommands::Subcommand;
 use rig_model::config::{Config, TenantId};
 use std::alloc::{AllocError, Global};
 
-/// The place of the tenant of this name in the configuration of `--config`, whose path is `file`, or in the built-in one. The words are
-/// those of the subcommand.
+/// The place of the tenant of this name in the configuration of `--config`, whose path is `file`, or in the built-in one.
 ///
 /// # Errors
 /// `Arguments` where the configuration has no such tenant; want of memory.
 pub fn place_of(
     alloc: Global,
-    mut words: Command<'_>,
+    subcommand: Subcommand,
     config: &Config,
     file: Option<&str>,
     name: &str,
@@ -22,7 +20,7 @@ pub fn place_of(
         Some(tenant) => Ok(tenant),
         None => {
             let text = text_of_none(alloc, config, file, name)?;
-            Err(Failure::Arguments(words.error(ErrorKind::ValueValidation, text.as_str())?))
+            Err(Failure::wrong(alloc, subcommand, text.as_str()))
         }
     }
 }

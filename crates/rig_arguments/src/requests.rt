@@ -1,0 +1,256 @@
+//! What is requested of the program, by its subcommands.
+
+use clap::{ArgMatches, Error};
+use giotto_reports::Wish;
+use std::alloc::{AllocError, Global};
+
+/// What the arguments ask for.
+#[derive(Drop)]
+pub enum Request<'a> {
+    /// A text for standard output, as of `--help`.
+    Text(Error),
+    /// What is wrong with files.
+    Check(CheckRequest<'a>),
+    /// A script, on standard input or of a run.
+    Script(ScriptRequest<'a>),
+    /// The server of a rig.
+    Serve(ServeRequest<'a>),
+    /// A session of a server.
+    Connect(ConnectRequest<'a>),
+    /// The timeline of one tenant in a script of a file.
+    Timeline(TimelineRequest<'a>),
+    /// Whose change calls for whose retest in the script on standard input.
+    Retest(RetestRequest<'a>),
+    /// The trial of one tenant in the script on standard input.
+    Trial(TrialRequest<'a>),
+}
+
+/// What is checked, and what is wanted of it.
+#[derive(Drop)]
+pub struct CheckRequest<'a> {
+    /// The path of the configuration; `None` for the built-in one.
+    pub config: Option<&'a str>,
+    /// The name of the tenant against whose budgets programs are held; `None` where they aren't.
+    pub tenant: Option<&'a str>,
+    pub wish: Wish<'a>,
+    /// The paths of the files.
+    pub files: Vec<&'a str>,
+}
+
+/// Which script is answered, and how.
+#[derive(Clone, Copy)]
+pub struct ScriptRequest<'a> {
+    /// The path of the configuration; `None` for the built-in one, or that which a run names.
+    pub config: Option<&'a str>,
+    pub way: Way<'a>,
+}
+
+/// How a script is answered.
+#[derive(Clone, Copy)]
+pub enum Way<'a> {
+    /// With nothing beside it.
+    Plain,
+    /// With a report of what went wrong in it.
+    Strict,
+    /// With a value change dump in the file of this path.
+    Dump(&'a str),
+    /// The lines of a run, whose replies are compared.
+    Expect(ExpectRequest<'a>),
+}
+
+/// Which run is compared.
+#[derive(Clone, Copy)]
+pub struct ExpectRequest<'a> {
+    /// The path of the run.
+    pub run: &'a str,
+    /// The path of the suite, where one is wanted.
+    pub suite: Option<&'a str>,
+}
+
+/// What `serve` is started with.
+#[derive(Clone, Copy)]
+pub struct ServeRequest<'a> {
+    /// The path of the configuration; `None` for the built-in one.
+    pub config: Option<&'a str>,
+    /// The port; 0 for one that the system chooses.
+    pub port: u16,
+    /// How many workers run jobs, 1 to 64.
+    pub workers: u8,
+    /// How many seconds a session may be silent, if there is a bound.
+    pub idle: Option<u32>,
+}
+
+/// What `connect` is started with.
+#[derive(Clone, Copy)]
+pub struct ConnectRequest<'a> {
+    /// The port of the server on this machine.
+    pub port: u16,
+    /// The name of the tenant.
+    pub name: &'a str,
+    /// The path of the file with the key; `None` for that of the environment, or of the question.
+    pub key_file: Option<&'a str>,
+}
+
+/// Which timeline is drawn, and where.
+#[derive(Clone, Copy)]
+pub struct TimelineRequest<'a> {
+    /// The path of the configuration; `None` for the built-in one.
+    pub config: Option<&'a str>,
+    /// The path of the script.
+    pub script: &'a str,
+    /// The name of the tenant; `None` for the first that loads a program.
+    pub tenant: Option<&'a str>,
+    /// The path of the picture.
+    pub picture: &'a str,
+}
+
+/// Which table of retests is printed.
+#[derive(Clone, Copy)]
+pub struct RetestRequest<'a> {
+    /// The path of the configuration; `None` for the built-in one.
+    pub config: Option<&'a str>,
+    /// The path of the graph, where one is wanted.
+    pub graph: Option<&'a str>,
+}
+
+/// Which trial is printed.
+#[derive(Clone, Copy)]
+pub struct TrialRequest<'a> {
+    /// The path of the configuration; `None` for the built-in one.
+    pub config: Option<&'a str>,
+    /// The name of the tenant.
+    pub tenant: &'a str,
+    /// Whether a summary is printed in place of the lines.
+    pub is_summary: bool,
+}
+
+/// The request that the matches of the arguments make.
+///
+/// # Errors
+/// Want of memory.
+pub(crate) fn request_of<'a>(
+    alloc: Global,
+    matches: &ArgMatches<'a>,
+) -> Result<Request<'a>, AllocError> {
+    if let Some(words) = matches.subcommand_matches("check") {
+        return Ok(Request::Check(check_of(alloc, words)?));
+    }
+    if let Some(request) = session_of(matches) {
+        return Ok(request);
+    }
+    if let Some(request) = report_of(matches) {
+        return Ok(request);
+    }
+    Ok(Request::Script(script_of(matches)))
+}
+
+// Which server, or which session of one, is asked for, if either is.
+fn session_of<'a>(matches: &ArgMatches<'a>) -> Option<Request<'a>> {
+    if let Some(words) = matches.subcommand_matches("serve") {
+        return Some(Request::Serve(server_of(words)));
+    }
+    let words = matches.subcommand_matches("connect")?;
+    Some(Request::Connect(client_of(words)?))
+}
+
+// Which picture or table of a script is asked for, if one is.
+fn report_of<'a>(matches: &ArgMatches<'a>) -> Option<Request<'a>> {
+    if let Some(words) = matches.subcommand_matches("timeline") {
+        return Some(Request::Timeline(timeline_of(words)?));
+    }
+    if let Some(words) = matches.subcommand_matches("retest") {
+        return Some(Request::Retest(retest_of(words)));
+    }
+    let words = matches.subcommand_matches("trial")?;
+    Some(Request::Trial(trial_of(words)?))
+}
+
+fn check_of<'a>(alloc: Global, words: &ArgMatches<'a>) -> Result<CheckRequest<'a>, AllocError> {
+    let files = words.get_strs("files").unwrap_or(&[]);
+    Ok(CheckRequest {
+        config: words.get_str("config"),
+        tenant: words.get_str("tenant"),
+        wish: wish_of(words),
+        files: Vec::from_slice(alloc, files)?,
+    })
+}
+
+fn wish_of<'a>(words: &ArgMatches<'a>) -> Wish<'a> {
+    match words.get_str("load") {
+        Some(name) => Wish::Load(name),
+        None if words.get_flag("print") => Wish::Print,
+        None if words.get_flag("pretty") => Wish::Pretty,
+        None => Wish::Summary,
+    }
+}
+
+fn script_of<'a>(matches: &ArgMatches<'a>) -> ScriptRequest<'a> {
+    match matches.subcommand_matches("script") {
+        Some(words) => ScriptRequest {
+            config: words.get_str("config"),
+            way: way_of(words),
+        },
+        None => ScriptRequest {
+            config: None,
+            way: Way::Plain,
+        },
+    }
+}
+
+fn way_of<'a>(words: &ArgMatches<'a>) -> Way<'a> {
+    if let Some(run) = words.get_str("expect") {
+        return Way::Expect(ExpectRequest {
+            run,
+            suite: words.get_str("junit"),
+        });
+    }
+    if let Some(path) = words.get_str("vcd") {
+        return Way::Dump(path);
+    }
+    if words.get_flag("strict") {
+        Way::Strict
+    } else {
+        Way::Plain
+    }
+}
+
+fn server_of<'a>(words: &ArgMatches<'a>) -> ServeRequest<'a> {
+    ServeRequest {
+        config: words.get_str("config"),
+        port: words.get_one::<u16>("port").unwrap_or(0),
+        workers: words.get_one::<u8>("workers").unwrap_or(2),
+        idle: words.get_one::<u32>("idle"),
+    }
+}
+
+fn client_of<'a>(words: &ArgMatches<'a>) -> Option<ConnectRequest<'a>> {
+    Some(ConnectRequest {
+        port: words.get_one::<u16>("port")?,
+        name: words.get_str("name")?,
+        key_file: words.get_str("key-file"),
+    })
+}
+
+fn timeline_of<'a>(words: &ArgMatches<'a>) -> Option<TimelineRequest<'a>> {
+    Some(TimelineRequest {
+        config: words.get_str("config"),
+        script: words.get_str("script")?,
+        tenant: words.get_str("tenant"),
+        picture: words.get_str("output")?,
+    })
+}
+
+fn retest_of<'a>(words: &ArgMatches<'a>) -> RetestRequest<'a> {
+    RetestRequest {
+        config: words.get_str("config"),
+        graph: words.get_str("dot"),
+    }
+}
+
+fn trial_of<'a>(words: &ArgMatches<'a>) -> Option<TrialRequest<'a>> {
+    Some(TrialRequest {
+        config: words.get_str("config"),
+        tenant: words.get_str("tenant")?,
+        is_summary: words.get_flag("summary"),
+    })
+}
