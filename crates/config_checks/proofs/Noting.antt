@@ -2,7 +2,7 @@
 use Rattle.std.proofs.Common.{◌≡◌, ◌+◌, ◌<◌, ℕ, List, [], ◌∷◌, ◌++◌, length, map, take, drop, get_or, sym, ap, ◌∙◌, append_assoc}
 use Rattle.std.specs.List.{flat_map}
 use Rattle.std.proofs.lemmas.List.{drop_more, flat_map_more, map-append, take_more}
-use Rattle.program_checks.specs.declared.faults.findings.Severity.{Severity}
+use Rattle.giotto_faults.specs.declared.findings.Severity.{Severity}
 use Rattle.rig_model.specs.config.Roster.{Rig}
 use Rattle.rig_model.specs.declared.config.TenantConfig.{TenantConfig}
 use Rattle.config_checks.specs.Notes.{as_note, note_of_line, notes_from}

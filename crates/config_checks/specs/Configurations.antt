@@ -1,9 +1,9 @@
 -- What is told of a configuration.
 use Rattle.std.specs.Prelude.{◌≡◌, ℕ, true, false, List, ◌++◌, Result, Ok, Err, string_bytes}
-use Rattle.program_checks.specs.declared.faults.findings.Finding.{Finding}
+use Rattle.giotto_faults.specs.declared.findings.Finding.{Finding}
 use Rattle.program_checks.specs.faults.Findings.{BeginsWith, head_of}
 use Rattle.program_checks.specs.reports.Reports.{AreShown}
-use Rattle.program_checks.specs.declared.reports.Report.{Report}
+use Rattle.giotto_reports.specs.declared.Report.{Report}
 use Rattle.rig_model.specs.config.Reading.{config_of}
 use Rattle.rig_model.specs.config.Roster.{Rig}
 use Rattle.rig_model.specs.declared.config.faults.ConfigFault.{ConfigFault}

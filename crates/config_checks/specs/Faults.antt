@@ -6,8 +6,8 @@ use Rattle.std.specs.Option.{option_and_then}
 use Rattle.std.specs.Ordering.{int_eq}
 use Rattle.toml.specs.Data.{Data, Members, string, integer, float, boolean, datetime, array, table, Items, no_items, item, as_str, at, get}
 use Rattle.toml.specs.Parse.{parse_document}
-use Rattle.program_checks.specs.declared.faults.findings.Finding.{Finding}
-use Rattle.program_checks.specs.declared.faults.findings.Severity.TheVariants.{Error}
+use Rattle.giotto_faults.specs.declared.findings.Finding.{Finding}
+use Rattle.giotto_faults.specs.declared.findings.Severity.TheVariants.{Error}
 use Rattle.program_checks.specs.faults.Findings.{BeginsWith}
 use Rattle.giotto_tasks.specs.Names.{same_name}
 use Rattle.rig_model.specs.config.Fields.{word_of}

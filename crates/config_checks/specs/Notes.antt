@@ -2,9 +2,9 @@
 use Rattle.std.specs.Prelude.{◌≡◌, ℕ, ◌+◌, ◌==◌, if◌then◌else◌, List, [], ◌∷◌, ◌++◌, map, Option, Some, None, codes, string_bytes}
 use Rattle.std.specs.Fmt.{decimal}
 use Rattle.std.specs.List.{flat_map, position}
-use Rattle.program_checks.specs.declared.faults.findings.Finding.{Finding}
-use Rattle.program_checks.specs.declared.faults.findings.Severity.{Severity}
-use Rattle.program_checks.specs.declared.faults.findings.Severity.TheVariants.{Note}
+use Rattle.giotto_faults.specs.declared.findings.Finding.{Finding}
+use Rattle.giotto_faults.specs.declared.findings.Severity.{Severity}
+use Rattle.giotto_faults.specs.declared.findings.Severity.TheVariants.{Note}
 use Rattle.rig_model.specs.config.Roster.{Rig, may_use, name_at}
 use Rattle.rig_model.specs.declared.config.TenantConfig.{TenantConfig}
 

@@ -12,7 +12,7 @@ ghost use Rattle.config_checks.specs.Faults.{AreCounted, IsFaultTold, IsValueOf,
 use crate::helps::help_on;
 use crate::places::{offset_of, place_of};
 use crate::values::text_of_value;
-use program_checks::faults::findings::{Finding, Severity};
+use giotto_faults::findings::{Finding, Severity};
 use rig_model::config::TenantId;
 use rig_model::config::faults::{ConfigFault, Field, FieldPlace};
 use std::alloc::{AllocError, Global};

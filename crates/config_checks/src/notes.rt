@@ -7,7 +7,7 @@ ghost use Rattle.config_checks.specs.Notes.{AreNotes, as_note, driver_of, note_o
 
 use crate::faults::finding;
 use crate::places::{offset_of, place_of};
-use program_checks::faults::findings::{Finding, Severity};
+use giotto_faults::findings::{Finding, Severity};
 use rig_model::config::faults::Field;
 use rig_model::config::{Config, TenantId};
 use std::alloc::{AllocError, Global};

@@ -23,6 +23,3 @@ pub mod rule_breaks;
 pub mod words;
 
 pub use broken::{BrokenRule, broken_rule};
-pub use giotto_faults as faults;
-pub use giotto_faults::reading;
-pub use giotto_rules::text;

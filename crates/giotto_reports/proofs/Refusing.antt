@@ -1,12 +1,12 @@
 -- A text for which the reader tells a fault.
 use Rattle.std.proofs.Common.{◌≡◌, ◌∷◌, [], List, ℕ, Ok, Err, refl, sym, inl, ◌∙◌}
-use Rattle.giotto_breaks.specs.declared.faults.faults.ProgramFault.{ProgramFault}
-use Rattle.giotto_breaks.specs.declared.faults.faults.ProgramFault.TheVariants.{Syntax, TooDeep, TooMany, Memory}
-use Rattle.giotto_breaks.specs.declared.faults.findings.Finding.{Finding}
+use Rattle.giotto_faults.specs.declared.faults.ProgramFault.{ProgramFault}
+use Rattle.giotto_faults.specs.declared.faults.ProgramFault.TheVariants.{Syntax, TooDeep, TooMany, Memory}
+use Rattle.giotto_faults.specs.declared.findings.Finding.{Finding}
 use Rattle.giotto_breaks.specs.faults.Faults.{Tells}
 use Rattle.giotto_breaks.specs.faults.Findings.{IsErrorAt, offset_told}
 use Rattle.giotto_breaks.specs.text.Parsing.{parsed}
-use Rattle.giotto_breaks.specs.declared.text.faults.ReadFault.{ReadFault}
+use Rattle.giotto_text.specs.declared.faults.ReadFault.{ReadFault}
 use Rattle.giotto_reports.specs.Reports.{IsWellFormed, TellWhy}
 
 unread : (text : List ℕ) (fault : ReadFault) → parsed text ≡ Err fault → IsWellFormed text → ⊥

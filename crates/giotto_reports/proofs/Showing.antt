@@ -1,7 +1,7 @@
 -- Findings that are shown one by one.
 use Rattle.std.proofs.Common.{◌≡◌, ◌+◌, ◌<◌, ℕ, List, [], ◌∷◌, ◌++◌, length, take, get_or, refl, sym, ap, subst, ◌∙◌, append_assoc, append-nil}
 use Rattle.std.proofs.lemmas.List.{take_more}
-use Rattle.giotto_breaks.specs.declared.faults.findings.Finding.{Finding}
+use Rattle.giotto_faults.specs.declared.findings.Finding.{Finding}
 use Rattle.giotto_breaks.specs.faults.Findings.{BeginsWith, head_of}
 use Rattle.giotto_reports.specs.Reports.{AreShown}
 

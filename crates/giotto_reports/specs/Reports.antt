@@ -1,8 +1,8 @@
 -- When a text is good, and what is told of it.
 use Rattle.std.specs.Prelude.{◌≡◌, ◌≢◌, ◌⊎◌, ℕ, Bool, true, false, List, [], ◌∷◌, ◌++◌, Ok, None, codes, string_bytes}
-use Rattle.giotto_breaks.specs.declared.faults.faults.ProgramFault.{ProgramFault}
-use Rattle.giotto_breaks.specs.declared.faults.faults.ProgramFault.TheVariants.{Memory}
-use Rattle.giotto_breaks.specs.declared.faults.findings.Finding.{Finding}
+use Rattle.giotto_faults.specs.declared.faults.ProgramFault.{ProgramFault}
+use Rattle.giotto_faults.specs.declared.faults.ProgramFault.TheVariants.{Memory}
+use Rattle.giotto_faults.specs.declared.findings.Finding.{Finding}
 use Rattle.giotto_breaks.specs.faults.Faults as faults
 use Rattle.giotto_breaks.specs.faults.Findings.{BeginsWith, IsErrorAt, TellFault, head_of, offset_told}
 use Rattle.giotto_reports.specs.Comments.{one_line}

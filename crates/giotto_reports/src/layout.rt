@@ -1,6 +1,6 @@
 //! The layout of a program over lines.
 
-use giotto_breaks::text::tokens::{Keyword, PlacedToken, Symbol, Token};
+use giotto_text::tokens::{Keyword, PlacedToken, Symbol, Token};
 use std::alloc::{AllocError, Global};
 
 /// The tokens of a program, laid out over lines.

@@ -27,12 +27,10 @@ use crate::files::one_line;
 use crate::summary::summary_of;
 use crate::texts::{load_line, pretty};
 use giotto_breaks::broken_rule;
-use giotto_breaks::faults::faults::{ProgramFault, read_or_tell};
-use giotto_breaks::faults::findings::Finding;
-use giotto_breaks::reading::{Program, print};
-pub use giotto_breaks::{faults, reading};
-pub use giotto_check as well_formed;
 use giotto_check::{CheckFault, Checked, check};
+use giotto_faults::faults::{ProgramFault, read_or_tell};
+use giotto_faults::findings::Finding;
+use giotto_read::{Program, print};
 use std::alloc::{AllocError, Global};
 
 /// What is wanted of a good program.

@@ -7,9 +7,9 @@ ghost use Rattle.giotto_tasks.specs.Cost.{cost_of};
 ghost use Rattle.giotto_breaks.specs.rules.Costs as costs;
 ghost use Rattle.giotto_reports.specs.Parts.{drivers_of, first_of_cost, part_of, parts_of, steps_of_part, text_of_part};
 
-use giotto_breaks::text::programs::{Invocation, Mode, Program, Switch, Task, Update};
 use giotto_tasks::bodies::{Body, Expr};
 use giotto_tasks::{cost, driver_cost};
+use giotto_text::programs::{Invocation, Mode, Program, Switch, Task, Update};
 use std::fmt;
 
 /// A part of a program that takes steps: the body of a task, or a driver of a mode.

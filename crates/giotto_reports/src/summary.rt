@@ -8,8 +8,8 @@ ghost use Rattle.giotto_reports.specs.Parts.{first_of_cost, parts_of};
 ghost use Rattle.giotto_reports.specs.Summaries.{ended, line_of_actuator, line_of_dearest, line_of_mode, line_of_output, line_of_sensor, line_of_task, summary_of};
 
 use crate::parts::{Part, part_of_cost};
-use giotto_breaks::text::programs::{Actuator, Mode, Output, Program, Sensor, Source, Task};
 use giotto_check::Checked;
+use giotto_text::programs::{Actuator, Mode, Output, Program, Sensor, Source, Task};
 use std::alloc::{AllocError, Global};
 
 /// A line for each sensor, actuator, output, task and mode of the program, and last what it has in all: how many ports, and the part

@@ -16,8 +16,8 @@ ghost use Rattle.giotto_breaks.specs.text.Canonical.{canonical_of};
 ghost use Rattle.giotto_breaks.specs.text.Parsing.{parsed};
 
 use crate::layout::laid_out;
-use giotto_breaks::reading::{Program, ReadFault, print, read};
-use giotto_breaks::text::lexer;
+use giotto_read::{Program, ReadFault, print, read};
+use giotto_text::lexer;
 use std::alloc::{AllocError, Global};
 
 /// The line of a script by which the tenant of this name loads the program: the name, ` load ` and the canonical text.

@@ -28,11 +28,9 @@ ghost use Rattle.instant_engine.specs.state.Memory.{takes_memory};
 ghost use Rattle.instant_engine.specs.state.Standing.{IsKnown, Standing, at_rest};
 
 use crate::new_tenants::{new_tenant, places};
+use giotto_check::Checked;
 use giotto_tasks::names::Name;
 use instant_engine::instants::{advance, instant, ready};
-use instant_engine::programs::prepared::{Prepared, prepare};
-use instant_engine::state::tenants::Tenant;
-use instant_engine::well_formed::Checked;
 use instant_engine::{Done, Finished, Job, JobId, Jobs, run_job};
 use rig_model::config::{Config, TenantId};
 use rig_model::grants::granted::Granted;
@@ -41,6 +39,8 @@ use rig_model::lines::ports::PortName;
 use rig_model::lines::replies::{Refusal, Reply};
 use std::alloc::{AllocError, Global};
 use std::marker::Model;
+use tenant_programs::prepared::{Prepared, prepare};
+use tenant_state::tenants::Tenant;
 use thiserror::Error;
 
 /// Why an instant is refused.

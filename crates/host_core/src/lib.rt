@@ -13,6 +13,3 @@ pub mod hosts;
 mod new_tenants;
 pub mod plays;
 pub mod trials;
-
-pub use instant_engine as engine;
-pub use instant_engine::{job_table, programs, state, well_formed};

@@ -9,11 +9,11 @@ ghost use Rattle.instant_engine.specs.state.Standing.{empty_standing};
 
 use arrayvec::ArrayVec;
 use giotto_tasks::names::Name;
-use instant_engine::state::tenants::Tenant;
 use rig_model::config::{Config, TenantId};
 use rig_model::grants::granted::Granted;
 use rig_model::grants::grants::Grants;
 use std::alloc::{AllocError, Global};
+use tenant_state::tenants::Tenant;
 
 /// The tenant of a configuration at this place, without a program and without rows. Its first instant has this number.
 ///

@@ -18,13 +18,13 @@ ghost use Rattle.rig_model.specs.declared.lines.replies.Reply.{Reply};
 
 use crate::events::Event;
 use crate::hosts::{Host, complete};
-use instant_engine::job_table::jobs::{JobId, Jobs};
 use rig_model::config::{Config, TenantId};
 use rig_model::lines::commands::Command;
 use rig_model::lines::replies::{Reply, print_reply};
 use rig_model::lines::texts::Text;
 use std::alloc::{AllocError, Global};
 use std::collections::BTreeSet;
+use tenant_jobs::jobs::{JobId, Jobs};
 use thiserror::Error;
 
 /// Why a list of events isn't played to its end.

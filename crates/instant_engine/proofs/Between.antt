@@ -11,7 +11,7 @@ use Rattle.std.proofs.lemmas.List.Folds.{list_any-append}
 use Rattle.std.proofs.lemmas.List.Sums.{sum-map}
 use Rattle.std.proofs.lemmas.Simd.{map-map}
 use Rattle.rig_model.specs.declared.jobs.JobId.{JobId}
-use Rattle.tenant_state.specs.declared.job_table.jobs.JobResult.{JobResult}
+use Rattle.tenant_jobs.specs.declared.jobs.JobResult.{JobResult}
 use Rattle.tenant_state.specs.job_table.Finished.{TableEntry, entry_in, result_in, has_result}
 use Rattle.tenant_state.specs.job_table.cited.Finished.{is_entered, result_of}
 use Rattle.rig_model.specs.Jobs.{same_job, job_of, has_job}

@@ -17,8 +17,8 @@ ghost use Rattle.tenant_state.specs.cited.Standing.{HasItsEntries, HasItsResults
 
 use crate::grants::grant;
 use rig_model::grants::granted::Granted;
-use tenant_state::job_table::finished::Finished;
-use tenant_state::job_table::jobs::Jobs;
+use tenant_jobs::finished::Finished;
+use tenant_jobs::jobs::Jobs;
 use tenant_state::tenants::Tenant;
 
 /// Makes what each tenant's next instant needs. How many jobs all of them can release at most, if that is a number of this size. Takes no

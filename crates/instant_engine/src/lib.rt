@@ -12,7 +12,5 @@
 pub mod grants;
 pub mod instants;
 
-pub use tenant_state as state;
-pub use tenant_state::job_table::finished::Finished;
-pub use tenant_state::job_table::jobs::{Done, Job, JobId, Jobs, run_job};
-pub use tenant_state::{job_table, programs, well_formed};
+pub use tenant_jobs::finished::Finished;
+pub use tenant_jobs::jobs::{Done, Job, JobId, Jobs, run_job};

@@ -33,10 +33,8 @@ use crate::naming::Naming;
 use crate::passes::Pass;
 use crate::seats::Seat;
 use crate::standing::{all_apart, all_there};
-use host_core::engine::{Done, Jobs};
+use giotto_check::Checked;
 use host_core::hosts::{Counted, Host, TickFault};
-use host_core::programs::prepared::{Prepared, prepare};
-use host_core::well_formed::Checked;
 use rig_model::config::{Config, TenantId};
 use rig_model::frames::copy_of_frame;
 use rig_model::lines::commands::Command;
@@ -45,6 +43,8 @@ use rig_model::logged::{KeptCall, Logged};
 use std::alloc::{AllocError, Global};
 use std::marker::{Model, PhantomData};
 use std::mem;
+use tenant_jobs::jobs::{Done, Jobs};
+use tenant_programs::prepared::{Prepared, prepare};
 
 /// How many seats a book gives at most.
 pub const MOST_SEATS: usize = 65536;

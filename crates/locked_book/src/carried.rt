@@ -12,15 +12,15 @@ ghost use Rattle.locked_book.specs.inner.Carried.{IsCarriedOut, IsTaken, call_wi
 ghost use Rattle.rig_model.specs.lines.cited.Copies.{has_list};
 
 use crate::same::Same;
+use giotto_check::Checked;
 use host_core::hosts::Host;
-use host_core::programs::prepared::Prepared;
-use host_core::well_formed::Checked;
 use rig_model::config::TenantId;
 use rig_model::lines::commands::Command;
 use rig_model::lines::grant_lines::GrantCommand;
 use rig_model::lines::replies::Reply;
 use rig_model::logged::{Call, KeptCall};
 use std::alloc::{AllocError, Global};
+use tenant_programs::prepared::Prepared;
 
 // How many of the last calls of a pass are looked at for one that asks the same.
 const LOOKED_AT: usize = 4;

@@ -23,15 +23,15 @@ use crate::faults::{CloseFault, DeskFault, PassFault};
 use crate::histories::NewHistory;
 use crate::naming::Naming;
 use crate::passes::Pass;
-use host_core::engine::{Done, Jobs};
 use host_core::hosts::{Counted, TickFault};
-use host_core::programs::prepared::prepare;
 use rig_model::config::{Config, TenantId};
 use rig_model::lines::commands::Command;
 use rig_model::lines::replies::Reply;
 use std::alloc::{AllocError, Global};
 use std::hint::spin_loop;
 use std::sync::{Condvar, Mutex, MutexGuard, Wait};
+use tenant_jobs::jobs::{Done, Jobs};
+use tenant_programs::prepared::prepare;
 
 // How often the lock is asked for before a thread sleeps until it is free: for about as long as it takes to fall asleep and to be woken. What
 // a session calls together holds it for less.

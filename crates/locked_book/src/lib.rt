@@ -23,6 +23,3 @@ mod same;
 mod seats;
 mod standing;
 mod windows;
-
-pub use host_core as host;
-pub use host_core::{engine, job_table, state};

@@ -3,9 +3,9 @@
 
 ghost use Rattle.std.specs.Prelude.{◌≡◌};
 
+use host_core::hosts::Host;
 use locked_book::desks::Desk;
 use locked_book::histories::NewHistory;
-use locked_book::host::hosts::Host;
 use locked_book::naming::Naming;
 use locked_book::passes::Pass;
 use rig_model::config::{Config, TenantId, read_config};

@@ -3,11 +3,10 @@
 ghost use Rattle.std.specs.Prelude.{◌≡◌};
 
 use crate::voices::lay_all;
+use host_core::hosts::{Counted, TickFault};
 use locked_book::desks::Desk;
-use locked_book::engine::{Job, run_job};
 use locked_book::faults::{CloseFault, DeskFault, PassFault};
 use locked_book::histories::NewHistory;
-use locked_book::host::hosts::{Counted, TickFault};
 use locked_book::naming::Naming;
 use locked_book::passes::Pass;
 use rig_model::config::{Config, TenantId, built_in};
@@ -17,6 +16,7 @@ use rig_model::lines::replies::{Reply, print_reply};
 use std::alloc::{AllocError, Global};
 use std::marker::Brand;
 use std::sync::Wait;
+use tenant_jobs::jobs::{Job, run_job};
 
 const ALPHA: TenantId = 0;
 

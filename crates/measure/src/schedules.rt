@@ -4,11 +4,11 @@
 ghost use Rattle.std.specs.Prelude.{◌≡◌};
 
 use crate::voices::{Heard, THREADS, Table, Voice, speak};
+use host_core::events::Event;
+use host_core::plays::play;
 use locked_book::books::Book;
 use locked_book::desks::Desk;
 use locked_book::histories::NewHistory;
-use locked_book::host::events::Event;
-use locked_book::host::plays::play;
 use locked_book::naming::Naming;
 use locked_book::passes::Pass;
 use rig_model::config::{Config, read_config};

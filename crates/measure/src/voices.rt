@@ -3,9 +3,8 @@
 ghost use Rattle.std.specs.Prelude.{◌≡◌, ◌<◌};
 
 use giotto_tasks::lists::List;
+use host_core::hosts::Counted;
 use locked_book::desks::Desk;
-use locked_book::engine::{Job, Jobs, run_job};
-use locked_book::host::hosts::Counted;
 use locked_book::naming::Naming;
 use locked_book::passes::Pass;
 use rig_model::lines::command_lines::command_of;
@@ -13,6 +12,7 @@ use rig_model::lines::replies::print_reply;
 use rig_model::logged::Logged;
 use std::alloc::{AllocError, Global};
 use std::sync::{Barrier, Mutex, Wait};
+use tenant_jobs::jobs::{Job, Jobs, run_job};
 
 /// How many threads there are.
 pub(crate) const THREADS: usize = 4;

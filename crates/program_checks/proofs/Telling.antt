@@ -14,9 +14,9 @@ use Rattle.rig_model.specs.declared.text.programs.Switch.{Switch}
 use Rattle.rig_model.specs.declared.text.programs.Task.{Task}
 use Rattle.rig_model.specs.declared.text.programs.Update.{Update}
 use Rattle.rig_model.specs.declared.config.TenantConfig.{TenantConfig}
-use Rattle.giotto_reports.specs.declared.faults.findings.Finding.{Finding}
-use Rattle.giotto_reports.specs.declared.faults.findings.Severity.{Severity}
-use Rattle.giotto_reports.specs.declared.faults.findings.Severity.TheVariants.{Error}
+use Rattle.giotto_faults.specs.declared.findings.Finding.{Finding}
+use Rattle.giotto_faults.specs.declared.findings.Severity.{Severity}
+use Rattle.giotto_faults.specs.declared.findings.Severity.TheVariants.{Error}
 use Rattle.rig_model.specs.declared.lines.replies.Budget.{Budget}
 use Rattle.program_checks.specs.Excess.{errors_over, rule_of_budget, told_of, words_of_cost, words_of_part}
 use Rattle.program_checks.specs.inner.Telling.{AreTold}

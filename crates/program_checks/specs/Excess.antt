@@ -2,9 +2,9 @@
 use Rattle.std.specs.Prelude.{◌≡◌, ℕ, nat_le, if◌then◌else◌, List, [], ◌∷◌, ◌++◌, length, map, option_map, Option, Some, None, codes, string_bytes}
 use Rattle.std.specs.Fmt.{decimal}
 use Rattle.std.specs.List.{flat_map}
-use Rattle.giotto_reports.specs.declared.faults.findings.Finding.{Finding}
-use Rattle.giotto_reports.specs.declared.faults.findings.Severity.{Severity}
-use Rattle.giotto_reports.specs.declared.faults.findings.Severity.TheVariants.{Error}
+use Rattle.giotto_faults.specs.declared.findings.Finding.{Finding}
+use Rattle.giotto_faults.specs.declared.findings.Severity.{Severity}
+use Rattle.giotto_faults.specs.declared.findings.Severity.TheVariants.{Error}
 use Rattle.rig_model.specs.rules.Ports.{ports_of}
 use Rattle.giotto_reports.specs.Parts.{ProgramPart, parts_of, steps_of_part, text_of_part}
 use Rattle.rig_model.specs.text.Program.{Source, from_line, from_grant, SensorDeclaration, ActuatorDeclaration, GiottoProgram}

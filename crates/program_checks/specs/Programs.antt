@@ -1,6 +1,6 @@
 -- When a program is good for a tenant, and what is told of it.
 use Rattle.std.specs.Prelude.{◌≡◌, ◌⊎◌, ℕ, Bool, true, false, List, ◌++◌, length, Ok, Some, None, string_bytes}
-use Rattle.giotto_reports.specs.declared.faults.findings.Finding.{Finding}
+use Rattle.giotto_faults.specs.declared.findings.Finding.{Finding}
 use Rattle.giotto_reports.specs.Comments.{one_line}
 use Rattle.rig_model.specs.text.Canonical.{canonical_of}
 use Rattle.rig_model.specs.text.Program.{GiottoProgram}

@@ -20,9 +20,9 @@ ghost use Rattle.program_checks.specs.declared.budgets.OverBudget.{OverBudget as
 
 use crate::numbers::text_of_numbers;
 use crate::spots::{Spot, Spots};
-use giotto_reports::faults::findings::{Finding, Severity};
+use giotto_check::Checked;
+use giotto_faults::findings::{Finding, Severity};
 use giotto_reports::parts::Part;
-use giotto_reports::well_formed::Checked;
 use rig_model::config::{Budgets, TenantConfig};
 use rig_model::lines::replies::Budget;
 use rig_model::text::programs::{Actuator, Mode, Program, Sensor, Source, Task};

@@ -12,6 +12,3 @@ pub mod budgets;
 pub mod numbers;
 pub mod programs;
 mod spots;
-
-pub use giotto_reports as reports;
-pub use giotto_reports::{faults, well_formed};

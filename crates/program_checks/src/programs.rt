@@ -8,9 +8,9 @@ ghost use Rattle.rig_model.specs.Admission.{program_of};
 ghost use Rattle.program_checks.specs.Programs.{IsWrittenFor, TellsFor, bytes_wanted};
 
 use crate::budgets::{Held, over_budget, text_of_budgets};
+use giotto_check::Checked;
+use giotto_read::print;
 use giotto_reports::files::one_line;
-use giotto_reports::reading::print;
-use giotto_reports::well_formed::Checked;
 use giotto_reports::{Examined, Report, Wish, examine, shown, written};
 use rig_model::config::TenantConfig;
 use std::alloc::{AllocError, Global};

@@ -1,6 +1,6 @@
 //! Where the parts of a program stand in its text.
 
-use giotto_reports::reading::ReadFault;
+use giotto_read::ReadFault;
 use rig_model::text::lexer;
 use rig_model::text::tokens::{Keyword, PlacedToken, Token};
 use std::alloc::{AllocError, Global};

@@ -1,7 +1,6 @@
 //! What is requested of the program, by its subcommands.
 
 use clap::{ArgMatches, Error};
-use giotto_reports::Wish;
 use std::alloc::{AllocError, Global};
 
 /// What the arguments ask for.
@@ -32,7 +31,12 @@ pub struct CheckRequest<'a> {
     pub config: Option<&'a str>,
     /// The name of the tenant against whose budgets programs are held; `None` where they aren't.
     pub tenant: Option<&'a str>,
-    pub wish: Wish<'a>,
+    /// The name of the tenant by which a program is loaded, where the line of a script that does so is wanted.
+    pub load: Option<&'a str>,
+    /// Whether a program's canonical text is wanted.
+    pub print: bool,
+    /// Whether a program laid out over many lines is wanted.
+    pub pretty: bool,
     /// The paths of the files.
     pub files: Vec<&'a str>,
 }
@@ -170,18 +174,11 @@ fn check_of<'a>(alloc: Global, words: &ArgMatches<'a>) -> Result<CheckRequest<'a
     Ok(CheckRequest {
         config: words.get_str("config"),
         tenant: words.get_str("tenant"),
-        wish: wish_of(words),
+        load: words.get_str("load"),
+        print: words.get_flag("print"),
+        pretty: words.get_flag("pretty"),
         files: Vec::from_slice(alloc, files)?,
     })
-}
-
-fn wish_of<'a>(words: &ArgMatches<'a>) -> Wish<'a> {
-    match words.get_str("load") {
-        Some(name) => Wish::Load(name),
-        None if words.get_flag("print") => Wish::Print,
-        None if words.get_flag("pretty") => Wish::Pretty,
-        None => Wish::Summary,
-    }
 }
 
 fn script_of<'a>(matches: &ArgMatches<'a>) -> ScriptRequest<'a> {

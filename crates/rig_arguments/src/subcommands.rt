@@ -107,7 +107,7 @@ impl Subcommand {
 }
 
 fn check<'a>(alloc: Global) -> Result<Command<'a>, AllocError> {
-    Command::new(alloc, "check")
+    let command = Command::new(alloc, "check")
         .about(
             "Tells what is wrong with files of programs, configurations and scripts, and where, or what they have",
         )
@@ -118,7 +118,13 @@ fn check<'a>(alloc: Global) -> Result<Command<'a>, AllocError> {
             "tenant",
             "NAME",
             "Holds programs against the budgets of the tenant NAME",
-        ))?
+        ))?;
+    with_texts(alloc, command)
+}
+
+// With the words that say which text of a program is written, and the files.
+fn with_texts<'a>(alloc: Global, command: Command<'a>) -> Result<Command<'a>, AllocError> {
+    command
         .arg(load(alloc)?)?
         .arg(print(alloc)?)?
         .arg(flag(
@@ -159,21 +165,24 @@ fn print<'a>(alloc: Global) -> Result<Arg<'a>, AllocError> {
 }
 
 fn script<'a>(alloc: Global) -> Result<Command<'a>, AllocError> {
-    Command::new(alloc, "script")
+    let command = Command::new(alloc, "script")
         .about(
             "Reads lines from standard input and answers each on standard output before it reads the next: `TENANT COMMAND`, `op tick V ..`, `op work` or `op lines`",
         )
         .after_help(SCRIPT_EXAMPLES)
         .arg(config(alloc))?
-        .arg(strict(alloc)?)?
-        .arg(expect(alloc)?)?
-        .arg(junit(alloc)?)?
-        .arg(option(
-            alloc,
-            "vcd",
-            "FILE",
-            "Writes the run into FILE as well, as a value change dump for a viewer of waveforms",
-        ))
+        .arg(strict(alloc)?)?;
+    with_files(alloc, command)
+}
+
+// With the words for what is compared and what is written beside the replies.
+fn with_files<'a>(alloc: Global, command: Command<'a>) -> Result<Command<'a>, AllocError> {
+    command.arg(expect(alloc)?)?.arg(junit(alloc)?)?.arg(option(
+        alloc,
+        "vcd",
+        "FILE",
+        "Writes the run into FILE as well, as a value change dump for a viewer of waveforms",
+    ))
 }
 
 fn strict<'a>(alloc: Global) -> Result<Arg<'a>, AllocError> {

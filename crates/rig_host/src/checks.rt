@@ -7,15 +7,15 @@ use crate::configuration::{ConfigurationFault, read_configuration, read_text};
 use crate::outputs::print;
 use crate::tenants::place_of;
 use config_checks::check_configuration;
-use config_checks::checked_programs::programs::check_program;
-use config_checks::reports::{Report, Wish, report_on};
+use giotto_reports::{Report, Wish, report_on};
+use program_checks::programs::check_program;
 use rig_arguments::requests::CheckRequest;
 use rig_arguments::subcommands::Subcommand;
 use rig_model::config::faults::ConfigFault;
 use rig_model::config::{Config, TenantConfig, read_config};
-use rig_retests::script::faults::ScriptFault;
+use rig_script::faults::ScriptFault;
 use script_checks::scripts::check_script;
-use std::alloc::Global;
+use std::alloc::{AllocError, Global};
 use std::{fs, io};
 
 /// Checks the files, in their order. What is wrong stands on standard output, and so does what they have; where the text of programs is
@@ -26,9 +26,20 @@ use std::{fs, io};
 /// The arguments, where a name is no tenant's, or the text of what is no program is wanted; the faults of the configuration; `Unread` where a
 /// file can't be read or isn't UTF-8, and else `Faulty` where something is wrong with one.
 pub fn check_files(rt: &HostRuntime, request: &CheckRequest<'_>) -> Result<(), Failure> {
-    let config = configuration_of(rt, request)?;
-    let tenant = tenant_of(rt.alloc(), &config, request)?;
-    if request.wish != Wish::Summary
+    let wish = wish_of(request);
+    let config = configuration_of(rt, request.config, wish)?;
+    check_within(rt, &config, request, wish)
+}
+
+// Checks the files on a rig of this configuration.
+fn check_within(
+    rt: &HostRuntime,
+    config: &Config,
+    request: &CheckRequest<'_>,
+    wish: Wish,
+) -> Result<(), Failure> {
+    let tenant = tenant_of(rt.alloc(), config, request)?;
+    if wish != Wish::Summary
         && !request
             .files
             .iter()
@@ -41,25 +52,59 @@ pub fn check_files(rt: &HostRuntime, request: &CheckRequest<'_>) -> Result<(), F
         ));
     }
     let mut texts = String::new(rt.alloc());
-    let (mut all_read, mut all_good) = (true, true);
-    for path in &request.files {
-        match check_file(rt, &config, tenant, path, request.wish)? {
-            Some(report) => {
-                all_good = all_good && report.is_good;
-                tell(rt, &mut texts, &report, request.wish)?;
-            }
-            None => all_read = false,
-        }
-    }
+    let check = Check {
+        config,
+        tenant,
+        wish,
+    };
+    let (all_read, all_good) = check_each(rt, &check, request.files.as_slice(), &mut texts)?;
     if all_read && all_good {
         print(rt, texts.as_str())?;
     }
     outcome(all_read, all_good)
 }
 
+// What files are checked against, and what is wanted of them.
+#[derive(Clone, Copy)]
+struct Check<'a> {
+    config: &'a Config,
+    tenant: Option<&'a TenantConfig>,
+    wish: Wish<'a>,
+}
+
+// Whether all files were read, and whether all that were are good. The texts that are wanted of programs are added to `texts`.
+fn check_each(
+    rt: &HostRuntime,
+    check: &Check<'_>,
+    files: &[&str],
+    texts: &mut String,
+) -> Result<(bool, bool), Failure> {
+    let (mut all_read, mut all_good) = (true, true);
+    for path in files {
+        match check_file(rt, check, path)? {
+            Some(report) => {
+                all_good = all_good && report.is_good;
+                tell(rt, texts, &report, check.wish)?;
+            }
+            None => all_read = false,
+        }
+    }
+    Ok((all_read, all_good))
+}
+
+// What is wanted of a good program.
+fn wish_of<'a>(request: &CheckRequest<'a>) -> Wish<'a> {
+    match request.load {
+        Some(name) => Wish::Load(name),
+        None if request.print => Wish::Print,
+        None if request.pretty => Wish::Pretty,
+        None => Wish::Summary,
+    }
+}
+
 // The configuration for which files are checked. Where something is wrong with its file, that is told in whole.
-fn configuration_of(rt: &HostRuntime, request: &CheckRequest<'_>) -> Result<Config, Failure> {
-    let Some(path) = request.config else {
+fn configuration_of(rt: &HostRuntime, path: Option<&str>, wish: Wish) -> Result<Config, Failure> {
+    let Some(path) = path else {
         return Ok(read_configuration(rt, None)?);
     };
     let text = read_text(rt, path)?;
@@ -68,7 +113,7 @@ fn configuration_of(rt: &HostRuntime, request: &CheckRequest<'_>) -> Result<Conf
         Err(fault) => {
             if fault != ConfigFault::Memory {
                 // where it can't be told in whole, the line of standard error and the status tell
-                let _ = tell_configuration(rt, path, text.as_str(), request.wish);
+                let _ = tell_configuration(rt, path, text.as_str(), wish);
             }
             Err(Failure::Configuration(ConfigurationFault::Refused(fault)))
         }
@@ -134,32 +179,41 @@ fn kind_of(path: &str) -> Kind {
 }
 
 // What is told of a file; nothing where it can't be read, which was told then.
-fn check_file(
+fn check_file(rt: &HostRuntime, check: &Check<'_>, path: &str) -> Result<Option<Report>, Failure> {
+    if kind_of(path) == Kind::Script {
+        return check_script_file(rt, check.config, path);
+    }
+    match fs::read_to_string(rt, path) {
+        Ok(text) => Ok(Some(check_text(rt.alloc(), check, path, text.as_str())?)),
+        Err(error) => unread(rt, path, &error),
+    }
+}
+
+fn check_script_file(
     rt: &HostRuntime,
     config: &Config,
-    tenant: Option<&TenantConfig>,
     path: &str,
-    wish: Wish,
 ) -> Result<Option<Report>, Failure> {
-    let alloc = rt.alloc();
-    if kind_of(path) == Kind::Script {
-        let bytes = match fs::read(rt, path) {
-            Ok(bytes) => bytes,
-            Err(error) => return unread(rt, path, &error),
-        };
-        return Ok(Some(check_script(alloc, path, bytes.as_slice(), config)?));
+    match fs::read(rt, path) {
+        Ok(bytes) => Ok(Some(check_script(rt.alloc(), path, bytes.as_slice(), config)?)),
+        Err(error) => unread(rt, path, &error),
     }
-    let text = match fs::read_to_string(rt, path) {
-        Ok(text) => text,
-        Err(error) => return unread(rt, path, &error),
-    };
+}
+
+// What is told of the text of a configuration or a program.
+fn check_text(
+    alloc: Global,
+    check: &Check<'_>,
+    path: &str,
+    text: &str,
+) -> Result<Report, AllocError> {
     if kind_of(path) == Kind::Configuration {
-        return Ok(Some(check_configuration(alloc, path, text.as_str())?));
+        return check_configuration(alloc, path, text);
     }
-    Ok(Some(match tenant {
-        Some(tenant) => check_program(alloc, path, text.as_str(), wish, tenant)?,
-        None => report_on(alloc, path, text.as_str(), wish)?,
-    }))
+    match check.tenant {
+        Some(tenant) => check_program(alloc, path, text, check.wish, tenant),
+        None => report_on(alloc, path, text, check.wish),
+    }
 }
 
 // Tells that a file can't be read.
@@ -180,8 +234,8 @@ fn tenant_of<'a>(
     config: &'a Config,
     request: &CheckRequest<'_>,
 ) -> Result<Option<&'a TenantConfig>, Failure> {
-    let name = match (request.wish, request.tenant) {
-        (Wish::Load(loader), Some(name)) => {
+    let name = match (request.load, request.tenant) {
+        (Some(loader), Some(name)) => {
             if loader != name {
                 return Err(Failure::wrong(
                     alloc,
@@ -191,9 +245,9 @@ fn tenant_of<'a>(
             }
             name
         }
-        (Wish::Load(loader), None) => loader,
-        (_, Some(name)) => name,
-        (_, None) => return Ok(None),
+        (Some(loader), None) => loader,
+        (None, Some(name)) => name,
+        (None, None) => return Ok(None),
     };
     let place = place_of(alloc, Subcommand::Check, config, request.config, name)?;
     Ok(config.tenants().get(place))

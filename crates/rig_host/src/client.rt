@@ -59,11 +59,32 @@ pub fn run_client(rt: &HostRuntime, request: &ConnectRequest<'_>) -> Result<(), 
     };
     let prompt = prompt_of(rt, request.name)?;
     let mut user = User::new(alloc, rt.reader(), output, rt.stderr(), prompt);
-    let key = key_of(rt, request, &mut user)?;
+    run_for(rt, request, &mut user)
+}
+
+// Asks for the key, and holds the session of this user.
+fn run_for<I: Read, O: Write, E: Write>(
+    rt: &HostRuntime,
+    request: &ConnectRequest<'_>,
+    user: &mut User<I, O, E>,
+) -> Result<(), Failure> {
+    let key = key_of(rt, request, user)?;
     if !is_key(key.as_str()) {
         return Err(Failure::Client(ClientFault::KeyRange));
     }
-    Ok(hold_session(rt, request, key.as_str(), &mut user)?)
+    let stream = connected(rt, request.port)?;
+    Ok(hold_session(rt, request, key.as_str(), user, &stream)?)
+}
+
+// A connection to the server on this port of this machine.
+fn connected(rt: &HostRuntime, port: u16) -> Result<TcpStream, ClientFault> {
+    let Ok(stream) = TcpStream::connect(rt, ("127.0.0.1", port)) else {
+        return Err(ClientFault::Connect);
+    };
+    match stream.set_nodelay(true) {
+        Ok(()) => Ok(stream),
+        Err(_) => Err(ClientFault::Connect),
+    }
 }
 
 // Greets, and has the user's lines answered.
@@ -72,18 +93,13 @@ fn hold_session<I: Read, O: Write, E: Write>(
     request: &ConnectRequest<'_>,
     key: &str,
     user: &mut User<I, O, E>,
+    stream: &TcpStream,
 ) -> Result<(), ClientFault> {
     let alloc = rt.alloc();
-    let Ok(stream) = TcpStream::connect(rt, ("127.0.0.1", request.port)) else {
-        return Err(ClientFault::Connect);
-    };
-    let Ok(()) = stream.set_nodelay(true) else {
-        return Err(ClientFault::Connect);
-    };
-    let Ok(reader) = BufReader::new(alloc, &stream) else {
+    let Ok(reader) = BufReader::new(alloc, stream) else {
         return Err(ClientFault::Memory);
     };
-    let Ok(writer) = BufWriter::new(alloc, &stream) else {
+    let Ok(writer) = BufWriter::new(alloc, stream) else {
         return Err(ClientFault::Memory);
     };
     let mut server = Server::new(reader, writer);

@@ -10,9 +10,9 @@ ghost use Rattle.rig_host.specs.declared.pictures.PictureFault.{PictureFault as 
 ghost use Rattle.rig_host.specs.declared.scripts.RunFileFault.{RunFileFault as AnyRunFileFault};
 ghost use Rattle.rig_retests.specs.declared.courses.Shortfall.{Shortfall as AnyShortfall};
 ghost use Rattle.rig_client.specs.declared.faults.ClientFault.{ClientFault as AnyClientFault};
-ghost use Rattle.rig_retests.specs.declared.script.faults.ScriptFault.{ScriptFault as AnyFault};
+ghost use Rattle.rig_script.specs.declared.faults.ScriptFault.{ScriptFault as AnyFault};
 ghost use Rattle.rig_server.specs.declared.faults.ServeFault.{ServeFault as AnyServeFault};
-ghost use Rattle.rig_retests.specs.declared.script.faults.ScriptFault.TheVariants.{Memory};
+ghost use Rattle.rig_script.specs.declared.faults.ScriptFault.TheVariants.{Memory};
 
 mod checks;
 mod client;
@@ -33,10 +33,10 @@ use rig_arguments::requests::Request;
 use rig_arguments::subcommands::Subcommand;
 use rig_arguments::{ArgumentFault, read_arguments, unreadable};
 use rig_client::faults::ClientFault;
-use rig_reports::script_notes::told::Report;
 use rig_retests::courses::Shortfall;
-use rig_retests::script::faults::ScriptFault;
+use rig_script::faults::ScriptFault;
 use rig_server::faults::ServeFault;
+use script_reports::told::Report;
 use scripts::{RunFileFault, run_script};
 use server::run_server;
 use std::alloc::{AllocError, Global};
@@ -205,21 +205,31 @@ impl From<AllocError> for Failure {
 // Does what the arguments ask for: they are looked at first, then the configuration. A server starts its threads by the second handle.
 fn run<T: Threads + Wait + Clock + Sync>(rt: &HostRuntime, threads: &T) -> Result<(), Failure> {
     let words = read_words(rt)?;
-    match read_arguments(rt.alloc(), words.as_slice())? {
-        Request::Text(text) => match rt.print(&text) {
+    let request = read_arguments(rt.alloc(), words.as_slice())?;
+    carry_out(rt, threads, &request)
+}
+
+// Does what is requested. The configuration of a server is read before the port is taken.
+fn carry_out<T: Threads + Wait + Clock + Sync>(
+    rt: &HostRuntime,
+    threads: &T,
+    request: &Request<'_>,
+) -> Result<(), Failure> {
+    match request {
+        Request::Text(text) => match rt.print(text) {
             Ok(()) => Ok(()),
             Err(_) => Err(Failure::Fault(ScriptFault::Write)),
         },
-        Request::Check(request) => check_files(rt, &request),
-        Request::Script(request) => run_script(rt, &request),
+        Request::Check(request) => check_files(rt, request),
+        Request::Script(request) => run_script(rt, request),
         Request::Serve(request) => {
             let config = read_configuration(rt, request.config)?;
-            run_server(rt, threads, &config, &request)
+            run_server(rt, threads, &config, request)
         }
-        Request::Connect(request) => run_client(rt, &request),
-        Request::Timeline(request) => run_timeline(rt, &request),
-        Request::Retest(request) => run_retest(rt, &request),
-        Request::Trial(request) => run_trial(rt, &request),
+        Request::Connect(request) => run_client(rt, request),
+        Request::Timeline(request) => run_timeline(rt, request),
+        Request::Retest(request) => run_retest(rt, request),
+        Request::Trial(request) => run_trial(rt, request),
     }
 }
 

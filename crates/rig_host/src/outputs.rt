@@ -7,7 +7,7 @@ ghost use Rattle.rig_host.specs.inner.Outputs.{is_same_file};
 
 use crate::Failure;
 use rig_arguments::subcommands::Subcommand;
-use rig_retests::script::faults::ScriptFault;
+use rig_script::faults::ScriptFault;
 use std::alloc::AllocError;
 use std::io::Write;
 use std::path::PathBuf;

@@ -10,8 +10,8 @@ use crate::tenants::place_of;
 use rig_arguments::requests::TimelineRequest;
 use rig_arguments::subcommands::Subcommand;
 use rig_model::config::{Config, TenantId};
-use rig_reports::pictures::{script_with_dump, timeline};
-use rig_retests::script::faults::ScriptFault;
+use rig_pictures::{script_with_dump, timeline};
+use rig_script::faults::ScriptFault;
 use std::fs;
 use std::io::{self, BufWriter};
 

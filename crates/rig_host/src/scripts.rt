@@ -9,13 +9,14 @@ use crate::pictures::write_dump;
 use rig_arguments::requests::{ExpectRequest, ScriptRequest, Way};
 use rig_arguments::subcommands::Subcommand;
 use rig_model::config::Config;
-use rig_reports::script_notes::differences::text_of_differences;
-use rig_reports::script_notes::runs::{RunFault, RunLine, configuration_of, read_run};
-use rig_reports::script_notes::suites::text_of_suite;
-use rig_reports::script_notes::told::Report;
 use rig_reports::{answered_run, strict_script};
-use rig_retests::script::faults::ScriptFault;
-use rig_retests::script::script;
+use rig_script::faults::ScriptFault;
+use rig_script::script;
+use script_reports::differences::text_of_differences;
+use script_reports::runs::{RunFault, RunLine, configuration_of, read_run};
+use script_reports::suites::text_of_suite;
+use script_reports::told::Report;
+use std::alloc::Global;
 use std::io::BufWriter;
 use std::{fmt, fs, io};
 
@@ -105,15 +106,30 @@ fn run_expected(
     let Ok(text) = fs::read_to_string(rt, expected.run) else {
         return Err(Failure::Run(RunFileFault::Unreadable));
     };
-    let lines = match read_run(rt.alloc(), text.as_str()) {
-        Ok(lines) => lines,
-        Err(RunFault::NoLine(number)) => return Err(Failure::Run(RunFileFault::NoLine(number))),
-        Err(RunFault::Memory) => return Err(Failure::Fault(ScriptFault::Memory)),
-    };
+    let lines = lines_of(rt.alloc(), text.as_str())?;
     let config = config.or(configuration_of(text.as_str()));
+    compare_within(rt, config, expected, lines.as_slice())
+}
+
+// The lines of the text of a run.
+fn lines_of(alloc: Global, text: &str) -> Result<Vec<RunLine>, Failure> {
+    match read_run(alloc, text) {
+        Ok(lines) => Ok(lines),
+        Err(RunFault::NoLine(number)) => Err(Failure::Run(RunFileFault::NoLine(number))),
+        Err(RunFault::Memory) => Err(Failure::Fault(ScriptFault::Memory)),
+    }
+}
+
+// Compares the replies on a rig with the configuration of this path.
+fn compare_within(
+    rt: &HostRuntime,
+    config: Option<&str>,
+    expected: &ExpectRequest<'_>,
+    lines: &[RunLine],
+) -> Result<(), Failure> {
     check_output(rt, Subcommand::Script, &[config], expected.suite)?;
     let config = read_configuration(rt, config)?;
-    compare(rt, &config, expected, lines.as_slice())
+    compare(rt, &config, expected, lines)
 }
 
 // Prints what differs in the replies to these lines, and writes the suite.
@@ -124,18 +140,38 @@ fn compare(
     lines: &[RunLine],
 ) -> Result<(), Failure> {
     let replies = answered_run(rt.alloc(), config, lines)?;
-    let replies = replies.as_slice();
+    tell_differences(rt, expected, lines, replies.as_slice())
+}
+
+// Prints what differs, and writes the suite.
+fn tell_differences(
+    rt: &HostRuntime,
+    expected: &ExpectRequest<'_>,
+    lines: &[RunLine],
+    replies: &[String],
+) -> Result<(), Failure> {
     let differences = text_of_differences(rt.alloc(), expected.run, lines, replies)?;
     if !expected.suite.is_some_and(is_standard) {
         print(rt, differences.as_str())?;
     }
     if let Some(path) = expected.suite {
-        let suite = text_of_suite(rt.alloc(), expected.run, lines, replies)?;
-        write_to(rt, path, suite.as_str(), Failure::Run(RunFileFault::Suite))?;
+        write_suite(rt, path, expected.run, lines, replies)?;
     }
     if differences.is_empty() {
         Ok(())
     } else {
         Err(Failure::Faulty)
     }
+}
+
+// Writes what was compared into the file of this path, as a suite of tests.
+fn write_suite(
+    rt: &HostRuntime,
+    path: &str,
+    run: &str,
+    lines: &[RunLine],
+    replies: &[String],
+) -> Result<(), Failure> {
+    let suite = text_of_suite(rt.alloc(), run, lines, replies)?;
+    write_to(rt, path, suite.as_str(), Failure::Run(RunFileFault::Suite))
 }

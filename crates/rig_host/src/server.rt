@@ -4,7 +4,6 @@ use crate::Failure;
 use rig_arguments::requests::ServeRequest;
 use rig_model::config::Config;
 use rig_server::faults::ServeFault;
-use rig_server::pool::gates::Free;
 use rig_server::serving::{Service, serve};
 use std::io;
 use std::io::BufWriter;
@@ -12,6 +11,7 @@ use std::net::TcpListener;
 use std::sync::Wait;
 use std::thread::Threads;
 use std::time::{Clock, Duration};
+use worker_pool::gates::Free;
 
 /// Serves the rig on a port of 127.0.0.1, with the operator's lines on standard input.
 ///

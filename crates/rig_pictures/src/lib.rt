@@ -17,6 +17,4 @@ mod timelines;
 mod watching;
 
 pub use dumps::script_with_dump;
-pub use rig_script as script;
-pub use rig_script::host;
 pub use timelines::timeline;

@@ -8,11 +8,11 @@ ghost use Rattle.rig_model.specs.HostState.{row_at};
 ghost use Rattle.rig_model.specs.Views.{after_command};
 
 use giotto_tasks::lists::List;
+use host_core::hosts::Host;
 use rig_model::config::TenantId;
 use rig_model::lines::commands::Command;
 use rig_model::lines::ports::PortValue;
 use rig_model::lines::replies::Reply;
-use rig_script::host::hosts::Host;
 use std::alloc::{AllocError, Global};
 use tenant_dumps::views::View;
 

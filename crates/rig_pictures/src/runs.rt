@@ -6,13 +6,13 @@
 
 use crate::tasks::{Moment, see_task};
 use crate::watching::{Scene, Watch};
+use giotto_check::Checked;
 use giotto_tasks::names::Name;
 use rig_model::config::TenantId;
 use rig_model::lines::replies::Status;
-use rig_script::programs::admission::read_program;
-use rig_script::well_formed::Checked;
 use std::alloc::{AllocError, Global};
 use tenant_dumps::views::View;
+use tenant_programs::admission::read_program;
 use tenant_timelines::marks::Doing;
 use tenant_timelines::places::Place;
 use tenant_timelines::ports::{Kind, PortLane};

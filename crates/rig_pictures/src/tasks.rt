@@ -1,13 +1,13 @@
 //! What a line of a script does to the jobs of a task.
 
+use giotto_check::Checked;
 use giotto_tasks::names::Name;
+use host_core::hosts::Host;
 use rig_model::config::TenantId;
 use rig_model::lines::replies::Status;
-use rig_script::host::hosts::Host;
-use rig_script::job_table::jobs::{Job, JobId};
-use rig_script::well_formed::Checked;
 use std::alloc::{AllocError, Global};
 use tenant_dumps::views::View;
+use tenant_jobs::jobs::{Job, JobId};
 use tenant_timelines::jobs::{End, JobBar, Outcome, PortTexts, TaskLane};
 use tenant_timelines::places::Place;
 

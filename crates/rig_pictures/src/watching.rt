@@ -6,11 +6,11 @@ ghost use Rattle.rig_script.specs.BrokenOff.{ForNewHostReading};
 ghost use Rattle.rig_model.specs.Script.{script_text_of};
 
 use crate::questions::views_of;
+use host_core::hosts::Host;
 use rig_model::config::{Config, TenantId};
 use rig_model::lines::words;
 use rig_script::answers::{Answers, answer_lines};
 use rig_script::faults::{ScriptFault, Unanswered};
-use rig_script::host::hosts::Host;
 use rig_script::speakers::{Speaker, who_speaks};
 use std::alloc::{AllocError, Global};
 use std::io::{Read, Write};

@@ -14,8 +14,8 @@ use Rattle.rig_pictures.proofs.of_script.NewScript.{starts}
 use Rattle.rig_pictures.specs.script.BrokenOff.{AreBrokenOff, ForNewHostReading, IsScriptBrokenOff}
 use Rattle.rig_pictures.specs.script.Given.{IsEndOf, texts_of}
 use Rattle.rig_pictures.specs.script.cited.Past.{ForEachPastReading}
-use Rattle.rig_pictures.specs.declared.script.faults.ScriptFault.{ScriptFault}
-use Rattle.rig_pictures.specs.declared.script.faults.ScriptFault.TheVariants.{Memory}
+use Rattle.rig_script.specs.declared.faults.ScriptFault.{ScriptFault}
+use Rattle.rig_script.specs.declared.faults.ScriptFault.TheVariants.{Memory}
 use Rattle.script_reports.specs.cited.Heard.{HeardLine}
 use Rattle.script_reports.specs.cited.Runs.{line_in}
 use Rattle.script_reports.specs.cited.Told.{told_of_lines}

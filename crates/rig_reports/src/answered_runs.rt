@@ -8,7 +8,7 @@ ghost use Rattle.script_reports.specs.cited.Runs.{script_of};
 
 use crate::telling::{Told, told_script};
 use rig_model::config::Config;
-use rig_pictures::script::faults::ScriptFault;
+use rig_script::faults::ScriptFault;
 use script_reports::runs::{Replies, RunLine, script_of};
 use std::alloc::{AllocError, Global};
 use std::io;

@@ -16,6 +16,4 @@ mod strict;
 pub mod telling;
 
 pub use answered_runs::answered_run;
-pub use rig_pictures as pictures;
-pub use script_reports as script_notes;
 pub use strict::strict_script;

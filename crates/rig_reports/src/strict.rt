@@ -10,7 +10,7 @@ ghost use Rattle.rig_pictures.specs.script.BrokenOff.{AreFewRead, ForNewHostRead
 
 use crate::telling::{Told, told_script};
 use rig_model::config::Config;
-use rig_pictures::script::faults::ScriptFault;
+use rig_script::faults::ScriptFault;
 use script_reports::told::Report;
 use std::alloc::{AllocError, Global};
 use std::io::{Read, Write};

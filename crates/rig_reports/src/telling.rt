@@ -12,11 +12,11 @@ ghost use Rattle.rig_pictures.specs.script.cited.Ended.{end_behind};
 ghost use Rattle.script_reports.specs.cited.Heard.{IsHeard};
 
 use crate::overruns::{overruns, running};
+use host_core::hosts::Host;
 use rig_model::config::Config;
-use rig_pictures::host::hosts::Host;
-use rig_pictures::script::answers::{Answers, Ending, answer_lines};
-use rig_pictures::script::faults::{ScriptFault, Unanswered};
-use rig_pictures::script::speakers::who_speaks;
+use rig_script::answers::{Answers, Ending, answer_lines};
+use rig_script::faults::{ScriptFault, Unanswered};
+use rig_script::speakers::who_speaks;
 use script_reports::listeners::{Listener, Overrun};
 use std::alloc::{AllocError, Global};
 use std::io::{Read, Write};

@@ -27,6 +27,5 @@ mod texts;
 mod trials;
 
 pub use graphs::graph_of_retests;
-pub use rig_script as script;
 pub use texts::text_of_retests;
 pub use trials::{TrialForm, TrialText, text_of_trial};

@@ -8,7 +8,7 @@ use crate::plant_lines::PlantLines;
 use rig_model::lines::words;
 use rig_script::speakers::Speaker;
 use std::alloc::{AllocError, Global};
-use tenant_sources::programs::admission::read_program;
+use tenant_programs::admission::read_program;
 
 /// How many lines were answered, whether one was a tenant's, and which rig lines the programs use that tenants were given.
 #[derive(Drop)]

@@ -9,6 +9,8 @@ ghost use Rattle.rig_model.specs.TextLines.{cut};
 ghost use Rattle.rig_script.specs.BrokenOff.{ForNewHostReading};
 
 use crate::courses::{Course, course_of, is_tenants};
+use host_core::events::Event;
+use host_core::hosts::Host;
 use rig_model::config::Config;
 use rig_script::answers::{Answers, Ending, answer_lines};
 use rig_script::carry_out;
@@ -17,8 +19,6 @@ use rig_script::speakers::{Speaker, who_speaks};
 use std::alloc::{AllocError, Global};
 use std::io;
 use std::io::Read;
-use tenant_sources::host::events::Event;
-use tenant_sources::host::hosts::Host;
 
 /// A line of a script that isn't blank.
 #[derive(Drop)]

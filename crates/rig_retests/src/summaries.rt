@@ -2,10 +2,10 @@
 
 use crate::recordings::Recording;
 use crate::texts::name_of;
+use host_core::events::Event;
+use host_core::trials::TrialOutcome;
 use rig_model::config::{Config, TenantId};
 use std::alloc::{AllocError, Global};
-use tenant_sources::host::events::Event;
-use tenant_sources::host::trials::TrialOutcome;
 
 // How many events of one tenant there are, and how many of them are left out.
 #[derive(Clone, Copy, Drop)]

@@ -1,7 +1,7 @@
 //! What is told below a trial: how much of the script was left out, and whether the answers are the same.
 
+use host_core::events::Event;
 use std::alloc::AllocError;
-use tenant_sources::host::events::Event;
 
 /// How many lines, events and answers there are.
 #[derive(Drop)]

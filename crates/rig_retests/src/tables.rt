@@ -17,6 +17,7 @@ ghost use Rattle.rig_model.specs.Script.{past_after};
 use crate::courses::{Course, course_of};
 use crate::notes::Notes;
 use crate::plant_lines::PlantLines;
+use host_core::hosts::Host;
 use rig_model::config::{Config, TenantId};
 use rig_script::answers::{Answers, answer_lines};
 use rig_script::faults::{ScriptFault, Unanswered};
@@ -25,7 +26,6 @@ use std::alloc::{AllocError, Global};
 use std::io;
 use std::io::Read;
 use std::marker::Model;
-use tenant_sources::host::hosts::Host;
 use tenant_sources::tables::{Addition, Link, SourceTable};
 
 /// Whose change calls for whose retest in a script. Contracts see it as the table of links between its tenants, and how the script went.

@@ -13,14 +13,14 @@ use crate::recordings::{RecordedLine, Recording, recorded};
 use crate::summaries::text_of_summary;
 use crate::sums::{Sum, write_sum};
 use crate::texts::{cells, name_of, shortened};
+use host_core::events::Event;
+use host_core::trials::{TrialOutcome, trial};
 use rig_model::config::{Config, TenantId};
 use rig_model::lines::words;
 use rig_script::faults::ScriptFault;
 use rig_script::speakers::Speaker;
 use std::alloc::{AllocError, Global};
 use std::io::Read;
-use tenant_sources::host::events::Event;
-use tenant_sources::host::trials::{TrialOutcome, trial};
 
 // How many characters of a line of the script are shown.
 const LINE_WIDTH: usize = 40;

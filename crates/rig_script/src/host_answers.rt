@@ -24,7 +24,6 @@ use crate::faults::{ScriptFault, Unanswered};
 use crate::records::{Record, Unrecorded};
 use crate::speakers::{Speaker, who_is};
 use host_core::hosts::{Host, TickFault};
-use host_core::programs::prepared::prepare;
 use itoa::Buffer;
 use rig_model::config::{Config, TenantId};
 use rig_model::lines::command_lines::{LineFault, command_of, name_shown};
@@ -35,6 +34,7 @@ use rig_model::lines::words;
 use rig_model::text::name_bytes::is_name;
 use std::alloc::{AllocError, Global};
 use std::io::{Read, Write};
+use tenant_programs::prepared::prepare;
 
 impl Answers for Host {
     ghost stands = { λ host setting texts past. IsHostAfter setting host past };

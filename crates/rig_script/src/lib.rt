@@ -17,5 +17,3 @@ pub mod records;
 pub mod speakers;
 
 pub use host_answers::{carry_out, script};
-pub use host_core as host;
-pub use host_core::{job_table, programs, well_formed};

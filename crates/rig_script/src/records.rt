@@ -8,10 +8,10 @@ ghost use Rattle.rig_script.specs.inner.Records.{IsTold};
 use giotto_tasks::lists::List;
 use host_core::events::Event;
 use host_core::hosts::Host;
-use host_core::job_table::jobs::JobId;
 use rig_model::config::TenantId;
 use rig_model::lines::commands::Command;
 use std::alloc::{AllocError, Global};
+use tenant_jobs::jobs::JobId;
 
 /// Who is told what a line does: a tenant's command is one event, answered or refused, and so is an instant; `work` is one for each job
 /// that it completes, in the order of the roster; every other line is none.

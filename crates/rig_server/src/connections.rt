@@ -4,6 +4,9 @@ use crate::clients::{Client, dismiss, prepare, refuse};
 use crate::faults::ServeFault;
 use crate::register::{NotTaken, Register};
 use crate::seats::Seats;
+use locked_book::faults::PassFault;
+use locked_book::naming::Naming;
+use locked_book::passes::Pass;
 use rig_model::config::Config;
 use rig_sessions::faults::TalkFault;
 use rig_sessions::talking::talk;
@@ -14,9 +17,6 @@ use std::sync::{Condvar, Mutex, Wait};
 use std::thread;
 use std::thread::{Scope, Threads};
 use std::time::{Clock, Duration};
-use worker_pool::book::faults::PassFault;
-use worker_pool::book::naming::Naming;
-use worker_pool::book::passes::Pass;
 
 // How many milliseconds are waited behind an accept that failed, as where no descriptor is free.
 const PAUSE: u64 = 10;

@@ -3,8 +3,8 @@
 ghost use Rattle.std.specs.Prelude.{◌≡◌};
 ghost use Rattle.rig_server.specs.inner.Faults.{text_of_fault};
 
-use rig_sessions::line_reader::faults::LinesFault;
 use std::alloc::AllocError;
+use text_lines::faults::LinesFault;
 use thiserror::Error;
 
 /// Why a server ended otherwise than by a halt.

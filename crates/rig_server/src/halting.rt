@@ -2,7 +2,7 @@
 
 use crate::connections::Hall;
 use crate::operator_lines::{OperatorLine, operator_line};
-use rig_sessions::line_reader::lines::{Line, Lines};
+use locked_book::naming::Naming;
 use std::alloc::Global;
 use std::io::Read;
 use std::net::{Shutdown, TcpStream};
@@ -11,7 +11,7 @@ use std::sync::{Arc, CondvarTimeouts, Wait};
 use std::thread::Threads;
 use std::time::{Clock, Duration};
 use std::{io, thread};
-use worker_pool::book::naming::Naming;
+use text_lines::lines::{Line, Lines};
 
 // After how many milliseconds a second halt is looked for again.
 const PAUSE: u64 = 20;

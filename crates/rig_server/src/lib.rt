@@ -18,5 +18,3 @@ mod register;
 mod replies;
 pub mod seats;
 pub mod serving;
-
-pub use worker_pool as pool;

@@ -5,14 +5,14 @@ ghost use Rattle.std.specs.Prelude.{◌≡◌};
 use crate::faults::ServeFault;
 use crate::operator_lines::{OperatorLine, operator_line};
 use crate::replies::{lines_reply, tick_reply};
-use rig_sessions::line_reader::lines::{Line, Lines};
+use host_core::hosts::TickFault;
+use locked_book::desks::Desk;
+use locked_book::naming::Naming;
 use std::alloc::{AllocError, Global};
 use std::io::{Read, Write};
 use std::sync::Wait;
-use worker_pool::book::desks::Desk;
-use worker_pool::book::naming::Naming;
-use worker_pool::engine::{Jobs, run_job};
-use worker_pool::host::hosts::TickFault;
+use tenant_jobs::jobs::{Jobs, run_job};
+use text_lines::lines::{Line, Lines};
 use worker_pool::pools::Pool;
 
 /// How the operator's lines ended.

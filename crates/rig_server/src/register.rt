@@ -3,11 +3,11 @@
 ghost use Rattle.std.specs.Prelude.{◌+◌, ◌≤◌, ◌<◌, OnOk, vec_len, vec_capacity};
 ghost use Rattle.slab.specs.Slab.{HasRoomFor, slab_len};
 
+use locked_book::naming::Naming;
+use locked_book::passes::Pass;
 use slab::Slab;
 use std::alloc::{AllocError, Global};
 use std::net::{Shutdown, TcpStream};
-use worker_pool::book::naming::Naming;
-use worker_pool::book::passes::Pass;
 
 /// The open connections, each by a second handle of its stream, and the passes that came back. There is room for the pass of each that is
 /// open, so that none is lost for want of memory.

@@ -3,8 +3,8 @@
 ghost use Rattle.std.specs.Prelude.{◌≡◌, IfOk, string_bytes};
 ghost use Rattle.rig_server.specs.inner.Replies.{close_reply, ready_line, tick_reply};
 
+use locked_book::faults::CloseFault;
 use std::alloc::{AllocError, Global};
-use worker_pool::book::faults::CloseFault;
 
 /// The port on which the server listens.
 ///

@@ -1,11 +1,11 @@
 //! Who gives seats.
 
+use locked_book::desks::Desk;
+use locked_book::faults::PassFault;
+use locked_book::naming::Naming;
+use locked_book::passes::Pass;
 use rig_sessions::calls::Calls;
 use std::sync::Wait;
-use worker_pool::book::desks::Desk;
-use worker_pool::book::faults::PassFault;
-use worker_pool::book::naming::Naming;
-use worker_pool::book::passes::Pass;
 
 /// Who gives seats, and takes the calls of those who have one.
 pub trait Seats<N: Naming>: Calls<N> {

@@ -17,5 +17,3 @@ pub mod sessions;
 pub mod talking;
 mod waiting;
 mod writing;
-
-pub use text_lines as line_reader;

@@ -1,8 +1,8 @@
 //! Instants at the end of the clock, to which no script comes.
 
+use host_core::hosts::{Host, TickFault};
 use rig_model::config::built_in;
 use std::alloc::Global;
-use worker_pool::host::hosts::{Host, TickFault};
 
 // A host whose first instant has the last number that there is.
 fn at_its_last_instant(alloc: Global) -> Option<Host> {

@@ -1,13 +1,13 @@
 //! Completions of a release before a new start, and of another host's job: one that differs, and one that is just its own.
 
 use giotto_tasks::names::Name;
+use host_core::hosts::{Counted, Host};
 use rig_model::config::{TenantId, built_in};
 use rig_model::lines::commands::Command;
 use rig_model::lines::replies::print_reply;
 use rig_model::lines::texts::Text;
 use std::alloc::Global;
-use worker_pool::host::hosts::{Counted, Host};
-use worker_pool::job_table::jobs::{Job, JobId, run_job};
+use tenant_jobs::jobs::{Job, JobId, run_job};
 
 // Reads a sensor, adds 1, and drives an actuator with the sum, with a period of 2 ticks.
 const ADDER: &str =

@@ -2,6 +2,7 @@
 
 use giotto_tasks::lists::List;
 use giotto_tasks::names::Name;
+use host_core::events::Event;
 use rig_model::config::intervals::Bounds;
 use rig_model::grants::rows::{Offer, Row};
 use rig_model::lines::command_lines::command_of;
@@ -10,8 +11,7 @@ use rig_model::lines::ports::{PortName, PortValue};
 use rig_model::lines::replies::{Reply, print_reply};
 use rig_model::trace::records::{Happening, Record};
 use std::alloc::Global;
-use worker_pool::host::events::Event;
-use worker_pool::job_table::jobs::JobId;
+use tenant_jobs::jobs::JobId;
 
 // The replies to `show all`, `trace` and `rows` with one port, one record and one row.
 fn one_port(alloc: Global) -> Option<Reply> {

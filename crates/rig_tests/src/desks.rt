@@ -2,18 +2,18 @@
 
 ghost use Rattle.std.specs.Prelude.{◌≡◌};
 
+use locked_book::books::Book;
+use locked_book::desks::Desk;
+use locked_book::faults::{DeskFault, PassFault};
+use locked_book::histories::NewHistory;
+use locked_book::naming::Naming;
+use locked_book::passes::Pass;
 use rig_model::config::{Config, TenantId, built_in};
 use rig_model::lines::commands::Command;
 use rig_model::lines::texts::Text;
 use std::alloc::Global;
 use std::marker::Brand;
 use std::sync::Wait;
-use worker_pool::book::books::Book;
-use worker_pool::book::desks::Desk;
-use worker_pool::book::faults::{DeskFault, PassFault};
-use worker_pool::book::histories::NewHistory;
-use worker_pool::book::naming::Naming;
-use worker_pool::book::passes::Pass;
 
 const ALPHA: TenantId = 0;
 

@@ -1,11 +1,11 @@
 //! Replies to one tenant beside others: nothing of their keys, of their programs, or of how much the host has to do for them. Worked out
 //! by hand from the definitions.
 
+use host_core::hosts::Host;
 use rig_model::config::{Config, read_config};
 use rig_model::lines::words::first_word;
 use rig_script::answers::Answers;
 use std::alloc::{AllocError, Global};
-use worker_pool::host::hosts::Host;
 
 // The other fields of each tenant.
 const FIELDS: &str = "reads = [0]

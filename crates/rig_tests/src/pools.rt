@@ -4,6 +4,10 @@
 ghost use Rattle.std.specs.Prelude.{◌≡◌, ◌≤◌};
 
 use crate::desks::{both, entries, load_and_start};
+use locked_book::desks::Desk;
+use locked_book::histories::NewHistory;
+use locked_book::naming::Naming;
+use locked_book::passes::Pass;
 use rig_model::config::{Config, TenantId, built_in};
 use rig_model::lines::command_lines::command_of;
 use rig_model::lines::replies::print_reply;
@@ -14,11 +18,7 @@ use std::sync::{Mutex, Wait};
 use std::thread;
 use std::thread::Threads;
 use std::time::{Clock, Duration};
-use worker_pool::book::desks::Desk;
-use worker_pool::book::histories::NewHistory;
-use worker_pool::book::naming::Naming;
-use worker_pool::book::passes::Pass;
-use worker_pool::engine::{JobId, Jobs};
+use tenant_jobs::jobs::{JobId, Jobs};
 use worker_pool::gates::{Free, Gate};
 use worker_pool::pools::Pool;
 

@@ -3,6 +3,12 @@
 ghost use Rattle.std.specs.Prelude.{◌≡◌};
 
 use crate::desks::{both, entries};
+use host_core::hosts::Counted;
+use locked_book::desks::Desk;
+use locked_book::faults::DeskFault;
+use locked_book::histories::NewHistory;
+use locked_book::naming::Naming;
+use locked_book::passes::Pass;
 use rig_model::config::{Config, TenantId, built_in};
 use rig_model::lines::commands::Command;
 use rig_model::lines::replies::{Reply, Status};
@@ -14,14 +20,7 @@ use std::io;
 use std::io::Read;
 use std::marker::Brand;
 use std::sync::Wait;
-use worker_pool::book::desks::Desk;
-use worker_pool::book::faults::DeskFault;
-use worker_pool::book::histories::NewHistory;
-use worker_pool::book::naming::Naming;
-use worker_pool::book::passes::Pass;
-use worker_pool::engine::Jobs;
-use worker_pool::host::hosts::Counted;
-use worker_pool::job_table::jobs::run_job;
+use tenant_jobs::jobs::{Jobs, run_job};
 
 // Alpha's lines: it loads a program that reads a sensor, adds 1 and drives an actuator with the sum, grants the actuator, and starts.
 pub(crate) const ALPHAS: &[u8] =

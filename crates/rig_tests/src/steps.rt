@@ -2,13 +2,13 @@
 
 use giotto_tasks::lists::List;
 use giotto_tasks::names::Name;
+use host_core::events::Event;
+use host_core::plays::{PlayFault, play};
 use rig_model::config::{TenantId, built_in};
 use rig_model::lines::command_lines::command_of;
 use rig_model::lines::texts::Text;
 use std::alloc::{AllocError, Global};
-use worker_pool::host::events::Event;
-use worker_pool::host::plays::{PlayFault, play};
-use worker_pool::job_table::jobs::JobId;
+use tenant_jobs::jobs::JobId;
 
 pub(crate) const ALPHA: TenantId = 0;
 

@@ -7,6 +7,10 @@ use crate::sessions::{
 };
 use crate::threads::closed;
 use giotto_tasks::lists::List;
+use locked_book::desks::Desk;
+use locked_book::histories::NewHistory;
+use locked_book::naming::Naming;
+use locked_book::passes::Pass;
 use rig_model::config::{Config, built_in};
 use rig_model::logged::Logged;
 use rig_sessions::calls::Calls;
@@ -16,10 +20,6 @@ use std::sync::Wait;
 use std::thread;
 use std::thread::Threads;
 use std::time::Clock;
-use worker_pool::book::desks::Desk;
-use worker_pool::book::histories::NewHistory;
-use worker_pool::book::naming::Naming;
-use worker_pool::book::passes::Pass;
 use worker_pool::gates::Free;
 use worker_pool::pools::Pool;
 

@@ -5,6 +5,13 @@ ghost use Rattle.std.specs.Prelude.{◌≡◌};
 use crate::desks::{NOBODY, book_of, both, entries, is_refused, load_and_start, other_pass};
 use giotto_tasks::lists::List;
 use giotto_tasks::names::Name;
+use host_core::hosts::Counted;
+use locked_book::books::Book;
+use locked_book::desks::Desk;
+use locked_book::faults::{CloseFault, DeskFault};
+use locked_book::histories::NewHistory;
+use locked_book::naming::Naming;
+use locked_book::passes::Pass;
 use rig_model::config::{Config, TenantId, built_in};
 use rig_model::lines::commands::Command;
 use rig_model::lines::replies::Reply;
@@ -15,14 +22,7 @@ use std::marker::Brand;
 use std::sync::Wait;
 use std::thread;
 use std::thread::Threads;
-use worker_pool::book::books::Book;
-use worker_pool::book::desks::Desk;
-use worker_pool::book::faults::{CloseFault, DeskFault};
-use worker_pool::book::histories::NewHistory;
-use worker_pool::book::naming::Naming;
-use worker_pool::book::passes::Pass;
-use worker_pool::host::hosts::Counted;
-use worker_pool::job_table::jobs::{Job, JobId, run_job};
+use tenant_jobs::jobs::{Job, JobId, run_job};
 
 // Reads a sensor, adds 1, and drives an actuator with the sum, with a period of 2 ticks.
 const ADDER: &str =

@@ -10,7 +10,7 @@ use rig_model::lines::texts::Text;
 use rig_model::trace::records::{Happening, Record};
 use rig_model::trace::traces::Trace;
 use std::alloc::Global;
-use worker_pool::state::tenants::Tenant;
+use tenant_state::tenants::Tenant;
 
 const ALPHA: TenantId = 0;
 

@@ -1,10 +1,10 @@
 //! What a tenant is answered for a list of events and for what is kept of it: worked out by hand from the definitions.
 
 use crate::steps::{ADDER, ALPHA, BETA, CONSUMER, Step, events_of, granted_run};
+use host_core::plays::PlayFault;
+use host_core::trials::{TrialOutcome, trial};
 use rig_model::config::{TenantId, built_in};
 use std::alloc::{AllocError, Global};
-use worker_pool::host::plays::PlayFault;
-use worker_pool::host::trials::{TrialOutcome, trial};
 
 // The trial of a list for a tenant of the built-in configuration; none where there is want of memory for the list.
 fn tried(

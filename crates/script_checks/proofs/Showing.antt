@@ -3,9 +3,9 @@ use Rattle.std.proofs.Common.{◌≡◌, ◌+◌, ◌<◌, ◌==◌, ℕ, Bool, 
 use Rattle.std.specs.List.{flat_map}
 use Rattle.std.proofs.lemmas.Bool.Decides.{nat_tests}
 use Rattle.std.proofs.lemmas.List.{flat_map_more, map-append, take_more}
-use Rattle.program_checks.specs.declared.faults.findings.Finding.{Finding}
-use Rattle.program_checks.specs.declared.faults.findings.Severity.{Severity}
-use Rattle.program_checks.specs.declared.faults.places.Place.{Place}
+use Rattle.giotto_faults.specs.declared.findings.Finding.{Finding}
+use Rattle.giotto_faults.specs.declared.findings.Severity.{Severity}
+use Rattle.giotto_faults.specs.declared.places.Place.{Place}
 use Rattle.program_checks.specs.faults.Findings.{BeginsWith, head_at}
 use Rattle.rig_model.specs.config.Roster.{Rig}
 use Rattle.rig_model.specs.TextLines.{cut}

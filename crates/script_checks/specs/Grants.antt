@@ -1,10 +1,10 @@
 -- Offers and binds of a script that grant nothing in it.
 use Rattle.std.specs.Prelude.{◌≡◌, ℕ, ◌+◌, ◌==◌, Bool, true, false, not, ◌&&◌, if◌then◌else◌, List, [], ◌∷◌, ◌++◌, map, Option, Some, None, Result, Ok, Err, codes, string_bytes}
 use Rattle.std.specs.List.{flat_map, list_any}
-use Rattle.program_checks.specs.declared.faults.findings.Finding.{Finding}
-use Rattle.program_checks.specs.declared.faults.findings.Severity.{Severity}
-use Rattle.program_checks.specs.declared.faults.findings.Severity.TheVariants.{Note}
-use Rattle.program_checks.specs.declared.faults.places.Place.{Place}
+use Rattle.giotto_faults.specs.declared.findings.Finding.{Finding}
+use Rattle.giotto_faults.specs.declared.findings.Severity.{Severity}
+use Rattle.giotto_faults.specs.declared.findings.Severity.TheVariants.{Note}
+use Rattle.giotto_faults.specs.declared.places.Place.{Place}
 use Rattle.giotto_tasks.specs.declared.names.Name.{Name}
 use Rattle.giotto_tasks.specs.Names.{same_name}
 use Rattle.rig_model.specs.text.Program.{Source, from_line, from_grant, SensorDeclaration, ActuatorDeclaration, GiottoProgram}

@@ -2,9 +2,9 @@
 use Rattle.std.specs.Prelude.{◌≡◌, ℕ, ◌-◌, min, Bool, if◌then◌else◌, List, [], ◌∷◌, ◌++◌, length, Option, Some, None, codes, string_bytes}
 use Rattle.std.specs.Fmt.{decimal}
 use Rattle.program_checks.specs.faults.Places.{place_of}
-use Rattle.program_checks.specs.declared.faults.findings.Finding.{Finding}
-use Rattle.program_checks.specs.declared.faults.findings.Severity.TheVariants.{Error}
-use Rattle.program_checks.specs.declared.faults.places.Place.{Place}
+use Rattle.giotto_faults.specs.declared.findings.Finding.{Finding}
+use Rattle.giotto_faults.specs.declared.findings.Severity.TheVariants.{Error}
+use Rattle.giotto_faults.specs.declared.places.Place.{Place}
 use Rattle.giotto_tasks.specs.Names.{is_among, same_name}
 use Rattle.rig_model.specs.config.Roster.{Rig}
 use Rattle.rig_model.specs.Script.{operator}

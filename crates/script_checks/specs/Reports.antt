@@ -1,8 +1,8 @@
 -- What is told of a script.
 use Rattle.std.specs.Prelude.{◌≡◌, ℕ, Bool, if◌then◌else◌, List, [], ◌∷◌, ◌++◌, length, codes}
 use Rattle.std.specs.Fmt.{decimal}
-use Rattle.program_checks.specs.declared.faults.findings.Finding.{Finding}
-use Rattle.program_checks.specs.declared.faults.places.Place.{Place}
+use Rattle.giotto_faults.specs.declared.findings.Finding.{Finding}
+use Rattle.giotto_faults.specs.declared.places.Place.{Place}
 use Rattle.rig_model.specs.config.Roster.{Rig}
 use Rattle.rig_model.specs.TextLines.{cut}
 use Rattle.script_checks.specs.Grants.{AreNotes, notes_of}

@@ -1,11 +1,11 @@
 -- What is found at the lines at fault of a script, and how it is shown.
 use Rattle.std.specs.Prelude.{◌≡◌, ◌≢◌, ◌⊎◌, ℕ, ◌+◌, ◌-◌, List, [], ◌∷◌, ◌++◌, length, get_or, slice_get, map, Option, Some, None}
 use Rattle.std.specs.List.{flat_map}
-use Rattle.program_checks.specs.declared.faults.findings.Finding.{Finding}
-use Rattle.program_checks.specs.declared.faults.places.Place.{Place}
+use Rattle.giotto_faults.specs.declared.findings.Finding.{Finding}
+use Rattle.giotto_faults.specs.declared.places.Place.{Place}
 use Rattle.program_checks.specs.faults.Findings.{BeginsWith, head_at}
 use Rattle.program_checks.specs.reports.Reports.{TellWhy}
-use Rattle.program_checks.specs.declared.reports.Wish.TheVariants.{Summary}
+use Rattle.giotto_reports.specs.declared.Wish.TheVariants.{Summary}
 use Rattle.program_checks.specs.Programs.{TellOver}
 use Rattle.rig_model.specs.config.Roster.{Rig}
 use Rattle.rig_model.specs.declared.config.TenantConfig.{TenantConfig}

@@ -13,10 +13,10 @@ ghost use Rattle.script_checks.specs.inner.Telling.{AddsNotes};
 
 use crate::line_texts::{LineEnd, offset_of_word, shown_in_line, text_or_none};
 use crate::scripts::{line_at, text_of_line};
+use giotto_check::Checked;
+use giotto_faults::findings::{Finding, Severity};
+use giotto_reports::{Examined, examine};
 use giotto_tasks::names::Name;
-use program_checks::faults::findings::{Finding, Severity};
-use program_checks::reports::{Examined, examine};
-use program_checks::well_formed::Checked;
 use rig_model::config::{Config, TenantId};
 use rig_model::lines::command_lines::{LineFault, command_of};
 use rig_model::lines::commands::Command;

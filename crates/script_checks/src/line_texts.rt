@@ -7,8 +7,8 @@ ghost use Rattle.rig_model.specs.lines.Words.{behind_first_word, first_word_of};
 ghost use Rattle.script_checks.specs.LineTexts.{IsErrorAt, column_in, end_with_command, has_forms, offset_of_command, offset_of_fault, offset_of_word, place_in, text_or_none, words_of_bad_command, words_of_command, words_of_fault, words_of_frame, words_of_nobody, words_of_operator, words_of_tenants};
 
 use crate::scripts::{LineFault, text_of_line};
-use program_checks::faults::findings::{Finding, Severity};
-use program_checks::faults::places::Place;
+use giotto_faults::findings::{Finding, Severity};
+use giotto_faults::places::Place;
 use rig_model::config::Config;
 use rig_model::lines::words;
 use std::alloc::{AllocError, Global};

@@ -7,11 +7,11 @@ ghost use Rattle.rig_model.specs.Granted.{granted_along};
 ghost use Rattle.rig_model.specs.Readings.{readings_within};
 ghost use Rattle.tenant_slots.specs.cited.Readings.{with_readings};
 
+use giotto_check::Checked;
 use rig_model::config::Budgets;
 use rig_model::grants::granted::Granted;
 use rig_model::grants::grants::Grants;
 use tenant_slots::sensors::{sense, take_granted};
-use tenant_slots::well_formed::Checked;
 
 /// Writes what each sensor takes. `frame` has the input value of each line, and `granted` by its place what is granted through each
 /// bind, if something is; a place without a bind, and a bind without a place, grant nothing. Where a sensor that takes a value was found

@@ -25,5 +25,3 @@ pub mod replacement;
 pub mod sensors;
 pub mod switches;
 pub mod tasks;
-
-pub use giotto_check as well_formed;

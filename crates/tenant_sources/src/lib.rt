@@ -5,6 +5,3 @@
 #![tactic(auto)]
 
 pub mod tables;
-
-pub use host_core as host;
-pub use host_core::programs;

@@ -20,7 +20,7 @@ use Rattle.rig_model.specs.text.Program.{TaskDeclaration, TaskInvocation, ModeDe
 use Rattle.tenant_slots.specs.well_formed.cited.Facts.{ProgramFits}
 use Rattle.tenant_slots.specs.well_formed.Slots.{valuation_of}
 use Rattle.tenant_slots.specs.well_formed.cited.Timetables.{AreEach, IsInvocation, place_of_task}
-use Rattle.tenant_slots.specs.declared.well_formed.timetables.SlotInvocation.{SlotInvocation}
+use Rattle.giotto_check.specs.declared.timetables.SlotInvocation.{SlotInvocation}
 use Rattle.tenant_slots.proofs.of_well_formed.PlaceLemmas.{passes_there, place_within}
 use Rattle.rig_model.specs.Due.{is_due_at}
 use Rattle.tenant_slots.specs.cited.Due.{IsQuietAt, is_among_due}

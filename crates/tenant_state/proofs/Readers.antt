@@ -20,7 +20,7 @@ use Rattle.tenant_slots.specs.well_formed.Slots.{port_names, valuation_of}
 use Rattle.rig_model.specs.rules.Ports.{ports_of, ports_of_task, shown_name}
 use Rattle.tenant_slots.specs.well_formed.cited.Slots.{slots_of}
 use Rattle.tenant_slots.specs.well_formed.cited.Timetables.{AreEach, IsInvocation}
-use Rattle.tenant_slots.specs.declared.well_formed.timetables.SlotInvocation.{SlotInvocation}
+use Rattle.giotto_check.specs.declared.timetables.SlotInvocation.{SlotInvocation}
 use Rattle.tenant_slots.proofs.of_well_formed.PlaceLemmas.{passes_there, place-map, place_if_found}
 use Rattle.tenant_slots.proofs.of_well_formed.SlotLemmas.{port_names_begin}
 use Rattle.tenant_slots.proofs.of_well_formed.Valuations.{value_at_place}

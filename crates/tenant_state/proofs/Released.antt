@@ -10,7 +10,7 @@ use Rattle.rig_model.specs.text.Program.{TaskDeclaration, TaskInvocation, ModeDe
 use Rattle.rig_model.specs.rules.Declarations.{task_named}
 use Rattle.tenant_slots.specs.well_formed.cited.Facts.{InvocationFits, ProgramFits}
 use Rattle.tenant_slots.specs.well_formed.cited.Timetables.{AreEach, IsExpression, IsInvocation}
-use Rattle.tenant_slots.specs.declared.well_formed.timetables.SlotInvocation.{SlotInvocation}
+use Rattle.giotto_check.specs.declared.timetables.SlotInvocation.{SlotInvocation}
 use Rattle.giotto_tasks.proofs.cited.ListLemmas.{all_middle, stepped}
 use Rattle.giotto_tasks.proofs.cited.SoundLemmas.{sound_small}
 use Rattle.tenant_slots.proofs.of_well_formed.EachLemmas.{each_long}

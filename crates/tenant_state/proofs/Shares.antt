@@ -19,7 +19,7 @@ use Rattle.rig_model.specs.rules.Declarations.{mode_named}
 use Rattle.rig_model.specs.rules.Costs.{greatest}
 use Rattle.tenant_slots.specs.well_formed.cited.Timetables.{AreEach, IsInvocation, place_of_mode}
 use Rattle.tenant_slots.specs.well_formed.cited.Facts.{ProgramFits}
-use Rattle.tenant_slots.specs.declared.well_formed.timetables.SlotInvocation.{SlotInvocation}
+use Rattle.giotto_check.specs.declared.timetables.SlotInvocation.{SlotInvocation}
 use Rattle.tenant_slots.proofs.of_well_formed.EachLemmas.{each_long}
 use Rattle.tenant_slots.proofs.of_well_formed.PlaceLemmas.{found_there, place_if_found}
 use Rattle.rig_model.specs.Due.{is_due_at}

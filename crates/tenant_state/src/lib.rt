@@ -17,6 +17,3 @@ pub mod tenants;
 pub use rig_model::lines::command_lines::{LineFault, command_of};
 pub use rig_model::lines::commands::Command;
 pub use rig_model::lines::replies::{Reply, print_reply};
-pub use tenant_jobs as job_table;
-pub use tenant_programs as programs;
-pub use tenant_slots::well_formed;

@@ -20,6 +20,7 @@ pub mod waiting;
 
 use crate::tenants::active_tasks::ActiveTasks;
 use crate::tenants::waiting::Waiting;
+use giotto_check::Checked;
 use giotto_tasks::bodies::Body;
 use giotto_tasks::names::Name;
 use giotto_tasks::values::Values;
@@ -30,7 +31,6 @@ use std::alloc::{AllocError, Global};
 use std::marker::Model;
 use std::sync::Arc;
 use tenant_jobs::jobs::Key;
-use tenant_slots::well_formed::Checked;
 
 /// Why a tenant was stopped.
 #[derive(Drop)]

@@ -1,8 +1,8 @@
 //! Gates: what a worker asks before it computes a job.
 
-use locked_book::engine::JobId;
 use std::sync::Wait;
 use std::time::Clock;
+use tenant_jobs::jobs::JobId;
 
 /// Asked by a worker before it computes a job, outside the desk's lock. While it waits, that worker waits, and nobody else.
 pub trait Gate {

@@ -10,6 +10,3 @@
 
 pub mod gates;
 pub mod pools;
-
-pub use locked_book as book;
-pub use locked_book::{engine, host, job_table, state};

@@ -2,7 +2,7 @@
 
 ghost use Rattle.std.specs.Prelude.{◌≡◌, ◌<◌, ◌≤◌, ◌+◌, ◌∷◌, ◌++◌, [], List, length, IfOk, OnOk};
 ghost use Rattle.std.specs.Bool.{MatchBool};
-ghost use Rattle.locked_book.specs.declared.host.hosts.Counted.{Counted};
+ghost use Rattle.host_core.specs.declared.hosts.Counted.{Counted};
 ghost use Rattle.locked_book.specs.Books.{new_setting};
 ghost use Rattle.rig_model.specs.Logs.{IsLegalLog};
 ghost use Rattle.rig_model.specs.declared.logged.Logged.{Logged};
@@ -10,15 +10,15 @@ ghost use Rattle.worker_pool.specs.Unsent.{AreUnsent};
 
 use crate::gates::Gate;
 use crossbeam_channel::{Receiver, Sender};
+use host_core::hosts::Counted;
 use locked_book::desks::Desk;
-use locked_book::engine::{Job, Jobs, run_job};
-use locked_book::host::hosts::Counted;
 use locked_book::naming::Naming;
 use std::alloc::{AllocError, Global};
 use std::marker::Model;
 use std::sync::Wait;
 use std::thread::{JoinHandle, Scope, Threads};
 use std::time::Clock;
+use tenant_jobs::jobs::{Job, Jobs, run_job};
 
 // What a worker is told.
 #[derive(Drop)]

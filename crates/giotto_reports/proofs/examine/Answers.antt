@@ -1,5 +1,5 @@
 use Rattle.std.proofs.Common.{◌∷◌, ◌++◌, [], List, ap, ◌∙◌}
-use Rattle.giotto_breaks.specs.declared.faults.findings.Finding.{Finding}
+use Rattle.giotto_faults.specs.declared.findings.Finding.{Finding}
 use Rattle.giotto_reports.proofs.Refusing.{told_why}
 use Rattle.giotto_reports.proofs.examine.Goals as goal
 

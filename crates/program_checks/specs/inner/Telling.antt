@@ -1,6 +1,6 @@
 -- Findings about a budget, and some more.
 use Rattle.std.specs.Prelude.{ℕ, List, ◌++◌}
-use Rattle.giotto_reports.specs.declared.faults.findings.Finding.{Finding}
+use Rattle.giotto_faults.specs.declared.findings.Finding.{Finding}
 use Rattle.giotto_reports.specs.Parts.{ProgramPart, invocation, switch, update}
 use Rattle.rig_model.specs.text.ProgramTrees.{invocation_of, mode_of, switch_of, update_of}
 use Rattle.rig_model.specs.declared.text.programs.Invocation.{Invocation}

@@ -12,8 +12,8 @@ use Rattle.rig_model.specs.Script.{past_behind, reply_to_line, script_text_of}
 use Rattle.rig_model.specs.TextLines.{cut}
 use Rattle.rig_model.specs.declared.events.Event.{Event}
 use Rattle.rig_pictures.specs.script.BrokenOff.{IsScriptBrokenOff}
-use Rattle.rig_pictures.specs.declared.script.faults.ScriptFault.{ScriptFault}
-use Rattle.rig_pictures.specs.declared.script.faults.ScriptFault.TheVariants.{Memory}
+use Rattle.rig_script.specs.declared.faults.ScriptFault.{ScriptFault}
+use Rattle.rig_script.specs.declared.faults.ScriptFault.TheVariants.{Memory}
 use Rattle.rig_pictures.specs.script.Given.{bad_line_of, number_behind, texts_of}
 use Rattle.script_reports.specs.cited.Heard.{HeardLine}
 use Rattle.script_reports.specs.cited.Runs.{line_in}

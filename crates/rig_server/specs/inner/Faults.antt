@@ -2,8 +2,8 @@
 use Rattle.std.specs.Prelude.{ℕ, List, codes}
 use Rattle.rig_server.specs.declared.faults.ServeFault.{ServeFault}
 use Rattle.rig_server.specs.declared.faults.ServeFault.TheVariants.{Listen, Read, Write, Turns, Memory}
-use Rattle.rig_sessions.specs.declared.line_reader.faults.LinesFault.{LinesFault}
-use Rattle.rig_sessions.specs.declared.line_reader.faults.LinesFault.TheVariants as lines
+use Rattle.text_lines.specs.declared.faults.LinesFault.{LinesFault}
+use Rattle.text_lines.specs.declared.faults.LinesFault.TheVariants as lines
 
 abbrev pub text_of_fault : ServeFault → List ℕ
 text_of_fault Listen = codes "io: listen"

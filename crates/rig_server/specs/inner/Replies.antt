@@ -1,8 +1,8 @@
 -- What a server writes to its operator.
 use Rattle.std.specs.Prelude.{ℕ, List, ◌++◌, Option, Some, None, codes}
 use Rattle.std.specs.Fmt.{decimal}
-use Rattle.worker_pool.specs.declared.book.faults.CloseFault.{CloseFault}
-use Rattle.worker_pool.specs.declared.book.faults.CloseFault.TheVariants.{Mismatch, Missing}
+use Rattle.locked_book.specs.declared.faults.CloseFault.{CloseFault}
+use Rattle.locked_book.specs.declared.faults.CloseFault.TheVariants.{Mismatch, Missing}
 
 -- an instant of this number
 abbrev pub tick_reply : ℕ → List ℕ

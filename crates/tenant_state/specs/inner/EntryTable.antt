@@ -2,7 +2,7 @@
 use Rattle.std.specs.Prelude.{◌≡◌, ◌<◌, ◌≤◌, ◌-◌, ◌%◌, ◌==◌, ◌&&◌, ℕ, ℤ, nat_eq, Bool, not, List, [], ◌∷◌, map, filter, get_or, take, drop}
 use Rattle.std.specs.List.{list_any}
 use Rattle.tenant_slots.specs.well_formed.Slots.{valuation_of}
-use Rattle.tenant_slots.specs.declared.well_formed.timetables.SlotInvocation.{SlotInvocation}
+use Rattle.giotto_check.specs.declared.timetables.SlotInvocation.{SlotInvocation}
 use Rattle.rig_model.specs.text.Program.{GiottoProgram, ModeDeclaration}
 use Rattle.tenant_state.specs.declared.tenants.Active.{Active}
 use Rattle.rig_model.specs.FirstHalf.{all_ended, due_among, outputs_of_end}

@@ -2,7 +2,7 @@
 use Rattle.std.specs.Prelude.{◌≡◌, ◌≤◌, ℕ, ℤ, List, length}
 use Rattle.tenant_slots.specs.well_formed.Slots.{valuation_of}
 use Rattle.tenant_slots.specs.well_formed.cited.Timetables.{IsInvocation}
-use Rattle.tenant_slots.specs.declared.well_formed.timetables.SlotInvocation.{SlotInvocation}
+use Rattle.giotto_check.specs.declared.timetables.SlotInvocation.{SlotInvocation}
 use Rattle.rig_model.specs.text.Program.{GiottoProgram, ModeDeclaration, TaskDeclaration, TaskInvocation}
 use Rattle.rig_model.specs.Row.{ActiveTask}
 use Rattle.rig_model.specs.SecondHalf.{released, with_inputs}

@@ -15,6 +15,7 @@ ghost use Rattle.tenant_state.specs.Standing.{StandsFor};
 
 use crate::tenants::waiting::{Beginning, beginning_of};
 use crate::tenants::{Reason, State, Tenant};
+use giotto_check::Checked;
 use rig_model::lines::commands::Command;
 use rig_model::lines::ports::PortValue;
 use rig_model::lines::replies::{Refusal, Reply};
@@ -24,7 +25,6 @@ use tenant_programs::budgets::broken_budget;
 use tenant_programs::prepared::{Prepared, Reading, prepare, program_by_reading};
 use tenant_slots::beginning::reset_ports;
 use tenant_slots::names::{mode_name, start_place};
-use tenant_slots::well_formed::Checked;
 
 impl Tenant {
     /// Carries out a command, as `carry_out`. Its text, if it has one, is read first.

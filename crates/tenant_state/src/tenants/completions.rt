@@ -16,6 +16,7 @@ ghost use Rattle.tenant_state.specs.Standing.{awaited_job, outstanding_tasks, re
 ghost use Rattle.tenant_state.specs.inner.Tenants.{IsActiveOf, is_done, its_name, its_result};
 
 use crate::tenants::{Active, Tenant};
+use giotto_check::Checked;
 use giotto_tasks::bodies::Body;
 use rig_model::config::TenantId;
 use rig_model::text::programs::Task;
@@ -23,7 +24,6 @@ use std::alloc::AllocError;
 use std::sync::Arc;
 use tenant_jobs::finished::Finished;
 use tenant_jobs::jobs::{Done, Job, JobId, JobResult};
-use tenant_slots::well_formed::Checked;
 
 impl Tenant {
     /// Whether this is the result of an active task's job: the task is active with the job's release, and the job's body, inputs and

@@ -15,9 +15,9 @@ ghost use Rattle.tenant_state.specs.inner.Tenants.{IsActiveOf};
 use crate::tenants::active_tasks::ActiveTasks;
 use crate::tenants::completions::job_id;
 use crate::tenants::{Active, Tenant};
+use giotto_check::Checked;
 use rig_model::config::TenantId;
 use tenant_jobs::finished::Finished;
-use tenant_slots::well_formed::Checked;
 
 impl Tenant {
     /// Takes the entries of the tasks that ended out of the table. Nothing is known of them any longer.

@@ -23,6 +23,8 @@ ghost use Rattle.tenant_state.specs.inner.Tenants.{IsActiveOf, IsResultRight, is
 use crate::tenants::active_tasks::ActiveTasks;
 use crate::tenants::completions::result_of;
 use crate::tenants::{Active, Reason, State, Tenant};
+use giotto_check::Checked;
+use giotto_check::timetables::SlotInvocation;
 use rig_model::config::TenantId;
 use rig_model::trace::traces::Trace;
 use tenant_jobs::finished::Finished;
@@ -30,8 +32,6 @@ use tenant_slots::actuators::update_due;
 use tenant_slots::due::{Due, TABLED_TASKS, ends_at, is_task_due, mark_due};
 use tenant_slots::names::task_name;
 use tenant_slots::tasks::write_results;
-use tenant_slots::well_formed::Checked;
-use tenant_slots::well_formed::timetables::SlotInvocation;
 
 impl Tenant {
     /// The first half of an instant. The due tasks write their results, which are in this table, and the due actuators are updated; or

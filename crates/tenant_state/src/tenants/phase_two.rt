@@ -23,6 +23,7 @@ ghost use Rattle.tenant_state.specs.inner.Tenants.{IsActiveOf, IsShareOf, its_jo
 use crate::tenants::releases::invoke_due;
 use crate::tenants::switches::{Instant, switch};
 use crate::tenants::{Active, State, Tenant};
+use giotto_check::Checked;
 use giotto_tasks::bodies::Body;
 use rig_model::config::TenantId;
 use rig_model::grants::granted::Granted;
@@ -32,7 +33,6 @@ use std::sync::Arc;
 use tenant_exchange::sensors::read_sensors;
 use tenant_jobs::jobs::{Job, JobId, Jobs};
 use tenant_slots::due::due_behind;
-use tenant_slots::well_formed::Checked;
 
 impl Tenant {
     /// The second half of an instant whose number is below the greatest, with the jobs of the tasks that it releases. Each due task ended

@@ -5,7 +5,7 @@ ghost use Rattle.std.specs.List.{find, list_any, position_from, AllByRecursion};
 ghost use Rattle.std.specs.Option.{option_map};
 ghost use Rattle.giotto_tasks.specs.Names.{is_among, same_name};
 ghost use Rattle.rig_model.specs.declared.text.programs.Actuator.{Actuator};
-ghost use Rattle.tenant_slots.specs.declared.well_formed.timetables.SlotInvocation.{SlotInvocation};
+ghost use Rattle.giotto_check.specs.declared.timetables.SlotInvocation.{SlotInvocation};
 ghost use Rattle.tenant_slots.specs.Places.{name_of_task};
 ghost use Rattle.rig_model.specs.FirstHalf.{names_due};
 ghost use Rattle.tenant_state.specs.cited.Standing.{has_active};
@@ -14,14 +14,14 @@ ghost use Rattle.rig_model.specs.LineValues.{line_value};
 ghost use Rattle.tenant_state.specs.inner.Tenants.{IsActiveOf, is_of_job};
 
 use crate::tenants::{Active, State, Tenant};
+use giotto_check::Checked;
+use giotto_check::timetables::SlotInvocation;
 use giotto_tasks::names::Name;
 use rig_model::text::programs::Actuator;
 use tenant_jobs::jobs::JobId;
 use tenant_slots::actuators::{actuator_place, driver_name};
 use tenant_slots::due::ends_at;
 use tenant_slots::names::is_task_named;
-use tenant_slots::well_formed::Checked;
-use tenant_slots::well_formed::timetables::SlotInvocation;
 
 impl Tenant {
     /// Whether the task of this name is active and ends at the next instant. Nothing is due where no program runs. Takes no memory.

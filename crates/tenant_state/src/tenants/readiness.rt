@@ -14,13 +14,13 @@ ghost use Rattle.tenant_slots.specs.cited.Places.{IsModeAt};
 
 use crate::tenants::waiting::Waiting;
 use crate::tenants::{State, Tenant};
+use giotto_check::Checked;
 use giotto_tasks::bodies::Body;
 use rig_model::text::programs::Task;
 use std::alloc::{AllocError, Global};
 use std::sync::Arc;
 use tenant_slots::due::Due;
 use tenant_slots::names::start_place;
-use tenant_slots::well_formed::Checked;
 
 impl Tenant {
     /// Makes what the next instant needs: places for the tasks that become active, and shares of their bodies. How many jobs

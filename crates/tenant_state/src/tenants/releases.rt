@@ -14,11 +14,11 @@ ghost use Rattle.tenant_slots.specs.cited.Places.{IsModeAt};
 
 use crate::tenants::Active;
 use crate::tenants::active_tasks::ActiveTasks;
+use giotto_check::Checked;
+use giotto_check::timetables::SlotInvocation;
 use tenant_slots::drivers::holds;
 use tenant_slots::due::Due;
 use tenant_slots::tasks::{argument_values, state_values, write_inputs};
-use tenant_slots::well_formed::Checked;
-use tenant_slots::well_formed::timetables::SlotInvocation;
 
 // The invocations of the mode at this place that are due, in text order: where its guard holds, its task becomes active. None is due
 // before mode time `next`.

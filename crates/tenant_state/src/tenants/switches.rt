@@ -16,12 +16,12 @@ ghost use Rattle.tenant_state.specs.inner.Tenants.{IsActiveOf, IsSwitched, entry
 ghost use Rattle.rig_model.specs.trace.cited.Noted.{noted};
 
 use crate::tenants::Active;
+use giotto_check::Checked;
 use rig_model::trace::records::Happening;
 use rig_model::trace::traces::Trace;
 use tenant_slots::names::mode_name;
 use tenant_slots::periods::{common_multiple, period_of};
 use tenant_slots::switches::take_switch;
-use tenant_slots::well_formed::Checked;
 
 /// Where a switch leads.
 #[derive(Drop)]

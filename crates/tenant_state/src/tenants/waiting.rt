@@ -20,6 +20,7 @@ ghost use Rattle.tenant_slots.specs.cited.Replacement.{IsCarryTable};
 
 use crate::tenants::Tenant;
 use crate::tenants::readiness::share_bodies;
+use giotto_check::Checked;
 use giotto_tasks::bodies::Body;
 use rig_model::lines::replies::Refusal;
 use rig_model::trace::records::Happening;
@@ -30,7 +31,6 @@ use tenant_programs::prepared::{Reading, program_by_reading};
 use tenant_slots::beginning::{initial_values, no_shares};
 use tenant_slots::names::{mode_name, start_place};
 use tenant_slots::replacement::{Carried, carried_slots, carry_over};
-use tenant_slots::well_formed::Checked;
 
 /// What a program begins with: the value of each port, by its slot, and a place for a share of each task's body.
 #[derive(Drop)]

@@ -1,5 +1,5 @@
 use Rattle.std.proofs.Common.{◌≡◌, ◌+◌, ◌++◌, ◌∙◌, List, ℕ, ap, arith, refl, string_bytes}
-use Rattle.program_checks.specs.declared.faults.findings.Severity.TheVariants.{Note}
+use Rattle.giotto_faults.specs.declared.findings.Severity.TheVariants.{Note}
 use Rattle.rig_model.specs.lines.Words.{behind_first_word}
 use Rattle.script_checks.proofs.Showing.{one_note}
 use Rattle.script_checks.specs.Grants.{place_of_note}

@@ -1,5 +1,5 @@
 use Rattle.std.proofs.Common.{◌+◌, rules, string_bytes}
-use Rattle.program_checks.specs.declared.faults.findings.Finding.{Finding}
+use Rattle.giotto_faults.specs.declared.findings.Finding.{Finding}
 use Rattle.script_checks.proofs.Showing.{finding_further}
 use Rattle.script_checks.specs.LineTexts.{place_in}
 use Rattle.script_checks.proofs.scripts.add_findings.Goals as goal

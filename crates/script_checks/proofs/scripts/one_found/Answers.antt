@@ -1,5 +1,5 @@
 use Rattle.std.proofs.Common.{◌∷◌, ◌++◌, ◌∙◌, [], List, ap, refl}
-use Rattle.program_checks.specs.declared.faults.findings.Finding.{Finding}
+use Rattle.giotto_faults.specs.declared.findings.Finding.{Finding}
 use Rattle.script_checks.proofs.scripts.one_found.Goals as goal
 
 pub returns-clause-told : goal.returns-clause-told

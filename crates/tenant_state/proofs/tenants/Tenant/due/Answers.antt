@@ -1,6 +1,6 @@
 use Rattle.std.proofs.Common.{◌%◌, ◌==◌, ◌&&◌, nat_eq, sym, ap, ◌∙◌}
 use Rattle.std.specs.List.{list_any}
-use Rattle.tenant_slots.specs.declared.well_formed.timetables.SlotInvocation.{SlotInvocation}
+use Rattle.giotto_check.specs.declared.timetables.SlotInvocation.{SlotInvocation}
 use Rattle.giotto_tasks.proofs.cited.ListLemmas.{all_map}
 use Rattle.tenant_slots.proofs.cited.Quiet.{invocations_positive}
 use Rattle.tenant_state.specs.declared.tenants.Active.{Active}

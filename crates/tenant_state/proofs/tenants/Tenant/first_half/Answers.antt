@@ -4,7 +4,7 @@ use Rattle.std.specs.List.{find, flat_map, AllByRecursion}
 use Rattle.std.specs.Option.{option_map}
 use Rattle.std.proofs.lemmas.Bool.{false≢true}
 use Rattle.tenant_slots.specs.well_formed.Slots.{valuation_of}
-use Rattle.tenant_slots.specs.declared.well_formed.timetables.SlotInvocation.{SlotInvocation}
+use Rattle.giotto_check.specs.declared.timetables.SlotInvocation.{SlotInvocation}
 use Rattle.giotto_tasks.proofs.cited.ListLemmas.{all_filter, filter_shorter, found_has, whole_slice}
 use Rattle.giotto_tasks.proofs.cited.TestLemmas.{and_true}
 use Rattle.tenant_jobs.specs.Finished.{has_result}

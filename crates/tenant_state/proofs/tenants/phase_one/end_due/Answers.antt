@@ -4,7 +4,7 @@ use Rattle.std.proofs.lemmas.List.{drop_all, drop_more}
 use Rattle.tenant_slots.specs.well_formed.Slots.{valuation_of}
 use Rattle.tenant_slots.specs.well_formed.cited.Timetables.{AreEach, IsInvocation}
 use Rattle.rig_model.specs.text.Program.{ModeDeclaration}
-use Rattle.tenant_slots.specs.declared.well_formed.timetables.SlotInvocation.{SlotInvocation}
+use Rattle.giotto_check.specs.declared.timetables.SlotInvocation.{SlotInvocation}
 use Rattle.tenant_slots.proofs.of_well_formed.EachLemmas.{each_long}
 use Rattle.tenant_slots.proofs.cited.Updates.{each_item}
 use Rattle.rig_model.specs.FirstHalf.{all_ended}

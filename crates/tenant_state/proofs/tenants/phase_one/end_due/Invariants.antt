@@ -3,7 +3,7 @@ use Rattle.std.specs.List.{find, flat_map, AllByRecursion}
 use Rattle.tenant_slots.specs.well_formed.cited.Slots.{slots_of}
 use Rattle.tenant_slots.specs.well_formed.Slots.{valuation_of}
 use Rattle.tenant_slots.specs.well_formed.cited.Timetables.{AreEach, IsInvocation}
-use Rattle.tenant_slots.specs.declared.well_formed.timetables.SlotInvocation.{SlotInvocation}
+use Rattle.giotto_check.specs.declared.timetables.SlotInvocation.{SlotInvocation}
 use Rattle.rig_model.specs.text.Program.{ModeDeclaration}
 use Rattle.rig_model.specs.FirstHalf.{all_ended}
 use Rattle.tenant_state.specs.Tenants.{active_of}

@@ -5,7 +5,7 @@ use Rattle.std.specs.Option.{option_map}
 use Rattle.std.proofs.lemmas.Bool.{and_from, and_left, and_right}
 use Rattle.std.proofs.lemmas.List.{drop_more}
 use Rattle.giotto_tasks.proofs.cited.ListLemmas.{all_map}
-use Rattle.tenant_slots.specs.declared.well_formed.timetables.SlotInvocation.{SlotInvocation}
+use Rattle.giotto_check.specs.declared.timetables.SlotInvocation.{SlotInvocation}
 use Rattle.tenant_jobs.specs.Finished.{has_result}
 use Rattle.tenant_jobs.specs.cited.Finished.{is_entered}
 use Rattle.rig_model.specs.declared.jobs.JobId.{JobId}

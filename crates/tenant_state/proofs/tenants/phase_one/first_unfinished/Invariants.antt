@@ -1,6 +1,6 @@
 use Rattle.std.proofs.Common.{◌≡◌, ◌<◌, drop}
 use Rattle.std.specs.List.{find, AllByRecursion}
-use Rattle.tenant_slots.specs.declared.well_formed.timetables.SlotInvocation.{SlotInvocation}
+use Rattle.giotto_check.specs.declared.timetables.SlotInvocation.{SlotInvocation}
 use Rattle.tenant_state.specs.inner.EntryTable.{is_left_open}
 use Rattle.tenant_state.specs.inner.Tenants.{is_done}
 use Rattle.tenant_state.proofs.tenants.phase_one.first_unfinished.Given as goal

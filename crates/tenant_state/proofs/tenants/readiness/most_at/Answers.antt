@@ -3,8 +3,8 @@ use Rattle.std.proofs.Math.Nat.{max-zero}
 use Rattle.std.proofs.lemmas.List.{drop_all, take_all}
 use Rattle.rig_model.specs.text.Program.{TaskInvocation}
 use Rattle.tenant_slots.specs.well_formed.cited.Timetables.{IsExit, IsInvocation}
-use Rattle.tenant_slots.specs.declared.well_formed.timetables.SlotExit.{SlotExit}
-use Rattle.tenant_slots.specs.declared.well_formed.timetables.SlotInvocation.{SlotInvocation}
+use Rattle.giotto_check.specs.declared.timetables.SlotExit.{SlotExit}
+use Rattle.giotto_check.specs.declared.timetables.SlotInvocation.{SlotInvocation}
 use Rattle.tenant_slots.proofs.of_well_formed.EachLemmas.{each_long}
 use Rattle.giotto_tasks.proofs.cited.ListLemmas.{all_at}
 use Rattle.rig_model.specs.Due.{is_due_at}

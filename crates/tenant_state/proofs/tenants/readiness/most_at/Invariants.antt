@@ -1,5 +1,5 @@
 use Rattle.std.proofs.Common.{◌≡◌, ◌≤◌, ◌%◌, ◌==◌, Some, length, max, filter, take, drop, slice_get}
-use Rattle.tenant_slots.specs.declared.well_formed.timetables.SlotInvocation.{SlotInvocation}
+use Rattle.giotto_check.specs.declared.timetables.SlotInvocation.{SlotInvocation}
 use Rattle.rig_model.specs.text.Program.{ModeDeclaration}
 use Rattle.tenant_state.specs.Standing.{most_at}
 use Rattle.tenant_state.proofs.Shares.{most_entered}
