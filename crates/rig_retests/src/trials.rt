@@ -156,20 +156,12 @@ impl<'a> Sheet<'a> {
     ) -> Result<(), AllocError> {
         let left_out = self.pass(alloc, config, line.events)?;
         self.sum.add_line(line.events, left_out.number);
-        let number = line.number;
         let mut row = Vec::new(alloc);
-        row.push(format!(in alloc; "{number:>4}")?)?;
-        row.push(fate(alloc, line.events, left_out.number)?)?;
-        row.push(shortened(alloc, line.text.as_str(), LINE_WIDTH)?)?;
+        add_head(alloc, line, left_out.number, &mut row)?;
         if line.speaker == Speaker::Tenant(self.tenant) {
             return self.add_own(alloc, line, row);
         }
-        row.push(String::new(alloc))?;
-        if !left_out.tasks.is_empty() {
-            let tasks = shortened(alloc, left_out.tasks.as_str(), TASKS_WIDTH)?;
-            let tasks = tasks.as_str();
-            row.push(format!(in alloc; "without {tasks}")?)?;
-        }
+        add_tasks(alloc, &left_out, &mut row)?;
         self.columns.add(row)
     }
 
@@ -284,4 +276,30 @@ fn first_line(text: &str) -> (&str, &str) {
         Some(parts) => parts,
         None => (text, ""),
     }
+}
+
+// The number of a line, what became of its events, and its text.
+fn add_head(
+    alloc: Global,
+    line: &RecordedLine,
+    left_out: usize,
+    row: &mut Vec<String>,
+) -> Result<(), AllocError> {
+    let number = line.number;
+    row.push(format!(in alloc; "{number:>4}")?)?;
+    row.push(fate(alloc, line.events, left_out)?)?;
+    row.push(shortened(alloc, line.text.as_str(), LINE_WIDTH)?)?;
+    Ok(())
+}
+
+// In the place of answers, the tasks whose completions are left out.
+fn add_tasks(alloc: Global, left_out: &LeftOut, row: &mut Vec<String>) -> Result<(), AllocError> {
+    row.push(String::new(alloc))?;
+    if left_out.tasks.is_empty() {
+        return Ok(());
+    }
+    let tasks = shortened(alloc, left_out.tasks.as_str(), TASKS_WIDTH)?;
+    let tasks = tasks.as_str();
+    row.push(format!(in alloc; "without {tasks}")?)?;
+    Ok(())
 }
