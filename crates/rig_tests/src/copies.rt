@@ -1,7 +1,7 @@
 //! Copies of commands, replies and events, which no line of the program shows.
 
+use crate::fixtures::{BETA, name, release};
 use giotto_tasks::lists::List;
-use giotto_tasks::names::Name;
 use host_core::events::Event;
 use rig_model::config::intervals::Bounds;
 use rig_model::grants::rows::{Offer, Row};
@@ -11,88 +11,91 @@ use rig_model::lines::ports::{PortName, PortValue};
 use rig_model::lines::replies::{Reply, print_reply};
 use rig_model::trace::records::{Happening, Record};
 use std::alloc::Global;
-use tenant_jobs::jobs::JobId;
+use std::process::Abort;
+
+// A list of this alone.
+fn one<T: Drop>(rt: &impl Abort, alloc: Global, item: T) -> List<T> {
+    let mut items = Vec::new(alloc);
+    items.push(item).expect(rt, "memory");
+    List::from_vec(items)
+}
 
 // The replies to `show all`, `trace` and `rows` with one port, one record and one row.
-fn one_port(alloc: Global) -> Option<Reply> {
+fn one_port(rt: &impl Abort, alloc: Global) -> Reply {
     let port = PortName {
         task: None,
-        name: Name::new("a")?,
+        name: name(rt, "a"),
     };
-    let mut ports = Vec::new(alloc);
-    ports.push(PortValue { port, value: 5 }).ok()?;
-    Some(Reply::All(List::from_vec(ports)))
+    Reply::All(one(rt, alloc, PortValue { port, value: 5 }))
 }
 
-fn one_record(alloc: Global) -> Option<Reply> {
-    let mut records = Vec::new(alloc);
-    records
-        .push(Record {
-            tick: 7,
-            happening: Happening::Asked,
-        })
-        .ok()?;
-    Some(Reply::Trace(List::from_vec(records)))
+fn one_record(rt: &impl Abort, alloc: Global) -> Reply {
+    let record = Record {
+        tick: 7,
+        happening: Happening::Asked,
+    };
+    Reply::Trace(one(rt, alloc, record))
 }
 
-fn one_row(alloc: Global) -> Option<Reply> {
+fn one_row(rt: &impl Abort, alloc: Global) -> Reply {
     let offer = Offer {
-        actuator: Name::new("a")?,
-        tenant: Name::new("beta")?,
+        actuator: name(rt, "a"),
+        tenant: name(rt, "beta"),
         bounds: Bounds::whole(),
     };
-    let mut rows = Vec::new(alloc);
-    rows.push(Row::Offer(offer)).ok()?;
-    Some(Reply::Rows(List::from_vec(rows)))
-}
-
-// The same with nothing to list.
-fn no_port(alloc: Global) -> Option<Reply> {
-    Some(Reply::All(List::from_vec(Vec::new(alloc))))
-}
-
-fn no_record(alloc: Global) -> Option<Reply> {
-    Some(Reply::Trace(List::from_vec(Vec::new(alloc))))
-}
-
-fn no_row(alloc: Global) -> Option<Reply> {
-    Some(Reply::Rows(List::from_vec(Vec::new(alloc))))
+    Reply::Rows(one(rt, alloc, Row::Offer(offer)))
 }
 
 // Whether the reply's copy has this text.
-fn copy_has(alloc: Global, reply: Option<Reply>, text: &str) -> Option<bool> {
-    let reply = reply?;
-    let copy = reply.copy(alloc).ok()?;
-    let printed = print_reply(alloc, &copy).ok()?;
-    Some(printed.as_str() == text)
+fn copy_has(rt: &impl Abort, alloc: Global, reply: Reply, text: &str) -> bool {
+    let copy = reply.copy(alloc).expect(rt, "memory");
+    let printed = print_reply(alloc, &copy).expect(rt, "memory");
+    drop(copy);
+    drop(reply);
+    printed.as_str() == text
 }
 
 #[test]
 fn copies_replies(rt: HostRuntime) {
     let alloc = rt.alloc();
-    assert!(rt; copy_has(alloc, one_port(alloc), "ok all a=5") == Some(true));
-    assert!(rt; copy_has(alloc, one_record(alloc), "ok trace 7:stop:asked") == Some(true));
-    assert!(rt; copy_has(alloc, one_row(alloc), "ok rows offer:a:beta") == Some(true));
+    assert!(rt; copy_has(&rt, alloc, one_port(&rt, alloc), "ok all a=5"));
+    assert!(rt; copy_has(&rt, alloc, one_record(&rt, alloc), "ok trace 7:stop:asked"));
+    assert!(rt; copy_has(&rt, alloc, one_row(&rt, alloc), "ok rows offer:a:beta"));
+}
+
+// The same with nothing to list.
+fn no_port(alloc: Global) -> Reply {
+    Reply::All(List::from_vec(Vec::new(alloc)))
+}
+
+fn no_record(alloc: Global) -> Reply {
+    Reply::Trace(List::from_vec(Vec::new(alloc)))
+}
+
+fn no_row(alloc: Global) -> Reply {
+    Reply::Rows(List::from_vec(Vec::new(alloc)))
 }
 
 #[test]
 fn copies_replies_that_list_nothing(rt: HostRuntime) {
     let alloc = rt.alloc();
-    assert!(rt; copy_has(alloc, no_port(alloc), "ok all") == Some(true));
-    assert!(rt; copy_has(alloc, no_record(alloc), "ok trace") == Some(true));
-    assert!(rt; copy_has(alloc, no_row(alloc), "ok rows") == Some(true));
+    assert!(rt; copy_has(&rt, alloc, no_port(alloc), "ok all"));
+    assert!(rt; copy_has(&rt, alloc, no_record(alloc), "ok trace"));
+    assert!(rt; copy_has(&rt, alloc, no_row(alloc), "ok rows"));
 }
 
 // The copy of the command that a line spells.
-fn copy_of_command(alloc: Global, line: &str) -> Option<Command> {
-    let command = command_of(alloc, line).ok()?;
-    command.copy(alloc).ok()
+fn copy_of_command(rt: &impl Abort, alloc: Global, line: &str) -> Command {
+    let command = command_of(alloc, line).ok().expect(rt, "a command");
+    let copy = command.copy(alloc).expect(rt, "memory");
+    drop(command);
+    copy
 }
 
 // Whether it is a `load` of this text.
-fn is_load(command: Option<Command>, text: &str) -> bool {
+fn is_load(command: &Command, text: &str) -> bool {
     match command {
-        Some(Command::Load(own)) => own.as_str() == text,
+        Command::Load(own) => own.as_str() == text,
         _ => false,
     }
 }
@@ -100,22 +103,12 @@ fn is_load(command: Option<Command>, text: &str) -> bool {
 #[test]
 fn copies_commands(rt: HostRuntime) {
     let alloc = rt.alloc();
-    assert!(rt; matches!(copy_of_command(alloc, "start"), Some(Command::Start)));
-    assert!(rt; is_load(copy_of_command(alloc, "load"), ""));
-    assert!(rt; is_load(copy_of_command(alloc, "load start m;"), "start m;"));
+    assert!(rt; matches!(copy_of_command(&rt, alloc, "start"), Command::Start));
+    assert!(rt; is_load(&copy_of_command(&rt, alloc, "load"), ""));
+    assert!(rt; is_load(&copy_of_command(&rt, alloc, "load start m;"), "start m;"));
 }
 
-// The completion of beta's job of T that was released at tick 7.
-fn completion() -> Option<Event> {
-    let task = Name::new("T")?;
-    Some(Event::Done(JobId {
-        tenant: 1,
-        tick: 7,
-        task,
-    }))
-}
-
-// Whether an event is that one.
+// Whether an event is the completion of beta's job of T that was released at tick 7.
 fn is_completion(event: &Event) -> bool {
     match event {
         Event::Done(id) => id.tenant == 1 && id.tick == 7 && id.task.as_str() == "T",
@@ -124,13 +117,16 @@ fn is_completion(event: &Event) -> bool {
 }
 
 // Whether that one's copy is.
-fn copies_the_completion(alloc: Global) -> Option<bool> {
-    let event = completion()?;
-    let copy = event.copy(alloc).ok()?;
-    Some(is_completion(&copy))
+fn copies_the_completion(rt: &impl Abort, alloc: Global) -> bool {
+    let event = Event::Done(release(rt, BETA, 7));
+    let copy = event.copy(alloc).expect(rt, "memory");
+    let is_copy = is_completion(&copy);
+    drop(copy);
+    drop(event);
+    is_copy
 }
 
 #[test]
 fn copies_a_completion(rt: HostRuntime) {
-    assert!(rt; copies_the_completion(rt.alloc()) == Some(true));
+    assert!(rt; copies_the_completion(&rt, rt.alloc()));
 }

@@ -5,7 +5,8 @@ use host_core::hosts::Host;
 use rig_model::config::{Config, read_config};
 use rig_model::lines::words::first_word;
 use rig_script::answers::Answers;
-use std::alloc::{AllocError, Global};
+use std::alloc::Global;
+use std::process::Abort;
 
 // The other fields of each tenant.
 const FIELDS: &str = "reads = [0]
@@ -167,73 +168,72 @@ const BUSY: [&str; 9] = [
 // Alpha has an actuator of the name to which beta is bound, and doesn't offer it.
 const QUIET: [&str; 1] = ["alpha load actuator a := 9; mode m period 1 { } start m;"];
 
-fn add_tenant(alloc: Global, text: &mut String, name: &str, key: &str) -> Result<(), AllocError> {
-    let own = format!(in alloc; "[[tenant]]\nname = \"{name}\"\nkey = \"{key}\"\n")?;
-    text.push_str(own.as_str())?;
-    text.push_str(FIELDS)
+fn add_tenant(rt: &impl Abort, alloc: Global, text: &mut String, name: &str, key: &str) {
+    let own = format!(in alloc; "[[tenant]]\nname = \"{name}\"\nkey = \"{key}\"\n").expect(
+        rt, "memory",
+    );
+    text.push_str(own.as_str()).expect(rt, "memory");
+    text.push_str(FIELDS).expect(rt, "memory");
 }
 
-// The text of a configuration of alpha, beta and gamma, with these keys of alpha and gamma.
-fn text_of_rig(alloc: Global, alpha: &str, gamma: &str) -> Result<String, AllocError> {
-    let mut text = String::from_str(alloc, "version = 1\nlines = 1\n")?;
-    add_tenant(alloc, &mut text, "alpha", alpha)?;
-    add_tenant(alloc, &mut text, "beta", "kkkkbeta")?;
-    add_tenant(alloc, &mut text, "gamma", gamma)?;
-    Ok(text)
+// A rig of alpha, beta and gamma, with these keys of alpha and gamma.
+fn rig(rt: &impl Abort, alloc: Global, alpha: &str, gamma: &str) -> Config {
+    let mut text = String::from_str(alloc, "version = 1\nlines = 1\n").expect(rt, "memory");
+    add_tenant(rt, alloc, &mut text, "alpha", alpha);
+    add_tenant(rt, alloc, &mut text, "beta", "kkkkbeta");
+    add_tenant(rt, alloc, &mut text, "gamma", gamma);
+    read_config(alloc, text.as_str()).expect(rt, "a configuration")
 }
 
 // What a line is answered.
-fn reply_of(alloc: Global, host: &mut Host, line: &str) -> Result<String, AllocError> {
+fn reply_of(rt: &impl Abort, alloc: Global, host: &mut Host, line: &str) -> String {
     let mut text = String::new(alloc);
-    match host.answer(alloc, line, &mut text) {
-        Ok(()) => Ok(text),
-        Err(_) => Err(AllocError),
-    }
+    host.answer(alloc, line, &mut text).expect(rt, "memory");
+    text
 }
 
-// Adds beta's replies to these lines, before each of which one of the others is answered as long as there is one.
-fn add_replies(
+// What beta is answered to these lines, before each of which one of the others is answered as long as there is one.
+fn replies_to(
+    rt: &impl Abort,
     alloc: Global,
     host: &mut Host,
     lines: &[&str],
     others: &[&str],
-    text: &mut String,
-) -> Result<(), AllocError> {
+) -> String {
+    let mut text = String::new(alloc);
     for i in 0..lines.len() {
         if i < others.len() {
-            let _ = reply_of(alloc, host, others[i])?;
+            drop(reply_of(rt, alloc, host, others[i]));
         }
-        let reply = reply_of(alloc, host, lines[i])?;
+        let reply = reply_of(rt, alloc, host, lines[i]);
         if first_word(reply.as_str()) == "beta" {
-            text.push_str(reply.as_str())?;
+            text.push_str(reply.as_str()).expect(rt, "memory");
         }
     }
-    Ok(())
+    text
 }
 
-// What beta is answered in this rig, beside others that are given these lines.
-fn answered(alloc: Global, rig: &Config, others: &[&str]) -> Result<String, AllocError> {
-    let mut host = Host::new(alloc, rig, 0)?;
-    let mut text = String::new(alloc);
-    add_replies(alloc, &mut host, &LINES, others, &mut text)?;
-    Ok(text)
+// What beta is answered in a rig with these keys, beside others that are given these lines.
+fn answered(rt: &impl Abort, alloc: Global, alpha: &str, gamma: &str, others: &[&str]) -> String {
+    let config = rig(rt, alloc, alpha, gamma);
+    let mut host = Host::new(alloc, &config, 0).expect(rt, "memory");
+    let replies = replies_to(rt, alloc, &mut host, &LINES, others);
+    drop(host);
+    drop(config);
+    replies
 }
 
-// Whether this is what beta is answered, and nothing of a key or of another's program stands there.
-fn are_beside(alloc: Global, alpha: &str, gamma: &str, others: &[&str]) -> Option<bool> {
-    let text = text_of_rig(alloc, alpha, gamma).ok()?;
-    let rig = read_config(alloc, text.as_str()).ok()?;
-    let replies = answered(alloc, &rig, others).ok()?;
-    let shows_another = replies.as_str().contains("kkkk") || replies.as_str().contains("qqqq");
-    Some(replies.as_str() == REPLIES && !shows_another)
+// Whether these are the replies to beta, and nothing of a key or of another's program stands there.
+fn are_its_own(replies: &str) -> bool {
+    replies == REPLIES && !replies.contains("kkkk") && !replies.contains("qqqq")
 }
 
 #[test]
 fn replies_show_no_key_and_no_other_tenants_program(rt: HostRuntime) {
-    assert!(rt; are_beside(rt.alloc(), "kkkkalpha", "kkkkgamma", &BUSY) == Some(true));
+    assert!(rt; are_its_own(answered(&rt, rt.alloc(), "kkkkalpha", "kkkkgamma", &BUSY).as_str()));
 }
 
 #[test]
 fn replies_are_the_same_beside_other_keys_and_another_load(rt: HostRuntime) {
-    assert!(rt; are_beside(rt.alloc(), "ka", "kc", &QUIET) == Some(true));
+    assert!(rt; are_its_own(answered(&rt, rt.alloc(), "ka", "kc", &QUIET).as_str()));
 }

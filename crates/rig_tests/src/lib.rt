@@ -1,6 +1,7 @@
 //! Tests of what only a call shows, on values from outside. What the built program shows by its lines stands in `runs/`. They stand here so that no library is proved a second time for its tests.
 //!
-//! A test is proved like any function, and takes longer the more it holds where it can end. So each asks a small function that holds little, and compares what that one gives.
+//! A test is proved like any function, and takes longer the more it holds where it can end. So where something fails that a test doesn't
+//! ask about, `expect` or `assert!` ends the test at once, and nothing has to be dropped there. What it asks about comes back as a `bool`.
 #![tactic(auto)]
 
 #[cfg(test)]
@@ -13,6 +14,8 @@ mod completions;
 mod copies;
 #[cfg(test)]
 mod desks;
+#[cfg(test)]
+mod fixtures;
 #[cfg(test)]
 mod grants;
 #[cfg(test)]
@@ -27,6 +30,8 @@ mod pools;
 mod readers;
 #[cfg(test)]
 mod sessions;
+#[cfg(test)]
+mod shown;
 #[cfg(test)]
 mod steps;
 #[cfg(test)]

@@ -1,18 +1,18 @@
 //! Workers: a job that is held lets the others pass, a job that is sent is run, and a pool that is dropped leaves no thread behind. What
 //! passes here fails with each of three wrong crews, in the same numbers. `scripts/check-pools` runs two of these tests many times.
 
-ghost use Rattle.std.specs.Prelude.{◌≡◌, ◌≤◌};
+ghost use Rattle.std.specs.Prelude.{◌≤◌};
 
-use crate::desks::{both, entries, load_and_start};
+use crate::desks::{both, call, entries, load_and_start, new_pass};
+use crate::fixtures::{ADDER, ALPHA, BETA};
+use crate::shown::{Shown, is_shown};
 use locked_book::desks::Desk;
-use locked_book::histories::NewHistory;
 use locked_book::naming::Naming;
 use locked_book::passes::Pass;
-use rig_model::config::{Config, TenantId, built_in};
 use rig_model::lines::command_lines::command_of;
 use rig_model::lines::replies::print_reply;
 use std::alloc::Global;
-use std::marker::Brand;
+use std::process::Abort;
 use std::sync::atomic::{AtomicUsize, Ordering};
 use std::sync::{Mutex, Wait};
 use std::thread;
@@ -22,35 +22,27 @@ use tenant_jobs::jobs::{JobId, Jobs};
 use worker_pool::gates::{Free, Gate};
 use worker_pool::pools::Pool;
 
-// Reads a sensor, adds 1, and drives an actuator with the sum, with a period of 2 ticks.
-const ADDER: &str =
-    "sensor s := 0 line 0; actuator a := 0; output o := 0; task T(i) output o { o := i + 1; } mode m period 2 { actfreq 1 do a := o; taskfreq 1 do T(s); } start m;";
-
 // Two tasks, each at every tick.
 const PAIR: &str =
     "output o := 0; output q := 0; task T() output o { o := 1; } task U() output q { q := 2; } mode m period 1 { taskfreq 1 do T(); taskfreq 1 do U(); } start m;";
-
-const ALPHA: TenantId = 0;
-
-const BETA: TenantId = 1;
 
 // How often the job that is held looks whether two others have entered, a millisecond apart.
 const TURNS: u32 = 10_000;
 
 // What is shown of workers.
 #[derive(Clone, Copy)]
-enum Shown {
+pub(crate) enum Work {
     // Of three jobs the first to enter the gate is held until both others have entered.
     HeldJob(Crew),
     // A job that was sent is run before its worker is stopped.
-    StoppedWorker(Worker),
+    StoppedWorker(End),
     // A pool that is dropped runs what was sent, and its threads end.
     DroppedPool,
 }
 
 // Who computes three jobs.
 #[derive(Clone, Copy)]
-enum Crew {
+pub(crate) enum Crew {
     // Two workers.
     Two,
     // One thread alone.
@@ -59,37 +51,29 @@ enum Crew {
     TwoUnderOneLock,
 }
 
-// What a worker does with a job.
+// What becomes of the jobs of an instant, and of the workers.
 #[derive(Clone, Copy)]
-enum Worker {
-    // It runs the job.
-    Runs,
-    // It drops the job.
-    Drops,
+pub(crate) enum End {
+    // There are three, and all are done before the workers are stopped.
+    Settled,
+    // They are sent, and the workers stopped behind them.
+    Stopped,
+    // They are dropped, and the workers stopped.
+    Unsent,
+    // They are sent, and the pool is dropped.
+    Dropped,
 }
 
-// Whether it is so, on a desk of the built-in configuration. `None` where there is want of memory, or of a thread.
-fn is_shown<R: Threads + Wait + Clock + Sync>(rt: &R, alloc: Global, shown: Shown) -> Option<bool> {
-    let config = built_in(alloc).ok()?;
-    on_desk::<Brand, _>(rt, alloc, &config, NewHistory::new(), shown)
-}
-
-fn on_desk<N: Naming + Send + Sync, R: Threads + Wait + Clock + Sync>(
+pub(crate) fn works<N: Naming + Send + Sync, R: Threads + Wait + Clock + Abort + Sync>(
     rt: &R,
     alloc: Global,
-    config: &Config,
-    history: NewHistory,
-    shown: Shown,
-) -> Option<bool>
-    requires config { config.now ≡ N.config }
-    requires first_tick { 0 ≡ N.first_tick }
-    requires history { history ≡ N.history }
-{
-    let desk = Desk::<N>::new(alloc, config, 0, Some(history)).ok()?;
-    match shown {
-        Shown::HeldJob(crew) => held_job_lets_others_pass(rt, alloc, desk, crew),
-        Shown::StoppedWorker(worker) => stopped_worker_has_run_its_job(rt, alloc, &desk, worker),
-        Shown::DroppedPool => dropped_pool_runs_its_jobs(rt, alloc, desk),
+    desk: Desk<N>,
+    work: Work,
+) -> bool {
+    match work {
+        Work::HeldJob(crew) => held_job_lets_others_pass(rt, alloc, desk, crew),
+        Work::StoppedWorker(end) => stopped_worker_has_run_its_job(rt, alloc, desk, end),
+        Work::DroppedPool => dropped_pool_runs_its_jobs(rt, alloc, desk),
     }
 }
 
@@ -141,65 +125,60 @@ impl Gate for UnderLock {
 }
 
 // Alpha starts the pair and beta the adder, each on its own pass.
-fn both_start<N: Naming>(rt: &impl Wait, alloc: Global, desk: &Desk<N>) -> Option<Vec<Pass<N>>> {
-    let mut alphas = desk.pass(rt).ok()?;
-    let mut betas = desk.pass(rt).ok()?;
-    let _ = load_and_start(rt, alloc, desk, &mut alphas, ALPHA, PAIR);
-    let _ = load_and_start(rt, alloc, desk, &mut betas, BETA, ADDER);
-    both(alloc, alphas, betas)
+fn both_start<N: Naming>(rt: &(impl Wait + Abort), alloc: Global, desk: &Desk<N>) -> Vec<Pass<N>> {
+    let mut alphas = new_pass(rt, desk);
+    let mut betas = new_pass(rt, desk);
+    load_and_start(rt, alloc, desk, &mut alphas, ALPHA, PAIR);
+    load_and_start(rt, alloc, desk, &mut betas, BETA, ADDER);
+    both(rt, alloc, alphas, betas)
 }
 
 // Three jobs run by this crew, where the first is held until two others have entered: two calls of each tenant, an instant and three
 // completions stand in the log.
-fn held_job_lets_others_pass<N: Naming + Send + Sync, R: Threads + Wait + Clock + Sync>(
+fn held_job_lets_others_pass<N: Naming + Send + Sync, R: Threads + Wait + Clock + Abort + Sync>(
     rt: &R,
     alloc: Global,
     desk: Desk<N>,
     crew: Crew,
-) -> Option<bool> {
-    let passes = both_start(rt, alloc, &desk)?;
-    let was_held_too_long = run_by(rt, alloc, &desk, crew)?;
-    Some(!was_held_too_long && entries(desk, passes)? == 8)
+) -> bool {
+    let passes = both_start(rt, alloc, &desk);
+    let missed = missed_by(rt, alloc, &desk, crew);
+    assert!(rt; entries(rt, desk, passes) == 8);
+    missed == 0
 }
 
-// Whether a job was held too long.
-fn run_by<N: Naming + Send + Sync, R: Threads + Wait + Clock + Sync>(
+// How many jobs were held too long.
+fn missed_by<N: Naming + Send + Sync, R: Threads + Wait + Clock + Abort + Sync>(
     rt: &R,
     alloc: Global,
     desk: &Desk<N>,
     crew: Crew,
-) -> Option<bool> {
-    let gate = HoldsFirst::new();
+) -> usize {
+    let locked = UnderLock {
+        lock: Mutex::new(0),
+        gate: HoldsFirst::new(),
+    };
     match crew {
-        Crew::Two => run_three(rt, alloc, desk, 2, &gate)?,
-        Crew::One => run_three(rt, alloc, desk, 1, &gate)?,
-        Crew::TwoUnderOneLock => {
-            let locked = UnderLock {
-                lock: Mutex::new(0),
-                gate,
-            };
-            run_three(rt, alloc, desk, 2, &locked)?;
-            return Some(locked.gate.missed.load(Ordering::SeqCst) != 0);
-        }
+        Crew::Two => run(rt, alloc, desk, 2, &locked.gate, End::Settled),
+        Crew::One => run(rt, alloc, desk, 1, &locked.gate, End::Settled),
+        Crew::TwoUnderOneLock => run(rt, alloc, desk, 2, &locked, End::Settled),
     }
-    Some(gate.missed.load(Ordering::SeqCst) != 0)
+    locked.gate.missed.load(Ordering::SeqCst)
 }
 
-// An instant whose three jobs are run by so many workers with this gate, until none is outstanding.
-fn run_three<N: Naming + Send + Sync, R: Threads + Wait + Clock + Sync, G: Gate + Sync>(
+// An instant with the reading 5, with whose jobs this is done by so many workers with this gate.
+fn run<N: Naming + Send + Sync, R: Threads + Wait + Clock + Abort + Sync, G: Gate + Sync>(
     rt: &R,
     alloc: Global,
     desk: &Desk<N>,
     workers: usize,
     gate: &G,
-) -> Option<()>
+    end: End,
+)
     requires some { 1 ≤ workers }
     requires few { workers ≤ 64 }
 {
-    let jobs = jobs_of(rt, desk, 5)?;
-    if jobs.len() != 3 {
-        return None;
-    }
+    let jobs = jobs_of(rt, desk, 5);
     thread::scope(
         thread::scope_env(),
         rt,
@@ -207,145 +186,143 @@ fn run_three<N: Naming + Send + Sync, R: Threads + Wait + Clock + Sync, G: Gate 
             requires some { 1 ≤ workers }
             requires few { workers ≤ 64 }
         {
-            let pool = Pool::start(rt, alloc, scope, workers, desk, gate).ok()?;
-            let unsent = pool.send(rt, jobs);
-            if unsent.len() == 0 {
-                desk.settle(rt);
-            }
-            pool.stop(rt);
-            Some(())
+            let pool = Pool::start(rt, alloc, scope, workers, desk, gate).expect(rt, "workers");
+            send(rt, desk, pool, jobs, end);
         },
-    )
+    );
+}
+
+fn send<N: Naming>(
+    rt: &(impl Threads + Wait + Abort),
+    desk: &Desk<N>,
+    pool: Pool,
+    jobs: Jobs,
+    end: End,
+) {
+    match end {
+        End::Settled => {
+            assert!(rt; jobs.len() == 3);
+            assert!(rt; pool.send(rt, jobs).len() == 0);
+            desk.settle(rt);
+            pool.stop(rt);
+        }
+        End::Stopped => {
+            drop(pool.send(rt, jobs));
+            pool.stop(rt);
+        }
+        End::Unsent => {
+            drop(jobs);
+            pool.stop(rt);
+        }
+        End::Dropped => {
+            drop(pool.send(rt, jobs));
+            drop(pool);
+        }
+    }
 }
 
 // The jobs of an instant with this reading.
-fn jobs_of<N: Naming>(rt: &impl Wait, desk: &Desk<N>, reading: i64) -> Option<Jobs> {
-    let (jobs, _place) = desk.tick(rt, &[reading]).ok()?;
-    Some(jobs)
+fn jobs_of<N: Naming>(rt: &(impl Wait + Abort), desk: &Desk<N>, reading: i64) -> Jobs {
+    desk.tick(rt, &[reading]).expect(rt, "an instant").0
 }
 
 // Alpha goes on running behind the deadline of the one job of its first instant, and drives the result.
-fn stopped_worker_has_run_its_job<N: Naming + Send + Sync, R: Threads + Wait + Clock + Sync>(
-    rt: &R,
-    alloc: Global,
-    desk: &Desk<N>,
-    worker: Worker,
-) -> Option<bool> {
-    let mut pass = desk.pass(rt).ok()?;
-    load_and_start(rt, alloc, desk, &mut pass, ALPHA, ADDER)?;
-    run_one(rt, alloc, desk, worker)?;
-    let _ = jobs_of(rt, desk, 7)?;
-    let _ = jobs_of(rt, desk, 9)?;
+fn stopped_worker_has_run_its_job<
+    N: Naming + Send + Sync,
+    R: Threads + Wait + Clock + Abort + Sync,
+>(rt: &R, alloc: Global, desk: Desk<N>, end: End) -> bool {
+    let mut pass = new_pass(rt, &desk);
+    load_and_start(rt, alloc, &desk, &mut pass, ALPHA, ADDER);
+    let gate = Free;
+    run(rt, alloc, &desk, 1, &gate, end);
+    drop(jobs_of(rt, &desk, 7));
+    drop(jobs_of(rt, &desk, 9));
     let runs = is_answered(
         rt,
         alloc,
-        desk,
+        &desk,
         &mut pass,
         "show mode",
         "ok mode running m 1",
-    )?;
-    let drives = is_answered(rt, alloc, desk, &mut pass, "show port a", "ok port a 6")?;
-    Some(runs && drives)
+    );
+    let drives = is_answered(rt, alloc, &desk, &mut pass, "show port a", "ok port a 6");
+    drop(pass);
+    drop(desk);
+    runs && drives
 }
 
-// An instant with the reading 5, whose jobs are sent to one worker, or dropped, before it is stopped.
-fn run_one<N: Naming + Send + Sync, R: Threads + Wait + Clock + Sync>(
-    rt: &R,
-    alloc: Global,
-    desk: &Desk<N>,
-    worker: Worker,
-) -> Option<()> {
-    let gate = Free;
-    with_one_worker(rt, alloc, desk, &gate, worker)
-}
-
-fn with_one_worker<N: Naming + Send + Sync, R: Threads + Wait + Clock + Sync>(
-    rt: &R,
-    alloc: Global,
-    desk: &Desk<N>,
-    gate: &Free,
-    worker: Worker,
-) -> Option<()> {
-    let jobs = jobs_of(rt, desk, 5)?;
-    thread::scope(thread::scope_env(), rt, |scope| {
-        let pool = Pool::start(rt, alloc, scope, 1, desk, gate).ok()?;
-        match worker {
-            Worker::Runs => drop(pool.send(rt, jobs)),
-            Worker::Drops => drop(jobs),
-        }
-        pool.stop(rt);
-        Some(())
-    })
-}
-
-// Whether the tenant's line is answered with this text.
+// Whether alpha's line is answered with this text.
 fn is_answered<N: Naming>(
-    rt: &impl Wait,
+    rt: &(impl Wait + Abort),
     alloc: Global,
     desk: &Desk<N>,
     pass: &mut Pass<N>,
     line: &str,
     text: &str,
-) -> Option<bool> {
-    let command = command_of(alloc, line).ok()?;
-    let reply = desk.call(rt, pass, ALPHA, command).ok()?;
-    let printed = print_reply(alloc, &reply).ok()?;
-    Some(printed.as_str() == text)
+) -> bool {
+    let command = command_of(alloc, line).ok().expect(rt, "a command");
+    let reply = call(rt, desk, pass, ALPHA, command);
+    let printed = print_reply(alloc, &reply).expect(rt, "memory");
+    drop(reply);
+    printed.as_str() == text
 }
 
 // The jobs that were sent are run where the pool is dropped, and the scope ends.
-fn dropped_pool_runs_its_jobs<N: Naming + Send + Sync, R: Threads + Wait + Clock + Sync>(
+fn dropped_pool_runs_its_jobs<N: Naming + Send + Sync, R: Threads + Wait + Clock + Abort + Sync>(
     rt: &R,
     alloc: Global,
     desk: Desk<N>,
-) -> Option<bool> {
-    let passes = both_start(rt, alloc, &desk)?;
+) -> bool {
+    let passes = both_start(rt, alloc, &desk);
     let gate = Free;
-    run_and_drop(rt, alloc, &desk, &gate)?;
-    Some(entries(desk, passes)? == 8)
-}
-
-fn run_and_drop<N: Naming + Send + Sync, R: Threads + Wait + Clock + Sync>(
-    rt: &R,
-    alloc: Global,
-    desk: &Desk<N>,
-    gate: &Free,
-) -> Option<()> {
-    let jobs = jobs_of(rt, desk, 5)?;
-    thread::scope(thread::scope_env(), rt, |scope| {
-        let pool = Pool::start(rt, alloc, scope, 2, desk, gate).ok()?;
-        drop(pool.send(rt, jobs));
-        drop(pool);
-        Some(())
-    })
+    run(rt, alloc, &desk, 2, &gate, End::Dropped);
+    entries(rt, desk, passes) == 8
 }
 
 #[test]
 fn held_job_lets_two_others_pass(rt: HostRuntime) {
-    assert!(rt; is_shown(&rt, rt.alloc(), Shown::HeldJob(Crew::Two)) == Some(true));
+    assert!(rt; is_shown(&rt, rt.alloc(), Shown::Work(Work::HeldJob(Crew::Two))));
 }
 
 #[test]
 fn one_thread_for_all_is_told(rt: HostRuntime) {
-    assert!(rt; is_shown(&rt, rt.alloc(), Shown::HeldJob(Crew::One)) == Some(false));
+    assert!(rt; !is_shown(&rt, rt.alloc(), Shown::Work(Work::HeldJob(Crew::One))));
 }
 
 #[test]
 fn gate_under_a_lock_is_told(rt: HostRuntime) {
-    assert!(rt; is_shown(&rt, rt.alloc(), Shown::HeldJob(Crew::TwoUnderOneLock)) == Some(false));
+    assert!(rt;
+        !is_shown(
+            &rt,
+            rt.alloc(),
+            Shown::Work(Work::HeldJob(Crew::TwoUnderOneLock))
+        )
+    );
 }
 
 #[test]
 fn stopped_worker_has_run_what_was_sent(rt: HostRuntime) {
-    assert!(rt; is_shown(&rt, rt.alloc(), Shown::StoppedWorker(Worker::Runs)) == Some(true));
+    assert!(rt;
+        is_shown(
+            &rt,
+            rt.alloc(),
+            Shown::Work(Work::StoppedWorker(End::Stopped))
+        )
+    );
 }
 
 #[test]
 fn dropped_job_is_told(rt: HostRuntime) {
-    assert!(rt; is_shown(&rt, rt.alloc(), Shown::StoppedWorker(Worker::Drops)) == Some(false));
+    assert!(rt;
+        !is_shown(
+            &rt,
+            rt.alloc(),
+            Shown::Work(Work::StoppedWorker(End::Unsent))
+        )
+    );
 }
 
 #[test]
 fn dropped_pool_leaves_no_thread_behind(rt: HostRuntime) {
-    assert!(rt; is_shown(&rt, rt.alloc(), Shown::DroppedPool) == Some(true));
+    assert!(rt; is_shown(&rt, rt.alloc(), Shown::Work(Work::DroppedPool)));
 }

@@ -1,6 +1,6 @@
 //! Scripts whose bytes come one by one, a read that fails in mid-line, and want of memory for a reply.
 
-use rig_model::config::built_in;
+use crate::fixtures::rig;
 use rig_script::answers::{Answers, answer_lines};
 use rig_script::faults::{ScriptFault, Unanswered};
 use rig_script::script;
@@ -8,12 +8,13 @@ use rig_script::speakers::Speaker;
 use std::alloc::Global;
 use std::io;
 use std::io::Read;
+use std::process::Abort;
 
 // Gives one byte a read. Then it says once that it has ended, where it ends, and each read behind that fails.
 #[derive(Drop)]
-struct OneByOne<'a> {
-    left: &'a [u8],
-    ends: bool,
+pub(crate) struct OneByOne<'a> {
+    pub(crate) left: &'a [u8],
+    pub(crate) ends: bool,
 }
 
 impl<'a> Read for OneByOne<'a> {
@@ -35,23 +36,24 @@ impl<'a> Read for OneByOne<'a> {
 
 // How a script ends whose bytes come one by one, and what is written for it.
 fn answer(
+    rt: &impl Abort,
     alloc: Global,
     text: &[u8],
     ends: bool,
     written: &mut Vec<u8>,
 ) -> Result<(), ScriptFault> {
-    let Ok(config) = built_in(alloc) else {
-        return Err(ScriptFault::Memory);
-    };
+    let config = rig(rt, alloc);
     let mut reader = OneByOne { left: text, ends };
-    script(alloc, &mut reader, written, &config)
+    let ends = script(alloc, &mut reader, written, &config);
+    drop(config);
+    ends
 }
 
 #[test]
 fn bytes_may_come_one_by_one(rt: HostRuntime) {
     let text = b"op tick 5\r\n\r\n\nop tick\r6\r";
     let mut written = Vec::new(rt.alloc());
-    let ends = answer(rt.alloc(), text.as_slice(), true, &mut written);
+    let ends = answer(&rt, rt.alloc(), text.as_slice(), true, &mut written);
     assert!(rt; ends == Ok(()));
     assert!(rt; written.as_slice() == b"op ok tick 0\nop ok tick 1\n".as_slice());
 }
@@ -60,7 +62,7 @@ fn bytes_may_come_one_by_one(rt: HostRuntime) {
 fn lines_before_a_failing_read_are_answered(rt: HostRuntime) {
     let text = b"op tick 5\nop ti";
     let mut written = Vec::new(rt.alloc());
-    let ends = answer(rt.alloc(), text.as_slice(), false, &mut written);
+    let ends = answer(&rt, rt.alloc(), text.as_slice(), false, &mut written);
     assert!(rt; ends == Err(ScriptFault::Read));
     assert!(rt; written.as_slice() == b"op ok tick 0\n".as_slice());
 }

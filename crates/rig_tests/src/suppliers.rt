@@ -1,21 +1,20 @@
 //! Two suppliers that talk at once, each in a thread of its own, and two workers that run the jobs: all of it stands in one history.
 
-ghost use Rattle.std.specs.Prelude.{◌≡◌};
-
+use crate::desks::new_pass;
+use crate::fixtures::frame;
 use crate::sessions::{
     ALPHAS, ALPHAS_REPLIES, BETAS, BETAS_REPLIES, THIRDS, THIRDS_REPLIES, talked, talked_on,
 };
+use crate::shown::{Shown, is_shown};
 use crate::threads::closed;
-use giotto_tasks::lists::List;
 use locked_book::desks::Desk;
-use locked_book::histories::NewHistory;
 use locked_book::naming::Naming;
 use locked_book::passes::Pass;
-use rig_model::config::{Config, built_in};
+use rig_model::config::Config;
 use rig_model::logged::Logged;
 use rig_sessions::calls::Calls;
 use std::alloc::Global;
-use std::marker::Brand;
+use std::process::Abort;
 use std::sync::Wait;
 use std::thread;
 use std::thread::Threads;
@@ -32,40 +31,29 @@ struct Day<N: Naming> {
     instants: Vec<(u128, Logged)>,
 }
 
-// Whether all that two suppliers, a third session and three instants do stands in one history, on a desk of the built-in configuration.
-// `None` where there is want of memory, or of a thread.
-fn is_one_history<R: Threads + Wait + Clock + Sync>(rt: &R, alloc: Global) -> Option<bool> {
-    let config = built_in(alloc).ok()?;
-    on_desk::<Brand, _>(rt, alloc, &config, NewHistory::new())
-}
-
-fn on_desk<N: Naming + Send + Sync, R: Threads + Wait + Clock + Sync>(
+// All that two suppliers, a third session and three instants do stands in one history.
+pub(crate) fn talk_at_once<N: Naming + Send + Sync, R: Threads + Wait + Clock + Abort + Sync>(
     rt: &R,
     alloc: Global,
     config: &Config,
-    history: NewHistory,
-) -> Option<bool>
-    requires config { config.now ≡ N.config }
-    requires first_tick { 0 ≡ N.first_tick }
-    requires history { history ≡ N.history }
-{
-    let desk = Desk::<N>::new(alloc, config, 0, Some(history)).ok()?;
+    desk: Desk<N>,
+    other: &Desk<N>,
+) -> bool {
     let gate = Free;
-    let day = with_workers(rt, alloc, config, &desk, &gate)?;
-    let other = Desk::<N>::new(alloc, config, 0, None).ok()?;
-    stands_in_one_history(desk, day, other.pass(rt).ok()?)
+    let day = with_workers(rt, alloc, config, &desk, &gate);
+    stands_in_one_history(rt, desk, day, new_pass(rt, other))
 }
 
 // A day beside two workers.
-fn with_workers<N: Naming + Send + Sync, R: Threads + Wait + Clock + Sync>(
+fn with_workers<N: Naming + Send + Sync, R: Threads + Wait + Clock + Abort + Sync>(
     rt: &R,
     alloc: Global,
     config: &Config,
     desk: &Desk<N>,
     gate: &Free,
-) -> Option<Day<N>> {
+) -> Day<N> {
     thread::scope(thread::scope_env(), rt, |scope| {
-        let pool = Pool::start(rt, alloc, scope, 2, desk, gate).ok()?;
+        let pool = Pool::start(rt, alloc, scope, 2, desk, gate).expect(rt, "workers");
         let day = whole_day(rt, alloc, config, desk, &pool);
         pool.stop(rt);
         day
@@ -73,104 +61,105 @@ fn with_workers<N: Naming + Send + Sync, R: Threads + Wait + Clock + Sync>(
 }
 
 // Both suppliers begin, three instants pass, and beta asks in a third session what it was granted.
-fn whole_day<N: Naming + Send + Sync, R: Threads + Wait + Sync>(
+fn whole_day<N: Naming + Send + Sync, R: Threads + Wait + Abort + Sync>(
     rt: &R,
     alloc: Global,
     config: &Config,
     desk: &Desk<N>,
     pool: &Pool,
-) -> Option<Day<N>> {
-    let alphas = desk.pass(rt).ok()?;
-    let betas = desk.pass(rt).ok()?;
-    let (alphas, betas) = both_talk(rt, alloc, config, desk, alphas, betas)?;
-    let instants = three_instants(rt, alloc, desk, pool)?;
-    let later = third_session(rt, alloc, config, desk)?;
-    Some(Day {
+) -> Day<N> {
+    let (alphas, betas) = both_talk(
+        rt,
+        alloc,
+        config,
+        desk,
+        new_pass(rt, desk),
+        new_pass(rt, desk),
+    );
+    let instants = three_instants(rt, alloc, desk, pool);
+    let third = talked(rt, alloc, config, desk, THIRDS, THIRDS_REPLIES);
+    let mut later = Vec::new(alloc);
+    later.push(third).expect(rt, "memory");
+    Day {
         alphas,
         betas,
         later,
         instants,
-    })
+    }
 }
 
 // Their passes, where each is answered in its thread as it is to be.
-fn both_talk<N: Naming + Send + Sync, D: Calls<N> + Sync, R: Threads + Wait + Sync>(
+fn both_talk<N: Naming + Send + Sync, D: Calls<N> + Sync, R: Threads + Wait + Abort + Sync>(
     rt: &R,
     alloc: Global,
     config: &Config,
     desk: &D,
     alphas: Pass<N>,
     betas: Pass<N>,
-) -> Option<(Pass<N>, Pass<N>)> {
+) -> (Pass<N>, Pass<N>) {
     thread::scope(thread::scope_env(), rt, |scope| {
         let alpha = scope
             .spawn(move || talked_on(rt, alloc, config, desk, alphas, ALPHAS, ALPHAS_REPLIES))
-            .ok()?;
+            .ok();
         let beta = scope
             .spawn(move || talked_on(rt, alloc, config, desk, betas, BETAS, BETAS_REPLIES))
-            .ok()?;
-        let (alphas, betas) = (alpha.join(rt), beta.join(rt));
-        Some((alphas?, betas?))
+            .ok();
+        (
+            alpha.expect(rt, "a thread").join(rt),
+            beta.expect(rt, "a thread").join(rt),
+        )
     })
 }
 
 // The instants with the readings 5, 7 and 9, behind the first of which all jobs are done before the second, and their places.
 fn three_instants<N: Naming>(
-    rt: &impl Wait,
+    rt: &(impl Wait + Abort),
     alloc: Global,
     desk: &Desk<N>,
     pool: &Pool,
-) -> Option<Vec<(u128, Logged)>> {
+) -> Vec<(u128, Logged)> {
     let mut instants = Vec::new(alloc);
-    pass_instant(rt, alloc, desk, pool, 5, &mut instants)?;
+    pass_instant(rt, alloc, desk, pool, 5, &mut instants);
     desk.settle(rt);
-    pass_instant(rt, alloc, desk, pool, 7, &mut instants)?;
-    pass_instant(rt, alloc, desk, pool, 9, &mut instants)?;
+    pass_instant(rt, alloc, desk, pool, 7, &mut instants);
+    pass_instant(rt, alloc, desk, pool, 9, &mut instants);
     desk.settle(rt);
-    Some(instants)
+    instants
 }
 
 // An instant with this reading, whose jobs are sent to the workers.
 fn pass_instant<N: Naming>(
-    rt: &impl Wait,
+    rt: &(impl Wait + Abort),
     alloc: Global,
     desk: &Desk<N>,
     pool: &Pool,
     reading: i64,
     instants: &mut Vec<(u128, Logged)>,
-) -> Option<()> {
-    let (jobs, place) = desk.tick(rt, &[reading]).ok()?;
-    if pool.send(rt, jobs).len() != 0 {
-        return None;
-    }
-    let frame = Vec::from_slice(alloc, &[reading]).ok()?;
-    let instant = Logged::Tick(List::from_vec(frame));
-    instants.push((place, instant)).ok()
-}
-
-// The pass of a session in which beta is answered the value that it is granted.
-fn third_session<N: Naming, R: Wait>(
-    rt: &R,
-    alloc: Global,
-    config: &Config,
-    desk: &Desk<N>,
-) -> Option<Vec<Pass<N>>> {
-    let pass = talked(rt, alloc, config, desk, THIRDS, THIRDS_REPLIES)?;
-    let mut passes = Vec::new(alloc);
-    passes.push(pass).ok()?;
-    Some(passes)
+) {
+    let (jobs, place) = desk.tick(rt, &[reading]).expect(rt, "an instant");
+    assert!(rt; pool.send(rt, jobs).len() == 0);
+    let instant = Logged::Tick(frame(rt, alloc, reading));
+    instants.push((place, instant)).expect(rt, "memory");
 }
 
 // Whether the desk closes with the day's passes alone, in a log that has all of the day.
-fn stands_in_one_history<N: Naming>(desk: Desk<N>, day: Day<N>, stranger: Pass<N>) -> Option<bool> {
+fn stands_in_one_history<N: Naming>(
+    rt: &impl Abort,
+    desk: Desk<N>,
+    day: Day<N>,
+    stranger: Pass<N>,
+) -> bool {
     let Day {
         alphas,
         betas,
         later,
         instants,
     } = day;
-    let book = closed(desk, later, alphas, betas, stranger)?;
-    Some(has_all(book.log()) && book.stands(&instants))
+    let book = closed(rt, desk, later, alphas, betas, stranger);
+    let stands = has_all(book.log()) && book.stands(&instants);
+    drop(book);
+    drop(instants);
+    stands
 }
 
 // Whether a log has 7 calls, 3 instants and 2 completions.
@@ -188,5 +177,5 @@ fn has_all(log: &[Logged]) -> bool {
 
 #[test]
 fn threads_that_talk_stand_in_one_history(rt: HostRuntime) {
-    assert!(rt; is_one_history(&rt, rt.alloc()) == Some(true));
+    assert!(rt; is_shown(&rt, rt.alloc(), Shown::Suppliers));
 }

@@ -1,29 +1,26 @@
 //! Traces with ample memory: one that keeps the last of its records, and that of a tenant.
 
-use crate::completions::{is_answered, new_host, take};
+use crate::completions::{is_answered, run};
+use crate::fixtures::{ALPHA, name, new_host, rig};
 use arrayvec::ArrayVec;
-use giotto_tasks::names::Name;
-use rig_model::config::{Budgets, TenantId, built_in};
 use rig_model::grants::grants::Grants;
 use rig_model::lines::commands::Command;
-use rig_model::lines::texts::Text;
 use rig_model::trace::records::{Happening, Record};
 use rig_model::trace::traces::Trace;
 use std::alloc::Global;
+use std::process::Abort;
 use tenant_state::tenants::Tenant;
 
-const ALPHA: TenantId = 0;
-
 // A trace of two records, to which three were given.
-fn last_two_of_three(alloc: Global) -> Option<Trace> {
-    let mut trace = Trace::new(alloc, 2).ok()?;
+fn last_two_of_three(rt: &impl Abort, alloc: Global) -> Trace {
+    let mut trace = Trace::new(alloc, 2).expect(rt, "memory");
     trace.push(Record {
         tick: 0,
-        happening: Happening::Start(Name::new("m")?),
+        happening: Happening::Start(name(rt, "m")),
     });
-    trace.note(2, Happening::Out(Name::new("o")?, 6));
+    trace.note(2, Happening::Out(name(rt, "o"), 6));
     trace.note(4, Happening::Asked);
-    Some(trace)
+    trace
 }
 
 // Whether these are the record of an output and that of a stop, in this order.
@@ -38,51 +35,36 @@ fn are_an_output_and_a_stop(records: &[Record]) -> bool {
     }
 }
 
-fn lists_the_last_two(alloc: Global) -> Option<bool> {
-    let records = last_two_of_three(alloc)?.list(alloc).ok()?;
-    Some(are_an_output_and_a_stop(records.as_slice()))
-}
-
-// The built-in configuration's first tenant, alone.
-fn new_tenant(alloc: Global) -> Option<Tenant> {
-    let budgets = first_budgets(alloc)?;
-    let grants = new_grants(alloc, &budgets)?;
-    Tenant::new(alloc, budgets, grants, 0).ok()
-}
-
-fn first_budgets(alloc: Global) -> Option<Budgets> {
-    let config = built_in(alloc).ok()?;
-    config.tenants().first()?.budgets.copy(alloc).ok()
-}
-
-// The rows of a roster of one tenant, which has none yet.
-fn new_grants(alloc: Global, budgets: &Budgets) -> Option<Grants> {
-    let mut roster = ArrayVec::new();
-    roster.push(Name::new("alpha")?);
-    let (offers, binds) = (budgets.offers, budgets.binds);
-    Grants::new(alloc, ALPHA, roster, offers, binds, budgets.bounds.copy()).ok()
-}
-
-// Whether alpha is told the one record behind its start.
-fn is_told_its_start(alloc: Global) -> Option<bool> {
-    let mut host = new_host(alloc)?;
-    let text = Text::from_str(alloc, "mode m period 1 { } start m;").ok()?;
-    take(&mut host, ALPHA, Command::Load(text));
-    take(&mut host, ALPHA, Command::Start);
-    Some(is_answered(alloc, &mut host, Command::Trace, "ok trace 0:start:m"))
-}
-
 #[test]
 fn full_trace_keeps_the_last_records(rt: HostRuntime) {
-    assert!(rt; lists_the_last_two(rt.alloc()) == Some(true));
+    let trace = last_two_of_three(&rt, rt.alloc());
+    let records = trace.list(rt.alloc()).expect(&rt, "memory");
+    assert!(rt; are_an_output_and_a_stop(records.as_slice()));
+    drop(records);
+    drop(trace);
 }
 
+// The built-in configuration's first tenant, alone in a roster, with no rows yet.
 #[test]
 fn makes_a_tenant(rt: HostRuntime) {
-    assert!(rt; new_tenant(rt.alloc()).is_some());
+    let config = rig(&rt, rt.alloc());
+    let first = config.tenants().first().expect(&rt, "a tenant");
+    let budgets = first.budgets.copy(rt.alloc()).expect(&rt, "memory");
+    let mut roster = ArrayVec::new();
+    roster.push(name(&rt, "alpha"));
+    let (offers, binds, bounds) = (budgets.offers, budgets.binds, budgets.bounds.copy());
+    let grants = Grants::new(rt.alloc(), ALPHA, roster, offers, binds, bounds).expect(
+        &rt, "memory",
+    );
+    drop(Tenant::new(rt.alloc(), budgets, grants, 0).expect(&rt, "memory"));
+    drop(config);
 }
 
 #[test]
 fn trace_of_a_tenant_is_told(rt: HostRuntime) {
-    assert!(rt; is_told_its_start(rt.alloc()) == Some(true));
+    let alloc = rt.alloc();
+    let mut host = new_host(&rt, alloc, 0);
+    run(&rt, alloc, &mut host, ALPHA, "mode m period 1 { } start m;");
+    assert!(rt; is_answered(&rt, alloc, &mut host, Command::Trace, "ok trace 0:start:m"));
+    drop(host);
 }

@@ -1,61 +1,74 @@
 //! What a tenant is answered for a list of events and for what is kept of it: worked out by hand from the definitions.
 
-use crate::steps::{ADDER, ALPHA, BETA, CONSUMER, Step, events_of, granted_run};
+use crate::fixtures::{ADDER, ALPHA, BETA, LISTENER, NOBODY, rig};
+use crate::steps::{Step, events_of, granted_run};
 use host_core::plays::PlayFault;
 use host_core::trials::{TrialOutcome, trial};
-use rig_model::config::{TenantId, built_in};
-use std::alloc::{AllocError, Global};
+use rig_model::config::TenantId;
+use std::alloc::Global;
+use std::process::Abort;
 
-// The trial of a list for a tenant of the built-in configuration; none where there is want of memory for the list.
+// The trial of a list for a tenant of the built-in configuration.
 fn tried(
+    rt: &impl Abort,
     alloc: Global,
     steps: &[Step],
     tenant: TenantId,
-) -> Option<Result<TrialOutcome, PlayFault>> {
-    let config = built_in(alloc).ok()?;
-    let events = events_of(alloc, steps).ok()?;
-    Some(trial(alloc, &config, events.as_slice(), tenant))
+) -> Result<TrialOutcome, PlayFault> {
+    let config = rig(rt, alloc);
+    let events = events_of(rt, alloc, steps);
+    let tried = trial(alloc, &config, events.as_slice(), tenant);
+    drop(events);
+    drop(config);
+    tried
 }
 
-// The places that are left out.
-fn left_out(alloc: Global, stays: &[bool]) -> Result<Vec<usize>, AllocError> {
-    let mut places = Vec::new(alloc);
+// Whether the events at these places are left out, and no others.
+fn are_left_out(stays: &[bool], places: &[usize]) -> bool {
     for i in 0..stays.len() {
-        if !stays[i] {
-            places.push(i)?;
+        if stays[i] == places.contains(&i) {
+            return false;
         }
     }
-    Ok(places)
+    true
 }
 
 // Whether the tenant is answered this for both lists, and the events at these places are left out.
-fn gives(alloc: Global, steps: &[Step], tenant: TenantId, text: &str, places: &[usize]) -> bool {
-    match tried(alloc, steps, tenant) {
-        Some(Ok(outcome)) => match left_out(alloc, outcome.stays.as_slice()) {
-            Ok(out) => {
-                let is_answered = outcome.whole.as_str() == text && outcome.kept.as_str() == text;
-                is_answered && outcome.stays.len() == steps.len() && out.as_slice() == places
-            }
-            Err(_) => false,
-        },
-        _ => false,
-    }
+fn is_given(outcome: &TrialOutcome, text: &str, places: &[usize]) -> bool {
+    outcome.whole.as_str() == text
+        && outcome.kept.as_str() == text
+        && are_left_out(outcome.stays.as_slice(), places)
 }
 
-fn refuses(alloc: Global, steps: &[Step], tenant: TenantId, why: PlayFault) -> bool {
-    match tried(alloc, steps, tenant) {
-        Some(Err(fault)) => fault == why,
-        _ => false,
-    }
+// Whether this is what a trial gives, which keeps or leaves out each event.
+fn gives(
+    rt: &impl Abort,
+    alloc: Global,
+    steps: &[Step],
+    tenant: TenantId,
+    text: &str,
+    places: &[usize],
+) -> bool {
+    let outcome = tried(rt, alloc, steps, tenant).expect(rt, "a legal list");
+    assert!(rt; outcome.stays.len() == steps.len());
+    let is_given = is_given(&outcome, text, places);
+    drop(outcome);
+    is_given
+}
+
+// Why there is no trial.
+fn refusal(rt: &impl Abort, alloc: Global, steps: &[Step], tenant: TenantId) -> Option<PlayFault> {
+    tried(rt, alloc, steps, tenant).err()
 }
 
 #[test]
 fn consumer_keeps_its_supplier_and_the_supplier_keeps_itself(rt: HostRuntime) {
     let consumer = "ok load\nok bind\nok start\nok port g 6\nok port g -1\n";
-    assert!(rt; gives(rt.alloc(), &granted_run(), BETA, consumer, &[]));
+    assert!(rt; gives(&rt, rt.alloc(), &granted_run(), BETA, consumer, &[]));
     let supplier = "ok load\nok offer\nok start\nok unoffer\n";
     assert!(rt;
         gives(
+            &rt,
             rt.alloc(),
             &granted_run(),
             ALPHA,
@@ -68,8 +81,8 @@ fn consumer_keeps_its_supplier_and_the_supplier_keeps_itself(rt: HostRuntime) {
 // The bind stands at the first instant alone, and the supplier starts behind that one.
 fn bind_at_the_first_instant<'a>() -> [Step<'a>; 9] {
     [
-        Step::Line(ALPHA, ADDER),
-        Step::Line(BETA, CONSUMER),
+        Step::Load(ALPHA, ADDER),
+        Step::Load(BETA, LISTENER),
         Step::Line(BETA, "bind g from alpha.a"),
         Step::Line(BETA, "start"),
         Step::Tick(5),
@@ -85,6 +98,7 @@ fn bind_counts_without_an_offer_and_only_before_its_last_instant(rt: HostRuntime
     let consumer = "ok load\nok bind\nok start\nok unbind\nok port g -1\n";
     assert!(rt;
         gives(
+            &rt,
             rt.alloc(),
             &bind_at_the_first_instant(),
             BETA,
@@ -97,8 +111,8 @@ fn bind_counts_without_an_offer_and_only_before_its_last_instant(rt: HostRuntime
 // The bind is undone before any instant.
 fn bind_undone<'a>() -> [Step<'a>; 7] {
     [
-        Step::Line(ALPHA, ADDER),
-        Step::Line(BETA, CONSUMER),
+        Step::Load(ALPHA, ADDER),
+        Step::Load(BETA, LISTENER),
         Step::Line(BETA, "bind g from alpha.a"),
         Step::Line(BETA, "start"),
         Step::Line(BETA, "unbind g"),
@@ -110,14 +124,14 @@ fn bind_undone<'a>() -> [Step<'a>; 7] {
 #[test]
 fn bind_that_is_undone_before_an_instant_gives_no_source(rt: HostRuntime) {
     let consumer = "ok load\nok bind\nok start\nok unbind\nok port g -1\n";
-    assert!(rt; gives(rt.alloc(), &bind_undone(), BETA, consumer, &[0]));
+    assert!(rt; gives(&rt, rt.alloc(), &bind_undone(), BETA, consumer, &[0]));
 }
 
 // Both run the adder, and are bound to nobody.
 fn strangers<'a>() -> [Step<'a>; 10] {
     [
-        Step::Line(ALPHA, ADDER),
-        Step::Line(BETA, ADDER),
+        Step::Load(ALPHA, ADDER),
+        Step::Load(BETA, ADDER),
         Step::Line(ALPHA, "start"),
         Step::Line(BETA, "start"),
         Step::Tick(5),
@@ -132,15 +146,15 @@ fn strangers<'a>() -> [Step<'a>; 10] {
 #[test]
 fn own_completions_stay_and_those_of_others_go(rt: HostRuntime) {
     let beta = "ok load\nok start\nok port a 6\n";
-    assert!(rt; gives(rt.alloc(), &strangers(), BETA, beta, &[0, 2, 5]));
+    assert!(rt; gives(&rt, rt.alloc(), &strangers(), BETA, beta, &[0, 2, 5]));
 }
 
 // The supplier overruns at the third instant, and its completion comes behind that one.
 fn late_supplier<'a>() -> [Step<'a>; 12] {
     [
-        Step::Line(ALPHA, ADDER),
+        Step::Load(ALPHA, ADDER),
         Step::Line(ALPHA, "offer a to beta"),
-        Step::Line(BETA, CONSUMER),
+        Step::Load(BETA, LISTENER),
         Step::Line(BETA, "bind g from alpha.a"),
         Step::Line(ALPHA, "start"),
         Step::Line(BETA, "start"),
@@ -156,21 +170,21 @@ fn late_supplier<'a>() -> [Step<'a>; 12] {
 #[test]
 fn late_completion_of_a_source_stays(rt: HostRuntime) {
     let consumer = "ok load\nok bind\nok start\nok port g 0\n";
-    assert!(rt; gives(rt.alloc(), &late_supplier(), BETA, consumer, &[]));
+    assert!(rt; gives(&rt, rt.alloc(), &late_supplier(), BETA, consumer, &[]));
 }
 
 // The job that is completed was never released.
 fn illegal<'a>() -> [Step<'a>; 3] {
     [
-        Step::Line(ALPHA, ADDER),
+        Step::Load(ALPHA, ADDER),
         Step::Done(ALPHA, 0),
-        Step::Line(2, "start"),
+        Step::Line(NOBODY, "start"),
     ]
 }
 
 #[test]
 fn no_tenant_is_told_before_the_list_is_looked_at(rt: HostRuntime) {
-    assert!(rt; refuses(rt.alloc(), &granted_run(), 2, PlayFault::NoTenant));
-    assert!(rt; refuses(rt.alloc(), &illegal(), 2, PlayFault::NoTenant));
-    assert!(rt; refuses(rt.alloc(), &illegal(), ALPHA, PlayFault::Illegal(1)));
+    assert!(rt; refusal(&rt, rt.alloc(), &granted_run(), NOBODY) == Some(PlayFault::NoTenant));
+    assert!(rt; refusal(&rt, rt.alloc(), &illegal(), NOBODY) == Some(PlayFault::NoTenant));
+    assert!(rt; refusal(&rt, rt.alloc(), &illegal(), ALPHA) == Some(PlayFault::Illegal(1)));
 }

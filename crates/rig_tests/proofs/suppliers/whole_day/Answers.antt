@@ -3,5 +3,5 @@ use Rattle.std.proofs.Crossing.{crosses}
 use Rattle.worker_pool.proofs.of_book.Crossing.{desk_sync}
 use Rattle.rig_tests.proofs.suppliers.whole_day.Goals as goal
 
-pub both_talk-requires-sync-D : goal.both_talk-requires-sync-D
-both_talk-requires-sync-D g c κs within = search (crosses, desk_sync, sendable) depth 60 fits 20000
+pub both_talk-alphas-requires-sync-D : goal.both_talk-alphas-requires-sync-D
+both_talk-alphas-requires-sync-D g c κs within = search (crosses, desk_sync, sendable) depth 60 fits 20000
