@@ -1,6 +1,6 @@
 //! The subcommands, with their words and their help.
 
-use crate::words::{config, flag, option, place};
+use crate::words::{config, flag, option, positional};
 use clap::error::ErrorKind;
 use clap::{Arg, ArgAction, Command, Error, value_parser};
 use std::alloc::{AllocError, Global};
@@ -133,7 +133,7 @@ fn with_texts<'a>(alloc: Global, command: Command<'a>) -> Result<Command<'a>, Al
             "Writes the program over many lines, indented",
         ))?
         .arg(
-            place(
+            positional(
                 alloc,
                 "files",
                 "FILE",
@@ -251,10 +251,10 @@ fn connect<'a>(alloc: Global) -> Result<Command<'a>, AllocError> {
             "Greets a server on 127.0.0.1 as a tenant, sends the lines of standard input, each behind the answer to the one before, and prints the answers",
         )
         .after_help(CONNECT_EXAMPLES)
-        .arg(place(alloc, "port", "PORT", "The port of the server, 1 to 65535").value_parser(
+        .arg(positional(alloc, "port", "PORT", "The port of the server, 1 to 65535").value_parser(
             value_parser!(u16).range(1..65536),
         ))?
-        .arg(place(alloc, "name", "NAME", "The name of the tenant"))?
+        .arg(positional(alloc, "name", "NAME", "The name of the tenant"))?
         .arg(option(
             alloc,
             "key-file",
@@ -269,7 +269,7 @@ fn timeline<'a>(alloc: Global) -> Result<Command<'a>, AllocError> {
             "Draws the run of one tenant in a script: its modes, tasks, sensors and actuators over the ticks",
         )
         .after_help("Example: rig_host timeline examples/first/first.script -o first.svg")
-        .arg(place(
+        .arg(positional(
             alloc,
             "script",
             "SCRIPT",
@@ -321,5 +321,5 @@ fn trial<'a>(alloc: Global) -> Result<Command<'a>, AllocError> {
             "summary",
             "Prints who was left out and how many replies were compared, in place of the lines",
         ))?
-        .arg(place(alloc, "tenant", "TENANT", "Whose answers are compared"))
+        .arg(positional(alloc, "tenant", "TENANT", "Whose answers are compared"))
 }

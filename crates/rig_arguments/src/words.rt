@@ -1,9 +1,9 @@
-//! Words of three forms, of which those of the subcommands are made.
+//! Arguments of three forms, of which those of the subcommands are made.
 
 use clap::{Arg, ArgAction};
 use std::alloc::Global;
 
-/// The word `--ID VALUE`.
+/// The option `--ID VALUE`.
 pub(crate) fn option<'a>(alloc: Global, id: &'a str, value: &'a str, help: &'a str) -> Arg<'a> {
     Arg::new(alloc, id)
         .long(id)
@@ -12,7 +12,7 @@ pub(crate) fn option<'a>(alloc: Global, id: &'a str, value: &'a str, help: &'a s
         .help(help)
 }
 
-/// The word `--ID`.
+/// The flag `--ID`.
 pub(crate) fn flag<'a>(alloc: Global, id: &'a str, help: &'a str) -> Arg<'a> {
     Arg::new(alloc, id)
         .long(id)
@@ -20,8 +20,8 @@ pub(crate) fn flag<'a>(alloc: Global, id: &'a str, help: &'a str) -> Arg<'a> {
         .help(help)
 }
 
-/// A word that has to stand, at its place.
-pub(crate) fn place<'a>(alloc: Global, id: &'a str, value: &'a str, help: &'a str) -> Arg<'a> {
+/// A positional argument, which is required.
+pub(crate) fn positional<'a>(alloc: Global, id: &'a str, value: &'a str, help: &'a str) -> Arg<'a> {
     Arg::new(alloc, id)
         .value_name(value)
         .required(true)
@@ -29,7 +29,7 @@ pub(crate) fn place<'a>(alloc: Global, id: &'a str, value: &'a str, help: &'a st
         .help(help)
 }
 
-/// The word `--config FILE`.
+/// The option `--config FILE`.
 pub(crate) fn config<'a>(alloc: Global) -> Arg<'a> {
     option(
         alloc,
