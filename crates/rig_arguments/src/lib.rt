@@ -11,7 +11,7 @@ use requests::{Request, request_of};
 use std::alloc::{AllocError, Global};
 use subcommands::Subcommand;
 
-// The version of the program, and the logic in which it is proved, as `rt version` tells it behind the name of the kit.
+// The version of the program, and the logic in which it is proved, which `rt version` prints after the name of the kit.
 const VERSION: &str = "0.1.0 (logic dac8208d650f15bf)";
 
 /// Why there is no request.
@@ -19,7 +19,7 @@ const VERSION: &str = "0.1.0 (logic dac8208d650f15bf)";
 pub enum ArgumentFault {
     /// The arguments are wrong, in the way that the text says.
     Wrong(Error),
-    /// Want of memory.
+    /// Memory ran out.
     Memory,
 }
 
@@ -37,7 +37,7 @@ impl From<AllocError> for ArgumentFault {
 /// What the words of the arguments ask for, the program's own name first.
 ///
 /// # Errors
-/// `Wrong` where the words are none that the program takes, and want of memory.
+/// `Wrong` where the program takes no such arguments, and `Memory`.
 pub fn read_arguments<'a>(
     alloc: Global,
     words: &'a [String],
@@ -51,7 +51,7 @@ pub fn read_arguments<'a>(
 /// What is said of arguments that can't be read as text.
 ///
 /// # Errors
-/// Want of memory.
+/// Memory ran out.
 pub fn unreadable(alloc: Global) -> Result<Error, AllocError> {
     program(alloc)?.error(ErrorKind::ValueValidation, "an argument isn't UTF-8")
 }

@@ -131,7 +131,7 @@ pub struct TrialRequest<'a> {
 /// The request that the matches of the arguments make.
 ///
 /// # Errors
-/// Want of memory.
+/// Memory ran out.
 pub(crate) fn request_of<'a>(
     alloc: Global,
     matches: &ArgMatches<'a>,

@@ -5,7 +5,7 @@ use clap::error::ErrorKind;
 use clap::{Arg, ArgAction, Command, Error, value_parser};
 use std::alloc::{AllocError, Global};
 
-// What stands below the help of `check`.
+// Printed below the help of `check`.
 const CHECK_EXAMPLES: &str = "\
 A file whose name ends with .toml is a configuration, one with .script a script, and each other one a program, over lines and with // comments.
 
@@ -14,7 +14,7 @@ Example: rig_host check examples/first/adder.giotto
          (rig_host check --load alpha examples/first/adder.giotto && cat rest.script) | rig_host script
 What is wrong is told as compilers do, `FILE:LINE:COLUMN: error: ..`, and the status is 4.";
 
-// What stands below the help of `script`.
+// Printed below the help of `script`.
 const SCRIPT_EXAMPLES: &str = "\
 Example: echo 'op tick 5' | rig_host script
 
@@ -35,21 +35,21 @@ A configuration, one [[tenant]] for each tenant (docs/HOST.md tells the fields):
   offers = 4
   binds = 4";
 
-// What stands below the help of `serve`.
+// Printed below the help of `serve`.
 const SERVE_EXAMPLE: &str = "\
 Example: rig_host serve --port 4000
 The operator's lines come from standard input: `tick V ..`, `lines`, `wait` and `halt`.";
 
-// What stands below the help of `retest`.
+// Printed below the help of `retest`.
 const RETEST_EXAMPLE: &str = "\
 Example: rig_host retest --config examples/whose_retest/rig.toml --dot retests.dot < examples/whose_retest/rig.script
          dot -Tsvg retests.dot -o retests.svg";
 
-// What stands below the help of `trial`.
+// Printed below the help of `trial`.
 const TRIAL_EXAMPLE: &str = "\
 Example: rig_host trial --config examples/whose_retest/rig.toml lamp < examples/whose_retest/rig.script";
 
-// What stands below the help of `connect`.
+// Printed below the help of `connect`.
 const CONNECT_EXAMPLES: &str = "\
 Example: rig_host connect 4000 pump --key-file pump.key
          rlwrap rig_host connect 4000 pump --key-file pump.key
@@ -84,7 +84,7 @@ impl Subcommand {
     /// Its words, with their help.
     ///
     /// # Errors
-    /// Want of memory.
+    /// Memory ran out.
     pub(crate) fn words<'a>(self, alloc: Global) -> Result<Command<'a>, AllocError> {
         match self {
             Subcommand::Check => check(alloc),
@@ -100,7 +100,7 @@ impl Subcommand {
     /// What is said of its words where they are wrong in the way that the text says.
     ///
     /// # Errors
-    /// Want of memory.
+    /// Memory ran out.
     pub fn error(self, alloc: Global, text: &str) -> Result<Error, AllocError> {
         self.words(alloc)?.error(ErrorKind::ValueValidation, text)
     }

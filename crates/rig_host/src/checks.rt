@@ -200,7 +200,7 @@ fn check_script_file(
     }
 }
 
-// What is told of the text of a configuration or a program.
+// The report on the text of a configuration or a program.
 fn check_text(
     alloc: Global,
     check: &Check<'_>,

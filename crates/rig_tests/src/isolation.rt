@@ -223,7 +223,7 @@ fn answered(rt: &impl Abort, alloc: Global, alpha: &str, gamma: &str, others: &[
     replies
 }
 
-// Whether these are the replies to beta, and nothing of a key or of another's program stands there.
+// Whether these are the replies to beta, and have nothing of a key or of another tenant's program.
 fn are_its_own(replies: &str) -> bool {
     replies == REPLIES && !replies.contains("kkkk") && !replies.contains("qqqq")
 }

@@ -56,7 +56,7 @@ pub(crate) enum Crew {
 pub(crate) enum End {
     // There are three, and all are done before the workers are stopped.
     Settled,
-    // They are sent, and the workers stopped behind them.
+    // They are sent, and the workers are stopped after them.
     Stopped,
     // They are dropped, and the workers stopped.
     Unsent,

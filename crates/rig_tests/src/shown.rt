@@ -1,4 +1,4 @@
-//! What is shown on desks of the built-in configuration. Which desk it is stands in a type, which is picked here alone.
+//! What is shown on desks of the built-in configuration. A type says which desk it is; only this file picks that type.
 
 ghost use Rattle.std.specs.Prelude.{◌≡◌};
 
