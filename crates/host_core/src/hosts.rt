@@ -30,7 +30,7 @@ ghost use Rattle.instant_engine.specs.state.Standing.{IsKnown, Standing, at_rest
 use crate::new_tenants::{new_tenant, places};
 use giotto_check::Checked;
 use giotto_tasks::names::Name;
-use instant_engine::instants::{advance, instant, ready};
+use instant_engine::instants::{advance, instant_with, ready};
 use instant_engine::{Done, Finished, Job, JobId, Jobs, run_job};
 use rig_model::config::{Config, TenantId};
 use rig_model::grants::granted::Granted;
@@ -263,7 +263,7 @@ impl Host {
         let tenants = self.tenants.as_mut_slice();
         let granted = self.granted.as_mut_slice();
         if takes_jobs {
-            instant(tenants, frame, granted, &mut self.finished, &mut jobs);
+            instant_with(tenants, frame, granted, &mut self.finished, &mut jobs);
         } else {
             advance(tenants, frame, granted, &mut self.finished);
         }

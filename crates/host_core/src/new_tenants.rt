@@ -31,8 +31,8 @@ pub(crate) fn new_tenant(
     let budgets = config.tenants()[place].budgets.copy(alloc)?;
     let (offers, binds) = (budgets.offers, budgets.binds);
     let bounds = budgets.bounds.copy();
-    let grants = Grants::new(alloc, place, roster(config), offers, binds, bounds)?;
-    Tenant::new(alloc, budgets, grants, first_tick)
+    let grants = Grants::new(alloc, place, roster(config), offers, binds)?;
+    Tenant::new(alloc, budgets, grants.with_own_bounds(bounds), first_tick)
 }
 
 // The names of all tenants, by their places.

@@ -1,6 +1,6 @@
 //! The trial of a tenant: a list of events, and what is kept of it for the tenant, are both played.
 
-ghost use Rattle.std.specs.Prelude.{◌≡◌, ◌≢◌, ◌≤◌, ◌<◌, ◌↔◌, ◌&&◌, ◌||◌, ◌==◌, ℕ, List, [], ◌∷◌, false, length, reverse, IfOk, OnOk, Err};
+ghost use Rattle.std.specs.Prelude.{◌≡◌, ◌≢◌, ◌≤◌, ◌<◌, ◌↔◌, ◌&&◌, ◌||◌, ◌==◌, ℕ, Bool, List, [], ◌∷◌, false, length, reverse, IfOk, OnOk, Err};
 ghost use Rattle.host_core.specs.HostStanding.{ForEachState};
 ghost use Rattle.rig_model.specs.HostState.{row_at};
 ghost use Rattle.rig_model.specs.Legal.{is_legal};
@@ -46,12 +46,31 @@ struct Both {
     stays: Vec<bool>,
 }
 
+/// The tenant's answers over a list of events, and over what is kept of it for the tenant: those of [`trial_outcome`].
+///
+/// # Errors
+/// As [`trial_outcome`].
+pub fn trial(
+    alloc: Global,
+    config: &Config,
+    events: &[Event],
+    tenant: TenantId,
+) -> Result<(Text, Text), PlayFault>
+    ensures no_tenant { result ≡ Err PlayFault.NoTenant ↔ (length config.now.tenants ≤ tenant) }
+    ensures illegal { (setting : Setting) → IsSettingOf config.now setting → (i : ℕ) → result ≡ Err (PlayFault.Illegal i) → IsLeastIllegal setting events.now i }
+    ensures answers { (setting : Setting) → IsSettingOf config.now setting → IfOk result (λ texts. (stays : List Bool) × IsTrial setting events.now tenant texts.0 texts.1 stays) }
+    ensures same { IfOk result (λ texts. texts.1 ≡ texts.0) }
+{
+    let outcome = trial_outcome(alloc, config, events, tenant)?;
+    Ok((outcome.whole, outcome.kept))
+}
+
 /// Plays a list of events, the oldest first, on a new host from instant 0, and what is kept of it for a tenant on another: all
 /// instants, and the commands and completions of those tenants on which the tenant's later answers can depend.
 ///
 /// # Errors
 /// `NoTenant` where the roster has no tenant at this place, whatever the list. `Illegal` and `Memory` as for `play`.
-pub fn trial(
+pub fn trial_outcome(
     alloc: Global,
     config: &Config,
     events: &[Event],

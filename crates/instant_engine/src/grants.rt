@@ -67,7 +67,7 @@ fn granted_from(supplier: &Tenant, actuator: &Name, tenant: &Name, hints: &mut H
 {
     let (place, offer) = supplier.offer_of(actuator, tenant, hints.offer)?;
     hints.offer = place;
-    let (place, value) = supplier.actuator(actuator, hints.actuator)?;
+    let (place, value) = supplier.actuator_from(actuator, hints.actuator)?;
     hints.actuator = place;
     Some(clamped(value, offer.bounds.low(), offer.bounds.high()))
 }

@@ -16,7 +16,7 @@ ghost use Rattle.tenant_state.specs.Standing.{Standing, at_rest};
 ghost use Rattle.tenant_state.specs.cited.Standing.{HasItsEntries, HasItsResults, without_ended};
 
 use crate::grants::grant;
-use rig_model::grants::granted::Granted;
+use rig_model::grants::granted::{Granted, empty_places};
 use tenant_jobs::finished::Finished;
 use tenant_jobs::jobs::Jobs;
 use tenant_state::tenants::Tenant;
@@ -39,9 +39,32 @@ pub fn ready(tenants: &mut [Tenant]) -> Option<usize>
     Some(most)
 }
 
+/// An instant of all tenants, as `instant_with`, without places for what is granted: at most 16 tenants with 64 binds each. Takes no
+/// memory.
+pub fn instant(tenants: &mut [Tenant], frame: &[i64], finished: &mut Finished, jobs: &mut Jobs)
+    requires placed { ArePlaced tenants.old }
+    requires between { All IsBetween tenants.old }
+    requires counts { All (λ (s : Standing). s.row.next_tick < 2 ^ 64 - 1) tenants.old }
+    requires ready { All IsReady tenants.old }
+    requires rosters { HaveRoster tenants.old }
+    requires few { binds_of tenants.old ≤ 1024 }
+    requires table { IsTaskTable tenants.old finished.old.entries }
+    requires entries { most_of tenants.old ≤ finished.old.room }
+    requires none { jobs.old.jobs ≡ [] }
+    requires jobs { most_of tenants.old ≤ jobs.old.room }
+    ensures instants { AreInstants frame.now finished.old.entries tenants.old tenants.new }
+    ensures entries { (j : JobId) → entry_in finished.new.entries j
+        ≡ (if is_active_among tenants.new j then Some (record { id = j; result = result_in finished.old.entries j }) else None) }
+    ensures table { IsTaskTable tenants.new finished.new.entries }
+    ensures jobs { (n : ℕ) → All (λ (s : Standing). s.row.next_tick ≡ n) tenants.old → jobs.new.jobs ≡ released_from n 0 tenants.new }
+{
+    let mut places = empty_places();
+    instant_with(tenants, frame, places.as_mut_slice(), finished, jobs);
+}
+
 /// An instant of all tenants, as `advance`, with its jobs: those of the tasks that it releases, tenant by tenant. There are no jobs before,
-/// and room for all that can be released. Takes no memory.
-pub fn instant(
+/// and space for all that can be released. Takes no memory.
+pub fn instant_with(
     tenants: &mut [Tenant],
     frame: &[i64],
     granted: &mut [Granted],

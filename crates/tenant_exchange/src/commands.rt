@@ -14,12 +14,11 @@ use rig_model::grants::faults::GrantFault;
 use rig_model::grants::grants::Grants;
 use rig_model::lines::grant_lines::GrantCommand;
 use rig_model::lines::replies::{Budget, Refusal, Reply};
-use std::alloc::Global;
 
 /// Carries out a command about grants on the rows of the tenant that gives it. A refusal changes nothing, want of memory included.
 /// Only `offer` and `bind` where the row may be made, and `rows` where there is a row, take memory; nothing else is refused for it.
 /// So where the definitions refuse a command, the reply is that very refusal.
-pub fn carry_out(alloc: Global, grants: &mut Grants, command: GrantCommand) -> Reply
+pub fn carry_out(grants: &mut Grants, command: GrantCommand) -> Reply
     ensures memory { result ≡ Reply.Refused Refusal.Memory → grants.new ≡ grants.old }
     ensures room { takes_memory command grants.old ≡ false → result ≢ Reply.Refused Refusal.Memory }
     ensures owner { grants.new.owner ≡ grants.old.owner }
@@ -55,7 +54,7 @@ pub fn carry_out(alloc: Global, grants: &mut Grants, command: GrantCommand) -> R
             Reply::Unbound,
             Budget::Binds,
         ),
-        GrantCommand::Rows => match grants.list(alloc) {
+        GrantCommand::Rows => match grants.list() {
             Ok(rows) => Reply::Rows(rows),
             Err(_) => Reply::Refused(Refusal::Memory),
         },

@@ -50,6 +50,10 @@ is_bind_of sensor b = same_name b.sensor sensor
 abbrev pub offer_of : List Offer → Name → Name → Option Offer
 offer_of offers actuator tenant = find (is_offer_of actuator tenant) offers
 
+-- the offer of this actuator to the tenant at this place of the roster, where there is one
+abbrev pub offer_to : List Name → List Offer → Name → ℕ → Option Offer
+offer_to roster os actuator t = option_and_then (offer_of os actuator) (slice_get roster t)
+
 -- what an offer makes of the actuator's value: it grants it as it is, or the bound that it is beyond
 abbrev pub granted_value : Offer → ℤ → ℤ
 granted_value o z = clamped o.bounds z

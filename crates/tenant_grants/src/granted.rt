@@ -1,7 +1,8 @@
 //! What is granted through a bind.
 
-ghost use Rattle.std.specs.Prelude.{◌≡◌, None};
+ghost use Rattle.std.specs.Prelude.{◌≡◌, ◌≤◌, None, length};
 
+use arrayvec::ArrayVec;
 use std::marker::Model;
 
 /// What is granted through a bind, if something is, and where the names of the bind were found last. Contracts see it as the value.
@@ -18,6 +19,16 @@ impl Model for Granted {
     ghost Value = { Option ℤ };
 
     ghost view = { λ g. g.value };
+}
+
+impl Default for Granted {
+    ghost use Rattle.std.specs.Prelude.{◌≡◌, None};
+
+    ghost is_default = { λ g. g ≡ None };
+
+    fn default() -> Granted {
+        Granted::nothing()
+    }
 }
 
 /// Where the supplier's side of a bind was found last, each place counted from 0. Whoever takes a hint compares the name that stands
@@ -44,6 +55,15 @@ impl Granted {
             hints,
             sensor: 0,
         }
+    }
+
+    /// This is granted, and no name was found yet.
+    pub fn of(value: Option<i64>) -> Granted
+        ensures { result ≡ value }
+    {
+        let mut granted = Granted::nothing();
+        granted.value = value;
+        granted
     }
 
     /// What is granted.
@@ -82,4 +102,27 @@ impl Granted {
     {
         self.sensor = place;
     }
+}
+
+/// What is granted through each bind, at most 64, in places of its own. Takes no memory.
+pub fn places_of(granted: &[Option<i64>]) -> ArrayVec<Granted, 64>
+    requires { length granted.now ≤ 64 }
+    ensures { result.items ≡ granted.now }
+{
+    let mut places = ArrayVec::new();
+    for value in granted {
+        places.push(Granted::of(*value));
+    }
+    places
+}
+
+/// A place for each of 1,024 binds, as many as 16 tenants with 64 each have, through which nothing is granted. Takes no memory.
+pub fn empty_places() -> ArrayVec<Granted, 1024>
+    ensures { length result.items ≡ 1024 }
+{
+    let mut places = ArrayVec::new();
+    for _place in 0..1024usize {
+        places.push(Granted::nothing());
+    }
+    places
 }

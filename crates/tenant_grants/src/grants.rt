@@ -1,9 +1,9 @@
 //! The rows of one owner.
 
-ghost use Rattle.std.specs.Prelude.{◌≡◌, ◌↔◌, ◌<◌, ◌+◌, [], ◌++◌, map, Err, Ok, IsErr, IsOk, IsSome, IsTrue, IfErr, IfOk, IfSome, OnErr, OnOk, Some, int_le, length, option_map, slice_get};
+ghost use Rattle.std.specs.Prelude.{◌≡◌, ◌↔◌, ◌<◌, ◌+◌, [], ◌++◌, map, Err, Ok, IsErr, IsOk, IsSome, IsTrue, IfErr, IfOk, IfSome, OnErr, OnOk, Some, int_le, is_some, length, option_map, slice_get};
 ghost use Rattle.std.specs.List.{position};
 ghost use Rattle.rig_config.specs.Intervals.{whole};
-ghost use Rattle.tenant_grants.specs.Grants.{bind_at, bound, is_offer_of, no_rows, offer_of, offered, other_side, place_in, rows_of, unbound, unoffered};
+ghost use Rattle.tenant_grants.specs.Grants.{bind_at, bound, is_offer_of, no_rows, offer_of, offer_to, offered, other_side, place_in, rows_of, unbound, unoffered};
 ghost use Rattle.tenant_grants.specs.Kept.{AreKept};
 ghost use Rattle.tenant_grants.specs.declared.rows.Row.TheVariants as row;
 ghost use Rattle.tenant_grants.specs.inner.Tables.{bind_of};
@@ -24,6 +24,7 @@ use std::marker::Model;
 /// with the owner's place, the roster and the budgets.
 #[derive(Drop)]
 pub struct Grants {
+    alloc: Global,
     own: TenantId,
     // On the heap, so that the rows stay small to move.
     roster: Box<ArrayVec<Name, 16>>,
@@ -52,31 +53,40 @@ impl Model for Grants {
 }
 
 impl Grants {
-    /// No rows, of the tenant at this place of the roster, with the most offers and binds that it may have, and the bounds of an offer that
-    /// names none.
+    /// No rows, of the tenant at this place of the roster, with the most offers and binds that it may have. An offer that names no bounds
+    /// has the whole range of `i64`, until [`Grants::with_own_bounds`] sets others.
     ///
     /// # Errors
-    /// Want of memory.
+    /// Out of memory.
     pub fn new(
         alloc: Global,
         own: TenantId,
         roster: ArrayVec<Name, 16>,
         most_offers: usize,
         most_binds: usize,
-        bounds: Bounds,
     ) -> Result<Grants, AllocError>
         requires { own < length roster.items }
-        ensures { IfOk result (λ grants. grants ≡ no_rows (record { place = own; roster = roster.items; most_offers = most_offers; most_binds = most_binds; bounds = bounds })) }
+        ensures { IfOk result (λ grants. grants ≡ no_rows (record { place = own; roster = roster.items; most_offers = most_offers; most_binds = most_binds; bounds = whole })) }
     {
         Ok(Grants {
+            alloc,
             own,
             roster: Box::new(alloc, roster)?,
             most_offers,
             most_binds,
-            bounds,
+            bounds: Bounds::whole(),
             offers: IndexSet::new(alloc),
             binds: IndexMap::new(alloc),
         })
+    }
+
+    /// The same rows, where an offer that names no bounds has these.
+    pub fn with_own_bounds(self, bounds: Bounds) -> Grants
+        ensures { result ≡ record self { owner = record self.owner { bounds = bounds } } }
+    {
+        let mut grants = self;
+        grants.bounds = bounds;
+        grants
     }
 
     /// The owner's place. Takes no memory, as no call that only looks but [`Grants::list`].
@@ -183,6 +193,23 @@ impl Grants {
         }
     }
 
+    /// Whether the actuator is offered to the tenant at this place of the roster. Takes no memory.
+    pub fn offers(&self, actuator: &Name, tenant: TenantId) -> bool
+        ensures { result ≡ is_some (offer_to self.now.owner.roster self.now.offers actuator.now tenant) }
+    {
+        self.bounds(actuator, tenant).is_some()
+    }
+
+    /// The least and the greatest value of the offer of the actuator to the tenant at this place of the roster, where there is one. Takes
+    /// no memory.
+    pub fn bounds(&self, actuator: &Name, tenant: TenantId) -> Option<(i64, i64)>
+        ensures { result ≡ option_map (λ o. (o.bounds.low, o.bounds.high)) (offer_to self.now.owner.roster self.now.offers actuator.now tenant) }
+    {
+        let name = self.roster().get(tenant)?;
+        let (_, offer) = self.offer_of(actuator, name, 0)?;
+        Some((offer.bounds.low(), offer.bounds.high()))
+    }
+
     /// The names of all tenants, by their places.
     #[inline(always)]
     pub fn roster(&self) -> &[Name]
@@ -255,12 +282,12 @@ impl Grants {
     /// All rows: the offers, then the binds, each in the order in which they were made.
     ///
     /// # Errors
-    /// Want of memory, where there is a row.
-    pub fn list(&self, alloc: Global) -> Result<List<Row>, AllocError>
+    /// Out of memory, only where there is a row.
+    pub fn list(&self) -> Result<List<Row>, AllocError>
         ensures rows { IfOk result (λ rows. rows ≡ rows_of self.now.offers self.now.binds) }
         ensures memory { IsErr result → 0 < length self.now.offers + length self.now.binds }
     {
-        let mut rows = Vec::new(alloc);
+        let mut rows = Vec::new(self.alloc);
         push_offers(&mut rows, &self.offers)?;
         push_binds(&mut rows, &self.binds)?;
         Ok(List::from_vec(rows))

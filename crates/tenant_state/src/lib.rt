@@ -9,7 +9,8 @@
 //! A tenant has one list of the values of its ports, by the slots of its checked program, and its tasks and its mode by
 //! their places in it. An instant goes down the timetables of the mode, by the steps of `tenant_slots`.
 //!
-//! The commands and the replies are those of `tenant_lines`, and stand here under their own names too.
+//! The commands and the replies are those of `tenant_lines`, and the jobs and their table those of `tenant_jobs`; they have their names
+//! here too.
 #![tactic(auto)]
 
 pub mod tenants;
@@ -17,3 +18,5 @@ pub mod tenants;
 pub use rig_model::lines::command_lines::{LineFault, command_of};
 pub use rig_model::lines::commands::Command;
 pub use rig_model::lines::replies::{Reply, print_reply};
+pub use tenant_jobs::finished::Finished;
+pub use tenant_jobs::jobs::{Done, Job, JobId, Jobs, run_job};

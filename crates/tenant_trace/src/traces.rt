@@ -12,6 +12,7 @@ use std::marker::Model;
 /// The last records of a tenant. Contracts see it as how many records it keeps at most and those that it has, the newest first.
 #[derive(Drop)]
 pub struct Trace {
+    alloc: Global,
     ring: HeapCircularBuffer<Record, Global>,
 }
 
@@ -35,7 +36,7 @@ impl Trace {
         ensures { IfOk result (λ trace. trace ≡ record { most = most; records = [] }) }
     {
         let ring = HeapCircularBuffer::with_capacity(alloc, most)?;
-        Ok(Trace { ring })
+        Ok(Trace { alloc, ring })
     }
 
     /// Adds a record. One that is full gives up its oldest for it. Takes no memory.
@@ -55,13 +56,13 @@ impl Trace {
     /// The records, the oldest first.
     ///
     /// # Errors
-    /// Want of memory, where there is a record.
-    pub fn list(&self, alloc: Global) -> Result<List<Record>, AllocError>
+    /// Out of memory, only where there is a record.
+    pub fn list(&self) -> Result<List<Record>, AllocError>
         ensures records { IfOk result (λ records. records ≡ reverse self.now.records) }
         ensures memory { IsErr result → 0 < length self.now.records }
     {
         let (older, newer) = self.ring.as_slices();
-        let mut records = Vec::new(alloc);
+        let mut records = Vec::new(self.alloc);
         add_copies(&mut records, older)?;
         add_copies(&mut records, newer)?;
         Ok(List::from_vec(records))

@@ -84,11 +84,11 @@ impl Tenant {
                 Ok(all) => Reply::All(all),
                 Err(refusal) => Reply::Refused(refusal),
             },
-            Command::Trace => match self.trace.list(self.alloc) {
+            Command::Trace => match self.trace.list() {
                 Ok(records) => Reply::Trace(records),
                 Err(_) => Reply::Refused(Refusal::Memory),
             },
-            Command::Grants(command) => commands::carry_out(self.alloc, &mut self.grants, command),
+            Command::Grants(command) => commands::carry_out(&mut self.grants, command),
         }
     }
 

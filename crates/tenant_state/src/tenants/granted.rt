@@ -1,7 +1,7 @@
 //! What a tenant tells of its offers and binds.
 
-ghost use Rattle.std.specs.Prelude.{◌≡◌, ◌↔◌, ◌<◌, IsSome, length, option_map};
-ghost use Rattle.rig_model.specs.grants.Grants.{bind_at, offer_of};
+ghost use Rattle.std.specs.Prelude.{◌≡◌, ◌↔◌, ◌<◌, IsSome, is_some, length, option_map};
+ghost use Rattle.rig_model.specs.grants.Grants.{bind_at, offer_of, offer_to};
 
 use crate::tenants::Tenant;
 use giotto_tasks::names::Name;
@@ -16,6 +16,21 @@ impl Tenant {
         ensures { option_map (λ o. o.1.now) result ≡ offer_of self.now.row.offers actuator.now tenant.now }
     {
         self.grants.offer_of(actuator, tenant, hint)
+    }
+
+    /// Whether the tenant offers the actuator to the tenant at this place of the roster. Takes no memory.
+    pub fn offers(&self, actuator: &Name, tenant: TenantId) -> bool
+        ensures { result ≡ is_some (offer_to self.now.tenancy.owner.roster self.now.row.offers actuator.now tenant) }
+    {
+        self.grants.offers(actuator, tenant)
+    }
+
+    /// The least and the greatest value of the tenant's offer of the actuator to the tenant at this place of the roster, where there is
+    /// one. Takes no memory.
+    pub fn bounds(&self, actuator: &Name, tenant: TenantId) -> Option<(i64, i64)>
+        ensures { result ≡ option_map (λ o. (o.bounds.low, o.bounds.high)) (offer_to self.now.tenancy.owner.roster self.now.row.offers actuator.now tenant) }
+    {
+        self.grants.bounds(actuator, tenant)
     }
 
     /// The names of all tenants, by their places.

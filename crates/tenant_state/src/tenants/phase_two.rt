@@ -26,7 +26,7 @@ use crate::tenants::{Active, State, Tenant};
 use giotto_check::Checked;
 use giotto_tasks::bodies::Body;
 use rig_model::config::TenantId;
-use rig_model::grants::granted::Granted;
+use rig_model::grants::granted::{Granted, places_of};
 use rig_model::text::programs::Program;
 use std::alloc::Global;
 use std::sync::Arc;
@@ -37,22 +37,23 @@ use tenant_slots::due::due_behind;
 impl Tenant {
     /// The second half of an instant whose number is below the greatest, with the jobs of the tasks that it releases. Each due task ended
     /// in the first half. `frame` has the input value of each line, and `granted` what is granted through each bind, if something is, by
-    /// the bind's place. The jobs are added to `jobs`, which has room for them. Takes no memory.
-    pub fn phase_two(&mut self, frame: &[i64], granted: &mut [Granted], jobs: &mut Jobs)
+    /// the bind's place: at most 64, as a tenant has. The jobs are added to `jobs`, which has space for them. Takes no memory.
+    pub fn phase_two(&mut self, frame: &[i64], granted: &[Option<i64>], jobs: &mut Jobs)
+        requires few { length granted.now ≤ 64 }
         requires rest { self.old.ready.ended ≡ [] }
         requires ended_due { due_tasks self.old.row ≡ [] }
         requires next_tick { self.old.row.next_tick < 2 ^ 64 - 1 }
         requires room { HasRoom self.old }
         requires shares { HasShares self.old }
         requires jobs { most_released self.old.row ≤ jobs.old.room }
-        ensures half { IsSecondHalf frame.now granted.old self.old self.new }
+        ensures half { IsSecondHalf frame.now granted.now self.old self.new }
         ensures released { AreReleased self.old.row self.new.row }
         ensures jobs { jobs.new.jobs ≡ jobs.old.jobs ++ released_at self.old.tenancy.owner.place self.old.row.next_tick self.new.row }
         ensures room { jobs.old.room ≤ jobs.new.room + most_released self.old.row }
-        ensures granted { granted.new ≡ granted.old }
     {
         let tick = self.next_tick();
-        self.second_half(frame, granted);
+        let mut places = places_of(granted);
+        self.second_half(frame, places.as_mut_slice());
         self.add_jobs(tick, jobs);
     }
 

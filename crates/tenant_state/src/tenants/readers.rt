@@ -65,7 +65,7 @@ impl Tenant {
     /// The value of the actuator of this name, and its place in the program's text, counted from 0; `None` where the tenant's program has
     /// no such actuator. It is looked for at `hint` first, where it may have been found before. Takes no memory.
     #[inline(always)]
-    pub fn actuator(&self, name: &Name, hint: usize) -> Option<(usize, i64)>
+    pub fn actuator_from(&self, name: &Name, hint: usize) -> Option<(usize, i64)>
         ensures { option_map (λ a. a.1) result ≡ actuator_value self.now.row name.now }
     {
         let Some(checked) = &self.program else {
@@ -77,6 +77,14 @@ impl Tenant {
         Some((place, values[slot]))
     }
 
+    /// The value of the actuator of this name, or `None` where the tenant's program has no such actuator. Takes no memory.
+    pub fn actuator(&self, name: &Name) -> Option<i64>
+        ensures { result ≡ actuator_value self.now.row name.now }
+    {
+        let (_, value) = self.actuator_from(name, 0)?;
+        Some(value)
+    }
+
     /// The value of the actuator that drives this line, or `None` where the tenant's program has no such actuator. Takes no memory.
     pub fn line(&self, line: usize) -> Option<i64>
         ensures { result ≡ line_value self.now.row line }
@@ -85,8 +93,7 @@ impl Tenant {
             return None;
         };
         let name = driver_name(checked.program().actuators(), line as u64)?;
-        let (_, value) = self.actuator(&name, 0)?;
-        Some(value)
+        self.actuator(&name)
     }
 }
 

@@ -53,27 +53,27 @@ module _ (c : After-as_mut_slice-granted) where
       let long : length granted ≡ c.self.inside.granted.len = same ∙ c.as_mut_slice-granted.ensures.len in
       omega (arith, ap length (written_over c.self.inside.granted.len c.self.inside.granted.items granted long), same, ap length c.as_mut_slice-granted.ensures.value)
 
-pub instant-requires-clause-placed : goal.instant-requires-clause-placed
-instant-requires-clause-placed c = (readied (goal.at.instant-requires-clause-placed c).After-as_mut_slice-granted).whole.placed
+pub instant_with-requires-clause-placed : goal.instant_with-requires-clause-placed
+instant_with-requires-clause-placed c = (readied (goal.at.instant_with-requires-clause-placed c).After-as_mut_slice-granted).whole.placed
 
-pub instant-requires-clause-between : goal.instant-requires-clause-between
-instant-requires-clause-between c = λ k d lt. ((readied (goal.at.instant-requires-clause-between c).After-as_mut_slice-granted).whole.known k d lt).1
+pub instant_with-requires-clause-between : goal.instant_with-requires-clause-between
+instant_with-requires-clause-between c = λ k d lt. ((readied (goal.at.instant_with-requires-clause-between c).After-as_mut_slice-granted).whole.known k d lt).1
 
-pub instant-requires-clause-counts : goal.instant-requires-clause-counts
-instant-requires-clause-counts c = all_below (goal.at.instant-requires-clause-counts c).After-as_mut_slice-granted
+pub instant_with-requires-clause-counts : goal.instant_with-requires-clause-counts
+instant_with-requires-clause-counts c = all_below (goal.at.instant_with-requires-clause-counts c).After-as_mut_slice-granted
 
-pub instant-requires-clause-ready : goal.instant-requires-clause-ready
-instant-requires-clause-ready c = all_ready (goal.at.instant-requires-clause-ready c).After-as_mut_slice-granted
+pub instant_with-requires-clause-ready : goal.instant_with-requires-clause-ready
+instant_with-requires-clause-ready c = all_ready (goal.at.instant_with-requires-clause-ready c).After-as_mut_slice-granted
 
-pub instant-requires-clause-rosters : goal.instant-requires-clause-rosters
-instant-requires-clause-rosters c = rosters_again (readied (goal.at.instant-requires-clause-rosters c).After-as_mut_slice-granted)
+pub instant_with-requires-clause-rosters : goal.instant_with-requires-clause-rosters
+instant_with-requires-clause-rosters c = rosters_again (readied (goal.at.instant_with-requires-clause-rosters c).After-as_mut_slice-granted)
 
-pub instant-requires-clause-places : goal.instant-requires-clause-places
-instant-requires-clause-places c =
-    places_again (readied (goal.at.instant-requires-clause-places c).After-as_mut_slice-granted) c.as_mut_slice-granted.result.now (omega (arith, c.self.invariant.places, ap length c.as_mut_slice-granted.ensures.value))
+pub instant_with-requires-clause-places : goal.instant_with-requires-clause-places
+instant_with-requires-clause-places c =
+    places_again (readied (goal.at.instant_with-requires-clause-places c).After-as_mut_slice-granted) c.as_mut_slice-granted.result.now (omega (arith, c.self.invariant.places, ap length c.as_mut_slice-granted.ensures.value))
 
-pub instant-requires-clause-table : goal.instant-requires-clause-table
-instant-requires-clause-table c = (readied (goal.at.instant-requires-clause-table c).After-as_mut_slice-granted).whole.table
+pub instant_with-requires-clause-table : goal.instant_with-requires-clause-table
+instant_with-requires-clause-table c = (readied (goal.at.instant_with-requires-clause-table c).After-as_mut_slice-granted).whole.table
 
 pub advance-requires-clause-placed : goal.advance-requires-clause-placed
 advance-requires-clause-placed c = (readied (goal.at.advance-requires-clause-placed c).After-as_mut_slice-granted).whole.placed
@@ -103,12 +103,12 @@ next c =
     let frame = c.args.frame.now in
     elim c.if-takes_jobs-2.branch [
       | then-takes_jobs-2 w ↦
-          let e = w.instant.ensures in
+          let e = w.instant_with.ensures in
           subst (Leaves read) (sym w.self-inside-is) (
-            next_written (readied read) frame w.instant.new.tenants _ w.instant.new.finished.entries (record { instants = e.instants; table = e.table; exact = e.entries }),
+            next_written (readied read) frame w.instant_with.new.tenants _ w.instant_with.new.finished.entries (record { instants = e.instants; table = e.table; exact = e.entries }),
             refl,
             refl,
-            long_places read w.instant.new.granted w.instant.auto.granted,
+            long_places read w.instant_with.new.granted w.instant_with.auto.granted,
           )
       | else-takes_jobs-2 w ↦
           let e = w.advance.ensures in
@@ -146,9 +146,9 @@ returns-clause-jobs c = λ takes.
     let read = (goal.at.returns-clause-jobs c).After-as_mut_slice-granted in
     elim c.if-takes_jobs-2.branch [
       | then-takes_jobs-2 w ↦
-          let new = w.instant.new.tenants in
-          let items = ap (λ (x : Inside). x.tenants.items) w.self-inside-is ∙ written_behind (readied read) c.args.frame.now new _ w.instant.ensures.instants in
-          ap (λ js. js.jobs) w.jobs-is ∙ w.instant.ensures.jobs c.self.inside.clock (λ k d lt. ((readied read).whole.known k d lt).0)
+          let new = w.instant_with.new.tenants in
+          let items = ap (λ (x : Inside). x.tenants.items) w.self-inside-is ∙ written_behind (readied read) c.args.frame.now new _ w.instant_with.ensures.instants in
+          ap (λ js. js.jobs) w.jobs-is ∙ w.instant_with.ensures.jobs c.self.inside.clock (λ k d lt. ((readied read).whole.known k d lt).0)
           ∙ (sym (gathered_at_rest _ (λ k s. refl) 0 new)
           ∙ (ap (λ (h : HostStanding). released_from h.clock 0 (map at_rest new)) c.self.view_is
           ∙ ap (λ xs. released_from c.args.self.now.clock 0 (map at_rest xs)) (sym items)))

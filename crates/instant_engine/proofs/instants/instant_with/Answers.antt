@@ -8,7 +8,7 @@ use Rattle.instant_engine.specs.cited.Instants.{AreInstants}
 use Rattle.instant_engine.proofs.cited.AtRest.{active_at_rest, instants_at_rest, same_jobs, table_at_rest}
 use Rattle.instant_engine.proofs.Between.{all_at}
 use Rattle.instant_engine.proofs.cited.Loops.{jobs_of_instant}
-use Rattle.instant_engine.proofs.instants.instant.Goals as goal
+use Rattle.instant_engine.proofs.instants.instant_with.Goals as goal
 
 pub add_jobs-requires : goal.add_jobs-requires
 add_jobs-requires c = record {

@@ -2,8 +2,8 @@ use Rattle.std.proofs.Common.{◌<◌, ◌+◌, length, get_or, pos, Some, sym, 
 use Rattle.std.proofs.lemmas.Int.{to_z-of_z}
 use Rattle.std.proofs.lemmas.Option.{slice_get-get_or}
 use Rattle.tenant_state.proofs.Readers.{no_value, slot_there, value_there}
-use Rattle.tenant_state.proofs.tenants.Tenant.actuator.Goals as goal
-use Rattle.tenant_state.proofs.tenants.Tenant.actuator.Goals.{After-sensors}
+use Rattle.tenant_state.proofs.tenants.Tenant.actuator_from.Goals as goal
+use Rattle.tenant_state.proofs.tenants.Tenant.actuator_from.Goals.{After-sensors}
 
 pub returns-in_err-place : goal.returns-in_err-place
 returns-in_err-place c =
