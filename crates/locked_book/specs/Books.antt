@@ -10,6 +10,7 @@ use Rattle.host_core.specs.HostStanding.{ForEachState, HostStanding, TakesEvent,
 use Rattle.rig_model.specs.Logs.{IsLegalLog, calls_of_seat}
 use Rattle.rig_model.specs.declared.lines.commands.Command.{Command}
 use Rattle.locked_book.specs.declared.faults.DeskFault.{DeskFault}
+use Rattle.locked_book.specs.declared.passes.TheConstants.{MOST_CALLS}
 use Rattle.rig_model.specs.declared.logged.Call.{Call}
 use Rattle.rig_model.specs.declared.logged.Logged.{Logged}
 use Rattle.rig_model.specs.declared.logged.Logged.TheVariants as logged
@@ -77,6 +78,12 @@ pub record Knows (book : BookValue) (pass : PassValue) : Type 0 where
   pub before : calls_before book.base pass.seat ≤ length pass.calls
   pub calls : drop (calls_before book.base pass.seat) pass.calls ≡ calls_of_seat pass.seat book.log
   pub seen : pass.seen ≤ length_of book
+
+-- A call of this pass by this tenant is strange to the book, whose length is n: the pass isn't full, and the tenant isn't in the roster or
+-- the book doesn't know the pass.
+abbrev pub IsStrange : BookValue → PassValue → ℕ → ℕ → Type 0
+IsStrange book pass tenant n =
+    (length pass.calls < MOST_CALLS) × (n ≡ length_of book) × (¬ ((tenant < length book.host.config.tenants) × Knows book pass))
 
 -- A call was answered: it is the last entry of the log and the last call of the pass, which has seen the log now; the host has taken its
 -- command, with this reply; and nothing else has changed.

@@ -1,6 +1,6 @@
 //! The book: a host with its log.
 
-ghost use Rattle.std.specs.Prelude.{◌≡◌, ◌≢◌, ℕ, ◌+◌, ◌-◌, ◌<◌, ◌≤◌, ◌^◌, ◌↔◌, [], ◌∷◌, ◌++◌, length, map, reverse, IfOk, OnOk, OnErr, Err, IfSome, IsTrue, true, None, Some, vec_len, vec_capacity};
+ghost use Rattle.std.specs.Prelude.{◌≡◌, ◌≢◌, ℕ, ◌+◌, ◌-◌, ◌<◌, ◌≤◌, ◌^◌, ◌↔◌, [], ◌∷◌, ◌++◌, length, map, reverse, IfOk, OnOk, OnErr, Err, IfSome, IsTrue, None, Some, vec_len, vec_capacity};
 ghost use Rattle.std.specs.List.{range_with_len};
 ghost use Rattle.host_core.specs.HostStanding.{ForEachState, Stands, TakesEvent, awaited_in, new_host, outstanding_count};
 ghost use Rattle.host_core.specs.declared.hosts.Counted.{Counted};
@@ -13,17 +13,19 @@ ghost use Rattle.rig_model.specs.Views.{after_command};
 ghost use Rattle.rig_model.specs.declared.events.Event.{Event};
 ghost use Rattle.rig_model.specs.declared.lines.replies.Refusal.{Refusal};
 ghost use Rattle.rig_model.specs.declared.lines.replies.Reply.{Reply};
-ghost use Rattle.locked_book.specs.Books.{AllStand, AreAll, IsAnswered, IsMismatch, IsMissing, Knows, beginning, length_of, new_setting};
+ghost use Rattle.locked_book.specs.Books.{AllStand, AreAll, IsAnswered, IsMismatch, IsMissing, IsStrange, Knows, beginning, length_of, new_setting};
 ghost use Rattle.rig_model.specs.Logs.{IsLegalLog, events_of};
 ghost use Rattle.locked_book.specs.inner.Books.{HasFirstCalls};
 ghost use Rattle.locked_book.specs.inner.Carried.{IsNoted};
 ghost use Rattle.locked_book.specs.declared.faults.CloseFault.{CloseFault};
 ghost use Rattle.locked_book.specs.declared.faults.DeskFault.{DeskFault};
 ghost use Rattle.locked_book.specs.declared.faults.PassFault.{PassFault};
+ghost use Rattle.locked_book.specs.declared.books.TheConstants.{MOST_SEATS};
+ghost use Rattle.locked_book.specs.declared.passes.TheConstants.{MOST_CALLS};
 ghost use Rattle.rig_model.specs.declared.logged.Logged.{Logged};
 
 use crate::bases::Base;
-use crate::carried::{carry_out, tell};
+use crate::carried::carry_out;
 use crate::comparison::compare;
 use crate::faults::{CloseFault, DeskFault, PassFault};
 use crate::histories::NewHistory;
@@ -31,6 +33,7 @@ use crate::known::is_known;
 use crate::logs::Log;
 use crate::naming::Naming;
 use crate::passes::Pass;
+use crate::replies::FromReply;
 use crate::seats::Seat;
 use crate::standing::{all_apart, all_there};
 use giotto_check::Checked;
@@ -85,11 +88,48 @@ impl<N: Naming> Model for Book<N> {
 }
 
 impl<N: Naming> Book<N> {
-    /// A new host, and an empty log. With a history, the book knows the passes that it gave their calls without comparing these.
+    /// A new host, and an empty log.
     ///
     /// # Errors
-    /// Want of memory.
-    pub fn new(
+    /// Out of memory.
+    pub fn new(alloc: Global, config: &Config, first_tick: u64) -> Result<Self, AllocError>
+        requires config { config.now ≡ N.config }
+        requires first_tick { first_tick ≡ N.first_tick }
+        ensures { IfOk result (λ b. b ≡ record {
+          base = beginning N.config N.first_tick;
+          host = new_host N.config N.first_tick;
+          log = [];
+          seats = 0;
+        }) }
+    {
+        Book::begin(alloc, config, first_tick, None)
+    }
+
+    /// As `new`, with a history: the book knows the passes that it gave their calls without comparing these.
+    ///
+    /// # Errors
+    /// Out of memory.
+    pub fn with_history(
+        alloc: Global,
+        config: &Config,
+        first_tick: u64,
+        history: NewHistory,
+    ) -> Result<Self, AllocError>
+        requires config { config.now ≡ N.config }
+        requires first_tick { first_tick ≡ N.first_tick }
+        requires history { history ≡ N.history }
+        ensures { IfOk result (λ b. b ≡ record {
+          base = beginning N.config N.first_tick;
+          host = new_host N.config N.first_tick;
+          log = [];
+          seats = 0;
+        }) }
+    {
+        Book::begin(alloc, config, first_tick, Some(history))
+    }
+
+    // A new host, and an empty log, with this history if there is one.
+    fn begin(
         alloc: Global,
         config: &Config,
         first_tick: u64,
@@ -129,6 +169,16 @@ impl<N: Naming> Book<N> {
         self.log.as_slice()
     }
 
+    /// Opens what is known of the log, for a proof; does nothing.
+    #[inline(always)]
+    pub fn known(&self)
+        ensures legal { IsLegalLog (new_setting N.config N.first_tick) (reverse self.now.log) }
+        ensures host { Stands (new_setting N.config N.first_tick) self.now.host (host_after (new_setting N.config N.first_tick) (events_of (reverse self.now.log))) }
+        ensures base { self.now.base ≡ beginning N.config N.first_tick }
+    {
+        let _log = self.log();
+    }
+
     /// How many entries there are.
     pub fn length(&self) -> u128
         ensures length { result ≡ length_of self.now }
@@ -153,11 +203,11 @@ impl<N: Naming> Book<N> {
     /// `SeatsEnded` where 65,536 seats were given, else `Memory`. Nothing has changed then.
     pub fn seat(&mut self) -> Result<Pass<N>, PassFault>
         ensures ok { IfOk result (λ p. p ≡ record { seat = self.old.seats; calls = []; seen = 0 }) }
-        ensures fits { IfOk result (λ p. p.seat < 65536) }
+        ensures fits { IfOk result (λ p. p.seat < MOST_SEATS) }
         ensures same { (self.new.base ≡ self.old.base) × (self.new.host ≡ self.old.host) × (self.new.log ≡ self.old.log) }
         ensures seats { OnOk result (self.new.seats ≡ self.old.seats + 1) }
         ensures refused { OnErr result (self.new ≡ self.old) }
-        ensures ended { result ≡ Err PassFault.SeatsEnded ↔ self.old.seats ≡ 65536 }
+        ensures ended { result ≡ Err PassFault.SeatsEnded ↔ self.old.seats ≡ MOST_SEATS }
     {
         let seat = self.seats.len();
         if seat >= MOST_SEATS {
@@ -327,85 +377,33 @@ impl<N: Naming> Book<N> {
         ensures known { OnOk result (Knows self.new pass.new) }
         ensures seen { OnOk result (pass.old.seen < pass.new.seen) }
         ensures refused { OnErr result ((self.new ≡ self.old) × (pass.new ≡ pass.old)) }
-        ensures full { result ≡ Err DeskFault.PassFull ↔ 4096 ≤ length pass.old.calls }
-        ensures strange { (n : ℕ) → result ≡ Err (DeskFault.Strange n) ↔ ((length pass.old.calls < 4096) × (n ≡ length_of self.old)
-            × (¬ ((tenant < length self.old.host.config.tenants) × Knows self.old pass.old))) }
+        ensures full { result ≡ Err DeskFault.PassFull ↔ MOST_CALLS ≤ length pass.old.calls }
+        ensures strange { (n : ℕ) → result ≡ Err (DeskFault.Strange n) ↔ IsStrange self.old pass.old tenant n }
     {
         let prepared = prepare(self.alloc, command);
         let mut left = None;
         self.carry_out(pass, tenant, prepared, &mut left)
     }
 
-    /// As `call`, of a command that was prepared, so that its text needn't be read now. The program whose place is taken, or which isn't taken
-    /// itself, is left in `left`.
+    /// As `call`, of a command that was prepared, so that its text needn't be read now. The caller gets a copy of the reply, or nothing:
+    /// the reply is that of the pass's last call. A program that is replaced, or refused, is left in `left`.
     ///
     /// # Errors
     /// As `call`.
-    pub fn carry_out(
+    pub fn carry_out<T: FromReply>(
         &mut self,
         pass: &mut Pass<N>,
         tenant: TenantId,
         prepared: Prepared,
         left: &mut Option<Checked>,
-    ) -> Result<Reply, DeskFault>
-        ensures answered { IfOk result (λ r. IsAnswered self.old self.new pass.old pass.new (record { tenant = tenant; command = prepared; reply = r })) }
-        ensures memory { IfOk result (λ r. r ≢ Reply.Refused Refusal.Memory) }
+    ) -> Result<T, DeskFault>
+        ensures answered { IfOk result (λ got. (r : Reply) × IsAnswered self.old self.new pass.old pass.new (record { tenant = tenant; command = prepared; reply = r })
+            × (r ≢ Reply.Refused Refusal.Memory) × T.is_of got r) }
         ensures known { OnOk result (Knows self.new pass.new) }
         ensures seen { OnOk result (pass.old.seen < pass.new.seen) }
         ensures refused { OnErr result ((self.new ≡ self.old) × (pass.new ≡ pass.old)) }
-        ensures full { result ≡ Err DeskFault.PassFull ↔ 4096 ≤ length pass.old.calls }
-        ensures strange { (n : ℕ) → result ≡ Err (DeskFault.Strange n) ↔ ((length pass.old.calls < 4096) × (n ≡ length_of self.old)
-            × (¬ ((tenant < length self.old.host.config.tenants) × Knows self.old pass.old))) }
-    {
-        let mut told = Reply::Loaded;
-        self.answer(pass, tenant, prepared, left, true, &mut told)?;
-        Ok(told)
-    }
-
-    /// As `carry_out`, without a copy of the reply, which stands on the pass.
-    ///
-    /// # Errors
-    /// As `call`.
-    pub fn make(
-        &mut self,
-        pass: &mut Pass<N>,
-        tenant: TenantId,
-        prepared: Prepared,
-        left: &mut Option<Checked>,
-    ) -> Result<(), DeskFault>
-        ensures answered { OnOk result ((r : Reply) × IsAnswered self.old self.new pass.old pass.new (record { tenant = tenant; command = prepared; reply = r })
-            × (r ≢ Reply.Refused Refusal.Memory)) }
-        ensures known { OnOk result (Knows self.new pass.new) }
-        ensures seen { OnOk result (pass.old.seen < pass.new.seen) }
-        ensures refused { OnErr result ((self.new ≡ self.old) × (pass.new ≡ pass.old)) }
-        ensures full { result ≡ Err DeskFault.PassFull ↔ 4096 ≤ length pass.old.calls }
-        ensures strange { (n : ℕ) → result ≡ Err (DeskFault.Strange n) ↔ ((length pass.old.calls < 4096) × (n ≡ length_of self.old)
-            × (¬ ((tenant < length self.old.host.config.tenants) × Knows self.old pass.old))) }
-    {
-        let mut untold = Reply::Loaded;
-        self.answer(pass, tenant, prepared, left, false, &mut untold)
-    }
-}
-
-impl<N: Naming> Book<N> {
-    // As `make`, with a copy of the reply in `told` where one is asked for.
-    fn answer(
-        &mut self,
-        pass: &mut Pass<N>,
-        tenant: TenantId,
-        prepared: Prepared,
-        left: &mut Option<Checked>,
-        is_told: bool,
-        told: &mut Reply,
-    ) -> Result<(), DeskFault>
-        ensures answered { OnOk result ((r : Reply) × IsAnswered self.old self.new pass.old pass.new (record { tenant = tenant; command = prepared; reply = r })
-            × (r ≢ Reply.Refused Refusal.Memory) × (is_told ≡ true → told.new ≡ r)) }
-        ensures known { OnOk result (Knows self.new pass.new) }
-        ensures seen { OnOk result (pass.old.seen < pass.new.seen) }
-        ensures refused { OnErr result ((self.new ≡ self.old) × (pass.new ≡ pass.old)) }
-        ensures full { result ≡ Err DeskFault.PassFull ↔ 4096 ≤ length pass.old.calls }
-        ensures strange { (n : ℕ) → result ≡ Err (DeskFault.Strange n) ↔ ((length pass.old.calls < 4096) × (n ≡ length_of self.old)
-            × (¬ ((tenant < length self.old.host.config.tenants) × Knows self.old pass.old))) }
+        ensures full { result ≡ Err DeskFault.PassFull ↔ MOST_CALLS ≤ length pass.old.calls }
+        ensures strange { (n : ℕ) → result ≡ Err (DeskFault.Strange n) ↔ IsStrange self.old pass.old tenant n }
     {
         if pass.is_full() {
             return Err(DeskFault::PassFull);
@@ -417,27 +415,25 @@ impl<N: Naming> Book<N> {
         if !self.knows(pass) {
             return Err(DeskFault::Strange(length));
         }
-        let Ok(()) = self.answer_known(pass, tenant, prepared, left, is_told, told) else {
+        let Ok(got) = self.answer_known(pass, tenant, prepared, left) else {
             return Err(DeskFault::Memory);
         };
         pass.seen = length + 1;
-        Ok(())
+        Ok(got)
     }
 
-    // As `answer`, of a pass that the book knows. What the pass has seen stays.
-    fn answer_known(
+    // As `carry_out`, of a pass that the book knows. What the pass has seen stays.
+    fn answer_known<T: FromReply>(
         &mut self,
         pass: &mut Pass<N>,
         tenant: TenantId,
         prepared: Prepared,
         left: &mut Option<Checked>,
-        is_told: bool,
-        told: &mut Reply,
-    ) -> Result<(), AllocError>
+    ) -> Result<T, AllocError>
         requires tenant { tenant < length self.old.host.config.tenants }
-        requires room { length pass.old.calls < 4096 }
+        requires room { length pass.old.calls < MOST_CALLS }
         requires known { Knows self.old pass.old }
-        ensures noted { OnOk result (IsNoted self.old self.new pass.old pass.new tenant prepared is_told told.new) }
+        ensures noted { IfOk result (λ got. IsNoted self.old self.new pass.old pass.new tenant prepared (T.is_of got)) }
         ensures refused { OnErr result ((self.new ≡ self.old) × (pass.new ≡ pass.old)) }
     {
         self.awaited = self.outstanding() as usize;
@@ -451,14 +447,14 @@ impl<N: Naming> Book<N> {
         )?;
         let before = pass.calls.as_slice();
         let carried = carry_out(self.alloc, &mut self.host, tenant, prepared, left, before)?;
-        tell(self.alloc, &carried.logged, is_told, told)?;
+        let got = T::from_reply(self.alloc, &carried.logged.as_call().reply)?;
         seat.places.push_reserved(place);
         seat.calls += 1;
         self.log
             .push_reserved(Logged::Call(pass.seat, carried.logged));
         pass.calls.push_reserved(carried.noted);
         let _ = mem::replace(&mut pass.front, self.log.front());
-        Ok(())
+        Ok(got)
     }
 }
 

@@ -5,11 +5,10 @@
 //! in a place of its own, and get their replies behind it.
 
 ghost use Rattle.std.specs.Box.{box_value};
-ghost use Rattle.std.specs.Prelude.{◌≡◌, ◌<◌, ◌≤◌, ◌↔◌, length, true, IfOk, IfSome, IsErr, IsTrue, OnErr, OnOk};
+ghost use Rattle.std.specs.Prelude.{◌≡◌, ◌<◌, ◌≤◌, ◌↔◌, length, IfOk, IfSome, IsTrue, OnErr};
 ghost use Rattle.host_core.specs.HostStanding.{outstanding_count};
 ghost use Rattle.host_core.specs.Questions.{is_question};
 ghost use Rattle.locked_book.specs.inner.Carried.{IsCarriedOut, IsTaken, call_with};
-ghost use Rattle.rig_model.specs.lines.cited.Copies.{has_list};
 
 use crate::same::Same;
 use giotto_check::Checked;
@@ -225,23 +224,4 @@ fn place_for(alloc: Global, tenant: TenantId, command: &Command) -> Result<Box<C
         reply: Reply::Loaded,
     };
     Ok(Box::new(alloc, call)?)
-}
-
-/// Makes a copy of a call's reply, where it is asked for.
-///
-/// # Errors
-/// Want of memory, only where the reply is a list.
-pub(crate) fn tell(
-    alloc: Global,
-    call: &KeptCall,
-    is_told: bool,
-    told: &mut Reply,
-) -> Result<(), AllocError>
-    ensures told { is_told ≡ true → OnOk result (told.new ≡ call.now.reply) }
-    ensures memory { IsErr result → IsTrue (has_list call.now.reply) }
-{
-    if is_told {
-        *told = call.as_call().reply.copy(alloc)?;
-    }
-    Ok(())
 }

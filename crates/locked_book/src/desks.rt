@@ -14,6 +14,8 @@ ghost use Rattle.locked_book.specs.Books.{AreAll, AreCalled, BookValue, EndLegal
 ghost use Rattle.rig_model.specs.Logs.{IsLegalLog, answers_in, calls_of_seat, events_of};
 ghost use Rattle.locked_book.specs.declared.faults.CloseFault.{CloseFault};
 ghost use Rattle.locked_book.specs.declared.faults.DeskFault.{DeskFault};
+ghost use Rattle.locked_book.specs.declared.books.TheConstants.{MOST_SEATS};
+ghost use Rattle.locked_book.specs.declared.passes.TheConstants.{MOST_CALLS};
 ghost use Rattle.rig_model.specs.declared.logged.Call.{Call};
 ghost use Rattle.rig_model.specs.declared.logged.Logged.{Logged};
 ghost use Rattle.locked_book.specs.inner.Books.{AreMade};
@@ -46,25 +48,44 @@ pub struct Desk<N: Naming> {
 }
 
 impl<N: Naming> Desk<N> {
-    /// A desk over a new host, with an empty log. With a history, it knows the passes that it gave their calls without comparing these.
+    /// A desk over a new host, with an empty log.
     ///
     /// # Errors
-    /// Want of memory.
-    pub fn new(
+    /// Out of memory.
+    pub fn new(alloc: Global, config: &Config, first_tick: u64) -> Result<Self, AllocError>
+        requires config { config.now ≡ N.config }
+        requires first_tick { first_tick ≡ N.first_tick }
+    {
+        Ok(Desk::over(alloc, Book::new(alloc, config, first_tick)?))
+    }
+
+    /// As `new`, with a history: the desk knows the passes that it gave their calls without comparing these.
+    ///
+    /// # Errors
+    /// Out of memory.
+    pub fn with_history(
         alloc: Global,
         config: &Config,
         first_tick: u64,
-        history: Option<NewHistory>,
+        history: NewHistory,
     ) -> Result<Self, AllocError>
         requires config { config.now ≡ N.config }
         requires first_tick { first_tick ≡ N.first_tick }
-        requires history { IfSome history (λ h. h ≡ N.history) }
+        requires history { history ≡ N.history }
     {
-        Ok(Desk {
+        Ok(Desk::over(
             alloc,
-            book: Mutex::new(Book::new(alloc, config, first_tick, history)?),
+            Book::with_history(alloc, config, first_tick, history)?,
+        ))
+    }
+
+    // A desk over this book.
+    fn over(alloc: Global, book: Book<N>) -> Desk<N> {
+        Desk {
+            alloc,
+            book: Mutex::new(book),
             settled: Condvar::new(),
-        })
+        }
     }
 
     /// The pass of a seat that was not given before, without calls.
@@ -72,7 +93,7 @@ impl<N: Naming> Desk<N> {
     /// # Errors
     /// `SeatsEnded` where 65,536 seats were given, else `Memory`.
     pub fn pass(&self, rt: &impl Wait) -> Result<Pass<N>, PassFault>
-        ensures { IfOk result (λ p. (p.calls ≡ []) × (p.seen ≡ 0) × (p.seat < 65536)) }
+        ensures { IfOk result (λ p. (p.calls ≡ []) × (p.seen ≡ 0) × (p.seat < MOST_SEATS)) }
     {
         self.enter(rt).seat()
     }
@@ -99,18 +120,15 @@ impl<N: Naming> Desk<N> {
         ensures pass { IfOk result (λ r. pass.new.calls ≡ pass.old.calls ++ record { tenant = tenant; command = command; reply = r } ∷ []) }
         ensures seat { pass.new.seat ≡ pass.old.seat }
         ensures seen { OnOk result (pass.old.seen < pass.new.seen) }
-        ensures full { result ≡ Err DeskFault.PassFull ↔ 4096 ≤ length pass.old.calls }
+        ensures full { result ≡ Err DeskFault.PassFull ↔ MOST_CALLS ≤ length pass.old.calls }
         ensures refused { OnErr result (pass.new ≡ pass.old) }
     {
         let prepared = prepare(self.alloc, command);
         // Dropped behind the lock.
         let mut left = None;
         let mut book = self.enter(rt);
-        let reply = book.carry_out(pass, tenant, prepared, &mut left)?;
-        let _ = book.log();
-        if book.outstanding() == 0 {
-            self.settled.notify_all();
-        }
+        let reply: Reply = book.carry_out(pass, tenant, prepared, &mut left)?;
+        self.leave(&book);
         Ok(reply)
     }
 
@@ -131,14 +149,11 @@ impl<N: Naming> Desk<N> {
         ensures legal { (made : List Call) → pass.new.calls ≡ pass.old.calls ++ made → made ≢ [] → EndLegalLog (new_setting N.config N.first_tick) pass.new made }
         ensures seat { pass.new.seat ≡ pass.old.seat }
         ensures none { pass.new.calls ≡ pass.old.calls → pass.new ≡ pass.old }
-        ensures full { result ≡ Err DeskFault.PassFull ↔ ((4096 ≤ length pass.new.calls) × (length pass.new.calls < length pass.old.calls + length commands.now)) }
+        ensures full { result ≡ Err DeskFault.PassFull ↔ ((MOST_CALLS ≤ length pass.new.calls) × (length pass.new.calls < length pass.old.calls + length commands.now)) }
     {
         let mut book = self.enter(rt);
         let answer = make_all(self.alloc, &mut book, pass, tenant, commands);
-        let _ = book.log();
-        if book.outstanding() == 0 {
-            self.settled.notify_all();
-        }
+        self.leave(&book);
         answer
     }
 
@@ -155,12 +170,9 @@ impl<N: Naming> Desk<N> {
             × (r.0.jobs ≡ released_from (host_after (new_setting N.config N.first_tick) (events_of log)).clock 0 host.tenants)) }
     {
         let mut book = self.enter(rt);
-        let _ = book.log();
+        book.known();
         let answer = book.tick(frame)?;
-        let _ = book.log();
-        if book.outstanding() == 0 {
-            self.settled.notify_all();
-        }
+        self.leave(&book);
         Ok(answer)
     }
 
@@ -173,10 +185,7 @@ impl<N: Naming> Desk<N> {
     {
         let mut book = self.enter(rt);
         let answer = book.done(done);
-        let _ = book.log();
-        if book.outstanding() == 0 {
-            self.settled.notify_all();
-        }
+        self.leave(&book);
         answer
     }
 
@@ -189,7 +198,7 @@ impl<N: Naming> Desk<N> {
             × IfOk result (λ values. values.items ≡ map (value_of_line N.config (row_at (host_after (new_setting N.config N.first_tick) (events_of log)))) (range_with_len 0 N.config.lines)) }
     {
         let book = self.enter(rt);
-        let _ = book.log();
+        book.known();
         book.lines()
     }
 
@@ -209,6 +218,19 @@ impl<N: Naming> Desk<N> {
             spin_loop();
         }
         self.book.lock(rt)
+    }
+
+    // What each call does before it releases the lock: it opens what is known of the log, for the proof, and wakes those who wait until no
+    // job is outstanding.
+    fn leave(&self, book: &Book<N>)
+        ensures legal { IsLegalLog (new_setting N.config N.first_tick) (reverse book.now.log) }
+        ensures host { Stands (new_setting N.config N.first_tick) book.now.host (host_after (new_setting N.config N.first_tick) (events_of (reverse book.now.log))) }
+        ensures base { book.now.base ≡ beginning N.config N.first_tick }
+    {
+        book.known();
+        if book.outstanding() == 0 {
+            self.settled.notify_all();
+        }
     }
 
     /// The book, closed with all passes: each pass is the log's of its seat, no seat is there twice, none has seen a longer log, and
@@ -238,7 +260,7 @@ impl<N: Naming> Desk<N> {
         } = self;
         let mut book = book.into_inner();
         let fault = book.compare(&passes);
-        let _ = book.log();
+        book.known();
         match fault {
             None => Ok(book),
             Some(fault) => {
@@ -263,7 +285,7 @@ fn make_all<N: Naming>(
 ) -> Result<(), DeskFault>
     ensures called { AreCalled tenant commands.now result pass.old pass.new }
     ensures made { (made : List Call) → pass.new.calls ≡ pass.old.calls ++ made → AreMade made book.old book.new pass.old pass.new }
-    ensures full { result ≡ Err DeskFault.PassFull ↔ ((4096 ≤ length pass.new.calls) × (length pass.new.calls < length pass.old.calls + length commands.now)) }
+    ensures full { result ≡ Err DeskFault.PassFull ↔ ((MOST_CALLS ≤ length pass.new.calls) × (length pass.new.calls < length pass.old.calls + length commands.now)) }
 {
     for command in commands {
         if pass.is_full() {
@@ -273,7 +295,7 @@ fn make_all<N: Naming>(
             return Err(DeskFault::Memory);
         };
         let mut left = None;
-        book.make(pass, tenant, prepare(alloc, command), &mut left)?;
+        let () = book.carry_out(pass, tenant, prepare(alloc, command), &mut left)?;
     }
     Ok(())
 }

@@ -19,6 +19,7 @@ mod known;
 mod logs;
 pub mod naming;
 pub mod passes;
+pub mod replies;
 mod same;
 mod seats;
 mod standing;

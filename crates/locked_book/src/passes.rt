@@ -1,6 +1,7 @@
 //! Passes: what the holder of a seat has of its calls.
 
 ghost use Rattle.std.specs.Prelude.{◌≡◌, ◌<◌, ◌↔◌, ◌≤◌, [], ◌∷◌, ◌++◌, length, IsTrue, OnOk, OnErr};
+ghost use Rattle.locked_book.specs.declared.passes.TheConstants.{MOST_CALLS};
 
 use crate::histories::Front;
 use crate::naming::Naming;
@@ -65,7 +66,7 @@ impl<N: Naming> Pass<N> {
 
     /// Whether it has 4,096 calls.
     pub fn is_full(&self) -> bool
-        ensures { IsTrue result ↔ 4096 ≤ length self.now.calls }
+        ensures { IsTrue result ↔ MOST_CALLS ≤ length self.now.calls }
     {
         self.calls.len() >= MOST_CALLS
     }
@@ -80,7 +81,7 @@ impl<N: Naming> Pass<N> {
         command: Command,
         reply: Reply,
     ) -> Result<(), AllocError>
-        requires { length self.old.calls < 4096 }
+        requires { length self.old.calls < MOST_CALLS }
         ensures noted { OnOk result (self.new ≡ record {
           seat = self.old.seat;
           calls = self.old.calls ++ record { tenant = tenant; command = command; reply = reply } ∷ [];

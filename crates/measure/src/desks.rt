@@ -147,7 +147,7 @@ fn on_desk<N: Naming + Send + Sync, R: Threads + Wait + Sync>(
     requires first_tick { 0 ≡ N.first_tick }
     requires history { history ≡ N.history }
 {
-    let desk = Desk::<N>::new(alloc, config, 0, Some(history)).ok()?;
+    let desk = Desk::<N>::with_history(alloc, config, 0, history).ok()?;
     match work {
         Work::Open(calls) => called(rt, alloc, &desk, calls, times),
         Work::Closed => entries_closed(rt, alloc, desk, times),

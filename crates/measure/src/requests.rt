@@ -115,7 +115,7 @@ fn at_desk<N: Naming, R: Wait>(
     requires first_tick { 0 ≡ N.first_tick }
     requires history { history ≡ N.history }
 {
-    let desk = Desk::<N>::new(alloc, config, 0, Some(history)).ok()?;
+    let desk = Desk::<N>::with_history(alloc, config, 0, history).ok()?;
     let mut scene = new_scene(alloc)?;
     let taken = taken_at(rt, &desk, &mut scene, times);
     Some(taken.wrapping_add(taken_at_last(desk, scene, times)))

@@ -93,7 +93,7 @@ fn agrees<N: Naming + Send + Sync, R: Threads + Wait + Sync>(
     requires first_tick { 0 ≡ N.first_tick }
     requires history { history ≡ N.history }
 {
-    let desk = Desk::<N>::new(alloc, config, 0, Some(history)).ok()?;
+    let desk = Desk::<N>::with_history(alloc, config, 0, history).ok()?;
     let mut voices = new_voices(rt, alloc, &desk, seed)?;
     speak_at(rt, alloc, &desk, &mut voices);
     is_played(alloc, config, desk, voices)

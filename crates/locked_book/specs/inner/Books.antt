@@ -8,6 +8,8 @@ use Rattle.host_core.specs.HostStanding.{HostStanding, Stands, outstanding_count
 use Rattle.rig_model.specs.Logs.{calls_of_seat, events_of, IsReplay}
 use Rattle.locked_book.specs.Books.{Knows, calls_before, beginning, BookValue, PassValue, SeatValue, length_of, new_setting}
 use Rattle.rig_model.specs.declared.logged.Call.{Call}
+use Rattle.locked_book.specs.declared.books.TheConstants.{MOST_SEATS}
+use Rattle.locked_book.specs.declared.passes.TheConstants.{MOST_CALLS}
 use Rattle.rig_model.specs.declared.logged.Logged.{Logged}
 use Rattle.rig_model.specs.declared.logged.Logged.TheVariants as logged
 
@@ -51,8 +53,8 @@ pub record IsBook (rig : Rig) (first_tick : ℕ) (book : BookValue) (seats : Lis
   pub kept : IsKept book.base.host book.host book.log
   pub places : ArePlaces seats book.log
   pub counts : (seat : ℕ) → (seat_at seats seat).calls ≡ calls_before book.base seat + length (calls_of_seat seat book.log)
-  pub small : All (λ (s : SeatValue). s.calls ≤ 4096) seats
-  pub few : length seats ≤ 65536
+  pub small : All (λ (s : SeatValue). s.calls ≤ MOST_CALLS) seats
+  pub few : length seats ≤ MOST_SEATS
   pub begun : first_tick ≤ book.host.clock
   pub clock : book.host.clock < 2 ^ 64
   pub bound : book.base.entries_before + length book.log + outstanding_count book.host ≤ sum_by (λ (s : SeatValue). s.calls) seats + 2 ^ 64 * (book.host.clock - first_tick)

@@ -1,5 +1,5 @@
 -- Commands that were carried out, and what their calls leave in a book.
-use Rattle.std.specs.Prelude.{◌≡◌, ◌≢◌, ℕ, Bool, true, [], ◌∷◌, ◌++◌}
+use Rattle.std.specs.Prelude.{◌≡◌, ◌≢◌, ℕ, true, [], ◌∷◌, ◌++◌}
 use Rattle.rig_model.specs.HostState.{row_at}
 use Rattle.rig_model.specs.Views.{after_command}
 use Rattle.rig_model.specs.declared.events.Event.TheVariants.{Own}
@@ -30,9 +30,9 @@ pub record IsCarriedOut (old new : HostStanding) (tenant : ℕ) (command : Comma
   pub same : for_pass ≡ for_log
   pub taken : IsTaken old new tenant command for_log.reply
 
--- A call with the reply is the last entry of the log and the last call of the pass, the host has taken its command, and the reply was told
--- where that was asked for. What the pass has seen stays.
-pub record IsNoted (old new : BookValue) (before after : PassValue) (tenant : ℕ) (command : Command) (is_told : Bool) (told : Reply) : Type 0 where
+-- A call with the reply is the last entry of the log and the last call of the pass, the host has taken its command, and `Got` holds of the
+-- reply. What the pass has seen stays.
+pub record IsNoted (old new : BookValue) (before after : PassValue) (tenant : ℕ) (command : Command) (Got : Reply → Type 0) : Type 0 where
   pub reply : Reply
   pub log : new.log ≡ old.log ++ logged.Call before.seat (call_with tenant command reply) ∷ []
   pub pass : after ≡ record { seat = before.seat; calls = before.calls ++ call_with tenant command reply ∷ []; seen = before.seen }
@@ -41,4 +41,4 @@ pub record IsNoted (old new : BookValue) (before after : PassValue) (tenant : �
   pub right : ForEachState old.host (λ setting state. reply ≡ (after_command setting tenant command (row_at state tenant)).reply)
   pub step : TakesEvent (Own tenant command) old.host new.host
   pub other : reply ≢ Refused Memory
-  pub as_told : is_told ≡ true → told ≡ reply
+  pub got : Got reply

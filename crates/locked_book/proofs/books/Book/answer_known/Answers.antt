@@ -63,7 +63,7 @@ returns-clause-noted g c =
       right = λ setting state st. made.taken.right setting state (subst (λ (b : BookValue). Stands setting b.host state) (sym c.self.view_is) st);
       step = takes_as (Own c.args.tenant c.args.prepared) c.self.inside.host c.args.self.now.host c.carry_out.new.host (ap (λ (b : BookValue). b.host) c.self.view_is) made.taken.step;
       other = made.taken.other;
-      as_told = c.in_ok-tell.ensures.told;
+      got = subst (g.T.FromReply.is_of c.in_ok-got.got) (ap (λ (x : Call). x.reply) c.as_call.ensures) c.in_ok-got.ensures.of;
     }
 
 pub invariant_of-pass-2 : goal.invariant_of-pass-2
@@ -80,5 +80,5 @@ invariant_of-pass-2 g c =
     (calls_with rig first book c.self.inside.seats.items pass c.self.invariant.3 call known) in
     front_of_log _ _ c.push_reserved-2.new.self.items c.push_reserved-3.new.self.items pass.seat c.replace.ensures.after c.front.ensures all
 
-pub invariant_of-pass-in_err-tell : goal.invariant_of-pass-in_err-tell
-invariant_of-pass-in_err-tell g c = rw c.in_ok-make_room.ensures.calls c.pass.invariant
+pub invariant_of-pass-in_err-got : goal.invariant_of-pass-in_err-got
+invariant_of-pass-in_err-got g c = rw c.in_ok-make_room.ensures.calls c.pass.invariant

@@ -4,7 +4,7 @@ use Rattle.rig_model.specs.Base.{new_base}
 use Rattle.host_core.specs.HostStanding.{Stands, new_host, outstanding_count}
 use Rattle.locked_book.specs.Books.{beginning, new_setting}
 use Rattle.locked_book.proofs.Steps.{new_book, new_host_rests}
-use Rattle.locked_book.proofs.books.Book.new.Goals as goal
+use Rattle.locked_book.proofs.books.Book.begin.Goals as goal
 
 pub invariant_of-result : goal.invariant_of-result
 invariant_of-result g c =

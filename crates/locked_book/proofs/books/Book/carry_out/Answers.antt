@@ -1,37 +1,36 @@
-use Rattle.std.proofs.Common.{◌≡◌, ◌≢◌, Result, Err, refl, sym, ap, ◌∙◌, subst}
-use Rattle.std.proofs.lemmas.Result.{err_from_is_err_and}
-use Rattle.locked_book.specs.declared.faults.DeskFault.{DeskFault}
-use Rattle.locked_book.specs.declared.faults.DeskFault.TheVariants.{Strange}
-use Rattle.rig_model.specs.declared.lines.replies.Refusal.TheVariants.{Memory}
-use Rattle.rig_model.specs.declared.lines.replies.Reply.{Reply}
-use Rattle.rig_model.specs.declared.lines.replies.Reply.TheVariants.{Refused}
-use Rattle.locked_book.specs.Books.{IsAnswered}
+use Rattle.std.proofs.Common.{◌≡◌, ◌+◌, arith, [], ◌∷◌, ◌++◌, length, refl, sym, ap, ◌∙◌}
+use Rattle.rig_model.specs.declared.logged.Call.{Call}
+use Rattle.std.proofs.lemmas.List.{length-append}
+use Rattle.locked_book.specs.Books.{BaseValue, PassValue, Knows, length_of}
 use Rattle.locked_book.specs.inner.Carried.{call_with}
+use Rattle.locked_book.proofs.Steps.{knows_on}
 use Rattle.locked_book.proofs.books.Book.carry_out.Goals as goal
 
--- a fault is the same, whatever else might have been answered
-same_fault : {A B : Type 0} (one other : DeskFault) → ◌≡◌ {A = Result A DeskFault} (Err one) (Err other) → ◌≡◌ {A = Result B DeskFault} (Err one) (Err other)
-same_fault one other is = let same : one ≡ other = cc in ap (λ f. Err f) same
+pub returns-clause-known : goal.returns-clause-known
+returns-clause-known g c =
+    let call : Call = call_with c.args.tenant c.args.prepared c.in-Ok.ensures.noted.reply in
+    let done = c.in-Ok.ensures.noted in
+    let now : Knows c.answer_known.new.self (record { seat = c.args.pass.now.seat; calls = c.args.pass.now.calls ++ call ∷ []; seen = c.length-length.result + 1 }) =
+    knows_on c.args.self.now c.answer_known.new.self c.args.pass.now call (c.length-length.result + 1) (c.if-not-knows.ensures.0 refl) done.base done.seats done.log (ap (λ n. n + 1) c.length-length.ensures.length) in
+    let pass = c.pass.view_is ∙ done.pass in
+    rw (ap (λ (p : PassValue). p.seat) pass, ap (λ (p : PassValue). p.calls) pass) now
 
 pub returns-clause-answered : goal.returns-clause-answered
 returns-clause-answered g c =
-    let answered = c.in_ok-answer.ensures.answered in
-    subst (λ (r : Reply). IsAnswered c.args.self.now c.answer.new.self c.args.pass.now c.answer.new.pass (call_with c.args.tenant c.args.prepared r)) (sym (answered.3 refl)) answered.1
-
-pub returns-clause-memory : goal.returns-clause-memory
-returns-clause-memory g c =
-    let answered = c.in_ok-answer.ensures.answered in
-    subst (λ (r : Reply). r ≢ Refused Memory) (sym (answered.3 refl)) answered.2
-
-pub returns-in_err-answer-clause-strange : goal.returns-in_err-answer-clause-strange
-returns-in_err-answer-clause-strange g c = λ n.
-    let failed = err_from_is_err_and c.from_residual.result c.from_residual.ensures.1 in
-    let fault = c.in_err-answer.field-0.0 in
-    let is_fault : c.from_residual.result ≡ Err fault = failed.1 ∙ ap (λ f. Err f) failed.2 in
-    let given = c.in_err-answer.ensures.strange n in
-    (λ is. given.0 (same_fault fault (Strange n) (sym is_fault ∙ is)), λ known. is_fault ∙ same_fault fault (Strange n) (given.1 known))
-
-pub returns-clause-strange : goal.returns-clause-strange
-returns-clause-strange g c = λ n.
-    let given = c.in_ok-answer.ensures.strange n in
-    (λ is. absurd (cc), λ known. (let wrong = given.1 known in absurd (cc)))
+    let done = c.in-Ok.ensures.noted in
+    let more : length_of c.answer_known.new.self ≡ length_of c.args.self.now + 1 =
+    (let l = ap length done.log ∙ length-append c.args.self.now.log _ in let b = ap (λ (x : BaseValue). x.entries_before) done.base in omega (arith, l, b)) in
+    let seen : c.length-length.result + 1 ≡ length_of c.answer_known.new.self = ap (λ n. n + 1) c.length-length.ensures.length ∙ sym more in
+    let pass = c.pass.view_is ∙ done.pass in (
+      done.reply,
+      record {
+        log = done.log;
+        pass = rw (ap (λ (p : PassValue). p.seat) pass, ap (λ (p : PassValue). p.calls) pass, seen) refl;
+        reply = done.right;
+        step = done.step;
+        base = done.base;
+        seats = done.seats;
+      },
+      done.other,
+      done.got,
+    )

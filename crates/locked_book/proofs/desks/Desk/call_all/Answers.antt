@@ -10,8 +10,8 @@ returns-clause-legal g c = λ made is some.
     let first = g.N.Naming.first_tick in
     let book = c.make_all-answer.new.book in
     let same : c.deref.result.now ≡ book = search rules in
-    let base = subst (λ (b : BookValue). b.base ≡ beginning rig first) same c.log.ensures.base in
-    let legal = subst (λ (b : BookValue). IsLegalLog (new_setting rig first) (reverse b.log)) same c.log.ensures.legal in
+    let base = subst (λ (b : BookValue). b.base ≡ beginning rig first) same c.leave.ensures.base in
+    let legal = subst (λ (b : BookValue). IsLegalLog (new_setting rig first) (reverse b.log)) same c.leave.ensures.legal in
     made_ends (new_setting rig first) rig first made c.deref_mut.result.now book c.args.pass.now c.make_all-answer.new.pass (c.make_all-answer.ensures.made made is) some base legal
 
 pub returns-clause-none : goal.returns-clause-none

@@ -11,7 +11,7 @@ returns g c =
     let setting : Setting = new_setting g.N.Naming.config g.N.Naming.first_tick in
     let log = reverse c.deref.result.now.log in (
       log,
-      c.log.ensures.legal,
+      c.known.ensures.legal,
       c.lines.ensures setting (host_after setting (events_of log))
-          (subst (λ (b : BookValue). Stands setting b.host (host_after setting (events_of log))) (c.deref.ensures ∙ sym c.deref-2.ensures) c.log.ensures.host),
+          (subst (λ (b : BookValue). Stands setting b.host (host_after setting (events_of log))) (c.deref.ensures ∙ sym c.deref-2.ensures) c.known.ensures.host),
     )

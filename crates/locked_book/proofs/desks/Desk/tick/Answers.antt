@@ -18,9 +18,9 @@ returns g c =
     let done = c.in_ok-answer.ensures in
     record {
       ok = ticked rig first old new c.args.frame.now c.in_ok-answer.answer.1 c.in_ok-answer.answer.0.jobs
-          (subst (λ (b : BookValue). b.base ≡ beginning rig first) same c.log.ensures.base)
-          (subst (λ (b : BookValue). Stands setting b.host (host_after setting (events_of (reverse b.log)))) same c.log.ensures.host)
-          (subst (λ (b : BookValue). IsLegalLog setting (reverse b.log)) c.deref-2.ensures c.log-2.ensures.legal)
-          (subst (λ (b : BookValue). Stands setting b.host (host_after setting (events_of (reverse b.log)))) c.deref-2.ensures c.log-2.ensures.host)
+          (subst (λ (b : BookValue). b.base ≡ beginning rig first) same c.known.ensures.base)
+          (subst (λ (b : BookValue). Stands setting b.host (host_after setting (events_of (reverse b.log)))) same c.known.ensures.host)
+          (subst (λ (b : BookValue). IsLegalLog setting (reverse b.log)) c.deref-2.ensures c.leave.ensures.legal)
+          (subst (λ (b : BookValue). Stands setting b.host (host_after setting (events_of (reverse b.log)))) c.deref-2.ensures c.leave.ensures.host)
           done.ok.0 done.ok.1 done.jobs;
     }
