@@ -1,2 +1,1 @@
-pub mod OperatorLines
 pub mod inner

@@ -1,2 +1,4 @@
+pub mod Closing
 pub mod Faults
+pub mod Refusals
 pub mod Replies

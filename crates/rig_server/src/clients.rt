@@ -1,7 +1,8 @@
 //! A client: the connection as its session reads it, and how it is ended.
 
+use crate::refusals::Refusal;
 use std::io;
-use std::io::{ErrorKind, Read, Write};
+use std::io::{ErrorKind, Read};
 use std::net::{Shutdown, TcpStream};
 use std::time::Duration;
 
@@ -43,10 +44,10 @@ pub(crate) fn prepare(stream: &TcpStream, idle: Option<Duration>) -> io::Result<
     stream.set_write_timeout(idle)
 }
 
-/// Tells a client that it isn't served, and ends.
-pub(crate) fn refuse(stream: &TcpStream, bye: &[u8]) {
+/// Writes to a client why it isn't served, and ends writing.
+pub(crate) fn refuse(stream: &TcpStream, refusal: Refusal) {
     let mut writer = stream;
-    let _ = writer.write_all(bye);
+    let _ = refusal.write(&mut writer);
     let _ = stream.shutdown(Shutdown::Write);
 }
 

@@ -1,10 +1,13 @@
 //! Connections: each gets a seat and a thread, in which its session is answered.
 
+ghost use Rattle.std.specs.Prelude.{◌⊎◌, IfErr};
+ghost use Rattle.rig_server.specs.inner.Refusals.{IsUnregistered, IsUnseated};
+
 use crate::clients::{Client, dismiss, prepare, refuse};
 use crate::faults::ServeFault;
-use crate::register::{NotTaken, Register};
+use crate::refusals::Refusal;
+use crate::register::Register;
 use crate::seats::Seats;
-use locked_book::faults::PassFault;
 use locked_book::naming::Naming;
 use locked_book::passes::Pass;
 use rig_model::config::Config;
@@ -18,7 +21,7 @@ use std::thread;
 use std::thread::{Scope, Threads};
 use std::time::{Clock, Duration};
 
-// How many milliseconds are waited behind an accept that failed, as where no descriptor is free.
+// How many milliseconds to wait after an accept that failed, as when no descriptor is free.
 const PAUSE: u64 = 10;
 
 /// What the threads of a server share.
@@ -89,7 +92,7 @@ fn take<'s, E, N: Naming + Send + Sync, D: Seats<N> + Sync, R: Threads + Wait + 
         return;
     };
     let Ok(handle) = stream.try_clone() else {
-        refuse(&stream, b"bye memory\n");
+        refuse(&stream, Refusal::Memory);
         return;
     };
     match enter(rt, hall, handle) {
@@ -101,38 +104,40 @@ fn take<'s, E, N: Naming + Send + Sync, D: Seats<N> + Sync, R: Threads + Wait + 
                 give_up(rt, hall, place);
             }
         }
-        Err(bye) => refuse(&stream, bye),
+        Err(refusal) => refuse(&stream, refusal),
     }
 }
 
-// A place and a seat, or what a connection is told that gets none.
+// A place and a seat, or why a connection gets none.
 fn enter<N: Naming, R: Wait, D: Seats<N>>(
     rt: &R,
     hall: &Hall<'_, N, D>,
     handle: TcpStream,
-) -> Result<(usize, Pass<N>), &'static [u8]> {
-    let place = match hall.register.lock(rt).enter(handle) {
-        Ok(place) => place,
-        Err(NotTaken::Closed) => return Err(b""),
-        Err(NotTaken::Memory) => return Err(b"bye memory\n"),
-    };
-    match hall.desk.seat(rt) {
+) -> Result<(usize, Pass<N>), Refusal>
+    ensures { IfErr result (λ refusal. IsUnregistered refusal ⊎ IsUnseated (D.refuses hall.now.desk.now) refusal) }
+{
+    let place = hall.register.lock(rt).enter(handle)?;
+    match seat(rt, hall.desk) {
         Ok(pass) => Ok((place, pass)),
-        Err(fault) => {
+        Err(refusal) => {
             let _ = hall.register.lock(rt).give_up(place);
-            match fault {
-                PassFault::SeatsEnded => Err(b"bye seats\n"),
-                PassFault::Memory => Err(b"bye memory\n"),
-            }
+            Err(refusal)
         }
     }
+}
+
+// A seat, or why a connection gets none.
+fn seat<N: Naming, R: Wait, D: Seats<N>>(rt: &R, desk: &D) -> Result<Pass<N>, Refusal>
+    ensures { IfErr result (IsUnseated (D.refuses desk.now)) }
+{
+    Ok(desk.seat(rt)?)
 }
 
 // Tells a connection that it has no thread.
 fn give_up<N: Naming, R: Wait, D>(rt: &R, hall: &Hall<'_, N, D>, place: usize) {
     let handle = hall.register.lock(rt).give_up(place);
     if let Some(handle) = handle {
-        refuse(&handle, b"bye memory\n");
+        refuse(&handle, Refusal::Thread);
     }
 }
 
@@ -159,7 +164,7 @@ fn answer<N: Naming, R: Wait, D: Seats<N>>(
     pass: Pass<N>,
 ) -> Pass<N> {
     let Ok(mut writer) = BufWriter::new(hall.alloc, stream) else {
-        refuse(stream, b"bye memory\n");
+        refuse(stream, Refusal::Memory);
         return pass;
     };
     let mut reader = Client::new(stream);

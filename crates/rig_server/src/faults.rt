@@ -3,8 +3,8 @@
 ghost use Rattle.std.specs.Prelude.{◌≡◌};
 ghost use Rattle.rig_server.specs.inner.Faults.{text_of_fault};
 
+use rig_operator::faults::OperatorFault;
 use std::alloc::AllocError;
-use text_lines::faults::LinesFault;
 use thiserror::Error;
 
 /// Why a server ended otherwise than by a halt.
@@ -38,17 +38,17 @@ impl From<AllocError> for ServeFault {
     }
 }
 
-impl From<LinesFault> for ServeFault {
+impl From<OperatorFault> for ServeFault {
     ghost use Rattle.std.specs.Prelude.{◌≡◌};
-    ghost use Rattle.rig_server.specs.inner.Faults.{fault_of_lines};
+    ghost use Rattle.rig_server.specs.inner.Faults.{fault_of_operator};
 
-    ghost from_gives = { λ lines fault. fault ≡ fault_of_lines lines };
+    ghost from_gives = { λ operator fault. fault ≡ fault_of_operator operator };
 
-    fn from(fault: LinesFault) -> ServeFault {
+    fn from(fault: OperatorFault) -> ServeFault {
         match fault {
-            LinesFault::Read | LinesFault::Memory => ServeFault::Read,
-            LinesFault::Write => ServeFault::Write,
-            LinesFault::Turns => ServeFault::Turns,
+            OperatorFault::Read => ServeFault::Read,
+            OperatorFault::Write => ServeFault::Write,
+            OperatorFault::Turns => ServeFault::Turns,
         }
     }
 }

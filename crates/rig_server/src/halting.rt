@@ -1,8 +1,8 @@
 //! Halting: no further connection is taken, and the open ones are waited for, or ended at a second halt.
 
 use crate::connections::Hall;
-use crate::operator_lines::{OperatorLine, operator_line};
 use locked_book::naming::Naming;
+use rig_operator::operator_lines::{OperatorLine, operator_line};
 use std::alloc::Global;
 use std::io::Read;
 use std::net::{Shutdown, TcpStream};

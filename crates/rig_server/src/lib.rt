@@ -3,7 +3,7 @@
 //! [`serving::serve`] takes connections from a listener until the operator halts it. Each has a thread, a seat of the desk and a session
 //! of `rig_sessions`; what an instant releases is run by a pool of `worker_pool`. [`register`] has the open connections, by which they can
 //! be ended from outside, and the passes that came back of those that ended: at the halt the desk is closed with all of them.
-//! [`operator_lines`] tells what a line of the operator is, and `specs/OperatorLines.antt` which lines there are.
+//! The operator's lines are answered by `rig_operator`.
 //!
 //! A client holds its own thread alone. While it is waited for, no lock is held.
 #![tactic(auto)]
@@ -12,9 +12,9 @@ mod clients;
 mod connections;
 pub mod faults;
 mod halting;
-pub mod operator_lines;
-mod operators;
+mod refusals;
 mod register;
 mod replies;
 pub mod seats;
+mod served_rigs;
 pub mod serving;

@@ -1,16 +1,19 @@
 //! The open connections, and the passes of those that have ended.
 
-ghost use Rattle.std.specs.Prelude.{◌+◌, ◌≤◌, ◌<◌, OnOk, vec_len, vec_capacity};
-ghost use Rattle.slab.specs.Slab.{HasRoomFor, slab_len};
+ghost use Rattle.std.specs.Prelude.{◌≡◌, ◌↔◌, ◌==◌, ◌+◌, ◌≤◌, ◌<◌, ◌∷◌, ◌++◌, [], true, false, Err, None, is_some, IsSome, IfErr, IfOk, OnErr, OnOk, vec_len, vec_capacity};
+ghost use Rattle.std.specs.Bool.{MatchBool};
+ghost use Rattle.slab.specs.Slab.{ContainsKey, HasRoomFor, get, slab_len};
+ghost use Rattle.rig_server.specs.inner.Refusals.{IsUnregistered};
 
+use crate::refusals::Refusal;
 use locked_book::naming::Naming;
 use locked_book::passes::Pass;
 use slab::Slab;
 use std::alloc::{AllocError, Global};
 use std::net::{Shutdown, TcpStream};
 
-/// The open connections, each by a second handle of its stream, and the passes that came back. There is room for the pass of each that is
-/// open, so that none is lost for want of memory.
+/// The open connections, each by a second handle of its stream, and the passes that came back. It has space for the pass of each open
+/// connection, so that none is lost when memory runs out.
 #[derive(Drop)]
 pub(crate) struct Register<N: Naming> {
     streams: Slab<TcpStream>,
@@ -19,18 +22,13 @@ pub(crate) struct Register<N: Naming> {
     ghost room: { slab_len streams + vec_len passes ≤ vec_capacity passes },
 }
 
-/// Why a connection isn't taken.
-#[derive(Clone, Copy, Debug, PartialEq, Eq)]
-pub(crate) enum NotTaken {
-    /// No further connection is taken.
-    Closed,
-    /// Want of memory.
-    Memory,
-}
-
 impl<N: Naming> Register<N> {
     /// A register without connections. Takes no memory.
-    pub(crate) fn new(alloc: Global) -> Register<N> {
+    pub(crate) fn new(alloc: Global) -> Register<N>
+        ensures streams { slab_len result.streams ≡ 0 }
+        ensures passes { result.passes.items ≡ [] }
+        ensures is_closed { result.is_closed ≡ false }
+    {
         Register {
             streams: Slab::new(alloc),
             passes: Vec::new(alloc),
@@ -41,20 +39,31 @@ impl<N: Naming> Register<N> {
     /// The place of a new connection, by a handle of its stream.
     ///
     /// # Errors
-    /// `Closed` behind `close`, else `Memory`.
-    pub(crate) fn enter(&mut self, handle: TcpStream) -> Result<usize, NotTaken> {
+    /// `Closed` after `close`, else `Memory`.
+    pub(crate) fn enter(&mut self, handle: TcpStream) -> Result<usize, Refusal>
+        ensures place { IfOk result (λ place. (get self.old.streams place ≡ None) × ContainsKey self.new.streams place) }
+        ensures one { OnOk result (slab_len self.new.streams ≡ slab_len self.old.streams + 1) }
+        ensures closed { result ≡ Err Refusal.Closed ↔ self.old.is_closed ≡ true }
+        ensures refused { IfErr result IsUnregistered }
+        ensures none { OnErr result (slab_len self.new.streams ≡ slab_len self.old.streams) }
+        ensures passes { self.new.passes.items ≡ self.old.passes.items }
+        ensures is_closed { self.new.is_closed ≡ self.old.is_closed }
+    {
         if self.is_closed {
-            return Err(NotTaken::Closed);
+            return Err(Refusal::Closed);
         }
         let Ok(()) = self.make_room() else {
-            return Err(NotTaken::Memory);
+            return Err(Refusal::Memory);
         };
         Ok(self.streams.insert_reserved(handle))
     }
 
-    // Room for one connection more, and for its pass.
+    // Reserves space for one connection more, and for its pass.
     fn make_room(&mut self) -> Result<(), AllocError>
         ensures streams { OnOk result (HasRoomFor self.new.streams 1) }
+        ensures same { self.new.streams.slots ≡ self.old.streams.slots }
+        ensures same_passes { self.new.passes.items ≡ self.old.passes.items }
+        ensures is_closed { self.new.is_closed ≡ self.old.is_closed }
         ensures passes { OnOk result (slab_len self.new.streams + vec_len self.new.passes < vec_capacity self.new.passes) }
     {
         let Some(most) = self.streams.len().checked_add(1) else {
@@ -64,30 +73,49 @@ impl<N: Naming> Register<N> {
         self.streams.reserve(1)
     }
 
-    /// Takes a connection out that has ended, and keeps its pass.
-    pub(crate) fn leave(&mut self, place: usize, pass: Pass<N>) {
+    /// Takes a connection out that has ended, and keeps its pass. Drops the pass if there is no connection at this place.
+    pub(crate) fn leave(&mut self, place: usize, pass: Pass<N>)
+        ensures passes { MatchBool (is_some (get self.old.streams place)) (self.new.passes.items ≡ self.old.passes.items ++ pass ∷ []) (self.new.passes.items ≡ self.old.passes.items) }
+        ensures streams { MatchBool (is_some (get self.old.streams place)) (slab_len self.new.streams + 1 ≡ slab_len self.old.streams) (slab_len self.new.streams ≡ slab_len self.old.streams) }
+        ensures gone { get self.new.streams place ≡ None }
+        ensures is_closed { self.new.is_closed ≡ self.old.is_closed }
+    {
         if self.streams.try_remove(place).is_some() {
             self.passes.push_reserved(pass);
         }
     }
 
     /// Takes a connection out that had no session: the handle of its stream.
-    pub(crate) fn give_up(&mut self, place: usize) -> Option<TcpStream> {
+    pub(crate) fn give_up(&mut self, place: usize) -> Option<TcpStream>
+        ensures handle { IsSome result ↔ ContainsKey self.old.streams place }
+        ensures streams { MatchBool (is_some (get self.old.streams place)) (slab_len self.new.streams + 1 ≡ slab_len self.old.streams) (slab_len self.new.streams ≡ slab_len self.old.streams) }
+        ensures gone { get self.new.streams place ≡ None }
+        ensures passes { self.new.passes.items ≡ self.old.passes.items }
+        ensures is_closed { self.new.is_closed ≡ self.old.is_closed }
+    {
         self.streams.try_remove(place)
     }
 
     /// Takes no further connection.
-    pub(crate) fn close(&mut self) {
+    pub(crate) fn close(&mut self)
+        ensures closed { self.new.is_closed ≡ true }
+        ensures streams { self.new.streams ≡ self.old.streams }
+        ensures passes { self.new.passes.items ≡ self.old.passes.items }
+    {
         self.is_closed = true;
     }
 
     /// Whether no further connection is taken.
-    pub(crate) fn is_closed(&self) -> bool {
+    pub(crate) fn is_closed(&self) -> bool
+        ensures { result ≡ self.now.is_closed }
+    {
         self.is_closed
     }
 
     /// Whether no connection is open.
-    pub(crate) fn is_empty(&self) -> bool {
+    pub(crate) fn is_empty(&self) -> bool
+        ensures { result ≡ (slab_len self.now.streams == 0) }
+    {
         self.streams.is_empty()
     }
 
@@ -99,7 +127,9 @@ impl<N: Naming> Register<N> {
     }
 
     /// The passes that came back.
-    pub(crate) fn into_passes(self) -> Vec<Pass<N>> {
+    pub(crate) fn into_passes(self) -> Vec<Pass<N>>
+        ensures { result.items ≡ self.passes.items }
+    {
         self.passes
     }
 }

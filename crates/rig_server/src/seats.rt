@@ -1,4 +1,7 @@
-//! Who gives seats.
+//! Seats: what gives them.
+
+ghost use Rattle.std.specs.Prelude.{⊤, IfErr};
+ghost use Rattle.locked_book.specs.declared.faults.PassFault.{PassFault};
 
 use locked_book::desks::Desk;
 use locked_book::faults::PassFault;
@@ -7,13 +10,17 @@ use locked_book::passes::Pass;
 use rig_sessions::calls::Calls;
 use std::sync::Wait;
 
-/// Who gives seats, and takes the calls of those who have one.
+/// Gives seats, and takes the calls of those that have one.
 pub trait Seats<N: Naming>: Calls<N> {
+    // for which reasons it gives none, where that is known
+    ghost refuses: { Self → PassFault → Type 0 } = { λ _ _. ⊤ };
+
     /// The pass of a seat that was not given before.
     ///
     /// # Errors
     /// As those of a desk.
-    fn seat<R: Wait>(&self, rt: &R) -> Result<Pass<N>, PassFault>;
+    fn seat<R: Wait>(&self, rt: &R) -> Result<Pass<N>, PassFault>
+        ensures fault { IfErr result (λ fault. refuses self.now fault) };
 }
 
 impl<N: Naming> Seats<N> for Desk<N> {

@@ -1,19 +1,29 @@
 //! The server, from its first connection to the close of its desk.
 
-ghost use Rattle.std.specs.Prelude.{◌≡◌, ◌≤◌};
+ghost use Rattle.std.specs.Prelude.{◌≡◌, ◌≤◌, ℕ, List, ◌++◌, Option, IfOk, OnOk};
+ghost use Rattle.std.specs.Io.KnownBytes.{Appends};
 ghost use Rattle.std.specs.Thread.{IsSend};
+ghost use Rattle.locked_book.specs.declared.faults.CloseFault.{CloseFault};
+ghost use Rattle.rig_operator.specs.Asked.{Adds};
+ghost use Rattle.rig_operator.specs.Operation.{IsEnd, Operates};
+ghost use Rattle.text_lines.specs.cited.Reading.{IsLeft};
+ghost use Rattle.rig_server.specs.inner.Closing.{IsClosed};
+ghost use Rattle.rig_server.specs.inner.Replies.{close_reply};
 
 use crate::connections::{Hall, start};
 use crate::faults::ServeFault;
 use crate::halting::{close_doors, look_for_halt, wait_for_all};
-use crate::operators::{Ending, Operator, say};
 use crate::register::Register;
-use crate::replies::{close_reply, ready_line};
+use crate::replies::{close_reply, ready_line, say};
+use crate::served_rigs::ServedRig;
 use locked_book::desks::Desk;
+use locked_book::faults::CloseFault;
 use locked_book::histories::NewHistory;
 use locked_book::naming::Naming;
 use locked_book::passes::Pass;
 use rig_model::config::Config;
+use rig_operator::operating::{Ending, operate};
+use rig_operator::rigs::Rig;
 use std::alloc::Global;
 use std::io::{Read, Write};
 use std::marker::Brand;
@@ -121,7 +131,7 @@ fn serve_desk<
     requires some { 1 ≤ service.now.workers }
     requires few { service.now.workers ≤ 64 }
 {
-    let desk = Desk::<N>::new(service.alloc, config, FIRST_TICK, Some(history))?;
+    let desk = Desk::<N>::with_history(service.alloc, config, FIRST_TICK, history)?;
     let (passes, ended) = hold(rt, doors, &desk, &*config, reader, writer, service)?;
     let closed = close(service.alloc, desk, passes, writer);
     ended?;
@@ -216,11 +226,17 @@ fn preside<N: Naming, R: Threads + Wait + Clock, I: Read + Drop + Send + 'static
 ) -> Result<(), ServeFault> {
     let mut lines = Lines::new(hall.alloc);
     let mut reader = reader;
-    let mut operator = Operator::new(hall.alloc, hall.desk, pool);
-    let ended = match say(writer, doors.ready.as_str()) {
-        Ok(()) => operator.answer_lines(rt, &mut lines, &mut reader, writer),
-        Err(fault) => Err(fault),
-    };
+    let mut rig = ServedRig::new(hall.desk, pool);
+    let ready = doors.ready.as_str();
+    let ended = answer_operator(
+        rt,
+        hall.alloc,
+        ready,
+        &mut rig,
+        &mut lines,
+        &mut reader,
+        writer,
+    );
     close_doors(rt, hall, &doors.handle);
     let second = match ended {
         Ok(Ending::Halt) => look_for_halt(rt, hall.alloc, lines, reader),
@@ -233,18 +249,58 @@ fn preside<N: Naming, R: Threads + Wait + Clock, I: Read + Drop + Send + 'static
     }
 }
 
-// Closes the desk with all passes, and tells what it said.
+// Writes the line with the port, and answers the operator's lines.
+fn answer_operator<R: Wait, G: Rig, I: Read, W: Write>(
+    rt: &R,
+    alloc: Global,
+    ready: &str,
+    rig: &mut G,
+    lines: &mut Lines,
+    reader: &mut I,
+    writer: &mut W,
+) -> Result<Ending, ServeFault>
+    ensures { IfOk result (λ ending. Operates (Adds (G.asked rig.old) (G.asked rig.new)) (λ said. Appends (W.contents writer.old) (W.contents writer.new) (ready.now ++ said)) (λ texts.
+        (bytes : List ℕ) → IsLeft lines.old (I.remaining reader.old) bytes → IsEnd ending bytes texts (I.remaining reader.new) (IsLeft lines.new (I.remaining reader.new)))) }
+{
+    say(writer, ready)?;
+    match operate(rt, alloc, rig, lines, reader, writer) {
+        Ok(ending) => Ok(ending),
+        Err(fault) => Err(ServeFault::from(fault)),
+    }
+}
+
+// Closes the desk with all passes, and writes what it answered.
 fn close<N: Naming, W: Write>(
     alloc: Global,
     desk: Desk<N>,
     passes: Vec<Pass<N>>,
     writer: &mut W,
-) -> Result<(), ServeFault> {
-    let fault = match desk.close(passes) {
+) -> Result<(), ServeFault>
+    ensures { OnOk result ((answer : Option CloseFault) × IsClosed N.config N.first_tick passes.items answer
+        × Appends (W.contents writer.old) (W.contents writer.new) (close_reply answer)) }
+{
+    say_answer(alloc, close_desk(desk, passes), writer)
+}
+
+// Closes the desk with all passes. What it answered: `None` where it is closed.
+fn close_desk<N: Naming>(desk: Desk<N>, passes: Vec<Pass<N>>) -> Option<CloseFault>
+    ensures { IsClosed N.config N.first_tick passes.items result }
+{
+    match desk.close(passes) {
         Ok(_book) => None,
         Err((fault, _desk, _passes)) => Some(fault),
-    };
-    let reply = close_reply(alloc, fault)?;
+    }
+}
+
+// Writes the last line, and flushes the writer.
+fn say_answer<W: Write>(
+    alloc: Global,
+    answer: Option<CloseFault>,
+    writer: &mut W,
+) -> Result<(), ServeFault>
+    ensures { OnOk result (Appends (W.contents writer.old) (W.contents writer.new) (close_reply answer)) }
+{
+    let reply = close_reply(alloc, answer)?;
     say(writer, reply.as_str())?;
     match writer.flush() {
         Ok(()) => Ok(()),

@@ -4,14 +4,10 @@ use Rattle.std.specs.Fmt.{decimal}
 use Rattle.locked_book.specs.declared.faults.CloseFault.{CloseFault}
 use Rattle.locked_book.specs.declared.faults.CloseFault.TheVariants.{Mismatch, Missing}
 
--- an instant of this number
-abbrev pub tick_reply : ℕ → List ℕ
-tick_reply number = codes "ok tick " ++ (decimal number ++ codes "\n")
-
 abbrev pub ready_line : ℕ → List ℕ
 ready_line port = codes "ready " ++ (decimal port ++ codes "\n")
 
--- what the desk said where it was closed
+-- what the desk answered when it was closed
 abbrev pub close_reply : Option CloseFault → List ℕ
 close_reply None = codes "bye close ok\n"
 close_reply (Some (Mismatch seat)) = codes "bye close mismatch " ++ (decimal seat ++ codes "\n")

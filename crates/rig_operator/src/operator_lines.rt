@@ -2,7 +2,7 @@
 
 ghost use Rattle.std.specs.Prelude.{◌≡◌, ◌==◌, ◌∷◌, IfOk, IsErr, if◌then◌else◌, codes, length};
 ghost use Rattle.rig_model.specs.lines.Words.{first_word_of, words_of};
-ghost use Rattle.rig_server.specs.OperatorLines.{bad_command, line_of, served_line_of};
+ghost use Rattle.rig_operator.specs.OperatorLines.{bad_command, line_of, served_line_of};
 
 use rig_model::lines::words;
 use rig_model::lines::words::Values;

@@ -1,11 +1,11 @@
 -- What a line of the operator is, by its first word and what stands behind it.
-use Rattle.std.proofs.Common.{◌≡◌, ℕ, zero, suc, ◌<◌, ◌==◌, Bool, true, false, if◌then◌else◌, List, [], ◌∷◌, length, codes, refl, sym, ap, ◌∙◌, arith}
+use Rattle.std.proofs.Common.{◌≡◌, ℕ, zero, suc, ◌<◌, ◌==◌, Bool, true, false, if◌then◌else◌, List, [], ◌∷◌, length, codes, refl, ap, ◌∙◌, arith}
 use Rattle.std.proofs.lemmas.Bool.Decides.{nat_tests}
 use Rattle.giotto_tasks.specs.Names.{same_name}
 use Rattle.giotto_tasks.proofs.cited.NameLemmas.{same_name_is}
 use Rattle.rig_model.specs.lines.Words.{words_of, first_word_of, behind_first_word}
 use Rattle.rig_model.proofs.of_lines.WordLemmas.{words_first, words_none}
-use Rattle.rig_server.specs.OperatorLines.{ServedLine, served_line_of, blank, line_values, settle, halt, bad_command}
+use Rattle.rig_operator.specs.OperatorLines.{ServedLine, served_line_of, blank, line_values, settle, halt, bad_command}
 
 differs : (x y : List ℕ) → (x ≡ y → ⊥) → same_name x y ≡ false
 differs x y other = by (same_name x y) refl

@@ -1,8 +1,8 @@
 use Rattle.std.proofs.Common.{◌≡◌, ◌∷◌, IfOk, codes, sym, ap, ◌∙◌, subst, arith}
 use Rattle.rig_model.specs.lines.Words.{words_of}
-use Rattle.rig_server.specs.OperatorLines.{line_of, served_line_of}
-use Rattle.rig_server.proofs.ServedLines.{words_with, blank_line, other_line, lines_line, wait_line, halt_line}
-use Rattle.rig_server.proofs.operator_lines.operator_line.Goals as goal
+use Rattle.rig_operator.specs.OperatorLines.{line_of, served_line_of}
+use Rattle.rig_operator.proofs.ServedLines.{words_with, blank_line, other_line, lines_line, wait_line, halt_line}
+use Rattle.rig_operator.proofs.operator_lines.operator_line.Goals as goal
 
 pub returns-in-empty-clause-line : goal.returns-in-empty-clause-line
 returns-in-empty-clause-line c = sym (blank_line c.args.line.now (sym c.first_word.ensures ∙ c.in-empty.is))

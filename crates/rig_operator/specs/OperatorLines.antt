@@ -2,8 +2,8 @@
 use Rattle.std.specs.Prelude.{ℕ, ℤ, if◌then◌else◌, List, [], ◌∷◌, Option, Some, None, codes}
 use Rattle.giotto_tasks.specs.Names.{same_name}
 use Rattle.rig_model.specs.lines.Words.{values_of_words}
-use Rattle.rig_server.specs.declared.operator_lines.OperatorLine.{OperatorLine}
-use Rattle.rig_server.specs.declared.operator_lines.OperatorLine.TheVariants.{Blank, Tick, Lines, Wait, Halt, BadCommand}
+use Rattle.rig_operator.specs.declared.operator_lines.OperatorLine.{OperatorLine}
+use Rattle.rig_operator.specs.declared.operator_lines.OperatorLine.TheVariants.{Blank, Tick, Lines, Wait, Halt, BadCommand}
 
 pub data ServedLine : Type 0 where
   -- has no reply

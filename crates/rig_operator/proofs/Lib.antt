@@ -1,0 +1,5 @@
+mod Adding
+mod Counting
+mod Progress
+mod Replying
+mod ServedLines

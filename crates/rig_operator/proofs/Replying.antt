@@ -1,0 +1,31 @@
+-- One line that is answered.
+use Rattle.std.proofs.Common.{◌≡◌, ℕ, ℤ, ◌+◌, ◌-◌, ◌^◌, min, List, [], ◌∷◌, Option, Result, Ok, Err, OnOk, IfErr, codes, inr, map, refl, ◌∙◌}
+use Rattle.std.specs.Io.KnownBytes.{Appends}
+use Rattle.tenant_jobs.specs.Jobs.{JobValue}
+use Rattle.rig_model.specs.lines.Words.{first_word_of}
+use Rattle.rig_operator.proofs.Adding.{adds_nothing}
+use Rattle.rig_operator.specs.Asked.{Adds, Asked, completed, given, number_after, sent}
+use Rattle.rig_operator.specs.OperatorLines.{ServedLine}
+use Rattle.rig_operator.specs.Operation.{IsAnswered}
+use Rattle.rig_operator.specs.Replies.{err_memory}
+use Rattle.rig_operator.specs.declared.faults.OperatorFault.{OperatorFault}
+use Rattle.rig_operator.specs.declared.faults.OperatorFault.TheVariants.{Write}
+use Rattle.rig_operator.specs.inner.Answering.{AreReplied, HasReplied, IsReply}
+
+-- a reply that was written, or not
+pub replied : (Asks : List Asked → Type 0) (old new : ℕ) (line : ServedLine) (w v : Option (List ℕ)) (r : Result (Unit {0}) OperatorFault) (asked : List Asked) (said : List ℕ)
+    → OnOk r (Appends w v said) → IfErr r (λ fault. fault ≡ Write) → Asks asked → IsAnswered old line asked said → new ≡ number_after old asked → IsReply r (AreReplied old new line Asks) (Appends w v)
+replied Asks old new line w v (Ok u) asked said written failed asks answered next = (asked, said, asks, written, answered, next)
+replied Asks old new line w v (Err fault) asked said written failed asks answered next = (failed, (asked, said, asks, tt, answered, next))
+
+-- completions are no instants
+none_given : (n : ℕ) (jobs : List JobValue) → n ≡ number_after n (map completed jobs)
+none_given n [] = refl
+none_given n (j ∷ js) = none_given n js
+
+pub next_number : (number next : ℕ) (frame : List ℤ) (jobs unsent : List JobValue) → next ≡ min (number + 1) (2 ^ 64 - 1) → next ≡ number_after number (given frame jobs ∷ sent jobs unsent ∷ map completed unsent)
+next_number number next frame jobs unsent is = is ∙ none_given (min (number + 1) (2 ^ 64 - 1)) unsent
+
+-- a line for whose values there is no memory
+pub unread : (number : ℕ) (text : List ℕ) (known : Option (List Asked)) (Writes : List ℕ → Type 0) → first_word_of text ≡ codes "tick" → Writes err_memory → HasReplied number number text (Adds known known) Writes
+unread number text known Writes first written = ([], err_memory, adds_nothing known, written, inr (first, refl, refl), refl)

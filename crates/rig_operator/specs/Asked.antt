@@ -1,0 +1,28 @@
+-- What an operator asks of a rig, with the answers.
+use Rattle.std.specs.Prelude.{◌+◌, ◌-◌, ◌^◌, min, ℕ, ℤ, List, [], ◌∷◌}
+pub use Rattle.host_core.specs.cited.Adding.{Adds}
+use Rattle.host_core.specs.declared.hosts.TickFault.{TickFault}
+use Rattle.tenant_jobs.specs.Jobs.{JobValue}
+
+-- a question with its answer
+pub data Asked : Type 0 where
+  -- an instant with this frame, which released these jobs
+  given : List ℤ → List JobValue → Asked
+  -- an instant with this frame, which was refused
+  refused : List ℤ → TickFault → Asked
+  -- the first jobs were to be sent, and the second ones came back
+  sent : List JobValue → List JobValue → Asked
+  -- the completion of this job
+  completed : JobValue → Asked
+  -- the lines of the rig are driven with these values
+  driven : List ℤ → Asked
+  -- there was no memory for the values of the lines
+  undriven : Asked
+  -- it was waited until no job was outstanding
+  settled : Asked
+
+-- the number of the next instant, after these questions: each instant that was given adds one, up to the greatest number of 64 bits
+abbrev pub number_after : ℕ → List Asked → ℕ
+number_after number [] = number
+number_after number (given frame jobs ∷ later) = number_after (min (number + 1) (2 ^ 64 - 1)) later
+number_after number (other ∷ later) = number_after number later

@@ -1,0 +1,5 @@
+pub mod Asked
+pub mod Operation
+pub mod OperatorLines
+pub mod Replies
+pub mod inner

@@ -1,0 +1,12 @@
+-- The faults of an operator's lines.
+use Rattle.rig_operator.specs.declared.faults.OperatorFault.{OperatorFault}
+use Rattle.rig_operator.specs.declared.faults.OperatorFault.TheVariants.{Read, Write, Turns}
+use Rattle.text_lines.specs.declared.faults.LinesFault.{LinesFault}
+use Rattle.text_lines.specs.declared.faults.LinesFault.TheVariants as lines
+
+-- a line for which there is no memory isn't read
+abbrev pub fault_of_lines : LinesFault → OperatorFault
+fault_of_lines lines.Read = Read
+fault_of_lines lines.Write = Write
+fault_of_lines lines.Turns = Turns
+fault_of_lines lines.Memory = Read

@@ -1,0 +1,33 @@
+//! Why an operator's lines are no longer answered.
+
+use text_lines::faults::LinesFault;
+use thiserror::Error;
+
+/// Why an operator's lines are no longer answered.
+#[derive(Clone, Copy, Debug, PartialEq, Eq, Error)]
+pub enum OperatorFault {
+    /// A read failed, or there was no memory for a line.
+    #[error("reading the operator's lines failed")]
+    Read,
+    /// A write failed.
+    #[error("writing to the operator failed")]
+    Write,
+    /// The input had not ended after 1,048,576 reads.
+    #[error("the operator's input had not ended after 1048576 reads")]
+    Turns,
+}
+
+impl From<LinesFault> for OperatorFault {
+    ghost use Rattle.std.specs.Prelude.{◌≡◌};
+    ghost use Rattle.rig_operator.specs.inner.Faults.{fault_of_lines};
+
+    ghost from_gives = { λ lines fault. fault ≡ fault_of_lines lines };
+
+    fn from(fault: LinesFault) -> OperatorFault {
+        match fault {
+            LinesFault::Read | LinesFault::Memory => OperatorFault::Read,
+            LinesFault::Write => OperatorFault::Write,
+            LinesFault::Turns => OperatorFault::Turns,
+        }
+    }
+}

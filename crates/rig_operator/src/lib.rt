@@ -1,0 +1,16 @@
+//! The operator of a rig that is served: the lines of a reader, each answered before the next one is read.
+//!
+//! ```text
+//! let ending = operate(&rt, alloc, &mut rig, &mut lines, &mut reader, &mut writer)?;
+//! ```
+//!
+//! The operator gives the instants, looks at the lines of the rig, and halts. [`operator_lines`] says what a line is, [`rigs`] what is
+//! asked of a rig, and [`operating::operate`] answers the lines. `specs/OperatorLines.antt` defines which lines there are,
+//! `specs/Asked.antt` the questions with their answers, and `specs/Operation.antt` what is asked and written for each line.
+#![tactic(auto)]
+
+pub mod faults;
+pub mod operating;
+pub mod operator_lines;
+mod replies;
+pub mod rigs;

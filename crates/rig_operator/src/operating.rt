@@ -1,0 +1,181 @@
+//! The operator: the lines of a reader, each answered before the next one is read.
+
+ghost use Rattle.std.specs.Prelude.{◌≡◌, ◌≢◌, ◌≤◌, ℕ, List, Err, IfOk, IfErr, OnOk, map};
+ghost use Rattle.std.specs.Bool.{MatchBool};
+ghost use Rattle.std.specs.Io.KnownBytes.{Appends};
+ghost use Rattle.rig_operator.specs.Asked.{Adds, completed, number_after};
+ghost use Rattle.rig_operator.specs.OperatorLines.{ServedLine, halt, line_of, line_values, served_line_of, tick};
+ghost use Rattle.rig_operator.specs.Operation.{IsBrokenOff, IsEnd, Operates, WrittenBefore};
+ghost use Rattle.rig_operator.specs.inner.Answering.{AreReplied, HasReplied, IsReply, IsUnwritten};
+ghost use Rattle.rig_model.specs.lines.Words.{words_of};
+ghost use Rattle.text_lines.specs.cited.Reading.{AreCounted, IsLeft, reads_of};
+ghost use Rattle.rig_model.specs.declared.limits.TheConstants.{MAX_READS};
+
+use crate::faults::OperatorFault;
+use crate::operator_lines::{OperatorLine, operator_line};
+use crate::replies::{lines_reply, refusal, tick_reply};
+use crate::rigs::Rig;
+use std::alloc::Global;
+use std::io::{Read, Write};
+use std::sync::Wait;
+use tenant_jobs::jobs::{Jobs, run_job};
+use text_lines::lines::{Line, Lines};
+
+/// How an operator's lines ended.
+#[derive(Clone, Copy, Debug, PartialEq, Eq)]
+pub enum Ending {
+    /// By the line `halt`.
+    Halt,
+    /// The input has ended, or a line was longer than 16,384 bytes or not UTF-8.
+    Input,
+}
+
+/// Answers lines, each before the next one is read, until one is `halt` or they end. The first instant has the number 0.
+///
+/// If there is no memory for the values of a `tick`, or for the reply to `lines`, it writes `err memory` and reads the next line.
+///
+/// # Errors
+/// `Read`, `Write` and `Turns` as `Lines::next_line`. `Read` also if there is no memory for a line, and `Write` if a reply can't be
+/// written.
+pub fn operate<R: Wait, G: Rig, I: Read, W: Write>(
+    rt: &R,
+    alloc: Global,
+    rig: &mut G,
+    lines: &mut Lines,
+    reader: &mut I,
+    writer: &mut W,
+) -> Result<Ending, OperatorFault>
+    ensures ended { IfOk result (λ ending. Operates (Adds (G.asked rig.old) (G.asked rig.new)) (Appends (W.contents writer.old) (W.contents writer.new)) (λ texts.
+        (bytes : List ℕ) → IsLeft lines.old (I.remaining reader.old) bytes → IsEnd ending bytes texts (I.remaining reader.new) (IsLeft lines.new (I.remaining reader.new)))) }
+    ensures fault { IfErr result (λ fault. Operates (Adds (G.asked rig.old) (G.asked rig.new)) (WrittenBefore fault (Appends (W.contents writer.old) (W.contents writer.new))) (λ texts.
+        (bytes : List ℕ) → IsLeft lines.old (I.remaining reader.old) bytes → IsBrokenOff fault bytes texts (I.remaining reader.new))) }
+    ensures count { AreCounted (reads_of lines.old) (reads_of lines.new) (I.remaining reader.old) (I.remaining reader.new) }
+    ensures turns { result ≡ Err OperatorFault.Turns → MAX_READS ≤ reads_of lines.new }
+{
+    let mut number = 0;
+    for _ in rt.forever() {
+        match lines.next_line(reader, writer)? {
+            Line::Whole(line) => {
+                if answer(rt, alloc, rig, &mut number, line.as_str(), writer)? {
+                    return Ok(Ending::Halt);
+                }
+            }
+            Line::Bad => return Ok(Ending::Input),
+            Line::End => return Ok(Ending::Input),
+        }
+    }
+    unreachable!()
+}
+
+// Answers a line, where `number` is that of the next instant. Returns whether the line is `halt`.
+fn answer<R: Wait, G: Rig, W: Write>(
+    rt: &R,
+    alloc: Global,
+    rig: &mut G,
+    number: &mut u64,
+    line: &str,
+    writer: &mut W,
+) -> Result<bool, OperatorFault>
+    ensures answered { IfOk result (λ halts. MatchBool halts
+        ((served_line_of (words_of line.now) ≡ halt) × (rig.new ≡ rig.old) × (writer.new ≡ writer.old))
+        (HasReplied number.old number.new line.now (Adds (G.asked rig.old) (G.asked rig.new)) (Appends (W.contents writer.old) (W.contents writer.new)))) }
+    ensures fault { IfErr result (λ fault. IsUnwritten fault (HasReplied number.old number.new line.now (Adds (G.asked rig.old) (G.asked rig.new)))) }
+{
+    match operator_line(alloc, line) {
+        Ok(OperatorLine::Halt) => Ok(true),
+        Ok(line) => {
+            carry_out(rt, alloc, rig, number, line, writer)?;
+            Ok(false)
+        }
+        Err(_) => {
+            say(writer, "err memory\n")?;
+            Ok(false)
+        }
+    }
+}
+
+// Answers a line that isn't `halt`.
+fn carry_out<R: Wait, G: Rig, W: Write>(
+    rt: &R,
+    alloc: Global,
+    rig: &mut G,
+    number: &mut u64,
+    line: OperatorLine,
+    writer: &mut W,
+) -> Result<(), OperatorFault>
+    requires { line_of line ≢ halt }
+    ensures { IsReply result (AreReplied number.old number.new (line_of line) (Adds (G.asked rig.old) (G.asked rig.new))) (Appends (W.contents writer.old) (W.contents writer.new)) }
+{
+    match line {
+        OperatorLine::Blank => Ok(()),
+        OperatorLine::Tick(frame) => tick(rt, rig, number, frame.as_slice(), writer),
+        OperatorLine::Lines => show_lines(rt, alloc, rig, writer),
+        OperatorLine::Wait => {
+            rig.settle(rt);
+            say(writer, "ok wait\n")
+        }
+        OperatorLine::Halt => unreachable!(),
+        OperatorLine::BadCommand => say(writer, "err bad-command\n"),
+    }
+}
+
+// Gives an instant and has its jobs run. Writes its number.
+fn tick<R: Wait, G: Rig, W: Write>(
+    rt: &R,
+    rig: &mut G,
+    number: &mut u64,
+    frame: &[i64],
+    writer: &mut W,
+) -> Result<(), OperatorFault>
+    ensures { IsReply result (AreReplied number.old number.new (tick frame.now) (Adds (G.asked rig.old) (G.asked rig.new))) (Appends (W.contents writer.old) (W.contents writer.new)) }
+{
+    match rig.tick(rt, frame) {
+        Ok(jobs) => {
+            let unsent = rig.send(rt, jobs);
+            complete(rt, rig, unsent);
+            let reply = tick_reply(*number);
+            *number = number.saturating_add(1);
+            say(writer, reply.as_str())
+        }
+        Err(fault) => say(writer, refusal(fault)),
+    }
+}
+
+// Runs the jobs that couldn't be sent, the first one first.
+fn complete<R: Wait, G: Rig>(rt: &R, rig: &mut G, jobs: Jobs)
+    ensures { Adds (G.asked rig.old) (G.asked rig.new) (map completed jobs.jobs) }
+{
+    let mut jobs = jobs;
+    while let Some(job) = jobs.take() {
+        rig.done(rt, run_job(job));
+    }
+}
+
+// Writes the value with which each line is driven.
+fn show_lines<R: Wait, G: Rig, W: Write>(
+    rt: &R,
+    alloc: Global,
+    rig: &mut G,
+    writer: &mut W,
+) -> Result<(), OperatorFault>
+    ensures { (number : ℕ) → IsReply result (AreReplied number number line_values (Adds (G.asked rig.old) (G.asked rig.new))) (Appends (W.contents writer.old) (W.contents writer.new)) }
+{
+    let Ok(values) = rig.lines(rt) else {
+        return say(writer, "err memory\n");
+    };
+    match lines_reply(alloc, &values) {
+        Ok(reply) => say(writer, reply.as_str()),
+        Err(_) => say(writer, "err memory\n"),
+    }
+}
+
+// Writes a reply.
+fn say<W: Write>(writer: &mut W, reply: &str) -> Result<(), OperatorFault>
+    ensures written { OnOk result (Appends (W.contents writer.old) (W.contents writer.new) reply.now) }
+    ensures fault { IfErr result (λ fault. fault ≡ OperatorFault.Write) }
+{
+    match writer.write_all(reply.as_bytes()) {
+        Ok(()) => Ok(()),
+        Err(_) => Err(OperatorFault::Write),
+    }
+}

@@ -1,0 +1,48 @@
+//! What is written for an operator's lines.
+
+ghost use Rattle.std.specs.Prelude.{◌≡◌, IfOk, string_bytes};
+ghost use Rattle.rig_operator.specs.Replies.{lines_reply, refusal, tick_reply};
+
+use arrayvec::ArrayString;
+use host_core::hosts::TickFault;
+use itoa::Buffer;
+use std::alloc::{AllocError, Global};
+use std::fmt::Write;
+
+/// The reply to an instant of this number. Takes no memory.
+pub(crate) fn tick_reply(number: u64) -> ArrayString<32>
+    ensures { result.bytes ≡ tick_reply number }
+{
+    let mut digits = Buffer::new();
+    let mut reply = ArrayString::new();
+    reply.push_str("ok tick ");
+    reply.push_str(digits.format(number));
+    reply.push_str("\n");
+    reply
+}
+
+/// The reply to an instant that was refused.
+pub(crate) fn refusal(fault: TickFault) -> &'static str
+    ensures { result.now ≡ refusal fault }
+{
+    match fault {
+        TickFault::BadFrame => "err bad-frame\n",
+        TickFault::ClockEnded => "err clock-ended\n",
+        TickFault::Memory => "err memory\n",
+    }
+}
+
+/// The reply to `lines`, with the value of each line of the rig.
+///
+/// # Errors
+/// Out of memory.
+pub(crate) fn lines_reply(alloc: Global, values: &[i64]) -> Result<String, AllocError>
+    ensures { IfOk result (λ text. string_bytes text ≡ lines_reply values.now) }
+{
+    let mut text = String::from_str(alloc, "ok lines")?;
+    for value in values {
+        write!(text, " {value}")?;
+    }
+    text.push('\n')?;
+    Ok(text)
+}

@@ -1,0 +1,43 @@
+//! What an operator asks of a rig.
+
+ghost use Rattle.std.specs.Prelude.{[], ◌∷◌, List, Option, IfOk, OnErr, IfErr};
+ghost use Rattle.rig_operator.specs.Asked.{Adds, Asked, completed, driven, given, refused, sent, settled, undriven};
+
+use host_core::hosts::TickFault;
+use std::alloc::AllocError;
+use std::sync::Wait;
+use tenant_jobs::jobs::{Done, Jobs};
+
+/// What an operator asks of a rig.
+pub trait Rig {
+    // what it was asked and has answered, the oldest first, where that is known
+    ghost asked: { Self → Option (List Asked) };
+
+    /// An instant of all tenants with this frame, and the jobs that it releases.
+    ///
+    /// # Errors
+    /// As a host's.
+    fn tick<R: Wait>(&mut self, rt: &R, frame: &[i64]) -> Result<Jobs, TickFault>
+        ensures given { IfOk result (λ jobs. Adds (asked self.old) (asked self.new) (given frame.now jobs.jobs ∷ [])) }
+        ensures refused { IfErr result (λ fault. Adds (asked self.old) (asked self.new) (refused frame.now fault ∷ [])) };
+
+    /// Sends jobs to be run, and returns those that couldn't be sent.
+    fn send<R: Wait>(&mut self, rt: &R, jobs: Jobs) -> Jobs
+        ensures { Adds (asked self.old) (asked self.new) (sent jobs.jobs result.jobs ∷ []) };
+
+    /// Takes a completion.
+    fn done<R: Wait>(&mut self, rt: &R, done: Done)
+        ensures { Adds (asked self.old) (asked self.new) (completed done ∷ []) };
+
+    /// The value with which each line of the rig is driven.
+    ///
+    /// # Errors
+    /// Out of memory.
+    fn lines<R: Wait>(&mut self, rt: &R) -> Result<Vec<i64>, AllocError>
+        ensures driven { IfOk result (λ values. Adds (asked self.old) (asked self.new) (driven values.items ∷ [])) }
+        ensures undriven { OnErr result (Adds (asked self.old) (asked self.new) (undriven ∷ [])) };
+
+    /// Waits until no job is outstanding.
+    fn settle<R: Wait>(&mut self, rt: &R)
+        ensures { Adds (asked self.old) (asked self.new) (settled ∷ []) };
+}
