@@ -1,1 +1,2 @@
 pub mod Unsent
+pub mod Works

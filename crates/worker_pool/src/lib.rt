@@ -9,4 +9,6 @@
 #![tactic(auto)]
 
 pub mod gates;
+pub mod outboxes;
 pub mod pools;
+pub mod workers;

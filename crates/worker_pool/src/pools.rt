@@ -1,16 +1,12 @@
 //! The pool: workers over one channel of jobs.
 
-ghost use Rattle.std.specs.Prelude.{◌≡◌, ◌<◌, ◌≤◌, ◌+◌, ◌∷◌, ◌++◌, [], List, length, IfOk, OnOk};
-ghost use Rattle.std.specs.Bool.{MatchBool};
-ghost use Rattle.host_core.specs.declared.hosts.Counted.{Counted};
-ghost use Rattle.locked_book.specs.Books.{new_setting};
-ghost use Rattle.rig_model.specs.Logs.{IsLegalLog};
-ghost use Rattle.rig_model.specs.declared.logged.Logged.{Logged};
+ghost use Rattle.std.specs.Prelude.{◌≡◌, ◌≤◌, ◌+◌, IfOk, OnOk};
 ghost use Rattle.worker_pool.specs.Unsent.{AreUnsent};
 
 use crate::gates::Gate;
+use crate::outboxes::{Outbox, send_all};
+use crate::workers::{DeskWorker, work_off};
 use crossbeam_channel::{Receiver, Sender};
-use host_core::hosts::Counted;
 use locked_book::desks::Desk;
 use locked_book::naming::Naming;
 use std::alloc::{AllocError, Global};
@@ -18,7 +14,7 @@ use std::marker::Model;
 use std::sync::Wait;
 use std::thread::{JoinHandle, Scope, Threads};
 use std::time::Clock;
-use tenant_jobs::jobs::{Job, Jobs, run_job};
+use tenant_jobs::jobs::{Job, Jobs};
 
 // What a worker is told.
 #[derive(Drop)]
@@ -27,10 +23,28 @@ enum Order {
     Stop,
 }
 
-// What a worker is told, one order after the other.
+// Where a worker's orders come from.
 #[derive(Drop)]
-struct Orders {
+struct Inbox {
     receiver: Receiver<Order>,
+}
+
+// Where the orders of all workers are sent. Which jobs were taken isn't known.
+#[derive(Drop)]
+struct Orders<'a> {
+    sender: &'a Sender<Order>,
+}
+
+impl<'a> Outbox for Orders<'a> {
+    fn put<R: Wait>(&mut self, rt: &R, job: Job) -> Result<(), Job> {
+        let Err(refused) = self.sender.send(rt, Order::Run(job)) else {
+            return Ok(());
+        };
+        match refused.into_inner() {
+            Order::Run(job) => Err(job),
+            Order::Stop => unreachable!(),
+        }
+    }
 }
 
 /// Workers that run the jobs sent to them, each in a thread of its own. Contracts see it as the number of its workers.
@@ -93,10 +107,10 @@ impl Pool {
         ensures { OnOk result (self.new ≡ self.old + 1) }
     {
         self.workers.reserve(1)?;
-        let orders = Orders {
+        let inbox = Inbox {
             receiver: orders.clone()?,
         };
-        match scope.spawn(move || work(rt, orders, desk, gate)) {
+        match scope.spawn(move || work(rt, inbox, desk, gate)) {
             Ok(worker) => {
                 self.workers.push_reserved(worker);
                 Ok(())
@@ -105,37 +119,20 @@ impl Pool {
         }
     }
 
-    /// Sends jobs to the workers, the first one first. Gives back those that couldn't be sent, in their order: with ample memory none.
+    /// Sends jobs to the workers, the first one first. Returns those that couldn't be sent, in their order: with ample memory none.
     pub fn send(&self, rt: &impl Wait, jobs: Jobs) -> Jobs
         ensures { AreUnsent result.jobs jobs.jobs }
     {
-        let mut unsent = jobs;
-        for _job in 0..unsent.len() {
-            let Some(job) = unsent.take() else {
-                unreachable!()
-            };
-            let _is_sent = self.offer(rt, job, &mut unsent);
-        }
-        unsent
+        send_all(
+            rt,
+            &mut Orders {
+                sender: &self.orders,
+            },
+            jobs,
+        )
     }
 
-    // Whether the job was sent. If it wasn't, it stands behind the others.
-    fn offer(&self, rt: &impl Wait, job: Job, unsent: &mut Jobs) -> bool
-        requires { 0 < unsent.old.room }
-        ensures { MatchBool result (unsent.new ≡ unsent.old)
-            ((unsent.new.jobs ≡ unsent.old.jobs ++ job ∷ []) × (unsent.new.room + 1 ≡ unsent.old.room)) }
-    {
-        let Err(refused) = self.orders.send(rt, Order::Run(job)) else {
-            return true;
-        };
-        let Order::Run(job) = refused.into_inner() else {
-            unreachable!()
-        };
-        unsent.put(job);
-        false
-    }
-
-    /// Stops the workers, behind all that was sent, and waits until each has ended.
+    /// Stops the workers after all that was sent, and waits until each has ended.
     pub fn stop(self, rt: &(impl Threads + Wait)) {
         let Pool { orders, workers } = self;
         for _worker in 0..workers.len() {
@@ -149,28 +146,14 @@ impl Pool {
 }
 
 // Runs jobs until it is told to stop, or the channel is closed.
-fn work<N: Naming, R: Wait + Clock, G: Gate>(rt: &R, orders: Orders, desk: &Desk<N>, gate: &G) {
+fn work<N: Naming, R: Wait + Clock, G: Gate>(rt: &R, inbox: Inbox, desk: &Desk<N>, gate: &G) {
+    let mut worker = DeskWorker { desk, gate };
     for _ in rt.forever() {
-        match orders.receiver.recv(rt) {
+        match inbox.receiver.recv(rt) {
             Ok(Order::Run(job)) => {
-                let _ = complete(rt, desk, gate, job);
+                let _ = work_off(rt, &mut worker, job);
             }
             Ok(Order::Stop) | Err(_) => return,
         }
     }
-}
-
-// Lets a job through the gate, computes it, and then hands its completion to the desk. What the desk said of it.
-fn complete<N: Naming, R: Wait + Clock, G: Gate>(
-    rt: &R,
-    desk: &Desk<N>,
-    gate: &G,
-    job: Job,
-) -> (Counted, u128)
-    ensures counted { result.0 ≡ Counted.Counted → (log : List Logged)
-        × IsLegalLog (new_setting N.config N.first_tick) (Logged.Done job.id ∷ log) × (result.1 ≡ length log) }
-    ensures late { result.0 ≡ Counted.Late → result.1 ≡ 0 }
-{
-    gate.enter(rt, job.id());
-    desk.done(rt, run_job(job))
 }
