@@ -1,1 +1,2 @@
+pub mod LineAnswers
 pub mod Marks

@@ -1,4 +1,5 @@
 pub mod Answers
+pub mod Ends
 pub mod Requests
 pub mod UserLines
 pub mod inner

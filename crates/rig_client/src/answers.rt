@@ -2,8 +2,9 @@
 
 ghost use Rattle.std.specs.Prelude.{◌≡◌, ◌++◌, ◌⊎◌, IfOk, IfErr, IfSome, OnOk, codes};
 ghost use Rattle.std.specs.Io.KnownBytes.{Appends};
-ghost use Rattle.std.specs.Io.BufRead.{take_through};
+ghost use Rattle.std.specs.Io.BufRead.{DropsThrough, take_through};
 ghost use Rattle.rig_client.specs.Answers.{kind_of_answer};
+ghost use Rattle.rig_client.specs.Ends.{IsAsked, sent_to, to_come};
 
 use crate::faults::ClientFault;
 use std::alloc::Global;
@@ -29,15 +30,21 @@ pub struct Server<R, W> {
 
 impl<R: BufRead, W: Write> Server<R, W> {
     /// The session whose answers come from this reader, and whose lines go to this writer.
-    pub fn new(reader: R, writer: W) -> Server<R, W> {
+    pub fn new(reader: R, writer: W) -> Server<R, W>
+        ensures answers { to_come R.remaining result ≡ R.remaining reader }
+        ensures lines { sent_to W.contents result ≡ W.contents writer }
+    {
         Server { reader, writer }
     }
 
-    /// Sends a line, and gives its answer, with its LF.
+    /// Sends a line, and returns its answer, with its LF.
     ///
     /// # Errors
     /// As [`send`] and [`receive`].
-    pub fn ask(&mut self, alloc: Global, line: &str) -> Result<Vec<u8>, ClientFault> {
+    pub fn ask(&mut self, alloc: Global, line: &str) -> Result<Vec<u8>, ClientFault>
+        ensures answer { IfOk result (λ answer. IsAsked W.contents R.remaining self.old self.new line.now answer.items) }
+        ensures fault { IfErr result (λ fault. (fault ≡ ClientFault.Lost) ⊎ (fault ≡ ClientFault.Memory)) }
+    {
         send(&mut self.writer, line)?;
         receive(alloc, &mut self.reader)
     }
@@ -69,6 +76,7 @@ pub fn send<W: Write>(writer: &mut W, line: &str) -> Result<(), ClientFault>
 /// `Lost` where the bytes end before, or a read fails, and `Memory`.
 pub fn receive<R: BufRead>(alloc: Global, reader: &mut R) -> Result<Vec<u8>, ClientFault>
     ensures answer { IfOk result (λ answer. IfSome (R.remaining reader.old) (λ bytes. answer.items ≡ take_through 10 bytes)) }
+    ensures rest { OnOk result (DropsThrough (R.remaining reader.old) (R.remaining reader.new) 10) }
     ensures fault { IfErr result (λ fault. (fault ≡ ClientFault.Lost) ⊎ (fault ≡ ClientFault.Memory)) }
 {
     let mut answer = Vec::new(alloc);

@@ -1,7 +1,13 @@
 //! A session, from its greeting to its end.
 
-ghost use Rattle.std.specs.Prelude.{◌≡◌, IfOk, string_bytes};
-ghost use Rattle.rig_client.specs.Requests.{greeting};
+ghost use Rattle.std.specs.Prelude.{◌≡◌, ◌≢◌, ℕ, List, Err, IfOk, OnOk, codes, string_bytes};
+ghost use Rattle.std.specs.Io.KnownBytes.{Appends};
+ghost use Rattle.rig_client.specs.Answers.{kind_of_answer};
+ghost use Rattle.rig_client.specs.Ends.{IsAsked, said_to};
+ghost use Rattle.rig_client.specs.Requests.{greeting, line_of_file};
+ghost use Rattle.rig_client.specs.UserLines.{user_line_of};
+ghost use Rattle.rig_client.specs.declared.help.TheConstants.{HELP};
+ghost use Rattle.rig_client.specs.inner.LineAnswers.{IsLineAnswered, IsRequested};
 
 use crate::answers::{AnswerKind, Server, kind_of_answer};
 use crate::faults::ClientFault;
@@ -24,7 +30,13 @@ pub fn greet<I: Read, O: Write, E: Write, R: BufRead, W: Write>(
     server: &mut Server<R, W>,
     name: &str,
     key: &str,
-) -> Result<(), ClientFault> {
+) -> Result<(), ClientFault>
+    ensures greeted { OnOk result (IsAsked W.contents R.remaining server.old server.new (greeting name.now key.now) (codes "ok hello\n")) }
+    ensures quiet { OnOk result (user.new ≡ user.old) }
+    ensures refused { result ≡ Err ClientFault.Greeting → (answer : List ℕ)
+        × IsAsked W.contents R.remaining server.old server.new (greeting name.now key.now) answer × (answer ≢ codes "ok hello\n")
+        × Appends (said_to O.contents user.old) (said_to O.contents user.new) answer }
+{
     let hello = greeting(alloc, name, key)?;
     let answer = server.ask(alloc, hello.as_str())?;
     if answer.as_slice() == b"ok hello\n".as_slice() {
@@ -79,12 +91,14 @@ pub fn converse<I: Read, O: Write, E: Write, R: BufRead, W: Write, F: ProgramFil
     Err(ClientFault::Turns)
 }
 
-// Behind the last line.
+// After the last line.
 fn leave<I: Read, O: Write, E: Write, R: BufRead, W: Write>(
     alloc: Global,
     user: &mut User<I, O, E>,
     server: &mut Server<R, W>,
-) -> Result<AnswerKind, ClientFault> {
+) -> Result<AnswerKind, ClientFault>
+    ensures { IfOk result (λ kind. (answer : List ℕ) × IsAsked W.contents R.remaining server.old server.new (codes "quit") answer × (kind ≡ kind_of_answer answer)) }
+{
     if user.is_prompted() {
         user.say(b"\n")?;
     }
@@ -98,7 +112,10 @@ fn answer<I: Read, O: Write, E: Write, R: BufRead, W: Write, F: ProgramFiles>(
     server: &mut Server<R, W>,
     files: &F,
     line: &str,
-) -> Result<AnswerKind, ClientFault> {
+) -> Result<AnswerKind, ClientFault>
+    ensures { IfOk result (IsLineAnswered (IsAsked W.contents R.remaining server.old server.new) (server.new ≡ server.old)
+        (Appends (said_to O.contents user.old) (said_to O.contents user.new)) HELP.now line.now (user_line_of line.now)) }
+{
     match user_line(line) {
         UserLine::Blank => {}
         UserLine::Help => user.say(HELP.as_bytes())?,
@@ -121,7 +138,9 @@ fn text_of_file<F: ProgramFiles>(
     files: &F,
     command: FileCommand,
     path: &str,
-) -> Result<String, FileFault> {
+) -> Result<String, FileFault>
+    ensures { IfOk result (λ line. (text : List ℕ) × (string_bytes line ≡ line_of_file command text)) }
+{
     let bytes = files.bytes(path, MAX_LINE)?;
     line_of_file(alloc, command, bytes)
 }
@@ -132,7 +151,10 @@ fn request<I: Read, O: Write, E: Write, R: BufRead, W: Write>(
     user: &mut User<I, O, E>,
     server: &mut Server<R, W>,
     line: &str,
-) -> Result<AnswerKind, ClientFault> {
+) -> Result<AnswerKind, ClientFault>
+    ensures { IfOk result (IsRequested (IsAsked W.contents R.remaining server.old server.new)
+        (Appends (said_to O.contents user.old) (said_to O.contents user.new)) line.now) }
+{
     let answer = server.ask(alloc, line)?;
     user.say(answer.as_slice())?;
     Ok(kind_of_answer(answer.as_slice()))

@@ -1,5 +1,9 @@
 //! The user of a client: where the lines come from, and where what is said goes.
 
+ghost use Rattle.std.specs.Prelude.{◌≡◌, IfErr, OnOk};
+ghost use Rattle.std.specs.Io.KnownBytes.{Appends, Keeps};
+ghost use Rattle.rig_client.specs.Ends.{said_to};
+
 use crate::faults::ClientFault;
 use std::alloc::Global;
 use std::io::{Read, Write};
@@ -23,7 +27,9 @@ impl<I: Read, O: Write, E: Write> User<I, O, E> {
         output: O,
         errors: E,
         prompt: Option<String>,
-    ) -> User<I, O, E> {
+    ) -> User<I, O, E>
+        ensures { said_to O.contents result ≡ O.contents output }
+    {
         User {
             lines: Lines::new(alloc),
             input,
@@ -66,7 +72,10 @@ impl<I: Read, O: Write, E: Write> User<I, O, E> {
     ///
     /// # Errors
     /// `Write`.
-    pub fn say(&mut self, bytes: &[u8]) -> Result<(), ClientFault> {
+    pub fn say(&mut self, bytes: &[u8]) -> Result<(), ClientFault>
+        ensures said { OnOk result (Appends (said_to O.contents self.old) (said_to O.contents self.new) bytes.now) }
+        ensures fault { IfErr result (λ fault. fault ≡ ClientFault.Write) }
+    {
         say(&mut self.output, bytes)
     }
 
@@ -74,7 +83,10 @@ impl<I: Read, O: Write, E: Write> User<I, O, E> {
     ///
     /// # Errors
     /// `Write`.
-    pub fn flush(&mut self) -> Result<(), ClientFault> {
+    pub fn flush(&mut self) -> Result<(), ClientFault>
+        ensures kept { Keeps (said_to O.contents self.old) (said_to O.contents self.new) }
+        ensures fault { IfErr result (λ fault. fault ≡ ClientFault.Write) }
+    {
         match self.output.flush() {
             Ok(()) => Ok(()),
             Err(_) => Err(ClientFault::Write),
@@ -85,7 +97,10 @@ impl<I: Read, O: Write, E: Write> User<I, O, E> {
     ///
     /// # Errors
     /// `Write` where what was said before can't be written.
-    pub fn tell(&mut self, subject: &str, reason: &str) -> Result<(), ClientFault> {
+    pub fn tell(&mut self, subject: &str, reason: &str) -> Result<(), ClientFault>
+        ensures kept { Keeps (said_to O.contents self.old) (said_to O.contents self.new) }
+        ensures fault { IfErr result (λ fault. fault ≡ ClientFault.Write) }
+    {
         self.flush()?;
         let _ = writeln!(self.errors, "not sent: {subject} {reason}");
         let _ = self.errors.flush();
@@ -93,7 +108,10 @@ impl<I: Read, O: Write, E: Write> User<I, O, E> {
     }
 }
 
-fn say<W: Write>(writer: &mut W, bytes: &[u8]) -> Result<(), ClientFault> {
+fn say<W: Write>(writer: &mut W, bytes: &[u8]) -> Result<(), ClientFault>
+    ensures said { OnOk result (Appends (W.contents writer.old) (W.contents writer.new) bytes.now) }
+    ensures fault { IfErr result (λ fault. fault ≡ ClientFault.Write) }
+{
     match writer.write_all(bytes) {
         Ok(()) => Ok(()),
         Err(_) => Err(ClientFault::Write),

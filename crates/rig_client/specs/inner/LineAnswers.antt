@@ -1,0 +1,24 @@
+-- What is done for a line of a user.
+use Rattle.std.specs.Prelude.{◌≡◌, ◌⊎◌, ℕ, List, [], Some, None}
+use Rattle.rig_client.specs.Answers.{kind_of_answer}
+use Rattle.rig_client.specs.Requests.{line_of_file}
+use Rattle.rig_client.specs.UserLines.{LineKind, blank, help, of_file, request}
+use Rattle.rig_client.specs.declared.answers.AnswerKind.{AnswerKind}
+use Rattle.rig_client.specs.declared.answers.AnswerKind.TheVariants.{GoesOn}
+
+-- a line was sent, and its answer was written for the user; how the session goes on
+abbrev pub IsRequested : (List ℕ → List ℕ → Type 0) → (List ℕ → Type 0) → List ℕ → AnswerKind → Type 0
+IsRequested Asks Says line kind = (answer : List ℕ) × Asks line answer × Says answer × (kind ≡ kind_of_answer answer)
+
+module _ (Asks : List ℕ → List ℕ → Type 0) (Silent : Type 0) (Says : List ℕ → Type 0) where
+  -- nothing was sent, this was written for the user, and the session goes on
+  abbrev pub IsAnsweredHere : List ℕ → AnswerKind → Type 0
+  IsAnsweredHere text kind = Silent × Says text × (kind ≡ GoesOn)
+
+  -- What was done for a line, by what it is. Where a file can't be sent, the output has no word of it.
+  abbrev pub IsLineAnswered : List ℕ → List ℕ → LineKind → AnswerKind → Type 0
+  IsLineAnswered table line blank kind = IsAnsweredHere [] kind
+  IsLineAnswered table line help kind = IsAnsweredHere table kind
+  IsLineAnswered table line (of_file command None) kind = IsAnsweredHere [] kind
+  IsLineAnswered table line (of_file command (Some path)) kind = IsAnsweredHere [] kind ⊎ ((text : List ℕ) × IsRequested Asks Says (line_of_file command text) kind)
+  IsLineAnswered table line request kind = IsRequested Asks Says line kind
