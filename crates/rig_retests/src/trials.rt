@@ -14,7 +14,7 @@ use crate::summaries::text_of_summary;
 use crate::sums::{Sum, write_sum};
 use crate::texts::{cells, name_of, shortened};
 use host_core::events::Event;
-use host_core::trials::{TrialOutcome, trial};
+use host_core::trials::{TrialOutcome, trial_outcome};
 use rig_model::config::{Config, TenantId};
 use rig_model::lines::words;
 use rig_script::faults::ScriptFault;
@@ -64,7 +64,7 @@ pub fn text_of_trial<R: Read>(
 {
     let recording = recorded(alloc, reader, config)?;
     // What happened is legal, and the tenant is in the roster: it is refused for want of memory alone.
-    let Ok(trial) = trial(alloc, config, recording.events.as_slice(), tenant) else {
+    let Ok(trial) = trial_outcome(alloc, config, recording.events.as_slice(), tenant) else {
         return Err(ScriptFault::Memory);
     };
     let text = text_of_both(alloc, config, tenant, &recording, &trial, form)?;

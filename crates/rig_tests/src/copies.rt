@@ -1,6 +1,6 @@
 //! Copies of commands, replies and events, which no line of the program shows.
 
-use crate::fixtures::{BETA, name, release};
+use crate::fixtures::{BETA, name, one, release};
 use giotto_tasks::lists::List;
 use host_core::events::Event;
 use rig_model::config::intervals::Bounds;
@@ -12,13 +12,6 @@ use rig_model::lines::replies::{Reply, print_reply};
 use rig_model::trace::records::{Happening, Record};
 use std::alloc::Global;
 use std::process::Abort;
-
-// A list of this alone.
-fn one<T: Drop>(rt: &impl Abort, alloc: Global, item: T) -> List<T> {
-    let mut items = Vec::new(alloc);
-    items.push(item).expect(rt, "memory");
-    List::from_vec(items)
-}
 
 // The replies to `show all`, `trace` and `rows` with one port, one record and one row.
 fn one_port(rt: &impl Abort, alloc: Global) -> Reply {

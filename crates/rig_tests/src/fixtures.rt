@@ -1,5 +1,7 @@
 //! What tests begin with: programs, names and hosts of the built-in configuration. What fails here ends the test at once.
 
+ghost use Rattle.std.specs.Prelude.{◌≡◌, [], ◌∷◌};
+
 use giotto_tasks::lists::List;
 use giotto_tasks::names::Name;
 use host_core::hosts::Host;
@@ -21,11 +23,25 @@ pub(crate) const NOBODY: TenantId = 2;
 pub(crate) const ADDER: &str =
     "sensor s := 0 line 0; actuator a := 0; output o := 0; task T(i) output o { o := i + 1; } mode m period 2 { actfreq 1 do a := o; taskfreq 1 do T(s); } start m;";
 
+// Drives line 0 with 4.
+pub(crate) const FOUR: &str = "actuator a := 4 line 0; mode k period 1 { } start k;";
+
 // Has a sensor that takes a granted value, and does nothing.
 pub(crate) const LISTENER: &str = "sensor g := -1 grant; mode n period 1 { } start n;";
 
-pub(crate) fn name(rt: &impl Abort, text: &str) -> Name {
+pub(crate) fn name(rt: &impl Abort, text: &str) -> Name
+    ensures { result ≡ text.now }
+{
     Name::new(text).expect(rt, "a name")
+}
+
+// A list of this alone.
+pub(crate) fn one<T: Drop>(rt: &impl Abort, alloc: Global, item: T) -> List<T>
+    ensures { result ≡ item ∷ [] }
+{
+    let mut items = Vec::new(alloc);
+    items.push(item).expect(rt, "memory");
+    List::from_vec(items)
 }
 
 // The load of this program.

@@ -37,6 +37,8 @@ mod steps;
 #[cfg(test)]
 mod suppliers;
 #[cfg(test)]
+mod surface;
+#[cfg(test)]
 mod threads;
 #[cfg(test)]
 mod traces;

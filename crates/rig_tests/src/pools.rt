@@ -1,5 +1,5 @@
-//! Workers: a job that is held lets the others pass, a job that is sent is run, and a pool that is dropped leaves no thread behind. What
-//! passes here fails with each of three wrong crews, in the same numbers. `scripts/check-pools` runs two of these tests many times.
+//! Workers: a job that is held lets the others pass, a job that is sent is run before its worker is stopped, and a pool that is dropped
+//! leaves no thread. What passes here fails with each of three wrong crews. `scripts/check-pools` runs two of these tests many times.
 
 ghost use Rattle.std.specs.Prelude.{◌≤◌};
 
@@ -34,7 +34,7 @@ const TURNS: u32 = 10_000;
 pub(crate) enum Work {
     // Of three jobs the first to enter the gate is held until both others have entered.
     HeldJob(Crew),
-    // A job that was sent is run before its worker is stopped.
+    // A job that was sent is run when its worker has been stopped, also where its gate takes a while.
     StoppedWorker(End),
     // A pool that is dropped runs what was sent, and its threads end.
     DroppedPool,
@@ -56,9 +56,9 @@ pub(crate) enum Crew {
 pub(crate) enum End {
     // There are three, and all are done before the workers are stopped.
     Settled,
-    // They are sent, and the workers are stopped after them.
+    // They are sent, and the workers are stopped after them; two instants follow at once.
     Stopped,
-    // They are dropped, and the workers stopped.
+    // They are dropped, and the workers stopped; two instants follow.
     Unsent,
     // They are sent, and the pool is dropped.
     Dropped,
@@ -109,7 +109,17 @@ impl Gate for HoldsFirst {
     }
 }
 
-// The same gate, called under a lock.
+// Holds each job for 50 milliseconds.
+#[derive(Drop)]
+struct Slow;
+
+impl Gate for Slow {
+    fn enter<R: Wait + Clock>(&self, rt: &R, _id: &JobId) {
+        thread::sleep(rt, Duration::from_millis(50));
+    }
+}
+
+// The gate that holds the first job, called under a lock.
 #[derive(Drop)]
 struct UnderLock {
     lock: Mutex<u64>,
@@ -147,7 +157,7 @@ fn held_job_lets_others_pass<N: Naming + Send + Sync, R: Threads + Wait + Clock 
     missed == 0
 }
 
-// How many jobs were held too long.
+// How many jobs were held too long. Each of the three asks the gate.
 fn missed_by<N: Naming + Send + Sync, R: Threads + Wait + Clock + Abort + Sync>(
     rt: &R,
     alloc: Global,
@@ -163,6 +173,7 @@ fn missed_by<N: Naming + Send + Sync, R: Threads + Wait + Clock + Abort + Sync>(
         Crew::One => run(rt, alloc, desk, 1, &locked.gate, End::Settled),
         Crew::TwoUnderOneLock => run(rt, alloc, desk, 2, &locked, End::Settled),
     }
+    assert!(rt; locked.gate.entered.load(Ordering::SeqCst) == 3);
     locked.gate.missed.load(Ordering::SeqCst)
 }
 
@@ -208,11 +219,11 @@ fn send<N: Naming>(
         }
         End::Stopped => {
             drop(pool.send(rt, jobs));
-            pool.stop(rt);
+            stop(rt, desk, pool);
         }
         End::Unsent => {
             drop(jobs);
-            pool.stop(rt);
+            stop(rt, desk, pool);
         }
         End::Dropped => {
             drop(pool.send(rt, jobs));
@@ -221,22 +232,27 @@ fn send<N: Naming>(
     }
 }
 
+// Stops the workers, and gives two instants: at the second one a job of two ticks that isn't done is late.
+fn stop<N: Naming>(rt: &(impl Threads + Wait + Abort), desk: &Desk<N>, pool: Pool) {
+    pool.stop(rt);
+    drop(jobs_of(rt, desk, 7));
+    drop(jobs_of(rt, desk, 9));
+}
+
 // The jobs of an instant with this reading.
 fn jobs_of<N: Naming>(rt: &(impl Wait + Abort), desk: &Desk<N>, reading: i64) -> Jobs {
     desk.tick(rt, &[reading]).expect(rt, "an instant").0
 }
 
-// Alpha goes on running behind the deadline of the one job of its first instant, and drives the result.
+// Alpha goes on running after the deadline of the one job of its first instant, and drives the result.
 fn stopped_worker_has_run_its_job<
     N: Naming + Send + Sync,
     R: Threads + Wait + Clock + Abort + Sync,
 >(rt: &R, alloc: Global, desk: Desk<N>, end: End) -> bool {
     let mut pass = new_pass(rt, &desk);
     load_and_start(rt, alloc, &desk, &mut pass, ALPHA, ADDER);
-    let gate = Free;
+    let gate = Slow;
     run(rt, alloc, &desk, 1, &gate, end);
-    drop(jobs_of(rt, &desk, 7));
-    drop(jobs_of(rt, &desk, 9));
     let runs = is_answered(
         rt,
         alloc,

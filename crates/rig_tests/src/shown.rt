@@ -54,8 +54,8 @@ fn on_desks<N: Naming + Send + Sync, R: Threads + Wait + Clock + Abort + Sync>(
     requires first_tick { 0 ≡ N.first_tick }
     requires history { history ≡ N.history }
 {
-    let desk = Desk::<N>::new(alloc, config, 0, Some(history)).expect(rt, "memory");
-    let other = Desk::<N>::new(alloc, config, 0, None).expect(rt, "memory");
+    let desk = Desk::<N>::with_history(alloc, config, 0, history).expect(rt, "memory");
+    let other = Desk::<N>::new(alloc, config, 0).expect(rt, "memory");
     let is_so = match shown {
         Shown::Refusal(refusal) => refuses(rt, desk, &other, refusal),
         Shown::Session(session) => talks(rt, alloc, config, desk, session),

@@ -1,9 +1,10 @@
-//! Desks that threads share: two suppliers whose calls stand in one history, and many calls at once. And a completion behind a stop.
+//! Desks that threads share: two suppliers whose calls are in one history, many calls at once, and a thread that waits for the last job.
+//! And a completion after a stop.
 
 use crate::desks::{
     book_of, both, call, entries, is_refused, load_and_start, new_pass, other_pass,
 };
-use crate::fixtures::{ADDER, ALPHA, BETA, LISTENER, NOBODY, frame, load, release};
+use crate::fixtures::{ADDER, ALPHA, BETA, FOUR, LISTENER, NOBODY, frame, load, release};
 use crate::shown::{Shown, is_shown};
 use host_core::hosts::Counted;
 use locked_book::books::Book;
@@ -20,10 +21,8 @@ use std::process::Abort;
 use std::sync::Wait;
 use std::thread;
 use std::thread::Threads;
+use std::time::{Clock, Duration};
 use tenant_jobs::jobs::{Job, run_job};
-
-// Drives line 0 with 4.
-const FOUR: &str = "actuator a := 4 line 0; mode k period 1 { } start k;";
 
 // How many calls each of two threads makes.
 const MANY: usize = 200;
@@ -34,9 +33,22 @@ pub(crate) enum Shared {
     OneHistory,
     Late,
     OneBook,
+    // A thread that waits for the last job comes back once that has ended so.
+    Settled(JobEnd),
 }
 
-pub(crate) fn shares<N: Naming + Send + Sync, R: Threads + Wait + Abort + Sync>(
+// How the only outstanding job ends.
+#[derive(Clone, Copy)]
+pub(crate) enum JobEnd {
+    // Its tenant is stopped, by a call.
+    Stop,
+    // Its tenant is stopped, by calls that are made together.
+    StopTogether,
+    // Its tenant overruns at an instant.
+    Overrun,
+}
+
+pub(crate) fn shares<N: Naming + Send + Sync, R: Threads + Wait + Clock + Abort + Sync>(
     rt: &R,
     alloc: Global,
     desk: Desk<N>,
@@ -47,6 +59,7 @@ pub(crate) fn shares<N: Naming + Send + Sync, R: Threads + Wait + Abort + Sync>(
         Shared::OneHistory => stand_in_one_history(rt, alloc, desk, other),
         Shared::Late => drops_late_completion(rt, alloc, desk),
         Shared::OneBook => stand_in_one_book(rt, alloc, desk),
+        Shared::Settled(end) => settles(rt, alloc, desk, end),
     }
 }
 
@@ -302,6 +315,49 @@ fn call_often<N: Naming>(rt: &impl Wait, desk: &Desk<N>, pass: &mut Pass<N>, ten
     }
 }
 
+// A thread waits until no job is outstanding, while the only one ends so. Where that thread isn't woken, this never comes back.
+fn settles<N: Naming + Send + Sync, R: Threads + Wait + Clock + Abort + Sync>(
+    rt: &R,
+    alloc: Global,
+    desk: Desk<N>,
+    end: JobEnd,
+) -> bool {
+    let mut pass = new_pass(rt, &desk);
+    load_and_start(rt, alloc, &desk, &mut pass, ALPHA, ADDER);
+    drop(one_job(rt, &desk));
+    settle_beside(rt, &desk, &mut pass, end);
+    drop(pass);
+    drop(desk);
+    true
+}
+
+// The job ends 50 milliseconds after a thread was started that settles, so that it waits by then.
+fn settle_beside<N: Naming + Send + Sync, R: Threads + Wait + Clock + Abort + Sync>(
+    rt: &R,
+    desk: &Desk<N>,
+    pass: &mut Pass<N>,
+    end: JobEnd,
+) {
+    thread::scope(thread::scope_env(), rt, |scope| {
+        assert!(rt; scope.spawn(move || desk.settle(rt)).is_ok());
+        thread::sleep(rt, Duration::from_millis(50));
+        end_job(rt, desk, pass, end);
+    });
+}
+
+fn end_job<N: Naming>(rt: &(impl Wait + Abort), desk: &Desk<N>, pass: &mut Pass<N>, end: JobEnd) {
+    match end {
+        JobEnd::Stop => drop(call(rt, desk, pass, ALPHA, Command::Stop)),
+        JobEnd::StopTogether => desk
+            .call_all(rt, pass, ALPHA, &[Command::Stop])
+            .expect(rt, "a stop"),
+        JobEnd::Overrun => {
+            drop(desk.tick(rt, &[7]).expect(rt, "an instant"));
+            drop(desk.tick(rt, &[9]).expect(rt, "an instant"));
+        }
+    }
+}
+
 #[test]
 fn two_threads_stand_in_one_history(rt: HostRuntime) {
     assert!(rt; is_shown(&rt, rt.alloc(), Shown::Shared(Shared::OneHistory)));
@@ -315,4 +371,37 @@ fn late_completion_is_not_logged(rt: HostRuntime) {
 #[test]
 fn passes_of_two_threads_close_in_one_book(rt: HostRuntime) {
     assert!(rt; is_shown(&rt, rt.alloc(), Shown::Shared(Shared::OneBook)));
+}
+
+#[test]
+fn stop_of_the_last_job_wakes_a_thread(rt: HostRuntime) {
+    assert!(rt;
+        is_shown(
+            &rt,
+            rt.alloc(),
+            Shown::Shared(Shared::Settled(JobEnd::Stop))
+        )
+    );
+}
+
+#[test]
+fn stop_together_wakes_a_thread(rt: HostRuntime) {
+    assert!(rt;
+        is_shown(
+            &rt,
+            rt.alloc(),
+            Shown::Shared(Shared::Settled(JobEnd::StopTogether))
+        )
+    );
+}
+
+#[test]
+fn overrun_of_the_last_job_wakes_a_thread(rt: HostRuntime) {
+    assert!(rt;
+        is_shown(
+            &rt,
+            rt.alloc(),
+            Shown::Shared(Shared::Settled(JobEnd::Overrun))
+        )
+    );
 }

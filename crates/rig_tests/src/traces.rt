@@ -1,15 +1,12 @@
 //! Traces with ample memory: one that keeps the last of its records, and that of a tenant.
 
 use crate::completions::{is_answered, run};
-use crate::fixtures::{ALPHA, name, new_host, rig};
-use arrayvec::ArrayVec;
-use rig_model::grants::grants::Grants;
+use crate::fixtures::{ALPHA, name, new_host};
 use rig_model::lines::commands::Command;
 use rig_model::trace::records::{Happening, Record};
 use rig_model::trace::traces::Trace;
 use std::alloc::Global;
 use std::process::Abort;
-use tenant_state::tenants::Tenant;
 
 // A trace of two records, to which three were given.
 fn last_two_of_three(rt: &impl Abort, alloc: Global) -> Trace {
@@ -38,26 +35,10 @@ fn are_an_output_and_a_stop(records: &[Record]) -> bool {
 #[test]
 fn full_trace_keeps_the_last_records(rt: HostRuntime) {
     let trace = last_two_of_three(&rt, rt.alloc());
-    let records = trace.list(rt.alloc()).expect(&rt, "memory");
+    let records = trace.list().expect(&rt, "memory");
     assert!(rt; are_an_output_and_a_stop(records.as_slice()));
     drop(records);
     drop(trace);
-}
-
-// The built-in configuration's first tenant, alone in a roster, with no rows yet.
-#[test]
-fn makes_a_tenant(rt: HostRuntime) {
-    let config = rig(&rt, rt.alloc());
-    let first = config.tenants().first().expect(&rt, "a tenant");
-    let budgets = first.budgets.copy(rt.alloc()).expect(&rt, "memory");
-    let mut roster = ArrayVec::new();
-    roster.push(name(&rt, "alpha"));
-    let (offers, binds, bounds) = (budgets.offers, budgets.binds, budgets.bounds.copy());
-    let grants = Grants::new(rt.alloc(), ALPHA, roster, offers, binds, bounds).expect(
-        &rt, "memory",
-    );
-    drop(Tenant::new(rt.alloc(), budgets, grants, 0).expect(&rt, "memory"));
-    drop(config);
 }
 
 #[test]

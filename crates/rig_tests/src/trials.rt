@@ -3,7 +3,7 @@
 use crate::fixtures::{ADDER, ALPHA, BETA, LISTENER, NOBODY, rig};
 use crate::steps::{Step, events_of, granted_run};
 use host_core::plays::PlayFault;
-use host_core::trials::{TrialOutcome, trial};
+use host_core::trials::{TrialOutcome, trial_outcome};
 use rig_model::config::TenantId;
 use std::alloc::Global;
 use std::process::Abort;
@@ -17,7 +17,7 @@ fn tried(
 ) -> Result<TrialOutcome, PlayFault> {
     let config = rig(rt, alloc);
     let events = events_of(rt, alloc, steps);
-    let tried = trial(alloc, &config, events.as_slice(), tenant);
+    let tried = trial_outcome(alloc, &config, events.as_slice(), tenant);
     drop(events);
     drop(config);
     tried

@@ -1,0 +1,178 @@
+//! The calls of rig_config and tenant_grants.
+
+ghost use Rattle.std.specs.Prelude.{◌≡◌, ◌<◌, length};
+
+use crate::fixtures::{ALPHA, BETA, name};
+use arrayvec::ArrayVec;
+use giotto_tasks::names::Name;
+use rig_model::config::faults::{ConfigFault, Field, FieldPlace};
+use rig_model::config::intervals::Bounds;
+use rig_model::config::{Config, TenantConfig, read_config};
+use rig_model::grants::faults::GrantFault;
+use rig_model::grants::grants::Grants;
+use rig_model::grants::rows::Row;
+use std::alloc::Global;
+use std::process::Abort;
+
+// The budgets of a tenant, as a configuration has them.
+const BUDGETS: &str =
+    "bytes = 4096\nports = 64\ntasks = 16\nmodes = 16\nsteps = 10000\ntrace = 8\noffers = 4\nbinds = 4\n";
+
+// rig_config
+
+// The configuration of alpha, which may drive the one line, and of another tenant.
+fn rig_text(rt: &impl Abort, alloc: Global, version: u64, other: &str) -> String {
+    let budgets = BUDGETS;
+    format!(in alloc;
+        "version = {version}\nlines = 1\n[[tenant]]\nname = \"alpha\"\nkey = \"ka\"\nreads = [0]\nwrites = [0]\n{budgets}[[tenant]]\nname = \"{other}\"\nkey = \"kb\"\nreads = [0]\nwrites = []\n{budgets}"
+    ).expect(rt, "memory")
+}
+
+fn config_fault(alloc: Global, text: &str) -> Option<ConfigFault> {
+    read_config(alloc, text).err()
+}
+
+// Why this configuration is refused.
+fn rig_fault(rt: &impl Abort, alloc: Global, version: u64, other: &str) -> Option<ConfigFault> {
+    config_fault(alloc, rig_text(rt, alloc, version, other).as_str())
+}
+
+fn of_rig(field: Field) -> FieldPlace {
+    FieldPlace {
+        tenant: None,
+        field,
+    }
+}
+
+// Whether there are one line and these two tenants.
+fn are_alpha_and_beta(config: &Config) -> bool {
+    match config.tenants() {
+        [alpha, beta] => config.lines() == 1 && is_alpha(alpha) && beta.name.as_str() == "beta",
+        _ => false,
+    }
+}
+
+fn is_alpha(tenant: &TenantConfig) -> bool {
+    tenant.name.as_str() == "alpha"
+        && matches!(tenant.budgets.writes.as_slice(), [0])
+        && tenant.budgets.steps == 10000
+}
+
+#[test]
+fn rigs_are_read(rt: HostRuntime) {
+    let alloc = rt.alloc();
+    let text = rig_text(&rt, alloc, 1, "beta");
+    let config = read_config(alloc, text.as_str()).expect(&rt, "a rig");
+    assert!(rt; are_alpha_and_beta(&config));
+    drop(config);
+    assert!(rt; rig_fault(&rt, alloc, 1, "alpha") == Some(ConfigFault::Twice(Field::Name)));
+    let low = FieldPlace {
+        tenant: Some(0),
+        field: Field::Low,
+    };
+    assert!(rt; rig_fault(&rt, alloc, 2, "beta") == Some(ConfigFault::Missing(low)));
+}
+
+#[test]
+fn texts_of_no_rig_are_refused(rt: HostRuntime) {
+    let alloc = rt.alloc();
+    let missing = ConfigFault::Missing(of_rig(Field::Lines));
+    let range = ConfigFault::Range(of_rig(Field::Lines));
+    assert!(rt; config_fault(alloc, "=") == Some(ConfigFault::NotToml));
+    assert!(rt; config_fault(alloc, "version = 1") == Some(missing));
+    assert!(rt; config_fault(alloc, "version = 1\nlines = 0") == Some(range));
+    assert!(rt; Bounds::new(0, 5).is_some());
+    assert!(rt; Bounds::new(9, 7).is_none());
+}
+
+// tenant_grants
+
+// Rows of the first of these tenants: none yet, and at most 4 offers and 4 binds.
+pub(crate) fn no_rows(rt: &impl Abort, alloc: Global, roster: ArrayVec<Name, 16>) -> Grants
+    requires { 0 < length roster.items }
+    ensures place { result.owner.place ≡ 0 }
+    ensures roster { result.owner.roster ≡ roster.items }
+{
+    Grants::new(alloc, ALPHA, roster, 4, 4).expect(rt, "memory")
+}
+
+// Rows of alpha, where beta is the other tenant: none yet.
+pub(crate) fn alphas_rows(rt: &impl Abort, alloc: Global) -> Grants {
+    let mut roster = ArrayVec::new();
+    roster.push(name(rt, "alpha"));
+    roster.push(name(rt, "beta"));
+    no_rows(rt, alloc, roster)
+}
+
+// An offer from 0 to 5.
+fn offered(
+    rt: &impl Abort,
+    rows: &mut Grants,
+    actuator: &str,
+    tenant: &str,
+) -> Result<(), GrantFault> {
+    rows.offer(name(rt, actuator), name(rt, tenant), 0, 5)
+}
+
+// A bind of g to an actuator of beta.
+fn bound(rt: &impl Abort, rows: &mut Grants, actuator: &str) -> Result<(), GrantFault> {
+    rows.bind(name(rt, "g"), name(rt, "beta"), name(rt, actuator))
+}
+
+// Whether these are the offer of a to beta and the bind of g to beta's a.
+fn are_both(rows: &[Row]) -> bool {
+    match rows {
+        [Row::Offer(offer), Row::Bind(bind)] => {
+            offer.actuator.as_str() == "a"
+                && offer.tenant.as_str() == "beta"
+                && bind.sensor.as_str() == "g"
+                && bind.tenant.as_str() == "beta"
+                && bind.actuator.as_str() == "a"
+        }
+        _ => false,
+    }
+}
+
+// Whether a bind is of g to beta's a.
+pub(crate) fn is_of_g(bind: Option<(&Name, usize, &Name)>) -> bool {
+    match bind {
+        Some((sensor, tenant, actuator)) => {
+            sensor.as_str() == "g" && tenant == BETA && actuator.as_str() == "a"
+        }
+        None => false,
+    }
+}
+
+#[test]
+fn offers_are_made_and_taken_back(rt: HostRuntime) {
+    let mut rows = alphas_rows(&rt, rt.alloc());
+    assert!(rt; offered(&rt, &mut rows, "a", "gamma") == Err(GrantFault::NoTenant));
+    assert!(rt; offered(&rt, &mut rows, "a", "alpha") == Err(GrantFault::Own));
+    assert!(rt; offered(&rt, &mut rows, "a", "beta") == Ok(()));
+    assert!(rt; offered(&rt, &mut rows, "a", "beta") == Err(GrantFault::Twice));
+    let actuator = name(&rt, "a");
+    assert!(rt; rows.offers(&actuator, BETA));
+    assert!(rt; rows.bounds(&actuator, BETA) == Some((0, 5)));
+    assert!(rt; rows.unoffer(&actuator, &name(&rt, "beta")) == Ok(()));
+    assert!(rt; !rows.offers(&actuator, BETA));
+    assert!(rt; rows.bounds(&actuator, BETA).is_none());
+    drop(rows);
+}
+
+#[test]
+fn binds_are_made_and_taken_back(rt: HostRuntime) {
+    let mut rows = alphas_rows(&rt, rt.alloc());
+    let sensor = name(&rt, "g");
+    assert!(rt; rows.own() == ALPHA);
+    assert!(rt; rows.unbind(&sensor) == Err(GrantFault::NotThere));
+    assert!(rt; bound(&rt, &mut rows, "a") == Ok(()));
+    assert!(rt; bound(&rt, &mut rows, "b") == Err(GrantFault::Twice));
+    assert!(rt; is_of_g(rows.bind_at(0)));
+    assert!(rt; offered(&rt, &mut rows, "a", "beta") == Ok(()));
+    let listed = rows.list().expect(&rt, "memory");
+    assert!(rt; are_both(listed.as_slice()));
+    drop(listed);
+    assert!(rt; rows.unbind(&sensor) == Ok(()));
+    assert!(rt; rows.bind_at(0).is_none());
+    drop(rows);
+}
