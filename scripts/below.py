@@ -161,6 +161,10 @@ class Sources:
             return self.declared(crate, [*names[1:], *([name] if names[-1] == "TheConstants" else [])]), True
         file = self.definitions.get(f"crates/{crate}/specs/{'/'.join(names)}.antt")
         found = file.own.get(name) if file else None
+        if found is None and file:
+            passed_on = re.search(rf"^pub use Rattle\.(\S+)\.{{[^}}]*\b{re.escape(name)}\b[^}}]*}}$", file.text, re.M)
+            if passed_on:
+                return self.named(passed_on[1], name)
         if found is None:
             raise LookupError(f"{module} has no {name}")
         return found, name in found.constructors

@@ -1,7 +1,7 @@
+pub mod Adding
 pub mod HostStanding
 pub mod ListReplies
 pub mod Questions
-pub mod cited
 pub mod inner
 pub use Rattle.instant_engine.specs as engine
 pub use Rattle.instant_engine.specs.job_table

@@ -1,6 +1,6 @@
 -- What an operator asks of a rig, with the answers.
 use Rattle.std.specs.Prelude.{◌+◌, ◌-◌, ◌^◌, min, ℕ, ℤ, List, [], ◌∷◌}
-pub use Rattle.host_core.specs.cited.Adding.{Adds}
+pub use Rattle.host_core.specs.Adding.{Adds}
 use Rattle.host_core.specs.declared.hosts.TickFault.{TickFault}
 use Rattle.tenant_jobs.specs.Jobs.{JobValue}
 

@@ -1,2 +1,3 @@
 pub mod BeforeFaults
+pub mod Left
 pub mod cited

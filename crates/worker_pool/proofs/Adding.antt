@@ -1,7 +1,7 @@
 -- What is added at the end of a list that is known or not.
 use Rattle.std.proofs.Common.{sym, ap, ◌∙◌, ◌++◌, [], List, Option, None, Some}
 use Rattle.std.proofs.lemmas.List.{append-nil, append_assoc}
-use Rattle.host_core.specs.cited.Adding.{Adds}
+use Rattle.host_core.specs.Adding.{Adds}
 
 pub adds_nothing : {A : Type 0} (known : Option (List A)) → Adds known known []
 adds_nothing None = tt

@@ -3,7 +3,7 @@ use Rattle.std.proofs.Common.{arith, refl, sym, ap, subst, ◌∙◌, ◌≡◌,
 use Rattle.std.proofs.lemmas.List.{append-nil, append_assoc, drop_more, drop_all, length-append, length-drop}
 use Rattle.tenant_jobs.specs.Jobs.{JobValue}
 use Rattle.worker_pool.proofs.Adding.{adds_more, adds_nothing}
-use Rattle.host_core.specs.cited.Adding.{Adds}
+use Rattle.host_core.specs.Adding.{Adds}
 use Rattle.worker_pool.specs.Unsent.{AreSent, sent_of, unsent_of}
 
 -- after some turns: the jobs that are left, then those that weren't sent; the others were added to those taken before

@@ -1,7 +1,7 @@
 -- Which of some jobs were sent, and which came back.
 use Rattle.std.specs.Prelude.{◌≡◌, ◌∷◌, [], Bool, true, false, List, Option, length}
 use Rattle.tenant_jobs.specs.Jobs.{JobValue}
-use Rattle.host_core.specs.cited.Adding.{Adds}
+use Rattle.host_core.specs.Adding.{Adds}
 
 -- the jobs that were sent, where a list says of each in turn whether it was
 abbrev pub sent_of : List Bool → List JobValue → List JobValue

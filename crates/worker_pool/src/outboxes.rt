@@ -2,7 +2,7 @@
 
 ghost use Rattle.std.specs.Prelude.{◌≡◌, [], ◌∷◌, List, Option, None, IfErr, OnOk};
 ghost use Rattle.tenant_jobs.specs.Jobs.{JobValue};
-ghost use Rattle.host_core.specs.cited.Adding.{Adds};
+ghost use Rattle.host_core.specs.Adding.{Adds};
 ghost use Rattle.worker_pool.specs.Unsent.{AreSent};
 
 use std::sync::Wait;

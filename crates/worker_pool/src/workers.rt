@@ -6,7 +6,7 @@ ghost use Rattle.locked_book.specs.Books.{new_setting};
 ghost use Rattle.rig_model.specs.Logs.{IsLegalLog};
 ghost use Rattle.rig_model.specs.declared.jobs.JobId.{JobId};
 ghost use Rattle.rig_model.specs.declared.logged.Logged.{Logged};
-ghost use Rattle.host_core.specs.cited.Adding.{Adds};
+ghost use Rattle.host_core.specs.Adding.{Adds};
 ghost use Rattle.worker_pool.specs.Works.{Work, computed, entered, handed_in, work_for};
 
 use crate::gates::Gate;

@@ -1,8 +1,9 @@
--- What is left of a stream of lines: the bytes that were read and those that the reader still has.
+-- The next line of a stream.
 use Rattle.std.specs.Prelude.{◌≡◌, ◌<◌, ◌≤◌, ◌+◌, ◌-◌, ◌*◌, ◌⊎◌, ℕ, Bool, true, false, List, [], ◌∷◌, ◌++◌, length, Option, Some, None, IsSomeAnd, Result, Ok, Err, string_bytes}
 use Rattle.tokio_util.specs.declared.codec.lines_codec.LinesCodec.{LinesCodec}
 use Rattle.tokio_util.specs.Codec.Next.{Resumes}
 use Rattle.tokio_util.specs.Codec.Lines.{gives_lines, at_line_start}
+pub use Rattle.text_lines.specs.Left.{AreAhead, AreCounted, AreReads, IsLeft, reads_of}
 use Rattle.text_lines.specs.declared.faults.LinesFault.{LinesFault}
 use Rattle.text_lines.specs.declared.faults.LinesFault.TheVariants.{Read, Write, Turns, Memory}
 use Rattle.text_lines.specs.declared.lines.Line.{Line}
@@ -16,39 +17,13 @@ use Rattle.text_lines.specs.declared.lines.TheConstants.{PAGE}
 abbrev pub IsReading : LinesCodec → List ℕ → Type 0
 IsReading codec now = Resumes gives_lines (at_line_start MAX_LINE) now codec now × (codec.is_discarding ≡ false)
 
--- these bytes are those that were read, of a line on which these lines are, and what the reader still has
-abbrev pub AreAhead : Lines → Option (List ℕ) → List ℕ → Type 0
-AreAhead lines remaining bytes = IsSomeAnd remaining (λ more. (lines.at_end ≡ true → more ≡ []) × (bytes ≡ lines.buffer.items ++ more))
-
--- how many reads gave bytes
-abbrev pub reads_of : Lines → ℕ
-reads_of lines = lines.reads
-
 -- whether the reader has told its end
 abbrev pub has_ended : Lines → Bool
 has_ended lines = lines.at_end
 
--- this many reads, each of which took 1 to a page of bytes from the front of `before`, left `after`
-pub record AreReads (count : ℕ) (before after : List ℕ) : Type 0 where
-  pub taken : List ℕ
-  pub split : before ≡ taken ++ after
-  pub least : count ≤ length taken
-  pub most : length taken ≤ PAGE * count
-
--- From the number of reads `old` to the number `new`: each read that gave bytes was counted, and nothing else. What the reader
--- had and what it has tells so, where it is known.
-abbrev pub AreCounted : ℕ → ℕ → Option (List ℕ) → Option (List ℕ) → Type 0
-AreCounted old new None after = old ≤ new
-AreCounted old new (Some before) None = ⊥
-AreCounted old new (Some before) (Some after) = (count : ℕ) × (new ≡ old + count) × AreReads count before after
-
 -- a line begins with what is read next
 abbrev pub AreAtLineStart : Lines → Type 0
 AreAtLineStart lines = (lines.codec ≡ at_line_start MAX_LINE) × (reads_of lines ≤ MAX_READS)
-
--- these bytes are left of the stream, and a line begins with them; `remaining` is what the reader still has, if that is known
-abbrev pub IsLeft : Lines → Option (List ℕ) → List ℕ → Type 0
-IsLeft lines remaining bytes = (lines.codec ≡ at_line_start MAX_LINE) × AreAhead lines remaining bytes
 
 -- how many bytes can be given yet, and one for each read that may come, at the most
 abbrev pub left_at_most : Lines → ℕ

@@ -1,6 +1,6 @@
 use Rattle.std.proofs.Common.{◌∷◌, [], subst}
 use Rattle.worker_pool.proofs.Adding.{adds_more}
-use Rattle.host_core.specs.cited.Adding.{Adds}
+use Rattle.host_core.specs.Adding.{Adds}
 use Rattle.worker_pool.specs.Works.{computed, entered, handed_in}
 use Rattle.worker_pool.proofs.workers.work_off.Goals as goal
 
