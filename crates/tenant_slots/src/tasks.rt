@@ -22,13 +22,18 @@ use giotto_tasks::values::Values;
 use rig_model::trace::records::Happening;
 use rig_model::trace::traces::Trace;
 
-/// Puts the values of an invocation's arguments, at most 16, into an empty list, in their order. Takes no memory.
+/// Puts the values of an invocation's arguments, at most 16, into a list, in their order and in place of what it has. Takes no memory.
 pub fn argument_values(arguments: &[SlotExpr], values: &[i64], given: &mut Values)
     requires few { length arguments.now ≤ 16 }
-    requires empty { given.old ≡ [] }
     ensures { (p : GiottoProgram) (es : List Expression) → AreEach (IsExpression p) es arguments.now → length values.now ≡ slots_of p
         → given.new ≡ map (λ e. value_of e (valuation_of p values.now)) es }
 {
+    // One value is written over another one, and nothing is emptied.
+    if let [argument] = arguments {
+        given.set(&[slot_value(argument, values)]);
+        return;
+    }
+    given.set(&[]);
     for argument in arguments {
         given.push(slot_value(argument, values));
     }

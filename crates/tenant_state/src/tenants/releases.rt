@@ -101,7 +101,6 @@ fn activate(
 {
     active.task = invocation.task;
     active.release = release;
-    active.inputs.set(&[]);
     argument_values(invocation.arguments.as_slice(), values, &mut active.inputs);
     active.states.set(&[]);
     state_values(checked, invocation.task, values, &mut active.states);
