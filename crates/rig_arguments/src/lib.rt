@@ -1,9 +1,9 @@
 //! What the arguments of the program ask for: the words that it takes, with their help, and the requests that they make.
 #![tactic(auto)]
 
+mod arguments;
 pub mod requests;
 pub mod subcommands;
-mod words;
 
 use clap::error::ErrorKind;
 use clap::{Command, Error};
@@ -66,7 +66,7 @@ fn program<'a>(alloc: Global) -> Result<Command<'a>, AllocError> {
         .version(VERSION)
         .subcommand_required(true);
     for subcommand in &Subcommand::ALL {
-        program = program.subcommand(subcommand.words(alloc)?)?;
+        program = program.subcommand(subcommand.command(alloc)?)?;
     }
     Ok(program)
 }

@@ -1,8 +1,8 @@
-//! The subcommands, with their words and their help.
+//! The subcommands, with their arguments and their help.
 
-use crate::words::{config, flag, option, positional};
+use crate::arguments::{Argument, Form, Values};
 use clap::error::ErrorKind;
-use clap::{Arg, ArgAction, Command, Error, value_parser};
+use clap::{Command, Error};
 use std::alloc::{AllocError, Global};
 
 // Printed below the help of `check`.
@@ -69,6 +69,188 @@ pub enum Subcommand {
     Trial,
 }
 
+const CONFIG: Argument = Argument {
+    id: "config",
+    form: Form::Option("FILE", Values::Text),
+    help: "The configuration of the rig, in TOML; without it the built-in one: one line, and the tenants alpha and beta",
+    conflicts: [None, None],
+    needs: None,
+};
+
+const CHECK_ARGUMENTS: [Argument; 6] = [
+    CONFIG,
+    Argument {
+        id: "tenant",
+        form: Form::Option("NAME", Values::Text),
+        help: "Holds programs against the budgets of the tenant NAME",
+        conflicts: [None, None],
+        needs: None,
+    },
+    Argument {
+        id: "load",
+        form: Form::Option("NAME", Values::Text),
+        help: "Writes the line of a script by which the tenant NAME loads the program",
+        conflicts: [Some("print"), Some("pretty")],
+        needs: None,
+    },
+    Argument {
+        id: "print",
+        form: Form::Flag,
+        help: "Writes the program's canonical text, in one line",
+        conflicts: [Some("pretty"), None],
+        needs: None,
+    },
+    Argument {
+        id: "pretty",
+        form: Form::Flag,
+        help: "Writes the program over many lines, indented",
+        conflicts: [None, None],
+        needs: None,
+    },
+    Argument {
+        id: "files",
+        form: Form::Files("FILE"),
+        help: "Programs, configurations and scripts",
+        conflicts: [None, None],
+        needs: None,
+    },
+];
+
+const SCRIPT_ARGUMENTS: [Argument; 5] = [
+    CONFIG,
+    Argument {
+        id: "strict",
+        form: Form::Flag,
+        help: "Tells each refusal, each overrun and a script that was cut off on standard error, with status 4",
+        conflicts: [Some("vcd"), None],
+        needs: None,
+    },
+    Argument {
+        id: "expect",
+        form: Form::Option("FILE", Values::Text),
+        help: "Answers the lines of FILE in place of standard input, and prints what differs from the replies that stand below them, with status 4",
+        conflicts: [Some("strict"), Some("vcd")],
+        needs: None,
+    },
+    Argument {
+        id: "junit",
+        form: Form::Option("FILE", Values::Text),
+        help: "Writes what was compared into FILE as well, as a suite of tests in JUnit's form",
+        conflicts: [None, None],
+        needs: Some("expect"),
+    },
+    Argument {
+        id: "vcd",
+        form: Form::Option("FILE", Values::Text),
+        help: "Writes the run into FILE as well, as a value change dump for a viewer of waveforms",
+        conflicts: [None, None],
+        needs: None,
+    },
+];
+
+const SERVE_ARGUMENTS: [Argument; 4] = [
+    CONFIG,
+    Argument {
+        id: "port",
+        form: Form::Option("N", Values::AnyPort),
+        help: "The port, 0 to 65535; without it, or where it is 0, the system chooses one",
+        conflicts: [None, None],
+        needs: None,
+    },
+    Argument {
+        id: "workers",
+        form: Form::Option("N", Values::Workers),
+        help: "How many threads run jobs, 1 to 64; without it 2",
+        conflicts: [None, None],
+        needs: None,
+    },
+    Argument {
+        id: "idle",
+        form: Form::Option("SECONDS", Values::Seconds),
+        help: "Ends a session from which nothing came for so long, 1 to 86400; without it none",
+        conflicts: [None, None],
+        needs: None,
+    },
+];
+
+const CONNECT_ARGUMENTS: [Argument; 3] = [
+    Argument {
+        id: "port",
+        form: Form::Positional("PORT", Values::Port),
+        help: "The port of the server, 1 to 65535",
+        conflicts: [None, None],
+        needs: None,
+    },
+    Argument {
+        id: "name",
+        form: Form::Positional("NAME", Values::Text),
+        help: "The name of the tenant",
+        conflicts: [None, None],
+        needs: None,
+    },
+    Argument {
+        id: "key-file",
+        form: Form::Option("FILE", Values::Text),
+        help: "The file whose first line is the tenant's key",
+        conflicts: [None, None],
+        needs: None,
+    },
+];
+
+const TIMELINE_ARGUMENTS: [Argument; 4] = [
+    Argument {
+        id: "script",
+        form: Form::Positional("SCRIPT", Values::Text),
+        help: "The file with the lines of the script",
+        conflicts: [None, None],
+        needs: None,
+    },
+    CONFIG,
+    Argument {
+        id: "tenant",
+        form: Form::Option("TENANT", Values::Text),
+        help: "Whose run is drawn; without it that of the first tenant that loads a program",
+        conflicts: [None, None],
+        needs: None,
+    },
+    Argument {
+        id: "output",
+        form: Form::Required('o', "FILE"),
+        help: "Where the picture is written, as SVG",
+        conflicts: [None, None],
+        needs: None,
+    },
+];
+
+const RETEST_ARGUMENTS: [Argument; 2] = [
+    CONFIG,
+    Argument {
+        id: "dot",
+        form: Form::Option("FILE", Values::Text),
+        help: "Writes the table into FILE as well, as a graph for graphviz",
+        conflicts: [None, None],
+        needs: None,
+    },
+];
+
+const TRIAL_ARGUMENTS: [Argument; 3] = [
+    CONFIG,
+    Argument {
+        id: "summary",
+        form: Form::Flag,
+        help: "Prints who was left out and how many replies were compared, in place of the lines",
+        conflicts: [None, None],
+        needs: None,
+    },
+    Argument {
+        id: "tenant",
+        form: Form::Positional("TENANT", Values::Text),
+        help: "Whose answers are compared",
+        conflicts: [None, None],
+        needs: None,
+    },
+];
+
 impl Subcommand {
     /// All of them, in the order of the help.
     pub const ALL: [Subcommand; 7] = [
@@ -81,19 +263,22 @@ impl Subcommand {
         Subcommand::Trial,
     ];
 
-    /// Its words, with their help.
+    /// Its command, with its arguments and their help.
     ///
     /// # Errors
     /// Memory ran out.
-    pub(crate) fn words<'a>(self, alloc: Global) -> Result<Command<'a>, AllocError> {
+    pub(crate) fn command<'a>(self, alloc: Global) -> Result<Command<'a>, AllocError> {
+        let command = Command::new(alloc, self.name())
+            .about(self.about())
+            .after_help(self.examples());
         match self {
-            Subcommand::Check => check(alloc),
-            Subcommand::Script => script(alloc),
-            Subcommand::Serve => serve(alloc),
-            Subcommand::Connect => connect(alloc),
-            Subcommand::Timeline => timeline(alloc),
-            Subcommand::Retest => retest(alloc),
-            Subcommand::Trial => trial(alloc),
+            Subcommand::Check => with_arguments(alloc, command, &CHECK_ARGUMENTS),
+            Subcommand::Script => with_arguments(alloc, command, &SCRIPT_ARGUMENTS),
+            Subcommand::Serve => with_arguments(alloc, command, &SERVE_ARGUMENTS),
+            Subcommand::Connect => with_arguments(alloc, command, &CONNECT_ARGUMENTS),
+            Subcommand::Timeline => with_arguments(alloc, command, &TIMELINE_ARGUMENTS),
+            Subcommand::Retest => with_arguments(alloc, command, &RETEST_ARGUMENTS),
+            Subcommand::Trial => with_arguments(alloc, command, &TRIAL_ARGUMENTS),
         }
     }
 
@@ -102,224 +287,66 @@ impl Subcommand {
     /// # Errors
     /// Memory ran out.
     pub fn error(self, alloc: Global, text: &str) -> Result<Error, AllocError> {
-        self.words(alloc)?.error(ErrorKind::ValueValidation, text)
+        self.command(alloc)?.error(ErrorKind::ValueValidation, text)
+    }
+
+    // What it is called.
+    fn name<'a>(self) -> &'a str {
+        match self {
+            Subcommand::Check => "check",
+            Subcommand::Script => "script",
+            Subcommand::Serve => "serve",
+            Subcommand::Connect => "connect",
+            Subcommand::Timeline => "timeline",
+            Subcommand::Retest => "retest",
+            Subcommand::Trial => "trial",
+        }
+    }
+
+    // What it does.
+    fn about<'a>(self) -> &'a str {
+        match self {
+            Subcommand::Check =>
+                "Tells what is wrong with files of programs, configurations and scripts, and where, or what they have",
+            Subcommand::Script =>
+                "Reads lines from standard input and answers each on standard output before it reads the next: `TENANT COMMAND`, `op tick V ..`, `op work` or `op lines`",
+            Subcommand::Serve =>
+                "Listens on 127.0.0.1, answers a session for each connection, and takes the operator's lines from standard input",
+            Subcommand::Connect =>
+                "Greets a server on 127.0.0.1 as a tenant, sends the lines of standard input, each behind the answer to the one before, and prints the answers",
+            Subcommand::Timeline =>
+                "Draws the run of one tenant in a script: its modes, tasks, sensors and actuators over the ticks",
+            Subcommand::Retest =>
+                "Reads a script from standard input, and prints whose change calls for whose retest in it, through which binds, and from which line on",
+            Subcommand::Trial =>
+                "Reads a script from standard input, runs it twice, in whole and without what can't reach one tenant, and prints that tenant's answers of both runs side by side",
+        }
+    }
+
+    // What is printed below its help.
+    fn examples<'a>(self) -> &'a str {
+        match self {
+            Subcommand::Check => CHECK_EXAMPLES,
+            Subcommand::Script => SCRIPT_EXAMPLES,
+            Subcommand::Serve => SERVE_EXAMPLE,
+            Subcommand::Connect => CONNECT_EXAMPLES,
+            Subcommand::Timeline =>
+                "Example: rig_host timeline examples/first/first.script -o first.svg",
+            Subcommand::Retest => RETEST_EXAMPLE,
+            Subcommand::Trial => TRIAL_EXAMPLE,
+        }
     }
 }
 
-fn check<'a>(alloc: Global) -> Result<Command<'a>, AllocError> {
-    let command = Command::new(alloc, "check")
-        .about(
-            "Tells what is wrong with files of programs, configurations and scripts, and where, or what they have",
-        )
-        .after_help(CHECK_EXAMPLES)
-        .arg(config(alloc))?
-        .arg(option(
-            alloc,
-            "tenant",
-            "NAME",
-            "Holds programs against the budgets of the tenant NAME",
-        ))?;
-    with_texts(alloc, command)
-}
-
-// With the words that say which text of a program is written, and the files.
-fn with_texts<'a>(alloc: Global, command: Command<'a>) -> Result<Command<'a>, AllocError> {
-    command
-        .arg(load(alloc)?)?
-        .arg(print(alloc)?)?
-        .arg(flag(
-            alloc,
-            "pretty",
-            "Writes the program over many lines, indented",
-        ))?
-        .arg(
-            positional(
-                alloc,
-                "files",
-                "FILE",
-                "Programs, configurations and scripts",
-            )
-            .num_args(1..)
-            .action(ArgAction::Append),
-        )
-}
-
-fn load<'a>(alloc: Global) -> Result<Arg<'a>, AllocError> {
-    option(
-        alloc,
-        "load",
-        "NAME",
-        "Writes the line of a script by which the tenant NAME loads the program",
-    )
-    .conflicts_with("print")?
-    .conflicts_with("pretty")
-}
-
-fn print<'a>(alloc: Global) -> Result<Arg<'a>, AllocError> {
-    flag(
-        alloc,
-        "print",
-        "Writes the program's canonical text, in one line",
-    )
-    .conflicts_with("pretty")
-}
-
-fn script<'a>(alloc: Global) -> Result<Command<'a>, AllocError> {
-    let command = Command::new(alloc, "script")
-        .about(
-            "Reads lines from standard input and answers each on standard output before it reads the next: `TENANT COMMAND`, `op tick V ..`, `op work` or `op lines`",
-        )
-        .after_help(SCRIPT_EXAMPLES)
-        .arg(config(alloc))?
-        .arg(strict(alloc)?)?;
-    with_files(alloc, command)
-}
-
-// With the words for what is compared and what is written beside the replies.
-fn with_files<'a>(alloc: Global, command: Command<'a>) -> Result<Command<'a>, AllocError> {
-    command.arg(expect(alloc)?)?.arg(junit(alloc)?)?.arg(option(
-        alloc,
-        "vcd",
-        "FILE",
-        "Writes the run into FILE as well, as a value change dump for a viewer of waveforms",
-    ))
-}
-
-fn strict<'a>(alloc: Global) -> Result<Arg<'a>, AllocError> {
-    flag(
-        alloc,
-        "strict",
-        "Tells each refusal, each overrun and a script that was cut off on standard error, with status 4",
-    )
-    .conflicts_with("vcd")
-}
-
-fn expect<'a>(alloc: Global) -> Result<Arg<'a>, AllocError> {
-    option(
-        alloc,
-        "expect",
-        "FILE",
-        "Answers the lines of FILE in place of standard input, and prints what differs from the replies that stand below them, with status 4",
-    )
-    .conflicts_with("strict")?
-    .conflicts_with("vcd")
-}
-
-fn junit<'a>(alloc: Global) -> Result<Arg<'a>, AllocError> {
-    option(
-        alloc,
-        "junit",
-        "FILE",
-        "Writes what was compared into FILE as well, as a suite of tests in JUnit's form",
-    )
-    .requires_arg("expect")
-}
-
-fn serve<'a>(alloc: Global) -> Result<Command<'a>, AllocError> {
-    Command::new(alloc, "serve")
-        .about(
-            "Listens on 127.0.0.1, answers a session for each connection, and takes the operator's lines from standard input",
-        )
-        .after_help(SERVE_EXAMPLE)
-        .arg(config(alloc))?
-        .arg(option(
-            alloc,
-            "port",
-            "N",
-            "The port, 0 to 65535; without it, or where it is 0, the system chooses one",
-        )
-        .value_parser(value_parser!(u16)))?
-        .arg(option(
-            alloc,
-            "workers",
-            "N",
-            "How many threads run jobs, 1 to 64; without it 2",
-        )
-        .value_parser(value_parser!(u8).range(1..65)))?
-        .arg(option(
-            alloc,
-            "idle",
-            "SECONDS",
-            "Ends a session from which nothing came for so long, 1 to 86400; without it none",
-        )
-        .value_parser(value_parser!(u32).range(1..86401)))
-}
-
-fn connect<'a>(alloc: Global) -> Result<Command<'a>, AllocError> {
-    Command::new(alloc, "connect")
-        .about(
-            "Greets a server on 127.0.0.1 as a tenant, sends the lines of standard input, each behind the answer to the one before, and prints the answers",
-        )
-        .after_help(CONNECT_EXAMPLES)
-        .arg(positional(alloc, "port", "PORT", "The port of the server, 1 to 65535").value_parser(
-            value_parser!(u16).range(1..65536),
-        ))?
-        .arg(positional(alloc, "name", "NAME", "The name of the tenant"))?
-        .arg(option(
-            alloc,
-            "key-file",
-            "FILE",
-            "The file whose first line is the tenant's key",
-        ))
-}
-
-fn timeline<'a>(alloc: Global) -> Result<Command<'a>, AllocError> {
-    Command::new(alloc, "timeline")
-        .about(
-            "Draws the run of one tenant in a script: its modes, tasks, sensors and actuators over the ticks",
-        )
-        .after_help("Example: rig_host timeline examples/first/first.script -o first.svg")
-        .arg(positional(
-            alloc,
-            "script",
-            "SCRIPT",
-            "The file with the lines of the script",
-        ))?
-        .arg(config(alloc))?
-        .arg(option(
-            alloc,
-            "tenant",
-            "TENANT",
-            "Whose run is drawn; without it that of the first tenant that loads a program",
-        ))?
-        .arg(
-            option(
-                alloc,
-                "output",
-                "FILE",
-                "Where the picture is written, as SVG",
-            )
-            .short('o')
-            .required(true),
-        )
-}
-
-fn retest<'a>(alloc: Global) -> Result<Command<'a>, AllocError> {
-    Command::new(alloc, "retest")
-        .about(
-            "Reads a script from standard input, and prints whose change calls for whose retest in it, through which binds, and from which line on",
-        )
-        .after_help(RETEST_EXAMPLE)
-        .arg(config(alloc))?
-        .arg(option(
-            alloc,
-            "dot",
-            "FILE",
-            "Writes the table into FILE as well, as a graph for graphviz",
-        ))
-}
-
-fn trial<'a>(alloc: Global) -> Result<Command<'a>, AllocError> {
-    Command::new(alloc, "trial")
-        .about(
-            "Reads a script from standard input, runs it twice, in whole and without what can't reach one tenant, and prints that tenant's answers of both runs side by side",
-        )
-        .after_help(TRIAL_EXAMPLE)
-        .arg(config(alloc))?
-        .arg(flag(
-            alloc,
-            "summary",
-            "Prints who was left out and how many replies were compared, in place of the lines",
-        ))?
-        .arg(positional(alloc, "tenant", "TENANT", "Whose answers are compared"))
+// A command with these arguments, in the order of the help.
+fn with_arguments<'a>(
+    alloc: Global,
+    command: Command<'a>,
+    arguments: &[Argument],
+) -> Result<Command<'a>, AllocError> {
+    let mut command = command;
+    for argument in arguments {
+        command = command.arg(argument.arg(alloc)?)?;
+    }
+    Ok(command)
 }

@@ -1,0 +1,103 @@
+//! The arguments of a subcommand.
+
+use clap::{Arg, ArgAction, value_parser};
+use std::alloc::{AllocError, Global};
+
+/// An argument of a subcommand.
+#[derive(Clone, Copy)]
+pub(crate) struct Argument {
+    pub(crate) id: &'static str,
+    pub(crate) form: Form,
+    pub(crate) help: &'static str,
+    /// The arguments that can't be given with it.
+    pub(crate) conflicts: [Option<&'static str>; 2],
+    /// The argument that has to be given with it.
+    pub(crate) needs: Option<&'static str>,
+}
+
+/// How an argument is written.
+#[derive(Clone, Copy)]
+pub(crate) enum Form {
+    /// The flag `--ID`.
+    Flag,
+    /// The option `--ID VALUE`, by the name of its values.
+    Option(&'static str, Values),
+    /// The option `--ID VALUE`, also with this letter in place of the id, which is required.
+    Required(char, &'static str),
+    /// A positional argument, which is required.
+    Positional(&'static str, Values),
+    /// All positional arguments, of which there is one at least.
+    Files(&'static str),
+}
+
+/// Which values an argument takes.
+#[derive(Clone, Copy)]
+pub(crate) enum Values {
+    Text,
+    /// 0 to 65,535, as a `u16`.
+    AnyPort,
+    /// 1 to 65,535, as a `u16`.
+    Port,
+    /// 1 to 64, as a `u8`.
+    Workers,
+    /// 1 to 86,400, as a `u32`.
+    Seconds,
+}
+
+impl Argument {
+    /// The argument, with its help.
+    ///
+    /// # Errors
+    /// Memory ran out.
+    pub(crate) fn arg<'a>(&self, alloc: Global) -> Result<Arg<'a>, AllocError> {
+        let mut arg = self.form.arg(alloc, self.id).help(self.help);
+        for other in self.conflicts {
+            if let Some(other) = other {
+                arg = arg.conflicts_with(other)?;
+            }
+        }
+        match self.needs {
+            None => Ok(arg),
+            Some(other) => arg.requires_arg(other),
+        }
+    }
+}
+
+impl Form {
+    // The argument of this id.
+    fn arg<'a>(&self, alloc: Global, id: &'static str) -> Arg<'a> {
+        let arg = Arg::new(alloc, id);
+        match self {
+            Form::Flag => arg.long(id).action(ArgAction::SetTrue),
+            Form::Option(name, values) => values.of(named(arg, *name).long(id)),
+            Form::Required(letter, name) => named(arg, *name)
+                .long(id)
+                .short(*letter)
+                .required(true),
+            Form::Positional(name, values) => values.of(named(arg, *name).required(true)),
+            Form::Files(name) => arg
+                .value_name(*name)
+                .required(true)
+                .num_args(1..)
+                .action(ArgAction::Append),
+        }
+    }
+}
+
+// An argument with one value of this name.
+fn named<'a>(arg: Arg<'a>, name: &'static str) -> Arg<'a> {
+    arg.value_name(name).action(ArgAction::Set)
+}
+
+impl Values {
+    // An argument that takes these values.
+    fn of<'a>(&self, arg: Arg<'a>) -> Arg<'a> {
+        match self {
+            Values::Text => arg,
+            Values::AnyPort => arg.value_parser(value_parser!(u16)),
+            Values::Port => arg.value_parser(value_parser!(u16).range(1..65536)),
+            Values::Workers => arg.value_parser(value_parser!(u8).range(1..65)),
+            Values::Seconds => arg.value_parser(value_parser!(u32).range(1..86401)),
+        }
+    }
+}
