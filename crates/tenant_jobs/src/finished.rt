@@ -182,16 +182,17 @@ impl Finished {
                 return entry.result();
             }
         }
-        self.searched_result(id)
+        // A copy, so that no caller has to keep the name in memory for it.
+        self.searched_result(id.copy())
     }
 
     // The result of this name, if it came, from a search of the whole table.
     #[cold]
     #[inline(never)]
-    fn searched_result(&self, id: &JobId) -> Option<&JobResult>
-        ensures { option_copied result ≡ result_in self.now.entries id.now }
+    fn searched_result(&self, id: JobId) -> Option<&JobResult>
+        ensures { option_copied result ≡ result_in self.now.entries id }
     {
-        let key = searched_key(&self.entries, id.copy())?;
+        let key = searched_key(&self.entries, id)?;
         self.entries[key].result()
     }
 

@@ -7,5 +7,5 @@ pub returns : goal.returns
 returns c =
     let e = c.index.result.now in
     let at : get c.self.inside.entries c.in_ok-key.key ≡ Some e = c.index.ensures in
-    let found = found_under c.self.inside.entries c.in_ok-key.key e c.args.id.now c.self.invariant.0 at (rw c.copy.ensures at c.in_ok-key.ensures.found) in
+    let found = found_under c.self.inside.entries c.in_ok-key.key e c.args.id c.self.invariant.0 at c.in_ok-key.ensures.found in
     c.result.ensures ∙ rw (← c.self.view_is, found) refl
