@@ -11,6 +11,7 @@ pub mod Listed
 pub mod Marks
 pub mod NewHost
 pub mod NewTenants
+pub mod OutstandingNumber
 pub mod Played
 pub mod ReleasedNames
 pub mod ReleasedTasks

@@ -132,6 +132,26 @@ impl Host {
         })
     }
 
+    /// An equal host. Programs and the bodies of tasks are shared, not copied.
+    ///
+    /// # Errors
+    /// Out of memory, or a share is refused.
+    pub fn copy(&self) -> Result<Host, AllocError>
+        ensures { IfOk result (λ host. host ≡ self.now) }
+    {
+        let config = self.config.copy(self.alloc)?;
+        let granted = places(self.alloc, &config)?;
+        let finished = self.finished.copy()?;
+        Ok(Host {
+            alloc: self.alloc,
+            config,
+            tenants: self.tenants.clone()?,
+            granted,
+            finished,
+            clock: self.clock,
+        })
+    }
+
     /// Carries out a tenant's command, as `carry_out`. Its text, if it has one, is read first.
     pub fn command(&mut self, tenant: TenantId, command: Command) -> Reply
         requires { tenant < length self.old.config.tenants }
@@ -415,15 +435,13 @@ impl Host {
         Ok(names)
     }
 
-    /// How many jobs are outstanding: their tasks are active, and not completed. Takes no memory.
-    pub fn outstanding(&self) -> u128
+    /// How many jobs are outstanding: their tasks are active, and not completed. Takes no memory, and the same time however many they are.
+    pub fn outstanding(&self) -> usize
         ensures { result ≡ outstanding_count self.now }
     {
-        let mut outstanding: u128 = 0;
-        for tenant in &self.tenants {
-            outstanding += tenant.outstanding(&self.finished) as u128;
-        }
-        outstanding
+        // The table has an entry for each active task, and no other.
+        self.finished.known();
+        self.finished.entry_count() - self.finished.len()
     }
 }
 

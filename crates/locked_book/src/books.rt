@@ -58,9 +58,8 @@ pub struct Book<N: Naming> {
     alloc: Global,
     base: Base,
     host: Host,
+    // With space for the completions of all outstanding jobs.
     log: Log<N>,
-    // No fewer than are outstanding: as many completions have room in the log.
-    awaited: usize,
     seats: Vec<Seat>,
     // A mark for each seat, for the comparison with all passes.
     marks: Vec<bool>,
@@ -81,8 +80,7 @@ impl<N: Naming> Model for Book<N> {
 
     ghost view = { λ b. record { base = b.base; host = b.host; log = b.log.items; seats = length b.seats.items } };
 
-    ghost invariant = { λ b. (length b.log.items + b.awaited ≤ b.log.capacity)
-        × (outstanding_count b.host ≤ b.awaited)
+    ghost invariant = { λ b. (length b.log.items + outstanding_count b.host ≤ b.log.capacity)
         × (length b.marks.items ≡ length b.seats.items)
         × IsBook N.config N.first_tick (record { base = b.base; host = b.host; log = b.log.items; seats = length b.seats.items }) b.seats.items };
 }
@@ -152,7 +150,6 @@ impl<N: Naming> Book<N> {
             base,
             host,
             log: Log::new(alloc, history),
-            awaited: 0,
             seats: Vec::new(alloc),
             marks: Vec::new(alloc),
             name: PhantomData,
@@ -188,12 +185,9 @@ impl<N: Naming> Book<N> {
     }
 
     /// How many jobs are outstanding: their tasks are active, and not completed.
-    pub fn outstanding(&self) -> u128
+    pub fn outstanding(&self) -> usize
         ensures { result ≡ outstanding_count self.now.host }
     {
-        if self.awaited == 0 {
-            return 0;
-        }
         self.host.outstanding()
     }
 
@@ -245,18 +239,11 @@ impl<N: Naming> Book<N> {
             return Err(TickFault::ClockEnded);
         }
         let place = self.length();
-        let Ok(entry) = room_for_instant(
-            self.alloc,
-            &mut self.host,
-            &mut self.log,
-            self.awaited,
-            frame,
-        ) else {
+        let Ok(entry) = room_for_instant(self.alloc, &mut self.host, &mut self.log, frame) else {
             return Err(TickFault::Memory);
         };
         let jobs = self.host.tick(frame)?;
         self.log.known();
-        self.awaited = self.host.outstanding() as usize;
         self.log.push_reserved(entry);
         Ok((jobs, place))
     }
@@ -276,7 +263,6 @@ impl<N: Naming> Book<N> {
             Counted::Late => (Counted::Late, 0),
             Counted::Counted => {
                 self.log.push_reserved(completion);
-                self.awaited -= 1;
                 (Counted::Counted, place)
             }
         }
@@ -436,12 +422,12 @@ impl<N: Naming> Book<N> {
         ensures noted { IfOk result (λ got. IsNoted self.old self.new pass.old pass.new tenant prepared (T.is_of got)) }
         ensures refused { OnErr result ((self.new ≡ self.old) × (pass.new ≡ pass.old)) }
     {
-        self.awaited = self.outstanding() as usize;
+        let outstanding = self.host.outstanding();
         let place = self.log.len();
         let seat = &mut self.seats[pass.seat];
         make_room(
             &mut self.log,
-            self.awaited,
+            outstanding,
             &mut pass.calls,
             &mut seat.places,
         )?;
@@ -458,48 +444,47 @@ impl<N: Naming> Book<N> {
     }
 }
 
-// The entry of an instant, with room in the log for it, for these many completions and for those of all jobs that it can release.
+// The entry of an instant, with space in the log for it, and for the completions of all outstanding jobs and of all that it can release.
 fn room_for_instant<N: Naming>(
     alloc: Global,
     host: &mut Host,
     log: &mut Log<N>,
-    awaited: usize,
     frame: &[i64],
 ) -> Result<Logged, AllocError>
-    requires { length log.old.items + awaited ≤ log.old.capacity }
+    requires { length log.old.items + outstanding_count host.old ≤ log.old.capacity }
     ensures entry { IfOk result (λ e. e ≡ Logged.Tick frame.now) }
     ensures host { host.new ≡ host.old }
     ensures log { log.new.items ≡ log.old.items }
-    ensures room { OnOk result (length log.new.items + 1 + awaited + most_of host.old.tenants ≤ log.new.capacity) }
+    ensures room { OnOk result (length log.new.items + 1 + outstanding_count host.old + most_of host.old.tenants ≤ log.new.capacity) }
     ensures most { OnOk result (most_of host.old.tenants < 2 ^ 64) }
-    ensures kept { length log.new.items + awaited ≤ log.new.capacity }
+    ensures kept { length log.new.items + outstanding_count host.old ≤ log.new.capacity }
 {
     let entry = Logged::Tick(copy_of_frame(alloc, frame)?);
     let most = host.ready()?;
-    let jobs = most.checked_add(awaited).ok_or(AllocError)?;
+    let jobs = most.checked_add(host.outstanding()).ok_or(AllocError)?;
     let room = jobs.checked_add(1).ok_or(AllocError)?;
     log.reserve(room)?;
     Ok(entry)
 }
 
-// Makes room for a call: in the log, where these many completions are to come, in the pass, and among the seat's places.
+// Makes space for a call: in the log, where so many completions are to come, in the pass, and among the seat's places.
 fn make_room<N: Naming>(
     log: &mut Log<N>,
-    awaited: usize,
+    outstanding: usize,
     calls: &mut Vec<KeptCall>,
     places: &mut Vec<usize>,
 ) -> Result<(), AllocError>
-    requires { length log.old.items + awaited ≤ log.old.capacity }
+    requires { length log.old.items + outstanding ≤ log.old.capacity }
     ensures log { log.new.items ≡ log.old.items }
     ensures calls { calls.new.items ≡ calls.old.items }
     ensures places { places.new.items ≡ places.old.items }
-    ensures log_room { OnOk result (length log.new.items + awaited + 1 ≤ log.new.capacity) }
+    ensures log_room { OnOk result (length log.new.items + outstanding + 1 ≤ log.new.capacity) }
     ensures calls_room { OnOk result (vec_len calls.new + 1 ≤ vec_capacity calls.new) }
     ensures places_room { OnOk result (vec_len places.new + 1 ≤ vec_capacity places.new) }
-    ensures kept { length log.new.items + awaited ≤ log.new.capacity }
+    ensures kept { length log.new.items + outstanding ≤ log.new.capacity }
 {
     log.known();
-    log.reserve(awaited + 1)?;
+    log.reserve(outstanding + 1)?;
     calls.reserve(1)?;
     places.reserve(1)?;
     Ok(())

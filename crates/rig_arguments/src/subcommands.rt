@@ -313,7 +313,7 @@ impl Subcommand {
             Subcommand::Serve =>
                 "Listens on 127.0.0.1, answers a session for each connection, and takes the operator's lines from standard input",
             Subcommand::Connect =>
-                "Greets a server on 127.0.0.1 as a tenant, sends the lines of standard input, each behind the answer to the one before, and prints the answers",
+                "Greets a server on 127.0.0.1 as a tenant, sends the lines of standard input, each after the answer to the one before, and prints the answers",
             Subcommand::Timeline =>
                 "Draws the run of one tenant in a script: its modes, tasks, sensors and actuators over the ticks",
             Subcommand::Retest =>

@@ -36,8 +36,8 @@ fn released(rt: &impl Abort, host: &mut Host, tenant: TenantId, tick: u64, readi
     job
 }
 
-// Whether this becomes of the job's completion, and so many jobs are outstanding behind it.
-fn becomes(host: &mut Host, job: Job, counted: Counted, outstanding: u128) -> bool {
+// Whether this becomes of the job's completion, and so many jobs are outstanding after it.
+fn becomes(host: &mut Host, job: Job, counted: Counted, outstanding: usize) -> bool {
     let became = host.done(run_job(job));
     became == counted && host.outstanding() == outstanding
 }

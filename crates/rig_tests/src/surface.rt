@@ -8,7 +8,7 @@
 //! |---|---|
 //! | `built_in`, `Host::new` | `fixtures` |
 //! | `Config::greet` | `greetings` |
-//! | `Trace::new`, `push`, `list` | `traces` |
+//! | `Trace::new`, `push`, `list`, `copy` | `traces` |
 //! | `Command::copy`, `Reply::copy`, `print_reply` | `copies` |
 //! | `Host::command`, `done`, `outstanding` | `completions` |
 //! | `Host::tick` | `clocks` |

@@ -42,6 +42,17 @@ fn full_trace_keeps_the_last_records(rt: HostRuntime) {
 }
 
 #[test]
+fn copy_of_a_trace_has_its_records(rt: HostRuntime) {
+    let trace = last_two_of_three(&rt, rt.alloc());
+    let copy = trace.copy().expect(&rt, "memory");
+    drop(trace);
+    let records = copy.list().expect(&rt, "memory");
+    assert!(rt; are_an_output_and_a_stop(records.as_slice()));
+    drop(records);
+    drop(copy);
+}
+
+#[test]
 fn trace_of_a_tenant_is_told(rt: HostRuntime) {
     let alloc = rt.alloc();
     let mut host = new_host(&rt, alloc, 0);

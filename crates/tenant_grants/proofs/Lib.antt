@@ -1,4 +1,5 @@
 pub mod BindTables
+pub mod Copies
 pub mod GrantExamples
 pub mod KeptRows
 pub mod OfferPlaces

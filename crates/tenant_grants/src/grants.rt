@@ -1,16 +1,18 @@
 //! The rows of one owner.
 
-ghost use Rattle.std.specs.Prelude.{◌≡◌, ◌↔◌, ◌<◌, ◌+◌, [], ◌++◌, map, Err, Ok, IsErr, IsOk, IsSome, IsTrue, IfErr, IfOk, IfSome, OnErr, OnOk, Some, int_le, is_some, length, option_map, slice_get};
-ghost use Rattle.std.specs.List.{position};
+ghost use Rattle.std.specs.Prelude.{◌≡◌, ◌↔◌, ◌<◌, ◌≤◌, ◌+◌, [], ◌++◌, map, Err, Ok, IsErr, IsOk, IsSome, IsTrue, IfErr, IfOk, IfSome, OnErr, OnOk, Some, int_le, is_some, length, option_map, slice_get};
+ghost use Rattle.std.specs.List.{IsDistinct, position};
 ghost use Rattle.rig_config.specs.Intervals.{whole};
 ghost use Rattle.tenant_grants.specs.Grants.{bind_at, bound, is_offer_of, no_rows, offer_of, offer_to, offered, other_side, place_in, rows_of, unbound, unoffered};
-ghost use Rattle.tenant_grants.specs.Kept.{AreKept};
+ghost use Rattle.tenant_grants.specs.Kept.{AreKept, same_offer};
 ghost use Rattle.tenant_grants.specs.declared.rows.Row.TheVariants as row;
 ghost use Rattle.tenant_grants.specs.inner.Tables.{bind_of};
 
 use crate::faults::GrantFault;
 use crate::rows::{Bind, Offer, Row};
-use crate::tables::{BindTable, Sensor, Supplier, add, bind_of, entry_at, is_bound, take_out};
+use crate::tables::{
+    BindTable, Sensor, Supplier, add, bind_of, copied_binds, entry_at, is_bound, take_out,
+};
 use arrayvec::ArrayVec;
 use giotto_tasks::lists::List;
 use giotto_tasks::names::Name;
@@ -292,6 +294,54 @@ impl Grants {
         push_binds(&mut rows, &self.binds)?;
         Ok(List::from_vec(rows))
     }
+
+    /// Equal rows.
+    ///
+    /// # Errors
+    /// Out of memory.
+    pub fn copy(&self) -> Result<Grants, AllocError>
+        ensures { IfOk result (λ grants. grants ≡ self.now) }
+    {
+        let roster = Box::new(self.alloc, copied_roster(&self.roster))?;
+        let offers = copied_offers(self.alloc, &self.offers)?;
+        let binds = copied_binds(self.alloc, &self.binds)?;
+        Ok(Grants {
+            alloc: self.alloc,
+            own: self.own,
+            roster,
+            most_offers: self.most_offers,
+            most_binds: self.most_binds,
+            bounds: self.bounds.copy(),
+            offers,
+            binds,
+        })
+    }
+}
+
+// An equal roster.
+fn copied_roster(roster: &ArrayVec<Name, 16>) -> ArrayVec<Name, 16>
+    ensures { result.items ≡ roster.now.items }
+{
+    let mut copies = ArrayVec::new();
+    for name in roster.as_slice() {
+        copies.push(name.copy());
+    }
+    copies
+}
+
+// Equal offers, in the same order.
+fn copied_offers(alloc: Global, offers: &IndexSet<Offer>) -> Result<IndexSet<Offer>, AllocError>
+    requires { IsDistinct same_offer offers.now.keys }
+    ensures { IfOk result (λ copies. copies.keys ≡ offers.now.keys) }
+{
+    let mut copies = IndexSet::new(alloc);
+    for place in 0..offers.len() {
+        let Some(offer) = offers.get_index(place) else {
+            unreachable!()
+        };
+        copies.insert(offer.copy())?;
+    }
+    Ok(copies)
 }
 
 // An offer of this actuator to the tenant of this name, to be looked for: with which bounds doesn't matter.

@@ -1,6 +1,6 @@
 //! The table of binds: an entry for each, by its sensor.
 
-ghost use Rattle.std.specs.Prelude.{◌≡◌, ◌↔◌, ◌<◌, ◌++◌, [], ◌∷◌, IfErr, IsSome, OnErr, OnOk, false, length, map, option_map, slice_get};
+ghost use Rattle.std.specs.Prelude.{◌≡◌, ◌↔◌, ◌<◌, ◌++◌, [], ◌∷◌, IfErr, IfOk, IsSome, OnErr, OnOk, false, length, map, option_map, slice_get};
 ghost use Rattle.std.specs.Bool.{OnFalse};
 ghost use Rattle.std.specs.List.{IsDistinct, list_any};
 ghost use Rattle.std.specs.Map.{keys_of, remove_entry};
@@ -16,6 +16,7 @@ use crate::rows::Bind;
 use giotto_tasks::names::Name;
 use indexmap::IndexMap;
 use rig_config::TenantId;
+use std::alloc::{AllocError, Global};
 use std::hash::{Hash, Hasher};
 
 /// The key of a bind.
@@ -31,6 +32,30 @@ pub(crate) struct Supplier {
     /// The place of the tenant, so that it isn't looked for at each instant.
     pub place: TenantId,
     pub actuator: Name,
+}
+
+impl Sensor {
+    // An equal key.
+    fn copy(&self) -> Sensor
+        ensures { result ≡ self.now }
+    {
+        Sensor {
+            name: self.name.copy(),
+        }
+    }
+}
+
+impl Supplier {
+    // An equal supplier.
+    fn copy(&self) -> Supplier
+        ensures { result ≡ self.now }
+    {
+        Supplier {
+            tenant: self.tenant.copy(),
+            place: self.place,
+            actuator: self.actuator.copy(),
+        }
+    }
 }
 
 /// The binds, in the order in which they were made.
@@ -84,6 +109,24 @@ pub(crate) fn entry_at(binds: &BindTable, i: usize) -> Option<(&Name, TenantId, 
 {
     let (sensor, supplier) = binds.get_index(i)?;
     Some((&sensor.name, supplier.place, &supplier.actuator))
+}
+
+/// An equal table.
+///
+/// # Errors
+/// Out of memory.
+pub(crate) fn copied_binds(alloc: Global, binds: &BindTable) -> Result<BindTable, AllocError>
+    requires { IsDistinct (λ s t. same_name t.name s.name) (keys_of binds.now.entries) }
+    ensures { IfOk result (λ copies. copies.entries ≡ binds.now.entries) }
+{
+    let mut copies = IndexMap::new(alloc);
+    for i in 0..binds.len() {
+        let Some((sensor, supplier)) = binds.get_index(i) else {
+            unreachable!()
+        };
+        copies.insert(sensor.copy(), supplier.copy())?;
+    }
+    Ok(copies)
 }
 
 /// The bind that an entry stands for.

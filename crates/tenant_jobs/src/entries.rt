@@ -27,6 +27,18 @@ pub(crate) struct Entry {
     contents: Box<Contents>,
 }
 
+impl Clone for Contents {
+    ghost is_clone = { λ contents copy. copy ≡ contents };
+
+    fn clone(&self) -> Result<Contents, AllocError> {
+        Ok(Contents {
+            id: self.id.copy(),
+            has_result: self.has_result,
+            result: self.result.copy(),
+        })
+    }
+}
+
 impl Model for Entry {
     ghost use Rattle.std.specs.Prelude.{Some, None, if◌then◌else◌};
     ghost use Rattle.std.specs.Box.{box_value};
@@ -35,6 +47,16 @@ impl Model for Entry {
     ghost Value = { TableEntry };
 
     ghost view = { λ e. record { id = (box_value e.contents).id; result = if (box_value e.contents).has_result then Some (box_value e.contents).result else None } };
+}
+
+impl Clone for Entry {
+    ghost is_clone = { λ entry copy. copy ≡ entry };
+
+    fn clone(&self) -> Result<Entry, AllocError> {
+        Ok(Entry {
+            contents: self.contents.clone()?,
+        })
+    }
 }
 
 impl Entry {

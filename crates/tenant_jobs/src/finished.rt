@@ -1,11 +1,11 @@
 //! The table of the active tasks of all tenants of a host, with the results that came.
 
-ghost use Rattle.std.specs.Prelude.{◌≡◌, ◌<◌, ◌≤◌, ◌+◌, ◌&&◌, [], length, not, Some, None, IsOk, IfSome, IfNone, IsSomeAnd, OnOk, true, false, if◌then◌else◌, find, option_copied, vec_capacity};
+ghost use Rattle.std.specs.Prelude.{◌≡◌, ◌<◌, ◌≤◌, ◌+◌, ◌&&◌, [], length, not, Some, None, IsOk, IfOk, IfSome, IfNone, IsSomeAnd, OnOk, true, false, if◌then◌else◌, find, option_copied, vec_capacity};
 ghost use Rattle.std.specs.Bool.{OnTrue};
 ghost use Rattle.giotto_tasks.specs.Sound.{IsSound};
 ghost use Rattle.slab.specs.Slab.{get, values};
 ghost use Rattle.tenant_jobs.specs.Finished.{entry_in, result_in, has_result};
-ghost use Rattle.tenant_jobs.specs.cited.Finished.{computed, entry_put, is_complete, is_entered, result_count, result_of};
+ghost use Rattle.tenant_jobs.specs.cited.Finished.{NamesDiffer, computed, entry_put, is_complete, is_entered, result_count, result_of};
 ghost use Rattle.rig_model.specs.Jobs.{same_job};
 ghost use Rattle.rig_model.specs.declared.jobs.JobId.{JobId};
 
@@ -216,6 +216,35 @@ impl Finished {
         ensures each { OnTrue result ((j : JobId) → has_result self.now.entries j ≡ is_entered self.now.entries j) }
     {
         self.results == self.entries.len()
+    }
+
+    /// Opens what is known of the type, for a proof; does nothing.
+    #[inline(always)]
+    pub fn known(&self)
+        ensures differ { NamesDiffer self.now.entries }
+        ensures results { result_count self.now.entries ≤ length self.now.entries }
+    {
+        let _entries = self.entries.len();
+    }
+
+    /// An equal table.
+    ///
+    /// # Errors
+    /// Out of memory.
+    pub fn copy(&self) -> Result<Finished, AllocError>
+        ensures { IfOk result (λ table. table ≡ self.now) }
+    {
+        let room = self.spare.len();
+        let mut entries = self.entries.clone()?;
+        entries.reserve(room)?;
+        let mut spare = Vec::with_capacity(self.alloc, self.entries.len() + room)?;
+        add_spare(self.alloc, room, &mut spare)?;
+        Ok(Finished {
+            entries,
+            results: self.results,
+            spare,
+            alloc: self.alloc,
+        })
     }
 }
 

@@ -84,6 +84,18 @@ pub struct JobResult {
     pub states: Values,
 }
 
+impl JobResult {
+    /// An equal result. Takes no memory.
+    pub fn copy(&self) -> JobResult
+        ensures { result ≡ self.now }
+    {
+        JobResult {
+            outputs: self.outputs.copy(),
+            states: self.states.copy(),
+        }
+    }
+}
+
 /// A job with its result, which is the value of the job's computation. Contracts see it as the job.
 #[derive(Drop)]
 pub struct Done {

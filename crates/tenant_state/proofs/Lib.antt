@@ -1,6 +1,7 @@
 pub mod AddedJobs
 pub mod AwaitedTasks
 pub mod Completing
+pub mod Copies
 pub mod Dropped
 pub mod DueTasks
 pub mod EndedTasks

@@ -1,3 +1,4 @@
+pub mod Copies
 pub mod EntryTable
 pub mod Invoked
 pub mod Releases

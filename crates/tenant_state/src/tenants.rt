@@ -6,6 +6,7 @@ ghost use Rattle.tenant_state.specs.Standing.{empty_standing, IsKnown};
 pub mod active_tasks;
 pub mod commands;
 pub mod completions;
+mod copies;
 pub mod entries;
 pub mod granted;
 pub mod phase_one;
@@ -87,6 +88,55 @@ pub struct Tenant {
     pub(crate) trace: Trace,
     /// The number of the next instant.
     pub(crate) next_tick: u64,
+}
+
+impl Active {
+    // An equal task.
+    fn copy(&self) -> Active
+        ensures { result ≡ self.now }
+    {
+        Active {
+            task: self.task,
+            release: self.release,
+            key: self.key.copy(),
+            inputs: self.inputs.copy(),
+            states: self.states.copy(),
+        }
+    }
+}
+
+impl Clone for Active {
+    ghost is_clone = { λ task copy. copy ≡ task };
+
+    fn clone(&self) -> Result<Active, AllocError> {
+        Ok(self.copy())
+    }
+}
+
+impl Reason {
+    /// An equal reason. Takes no memory.
+    pub fn copy(&self) -> Reason
+        ensures { result ≡ self.now }
+    {
+        match self {
+            Reason::Asked => Reason::Asked,
+            Reason::Overrun(task) => Reason::Overrun(task.copy()),
+        }
+    }
+}
+
+impl State {
+    /// An equal state. Takes no memory.
+    pub fn copy(&self) -> State
+        ensures { result ≡ self.now }
+    {
+        match self {
+            State::Empty => State::Empty,
+            State::Loaded => State::Loaded,
+            State::Running => State::Running,
+            State::Stopped(reason) => State::Stopped(reason.copy()),
+        }
+    }
 }
 
 impl Model for Tenant {

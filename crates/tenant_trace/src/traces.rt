@@ -1,6 +1,7 @@
 //! A trace: the last records, in a ring.
 
-ghost use Rattle.std.specs.Prelude.{◌≡◌, ◌<◌, ◌++◌, [], length, reverse, IfOk, IsErr, OnOk};
+ghost use Rattle.std.specs.Prelude.{◌≡◌, ◌<◌, ◌≤◌, ◌+◌, ◌++◌, [], length, reverse, IfOk, IsErr, OnOk};
+ghost use Rattle.circular_buffer.specs.Buffer.{buffer};
 ghost use Rattle.tenant_trace.specs.cited.Noted.{noted, pushed};
 
 use crate::records::{Happening, Record};
@@ -66,6 +67,35 @@ impl Trace {
         add_copies(&mut records, older)?;
         add_copies(&mut records, newer)?;
         Ok(List::from_vec(records))
+    }
+
+    /// An equal trace.
+    ///
+    /// # Errors
+    /// Out of memory.
+    pub fn copy(&self) -> Result<Trace, AllocError>
+        ensures { IfOk result (λ trace. trace ≡ self.now) }
+    {
+        let mut ring = HeapCircularBuffer::with_capacity(self.alloc, self.ring.capacity())?;
+        let (front, back) = self.ring.as_slices();
+        put_copies(&mut ring, front);
+        put_copies(&mut ring, back);
+        Ok(Trace {
+            alloc: self.alloc,
+            ring,
+        })
+    }
+}
+
+// Puts a copy of each of these records into a ring that has space for them.
+fn put_copies(ring: &mut HeapCircularBuffer<Record, Global>, records: &[Record])
+    requires { length ring.old.items + length records.now ≤ ring.old.capacity }
+    ensures { ring.new ≡ buffer (ring.old.items ++ records.now) ring.old.capacity }
+{
+    for record in records {
+        let Ok(()) = ring.try_push_back(record.copy()) else {
+            unreachable!()
+        };
     }
 }
 

@@ -29,6 +29,18 @@ fn line_has_the_value_of_its_actuator(rt: HostRuntime) {
     drop(host);
 }
 
+#[test]
+fn copy_of_a_host_keeps_its_lines(rt: HostRuntime) {
+    let mut host = new_host(&rt, rt.alloc(), 0);
+    drop(told(&rt, &mut host, ALPHA, load(&rt, rt.alloc(), FOUR)));
+    let copy = host.copy().expect(&rt, "memory");
+    drop(told(&rt, &mut host, ALPHA, load(&rt, rt.alloc(), ADDER)));
+    assert!(rt; host.line_value(0) == 0);
+    drop(host);
+    assert!(rt; copy.line_value(0) == 4);
+    drop(copy);
+}
+
 // Whether beta's answers over a list of events, and over the part that is kept for beta, are these.
 fn is_tried(rt: &impl Abort, alloc: Global, text: &str) -> bool {
     let config = rig(rt, alloc);

@@ -169,6 +169,11 @@ fn binds_are_made_and_taken_back(rt: HostRuntime) {
     assert!(rt; bound(&rt, &mut rows, "b") == Err(GrantFault::Twice));
     assert!(rt; is_of_g(rows.bind_at(0)));
     assert!(rt; offered(&rt, &mut rows, "a", "beta") == Ok(()));
+    let copy = rows.copy().expect(&rt, "memory");
+    let listed = copy.list().expect(&rt, "memory");
+    assert!(rt; are_both(listed.as_slice()));
+    drop(listed);
+    drop(copy);
     let listed = rows.list().expect(&rt, "memory");
     assert!(rt; are_both(listed.as_slice()));
     drop(listed);

@@ -140,6 +140,15 @@ fn tenant_takes_commands_and_an_instant(rt: HostRuntime) {
 }
 
 #[test]
+fn copy_of_a_tenant_has_its_rows(rt: HostRuntime) {
+    let alpha = running_alpha(&rt, rt.alloc());
+    let copy = alpha.copy().expect(&rt, "memory");
+    drop(alpha);
+    assert!(rt; has_its_rows(&rt, &copy));
+    drop(copy);
+}
+
+#[test]
 fn line_of_no_form_is_no_command(rt: HostRuntime) {
     assert!(rt; command_of(rt.alloc(), "fly").err() == Some(LineFault::BadCommand));
 }
@@ -184,6 +193,17 @@ fn completion_is_entered(rt: HostRuntime) {
     drop(again);
     assert!(rt; finished.len() == 1);
     drop(finished);
+}
+
+#[test]
+fn copy_of_a_table_has_its_completion(rt: HostRuntime) {
+    let finished = table_with(&rt, rt.alloc(), first_done(&rt, rt.alloc()));
+    let copy = finished.copy().expect(&rt, "memory");
+    drop(finished);
+    let again = first_done(&rt, rt.alloc());
+    assert!(rt; copy.has(&again));
+    drop(again);
+    drop(copy);
 }
 
 // The only tenant of its rig, which runs the adder.

@@ -1,6 +1,6 @@
 //! Active tasks, in entries that are used again.
 
-ghost use Rattle.std.specs.Prelude.{◌≡◌, ◌≤◌, ◌+◌, [], length, OnOk};
+ghost use Rattle.std.specs.Prelude.{◌≡◌, ◌≤◌, ◌+◌, [], length, IfOk, OnOk};
 
 use crate::tenants::Active;
 use giotto_tasks::values::Values;
@@ -40,6 +40,20 @@ impl ActiveTasks {
             count: 0,
             ended: 0,
         }
+    }
+
+    /// Equal tasks.
+    ///
+    /// # Errors
+    /// Out of memory.
+    pub(crate) fn copy(&self) -> Result<ActiveTasks, AllocError>
+        ensures { IfOk result (λ tasks. tasks ≡ self.now) }
+    {
+        Ok(ActiveTasks {
+            entries: self.entries.clone()?,
+            count: self.count,
+            ended: self.ended,
+        })
     }
 
     /// The active tasks.

@@ -116,22 +116,6 @@ impl Tenant {
         }
         Ok(())
     }
-
-    /// How many active tasks have no result in this table.
-    pub fn outstanding(&self, finished: &Finished) -> usize
-        ensures { result ≡ length (outstanding_tasks self.now finished.now.entries) }
-    {
-        let Some(checked) = &self.program else {
-            return 0;
-        };
-        let mut number = 0;
-        for active in self.active.as_slice() {
-            if result_of(checked, self.grants.own(), finished, active).is_none() {
-                number += 1;
-            }
-        }
-        number
-    }
 }
 
 // Computes the job of an active task, if it has no result yet. Whether it had none.

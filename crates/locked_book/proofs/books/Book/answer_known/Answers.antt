@@ -25,7 +25,7 @@ invariant_of-self-2 g c =
     let book : BookValue = record { base = c.self.inside.base; host = c.self.inside.host; log = c.self.inside.log.items; seats = length c.self.inside.seats.items } in
     let pass : PassValue = record { seat = c.pass.inside.seat; calls = c.pass.inside.calls.items; seen = c.pass.inside.seen } in
     let known : Knows book pass = rw (c.self.view_is, c.pass.view_is) c.requires.known in
-    let many = as_many_calls rig first book c.self.inside.seats.items pass c.self.invariant.3 known in
+    let many = as_many_calls rig first book c.self.inside.seats.items pass c.self.invariant.2 known in
     let room : length pass.calls < 4096 = (let r = c.requires.room in let l = ap (λ (p : PassValue). length p.calls) c.pass.view_is in omega (arith, r, l)) in
     let read : c.index_mut-seat.result.now ≡ seat_at c.self.inside.seats.items c.pass.inside.seat =
     c.index_mut-seat.ensures.value ∙ get_or_default c.self.inside.seats.items c.pass.inside.seat c.index_mut-seat.result.now no_seat known.given in
@@ -39,11 +39,10 @@ invariant_of-self-2 g c =
     ∙ ap (seat_on seat) place) in
     let fewer = c.in_ok-carried.ensures.outstanding in
     let tenant : c.args.tenant < length book.host.config.tenants = subst (λ (b : BookValue). c.args.tenant < length b.host.config.tenants) (sym c.self.view_is) c.requires.tenant in (
-      omega (arith, c.in_ok-make_room.ensures.log_room, c.push_reserved-2.ensures.len, c.push_reserved-2.ensures.capacity),
-      (let same = ap (λ (b : BookValue). outstanding_count b.host) c.self.view_is in omega (arith, fewer, same, c.outstanding.ensures)),
-      c.self.invariant.2 ∙ sym (length-set c.self.inside.seats.items c.pass.inside.seat _),
+      omega (arith, fewer, c.outstanding-outstanding.ensures, c.in_ok-make_room.ensures.log_room, c.push_reserved-2.ensures.len, c.push_reserved-2.ensures.capacity),
+      c.self.invariant.1 ∙ sym (length-set c.self.inside.seats.items c.pass.inside.seat _),
       rw (length-set c.self.inside.seats.items c.pass.inside.seat _, c.push_reserved-2.ensures.items, c.in_ok-make_room.ensures.log, made.call, added)
-          (call_on rig first book c.self.inside.seats.items c.carry_out.new.host c.pass.inside.seat call c.self.invariant.3 known.given (omega (arith, many, room))
+          (call_on rig first book c.self.inside.seats.items c.carry_out.new.host c.pass.inside.seat call c.self.invariant.2 known.given (omega (arith, many, room))
           (λ setting state st. (made.taken.step setting state st, (of_roster setting book.host state c.args.tenant st tenant, made.taken.right setting state st)))
           fewer),
     )
@@ -77,7 +76,7 @@ invariant_of-pass-2 g c =
     let known : Knows book pass = rw (c.self.view_is, c.pass.view_is) c.requires.known in
     let all : c.push_reserved-3.new.self.items ≡ calls_of_seat pass.seat c.push_reserved-2.new.self.items =
     rw (c.push_reserved-3.ensures.items, c.in_ok-make_room.ensures.calls, made.same, c.push_reserved-2.ensures.items, c.in_ok-make_room.ensures.log, made.call)
-    (calls_with rig first book c.self.inside.seats.items pass c.self.invariant.3 call known) in
+    (calls_with rig first book c.self.inside.seats.items pass c.self.invariant.2 call known) in
     front_of_log _ _ c.push_reserved-2.new.self.items c.push_reserved-3.new.self.items pass.seat c.replace.ensures.after c.front.ensures all
 
 pub invariant_of-pass-in_err-got : goal.invariant_of-pass-in_err-got

@@ -21,8 +21,7 @@ invariant_of-result g c =
     let fits = c.ranges.first_tick.fits in
     let same = c.requires.first_tick in
     let rests = ap outstanding_count host_is ∙ new_host_rests rig first in (
-      (let none = ap length c.new-3.ensures in omega (arith, none)),
-      omega (arith, rests),
+      (let none = ap length c.new-3.ensures in omega (arith, none, rests)),
       ap length c.new-5.ensures.items ∙ sym (ap length c.new-4.ensures.items),
       rw (c.new-3.ensures, c.new-4.ensures.items) (new_book rig first c.in_ok-base.base c.in_ok-host.host base_is host_is begins (omega (arith, fits, same))),
     )

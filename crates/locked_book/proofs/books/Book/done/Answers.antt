@@ -14,13 +14,11 @@ invariant_of-self-in-Counted g c =
     let book : BookValue = record { base = c.self.inside.base; host = c.self.inside.host; log = c.self.inside.log.items; seats = length c.self.inside.seats.items } in
     let left = c.done.ensures.left c.in-Counted.is in
     let room = c.self.invariant.0 in
-    let below = c.self.invariant.1 in
     let own : IsOwn book.host c.args.done = own_counted book.host c.args.done (c.done.ensures.counted.0 c.in-Counted.is) in (
-      omega (arith, left, room, below, c.push_reserved.ensures.len, c.push_reserved.ensures.capacity),
-      omega (arith, left, below),
-      c.self.invariant.2,
+      omega (arith, left, room, c.push_reserved.ensures.len, c.push_reserved.ensures.capacity),
+      c.self.invariant.1,
       rw (c.push_reserved.ensures.items, c.copy.ensures, c.id.ensures)
-          (plain_on rig first book c.self.inside.seats.items c.done.new.self (logged.Done c.args.done.id) c.self.invariant.3
+          (plain_on rig first book c.self.inside.seats.items c.done.new.self (logged.Done c.args.done.id) c.self.invariant.2
           (λ i seat. refl) (λ seat. refl)
           (λ setting state st. (c.done.ensures.step own setting state st, given_counted _ c.done.result (c.done.ensures.answer own setting state st) c.in-Counted.is))
           (omega (arith, left))),

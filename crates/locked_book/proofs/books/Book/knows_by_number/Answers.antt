@@ -19,7 +19,7 @@ returns-then-seat-len g c =
     let number : (seat_at c.self.inside.seats.items pass.seat).calls ≡ length pass.calls =
     ap (λ (s : SeatValue). s.calls) (sym (c.seat.view_is ∙ read)) ∙ (let same = c.if-seat-len.true in let l = c.len.ensures in grind (arith, nat_tests, same, l)) in
     let length_is : c.length.result ≡ length_of book = c.length.ensures.length ∙ ap length_of (sym c.self.view_is) in (
-      (λ seen. rw (← c.self.view_is, ← c.pass.view_is) (known_by_number rig first book c.self.inside.seats.items pass c.self.invariant.3 front given number (grind (arith, nat_tests, seen, length_is)))),
+      (λ seen. rw (← c.self.view_is, ← c.pass.view_is) (known_by_number rig first book c.self.inside.seats.items pass c.self.invariant.2 front given number (grind (arith, nat_tests, seen, length_is)))),
       (λ known. let k : Knows book pass = rw (c.self.view_is, c.pass.view_is) known in let seen = k.seen in grind (arith, nat_tests, seen, length_is)),
     )
 
@@ -32,7 +32,7 @@ returns-else-seat-len g c =
       (λ same. absurd (let o = other in grind (arith, nat_tests, same, o))),
       (λ known.
           let k : Knows book pass = rw (c.self.view_is, c.pass.view_is) known in
-          let number = number_of_known g.N.Naming.config g.N.Naming.first_tick book c.self.inside.seats.items pass c.self.invariant.3 k in
+          let number = number_of_known g.N.Naming.config g.N.Naming.first_tick book c.self.inside.seats.items pass c.self.invariant.2 k in
           let seat = ap (λ (s : SeatValue). s.calls) (c.seat.view_is ∙ read) in
           let l = c.len.ensures in
           grind (arith, nat_tests, number, seat, l)),

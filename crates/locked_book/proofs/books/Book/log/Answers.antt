@@ -7,4 +7,4 @@ use Rattle.locked_book.proofs.books.Book.log.Goals as goal
 pub returns-clause-legal : goal.returns-clause-legal
 returns-clause-legal g c =
     subst (λ (b : BookValue). IsLegalLog (new_setting g.N.Naming.config g.N.Naming.first_tick) (reverse b.log)) c.self.view_is
-    (legal_now g.N.Naming.config g.N.Naming.first_tick _ c.self.inside.seats.items c.self.invariant.3)
+    (legal_now g.N.Naming.config g.N.Naming.first_tick _ c.self.inside.seats.items c.self.invariant.2)

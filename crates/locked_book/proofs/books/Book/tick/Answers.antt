@@ -25,18 +25,15 @@ invariant_of-self-2 g c =
     let behind = ticked.outstanding in
     let fits = made.most in
     let room = made.room in
-    let below = c.self.invariant.1 in
-    let awaited = c.outstanding.ensures in
     let lines : length c.args.frame.now ≡ c.room_for_instant.new.host.config.lines =
     ⊎_elim (λ e. e) (λ ne. absurd (let bad = ticked.bad_frame.1 ne in cc)) (cases_eq (length c.args.frame.now) c.room_for_instant.new.host.config.lines) in
     let clock : c.room_for_instant.new.host.clock ≢ 2 ^ 64 - 1 = λ e. absurd (let bad = ticked.clock_ended.1 (lines, e) in cc) in
     let now = ap (λ (h : HostStanding). h.clock) same in
-    let k = c.self.invariant.3.clock in (
-      omega (arith, before, most, few, behind, room, below, awaited, c.push_reserved.ensures.len, c.push_reserved.ensures.capacity),
-      omega (arith, awaited),
-      c.self.invariant.2,
+    let k = c.self.invariant.2.clock in (
+      omega (arith, before, most, few, behind, room, c.push_reserved.ensures.len, c.push_reserved.ensures.capacity),
+      c.self.invariant.1,
       rw (c.push_reserved.ensures.items, made.log, made.entry)
-          (plain_on rig first book c.self.inside.seats.items c.tick.new.self (logged.Tick c.args.frame.now) c.self.invariant.3
+          (plain_on rig first book c.self.inside.seats.items c.tick.new.self (logged.Tick c.args.frame.now) c.self.invariant.2
           (λ i seat. refl) (λ seat. refl)
           (λ setting state st. (
             ticked.step setting state (subst (λ (h : HostStanding). Stands setting h state) (sym same) st),
