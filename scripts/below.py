@@ -99,7 +99,7 @@ class Source:
         """A type's declaration and its model."""
         line_end = self.text.index("\n", match.start())
         first = self.text[match.start() : line_end]
-        if first.rstrip().endswith(";"):
+        if first.rstrip().endswith((";", "{}")):
             end = line_end
         elif "const" in first.split()[:2]:
             end = self.text.index(";\n", match.start()) + 1

@@ -10,6 +10,7 @@ use rig_client::keys::{first_line, is_key};
 use rig_client::programs::{FileFault, ProgramFiles};
 use rig_client::users::User;
 use rig_model::text::name_bytes::is_name;
+use rig_subcommands::faults::SubcommandFault;
 use std::env::VarError;
 use std::io::{BufReader, BufWriter, IsTerminal, Read, Write};
 use std::net::TcpStream;
@@ -48,11 +49,7 @@ impl<'a> ProgramFiles for Disk<'a> {
 pub fn run_client(rt: &HostRuntime, request: &ConnectRequest<'_>) -> Result<(), Failure> {
     let alloc = rt.alloc();
     if !is_name(request.name.as_bytes()) {
-        return Err(Failure::wrong(
-            alloc,
-            Subcommand::Connect,
-            "NAME isn't the name of a tenant",
-        ));
+        return Err(wrong(rt, "NAME isn't the name of a tenant"));
     }
     let Ok(output) = BufWriter::new(alloc, io::writer(rt)) else {
         return Err(Failure::Client(ClientFault::Memory));
@@ -108,7 +105,7 @@ fn hold_session<I: Read, O: Write, E: Write>(
 }
 
 // What stands before each line: nothing, where standard input or output is no terminal.
-fn prompt_of(rt: &HostRuntime, name: &str) -> Result<Option<String>, Failure> {
+fn prompt_of(rt: &HostRuntime, name: &str) -> Result<Option<String>, ClientFault> {
     if rt.stdin().is_terminal() && rt.stdout().is_terminal() {
         Ok(Some(format!(in rt.alloc(); "{name}> ")?))
     } else {
@@ -131,17 +128,31 @@ fn key_of<I: Read, O: Write, E: Write>(
         Err(VarError::NotUnicode) => return Err(Failure::Client(ClientFault::KeyRange)),
         Err(VarError::OutOfMemory) => return Err(Failure::Client(ClientFault::Memory)),
     }
-    if user.is_prompted() {
-        let question = format!(in rt.alloc(); "key of {}: ", request.name)?;
-        if let Some(key) = user.answer_to(question.as_str())? {
-            return Ok(key);
-        }
+    if let Some(key) = asked_key(rt, request.name, user)? {
+        return Ok(key);
     }
-    Err(Failure::wrong(
-        rt.alloc(),
-        Subcommand::Connect,
+    Err(wrong(
+        rt,
         "there is no key: name its file by '--key-file', set RIG_HOST_KEY, or connect at a terminal",
     ))
+}
+
+// What is answered at the terminal, where there is one.
+fn asked_key<I: Read, O: Write, E: Write>(
+    rt: &HostRuntime,
+    name: &str,
+    user: &mut User<I, O, E>,
+) -> Result<Option<String>, ClientFault> {
+    if !user.is_prompted() {
+        return Ok(None);
+    }
+    let question = format!(in rt.alloc(); "key of {name}: ")?;
+    Ok(user.answer_to(question.as_str())?)
+}
+
+// That the words of `connect` are wrong in the way that the text says.
+fn wrong(rt: &HostRuntime, text: &str) -> Failure {
+    Failure::Subcommand(SubcommandFault::wrong(rt.alloc(), Subcommand::Connect, text))
 }
 
 // The first line of the file of this path.

@@ -1,4 +1,0 @@
-use Rattle.measure.proofs.requests.taken.Given as goal
-
-abbrev pub ghosts-at_desk : goal.ghosts-at_desk
-ghosts-at_desk g a = record { config = a.config.now; first_tick = 0; history = a.history }

@@ -1,7 +1,0 @@
-use denote.Param.Send.{sendable}
-use Rattle.std.proofs.Crossing.{crosses}
-use Rattle.measure.proofs.Tables.{table_sync, voice_send}
-use Rattle.measure.proofs.schedules.fn.speak_all.scope.Goals as goal
-
-pub spawn-requires-send-F : goal.spawn-requires-send-F
-spawn-requires-send-F g c κs = search (crosses, table_sync, voice_send, sendable) depth 60 fits 20000

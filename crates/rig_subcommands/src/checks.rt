@@ -1,0 +1,277 @@
+//! What is wrong with files of programs, configurations and scripts.
+
+ghost use Rattle.std.specs.Prelude.{◌≡◌, true, false, IsOk, Err};
+
+use crate::configuration::{ConfigurationFault, read_configuration, read_text};
+use crate::faults::SubcommandFault;
+use crate::outputs::print;
+use crate::systems::System;
+use crate::tenants::place_of;
+use config_checks::check_configuration;
+use giotto_reports::{Report, Wish, report_on};
+use program_checks::programs::check_program;
+use rig_arguments::requests::CheckRequest;
+use rig_arguments::subcommands::Subcommand;
+use rig_model::config::faults::ConfigFault;
+use rig_model::config::{Config, TenantConfig, read_config};
+use rig_script::faults::ScriptFault;
+use script_checks::scripts::check_script;
+use std::alloc::{AllocError, Global};
+use std::{fs, io};
+
+/// Checks the files, in their order. What is wrong stands on standard output, and so does what they have; where the text of programs is
+/// wanted, what is wrong stands on standard error, and nothing else is written unless all are good. What can't be read is told on standard
+/// error. Where something is wrong with the configuration's own file, that is told as of a file that is checked, and no file is.
+///
+/// # Errors
+/// The arguments, where a name is no tenant's, or the text of what is no program is wanted; the faults of the configuration; `Unread` where a
+/// file can't be read or isn't UTF-8, and else `Faulty` where something is wrong with one.
+pub fn check_files(rt: &impl System, request: &CheckRequest<'_>) -> Result<(), SubcommandFault> {
+    let wish = wish_of(request);
+    let config = configuration_of(rt, request.config, wish)?;
+    check_within(rt, &config, request, wish)
+}
+
+// Checks the files on a rig of this configuration.
+fn check_within(
+    rt: &impl System,
+    config: &Config,
+    request: &CheckRequest<'_>,
+    wish: Wish,
+) -> Result<(), SubcommandFault> {
+    let tenant = tenant_of(rt.alloc(), config, request)?;
+    if wish != Wish::Summary
+        && !request
+            .files
+            .iter()
+            .all(|path| kind_of(path) == Kind::Program)
+    {
+        return Err(SubcommandFault::wrong(
+            rt.alloc(),
+            Subcommand::Check,
+            "'--load', '--print' and '--pretty' are for files of programs",
+        ));
+    }
+    let mut texts = String::new(rt.alloc());
+    let check = Check {
+        config,
+        tenant,
+        wish,
+    };
+    let (all_read, all_good) = check_each(rt, &check, request.files.as_slice(), &mut texts)?;
+    if all_read && all_good {
+        print(rt, texts.as_str())?;
+    }
+    outcome(all_read, all_good)
+}
+
+// What files are checked against, and what is wanted of them.
+#[derive(Clone, Copy)]
+struct Check<'a> {
+    config: &'a Config,
+    tenant: Option<&'a TenantConfig>,
+    wish: Wish<'a>,
+}
+
+// Whether all files were read, and whether all that were are good. The texts that are wanted of programs are added to `texts`.
+fn check_each(
+    rt: &impl System,
+    check: &Check<'_>,
+    files: &[&str],
+    texts: &mut String,
+) -> Result<(bool, bool), SubcommandFault> {
+    let (mut all_read, mut all_good) = (true, true);
+    for path in files {
+        match check_file(rt, check, path)? {
+            Some(report) => {
+                all_good = all_good && report.is_good;
+                tell(rt, texts, &report, check.wish)?;
+            }
+            None => all_read = false,
+        }
+    }
+    Ok((all_read, all_good))
+}
+
+// What is wanted of a good program.
+fn wish_of<'a>(request: &CheckRequest<'a>) -> Wish<'a> {
+    match request.load {
+        Some(name) => Wish::Load(name),
+        None if request.print => Wish::Print,
+        None if request.pretty => Wish::Pretty,
+        None => Wish::Summary,
+    }
+}
+
+// The configuration for which files are checked. Where something is wrong with its file, that is told in whole.
+fn configuration_of(
+    rt: &impl System,
+    path: Option<&str>,
+    wish: Wish,
+) -> Result<Config, SubcommandFault> {
+    let Some(path) = path else {
+        return Ok(read_configuration(rt, None)?);
+    };
+    let text = read_text(rt, path)?;
+    match read_config(rt.alloc(), text.as_str()) {
+        Ok(config) => Ok(config),
+        Err(fault) => {
+            if fault != ConfigFault::Memory {
+                // where it can't be told in whole, the line of standard error and the status tell
+                let _ = tell_configuration(rt, path, text.as_str(), wish);
+            }
+            Err(SubcommandFault::Configuration(ConfigurationFault::Refused(fault)))
+        }
+    }
+}
+
+// Tells what is wrong with the file of a configuration.
+fn tell_configuration(
+    rt: &impl System,
+    path: &str,
+    text: &str,
+    wish: Wish,
+) -> Result<(), SubcommandFault> {
+    let report = check_configuration(rt.alloc(), path, text)?;
+    write_report(rt, report.text.as_str(), wish)
+}
+
+// How the check of files ends of which all were read, and all are good.
+fn outcome(all_read: bool, all_good: bool) -> Result<(), SubcommandFault>
+    ensures good { IsOk result → (all_read ≡ true) × (all_good ≡ true) }
+    ensures unread { result ≡ Err SubcommandFault.Unread → all_read ≡ false }
+    ensures faulty { result ≡ Err SubcommandFault.Faulty → (all_read ≡ true) × (all_good ≡ false) }
+{
+    if !all_read {
+        return Err(SubcommandFault::Unread);
+    }
+    if !all_good {
+        return Err(SubcommandFault::Faulty);
+    }
+    Ok(())
+}
+
+// Tells a report: what was wanted of a program is kept until all are known.
+fn tell(
+    rt: &impl System,
+    texts: &mut String,
+    report: &Report,
+    wish: Wish,
+) -> Result<(), SubcommandFault> {
+    let text = report.text.as_str();
+    if wish != Wish::Summary && report.is_good {
+        return Ok(texts.push_str(text)?);
+    }
+    write_report(rt, text, wish)
+}
+
+// Writes a report to standard output, or to standard error where standard output is for the text of programs.
+fn write_report(rt: &impl System, text: &str, wish: Wish) -> Result<(), SubcommandFault> {
+    if wish == Wish::Summary {
+        return Ok(print(rt, text)?);
+    }
+    // where standard error is closed, the status alone tells
+    let _ = eprint!(rt; "{text}");
+    Ok(())
+}
+
+// What a file is, by its name.
+#[derive(Clone, Copy, Debug, PartialEq, Eq)]
+enum Kind {
+    Program,
+    Configuration,
+    Script,
+}
+
+fn kind_of(path: &str) -> Kind {
+    if path.ends_with(".toml") {
+        Kind::Configuration
+    } else if path.ends_with(".script") {
+        Kind::Script
+    } else {
+        Kind::Program
+    }
+}
+
+// What is told of a file; nothing where it can't be read, which was told then.
+fn check_file(
+    rt: &impl System,
+    check: &Check<'_>,
+    path: &str,
+) -> Result<Option<Report>, SubcommandFault> {
+    if kind_of(path) == Kind::Script {
+        return check_script_file(rt, check.config, path);
+    }
+    match fs::read_to_string(rt, path) {
+        Ok(text) => Ok(Some(check_text(rt.alloc(), check, path, text.as_str())?)),
+        Err(error) => unread(rt, path, &error),
+    }
+}
+
+fn check_script_file(
+    rt: &impl System,
+    config: &Config,
+    path: &str,
+) -> Result<Option<Report>, SubcommandFault> {
+    match fs::read(rt, path) {
+        Ok(bytes) => Ok(Some(check_script(rt.alloc(), path, bytes.as_slice(), config)?)),
+        Err(error) => unread(rt, path, &error),
+    }
+}
+
+// The report on the text of a configuration or a program.
+fn check_text(
+    alloc: Global,
+    check: &Check<'_>,
+    path: &str,
+    text: &str,
+) -> Result<Report, AllocError> {
+    if kind_of(path) == Kind::Configuration {
+        return check_configuration(alloc, path, text);
+    }
+    match check.tenant {
+        Some(tenant) => check_program(alloc, path, text, check.wish, tenant),
+        None => report_on(alloc, path, text, check.wish),
+    }
+}
+
+// Tells that a file can't be read.
+fn unread(
+    rt: &impl System,
+    path: &str,
+    error: &io::Error,
+) -> Result<Option<Report>, SubcommandFault> {
+    let why = match error.kind() {
+        io::ErrorKind::OutOfMemory => return Err(SubcommandFault::Script(ScriptFault::Memory)),
+        io::ErrorKind::InvalidData => "isn't UTF-8",
+        _ => "can't be read",
+    };
+    // where standard error is closed, the status alone tells
+    let _ = eprintln!(rt; "{path}: {why}");
+    Ok(None)
+}
+
+// The tenant against whose budgets programs are held: the one that is named, or the one that is to load them.
+fn tenant_of<'a>(
+    alloc: Global,
+    config: &'a Config,
+    request: &CheckRequest<'_>,
+) -> Result<Option<&'a TenantConfig>, SubcommandFault> {
+    let name = match (request.load, request.tenant) {
+        (Some(loader), Some(name)) => {
+            if loader != name {
+                return Err(SubcommandFault::wrong(
+                    alloc,
+                    Subcommand::Check,
+                    "'--load' and '--tenant' name two tenants",
+                ));
+            }
+            name
+        }
+        (Some(loader), None) => loader,
+        (None, Some(name)) => name,
+        (None, None) => return Ok(None),
+    };
+    let place = place_of(alloc, Subcommand::Check, config, request.config, name)?;
+    Ok(config.tenants().get(place))
+}

@@ -1,0 +1,85 @@
+//! The configuration of the rig: the built-in one, or that of a file.
+
+ghost use Rattle.std.specs.Prelude.{◌≡◌, IfOk, None};
+ghost use Rattle.rig_model.specs.config.BuiltIn.{built_in_config};
+ghost use Rattle.rig_subcommands.specs.declared.configuration.ConfigurationFault.TheVariants.{Refused};
+
+use crate::systems::System;
+use rig_model::config::faults::ConfigFault;
+use rig_model::config::{Config, built_in, read_config};
+use std::{fmt, fs, io};
+
+/// Why there is no configuration. Its `Display` is the line of standard error.
+#[derive(Drop)]
+pub enum ConfigurationFault {
+    /// The file isn't there, can't be read, or isn't UTF-8.
+    Unreadable,
+    /// The file's text describes no configuration, or there is want of memory.
+    Refused(ConfigFault),
+}
+
+impl fmt::Display for ConfigurationFault {
+    fn fmt<W: fmt::Write>(&self, f: &mut fmt::Formatter<W>) -> fmt::Result {
+        match self {
+            ConfigurationFault::Unreadable => write!(f, "config: unreadable"),
+            ConfigurationFault::Refused(why) => match why.field() {
+                Some(field) => write!(f, "config: {} {}", why.reason(), field.word()),
+                None => write!(f, "config: {}", why.reason()),
+            },
+        }
+    }
+}
+
+impl From<ConfigFault> for ConfigurationFault {
+    ghost from_gives = { λ fault told. told ≡ Refused fault };
+
+    fn from(fault: ConfigFault) -> ConfigurationFault {
+        ConfigurationFault::Refused(fault)
+    }
+}
+
+impl From<io::Error> for ConfigurationFault {
+    ghost use Rattle.std.specs.Prelude.{◌≡◌, ◌≢◌};
+    ghost use Rattle.std.specs.IoError.{error_kind};
+    ghost use Rattle.std.specs.declared.io.ErrorKind.TheVariants.{OutOfMemory};
+    ghost use Rattle.rig_model.specs.declared.config.faults.ConfigFault.TheVariants.{Memory};
+    ghost use Rattle.rig_subcommands.specs.declared.configuration.ConfigurationFault.TheVariants.{Refused, Unreadable};
+
+    ghost from_gives = { λ error told.
+        (error_kind error ≡ OutOfMemory → told ≡ Refused Memory) × (error_kind error ≢ OutOfMemory → told ≡ Unreadable) };
+
+    fn from(error: io::Error) -> ConfigurationFault {
+        match error.kind() {
+            io::ErrorKind::OutOfMemory => ConfigurationFault::Refused(ConfigFault::Memory),
+            _ => ConfigurationFault::Unreadable,
+        }
+    }
+}
+
+/// The configuration in the file of this path, or the built-in one where there is no path.
+///
+/// # Errors
+/// Each fault of the file or of its text, and want of memory.
+pub fn read_configuration(
+    rt: &impl System,
+    path: Option<&str>,
+) -> Result<Config, ConfigurationFault>
+    ensures built_in { path.entry ≡ None → IfOk result (λ config. config ≡ built_in_config) }
+{
+    let Some(path) = path else {
+        return match built_in(rt.alloc()) {
+            Ok(config) => Ok(config),
+            Err(_) => Err(ConfigurationFault::Refused(ConfigFault::Memory)),
+        };
+    };
+    let text = read_text(rt, path)?;
+    Ok(read_config(rt.alloc(), text.as_str())?)
+}
+
+/// The text of the file of this path.
+///
+/// # Errors
+/// `Unreadable`, and want of memory.
+pub(crate) fn read_text(rt: &impl System, path: &str) -> Result<String, ConfigurationFault> {
+    Ok(fs::read_to_string(rt, path)?)
+}

@@ -1,0 +1,139 @@
+//! How a subcommand ends that doesn't end well: what is said of it on standard error, and the exit status.
+
+ghost use Rattle.std.specs.Prelude.{◌≡◌};
+ghost use Rattle.std.specs.Process.{exit_status};
+ghost use Rattle.rig_subcommands.specs.cited.Statuses.{status_of};
+ghost use Rattle.rig_subcommands.specs.declared.faults.SubcommandFault.TheVariants.{Arguments, Configuration, Picture, Script};
+ghost use Rattle.rig_script.specs.declared.faults.ScriptFault.TheVariants.{Memory};
+
+use crate::configuration::ConfigurationFault;
+use crate::pictures::PictureFault;
+use crate::scripts::RunFileFault;
+use rig_arguments::subcommands::Subcommand;
+use rig_arguments::{ArgumentFault, unreadable};
+use rig_retests::courses::Shortfall;
+use rig_script::faults::ScriptFault;
+use script_reports::told::Report;
+use std::alloc::{AllocError, Global};
+use std::fmt;
+use std::process::ExitCode;
+
+/// Why a subcommand ends with another status than 0. Its `Display` is for standard error.
+#[derive(Drop)]
+pub enum SubcommandFault {
+    /// The arguments are wrong, in the way that the text says.
+    Arguments(clap::Error),
+    /// There is no configuration.
+    Configuration(ConfigurationFault),
+    /// Reading, writing or want of memory, of the script or before it.
+    Script(ScriptFault),
+    /// A file of a picture.
+    Picture(PictureFault),
+    /// A file of a run.
+    Run(RunFileFault),
+    /// Something is wrong with files, as was told.
+    Faulty,
+    /// A file can't be read, as was told.
+    Unread,
+    /// What went wrong in a script.
+    Told(Report),
+    /// What is told of a script says less than it seems to.
+    Short(Shortfall),
+}
+
+impl SubcommandFault {
+    /// The words of the subcommand are wrong in the way that the text says; or memory ran out.
+    pub fn wrong(alloc: Global, subcommand: Subcommand, text: &str) -> SubcommandFault {
+        match subcommand.error(alloc, text) {
+            Ok(error) => SubcommandFault::Arguments(error),
+            Err(error) => SubcommandFault::from(error),
+        }
+    }
+
+    /// An argument can't be read as text; or memory ran out.
+    pub fn unreadable(alloc: Global) -> SubcommandFault {
+        match unreadable(alloc) {
+            Ok(error) => SubcommandFault::Arguments(error),
+            Err(error) => SubcommandFault::from(error),
+        }
+    }
+
+    /// The exit status: 2 for arguments, 1 for the configuration, 4 where something is wrong with what was read, and 3 for the rest.
+    pub fn status(&self) -> ExitCode
+        ensures { exit_status result ≡ status_of self.now }
+    {
+        match self {
+            SubcommandFault::Arguments(_) => ExitCode::from(2),
+            SubcommandFault::Configuration(_) => ExitCode::from(1),
+            SubcommandFault::Faulty | SubcommandFault::Told(_) | SubcommandFault::Short(_) => {
+                ExitCode::from(4)
+            }
+            SubcommandFault::Script(_)
+            | SubcommandFault::Picture(_)
+            | SubcommandFault::Run(_)
+            | SubcommandFault::Unread => ExitCode::from(3),
+        }
+    }
+}
+
+impl fmt::Display for SubcommandFault {
+    fn fmt<W: fmt::Write>(&self, f: &mut fmt::Formatter<W>) -> fmt::Result {
+        match self {
+            SubcommandFault::Arguments(error) => write!(f, "{error}"),
+            SubcommandFault::Configuration(fault) => writeln!(f, "{fault}"),
+            SubcommandFault::Script(fault) => writeln!(f, "{}", fault.as_str()),
+            SubcommandFault::Picture(fault) => writeln!(f, "{}", fault.as_str()),
+            SubcommandFault::Faulty | SubcommandFault::Unread => Ok(()),
+            SubcommandFault::Run(fault) => writeln!(f, "{fault}"),
+            SubcommandFault::Told(report) => write!(f, "{}", report.as_str()),
+            SubcommandFault::Short(shortfall) => writeln!(f, "{shortfall}"),
+        }
+    }
+}
+
+impl From<ArgumentFault> for SubcommandFault {
+    ghost use Rattle.rig_arguments.specs.declared.ArgumentFault.TheVariants as argument;
+
+    ghost from_gives = { λ fault told.
+        ((error : _) → fault ≡ argument.Wrong error → told ≡ Arguments error)
+        × (fault ≡ argument.Memory → told ≡ Script Memory) };
+
+    fn from(fault: ArgumentFault) -> SubcommandFault {
+        match fault {
+            ArgumentFault::Wrong(error) => SubcommandFault::Arguments(error),
+            ArgumentFault::Memory => SubcommandFault::Script(ScriptFault::Memory),
+        }
+    }
+}
+
+impl From<ConfigurationFault> for SubcommandFault {
+    ghost from_gives = { λ fault told. told ≡ Configuration fault };
+
+    fn from(fault: ConfigurationFault) -> SubcommandFault {
+        SubcommandFault::Configuration(fault)
+    }
+}
+
+impl From<ScriptFault> for SubcommandFault {
+    ghost from_gives = { λ fault told. told ≡ Script fault };
+
+    fn from(fault: ScriptFault) -> SubcommandFault {
+        SubcommandFault::Script(fault)
+    }
+}
+
+impl From<PictureFault> for SubcommandFault {
+    ghost from_gives = { λ fault told. told ≡ Picture fault };
+
+    fn from(fault: PictureFault) -> SubcommandFault {
+        SubcommandFault::Picture(fault)
+    }
+}
+
+impl From<AllocError> for SubcommandFault {
+    ghost from_gives = { λ _ told. told ≡ Script Memory };
+
+    fn from(_error: AllocError) -> SubcommandFault {
+        SubcommandFault::Script(ScriptFault::Memory)
+    }
+}

@@ -1,0 +1,26 @@
+//! What the subcommands `check`, `script`, `timeline`, `retest` and `trial` do: they read files and standard input, and need no network.
+//!
+//! ```text
+//! run_script(&rt, &request)?;
+//! ```
+//!
+//! Each takes what its arguments ask for and ends as its [`faults::SubcommandFault`] says, which also gives the exit status. [`configuration`]
+//! reads the file of `--config`.
+#![tactic(auto)]
+
+mod checks;
+pub mod configuration;
+pub mod faults;
+mod outputs;
+pub mod pictures;
+mod retests;
+pub mod scripts;
+mod systems;
+mod tenants;
+
+pub use checks::check_files;
+pub use pictures::run_timeline;
+pub use retests::{run_retest, run_trial};
+pub use rig_script::faults::ScriptFault;
+pub use scripts::run_script;
+pub use systems::System;

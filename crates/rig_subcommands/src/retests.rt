@@ -1,0 +1,86 @@
+//! Whose tests have to be run again: the table of a script, its graph, and the trial of one tenant.
+
+ghost use Rattle.std.specs.Prelude.{◌≡◌, ◌↔◌, true, IsOk, None};
+
+use crate::configuration::read_configuration;
+use crate::faults::SubcommandFault;
+use crate::outputs::{check_output, is_standard, print, write_to};
+use crate::pictures::PictureFault;
+use crate::systems::System;
+use crate::tenants::place_of;
+use rig_arguments::requests::{RetestRequest, TrialRequest};
+use rig_arguments::subcommands::Subcommand;
+use rig_model::config::Config;
+use rig_retests::courses::Course;
+use rig_retests::tables::{Retests, retests_of};
+use rig_retests::{TrialForm, graph_of_retests, text_of_retests, text_of_trial};
+
+/// Prints whose change calls for whose retest in the script on standard input, and writes it as a graph, if that is asked for; where the
+/// graph goes to standard output, it stands there in place of the table.
+///
+/// # Errors
+/// Faults of arguments and of the configuration; as the script, and `Graph` where the file can't be written. Nothing was written to it where
+/// the script ended by a fault. `Short` where the script was cut off, or no line was a tenant's.
+pub fn run_retest(rt: &impl System, request: &RetestRequest<'_>) -> Result<(), SubcommandFault> {
+    check_output(rt, Subcommand::Retest, &[request.config], request.graph)?;
+    let config = read_configuration(rt, request.config)?;
+    let retests = retests_of(rt.alloc(), &mut rt.reader(), &config)?;
+    print_retests(rt, &config, &retests, request.graph)?;
+    verdict(retests.course())
+}
+
+// Prints the table, and writes the graph.
+fn print_retests(
+    rt: &impl System,
+    config: &Config,
+    retests: &Retests,
+    graph: Option<&str>,
+) -> Result<(), SubcommandFault> {
+    if !graph.is_some_and(is_standard) {
+        let text = text_of_retests(rt.alloc(), config, retests)?;
+        print(rt, text.as_str())?;
+    }
+    let Some(path) = graph else {
+        return Ok(());
+    };
+    let graph = graph_of_retests(rt.alloc(), config, retests)?;
+    write_to(
+        rt,
+        path,
+        graph.as_str(),
+        SubcommandFault::Picture(PictureFault::Graph),
+    )
+}
+
+/// Prints the trial of the script on standard input for a tenant.
+///
+/// # Errors
+/// Faults of arguments and of the configuration; as the script. `Short` where the script was cut off, or no line was a tenant's.
+pub fn run_trial(rt: &impl System, request: &TrialRequest<'_>) -> Result<(), SubcommandFault> {
+    let config = read_configuration(rt, request.config)?;
+    let tenant = place_of(
+        rt.alloc(),
+        Subcommand::Trial,
+        &config,
+        request.config,
+        request.tenant,
+    )?;
+    let form = if request.is_summary {
+        TrialForm::Summary
+    } else {
+        TrialForm::Listing
+    };
+    let trial = text_of_trial(rt.alloc(), &mut rt.reader(), &config, tenant, form)?;
+    print(rt, trial.text.as_str())?;
+    verdict(trial.course)
+}
+
+// Whether what was told of a script says all that it seems to.
+fn verdict(course: Course) -> Result<(), SubcommandFault>
+    ensures { IsOk result ↔ ((course.bad_line ≡ None) × (course.has_tenant ≡ true)) }
+{
+    match course.shortfall() {
+        Some(shortfall) => Err(SubcommandFault::Short(shortfall)),
+        None => Ok(()),
+    }
+}
