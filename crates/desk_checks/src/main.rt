@@ -1,8 +1,10 @@
-//! Checks of a desk for `scripts/`: random schedules of threads, and steps that are tried again where memory is refused.
+//! Checks of a desk for `scripts/`: random schedules of threads, and steps that are tried again where memory is refused; and many calls
+//! for `bench/`.
 #![tactic(auto)]
 
 ghost use Rattle.std.specs.Prelude.{◌≡◌};
 
+mod calls;
 mod requests;
 mod schedules;
 mod voices;
@@ -11,7 +13,7 @@ mod works;
 use crate::works::{Work, done, work_of};
 use std::process::ExitCode;
 
-const USAGE: &str = "usage: desk_checks schedules|memory TIMES";
+const USAGE: &str = "usage: desk_checks schedules|memory|passes|calls TIMES";
 
 fn main(rt: HostRuntime) -> anyhow::Result<ExitCode> {
     let words: Vec<String> = std::env::args(&rt)?.collect(rt.alloc())?;

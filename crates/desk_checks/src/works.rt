@@ -1,9 +1,12 @@
 //! All works, by name.
 
-use crate::{requests, schedules};
+use crate::{calls, requests, schedules};
 use std::alloc::Global;
 use std::sync::Wait;
 use std::thread::Threads;
+
+// How many calls each of many passes has.
+const CALLS: u64 = 32;
 
 /// What is done so many times.
 #[derive(Clone, Copy)]
@@ -12,18 +15,25 @@ pub(crate) enum Work {
     Schedules,
     /// Steps at a desk that are tried again.
     Memory,
+    /// Passes of 32 calls each.
+    Passes,
+    /// Calls of one pass.
+    Calls,
 }
 
 /// The work of this name; `None` where there is no such.
 pub(crate) fn work_of(name: &str) -> Option<Work> {
-    match name {
-        "schedules" => Some(Work::Schedules),
-        "memory" => Some(Work::Memory),
-        _ => None,
-    }
+    let work = match name {
+        "schedules" => Work::Schedules,
+        "memory" => Work::Memory,
+        "passes" => Work::Passes,
+        "calls" => Work::Calls,
+        _ => return None,
+    };
+    Some(work)
 }
 
-/// Does this work so many times. How often it came out right.
+/// Does this work so many times. How often it came out right, or how many calls were logged.
 pub(crate) fn done<R: Threads + Wait + Sync>(
     rt: &R,
     alloc: Global,
@@ -33,5 +43,7 @@ pub(crate) fn done<R: Threads + Wait + Sync>(
     match work {
         Work::Schedules => schedules::agreeing(rt, alloc, times),
         Work::Memory => requests::taken(rt, alloc, times),
+        Work::Passes => calls::closed(rt, alloc, times, CALLS),
+        Work::Calls => calls::closed(rt, alloc, 1, times),
     }
 }

@@ -1,12 +1,12 @@
 //! Each public call of the libraries once, with ample memory, lowest crate first: `programs` for giotto_tasks, giotto_read and giotto_check,
-//! `rigs` for rig_config and tenant_grants, `tenants` for tenant_state and instant_engine, `hosts` for host_core, locked_book and
-//! rig_sessions. Expected values come from worked examples, never from the program.
+//! `rigs` for rig_config and tenant_grants, `tenants` for tenant_state and instant_engine, `hosts` for host_core; `surface` of
+//! desk_tests for locked_book and rig_sessions. Expected values come from worked examples, never from the program.
 //!
-//! Other tests make these calls with the same arguments:
+//! Other tests, here and in desk_tests, make these calls with the same arguments:
 //!
 //! | Calls | Test |
 //! |---|---|
-//! | `built_in`, `Host::new` | `fixtures` |
+//! | `built_in`, `Host::new` | `test_fixtures` |
 //! | `Config::greet` | `greetings` |
 //! | `Trace::new`, `push`, `list`, `copy` | `traces` |
 //! | `Command::copy`, `Reply::copy`, `print_reply` | `copies` |

@@ -1,0 +1,73 @@
+//! Many calls at a desk, of which `bench/desks` counts the instructions.
+
+ghost use Rattle.std.specs.Prelude.{◌≡◌};
+
+use locked_book::desks::Desk;
+use locked_book::histories::NewHistory;
+use locked_book::naming::Naming;
+use locked_book::passes::Pass;
+use rig_model::config::{Config, TenantId, built_in};
+use rig_model::lines::commands::Command;
+use std::alloc::Global;
+use std::marker::Brand;
+use std::sync::Wait;
+
+const FIRST: TenantId = 0;
+
+/// So many passes of so many calls each, at a desk of the built-in configuration, which is then closed with all of them. How many entries its
+/// log has; -1 where something is refused.
+pub(crate) fn closed<R: Wait>(
+    rt: &R,
+    alloc: Global,
+    passes: u64,
+    calls: u64,
+) -> anyhow::Result<i64> {
+    let config = built_in(alloc)?;
+    let closed = on_desk::<Brand, _>(rt, alloc, &config, NewHistory::new(), passes, calls);
+    Ok(
+        closed
+            .and_then(|closed| i64::try_from(closed).ok())
+            .unwrap_or(-1),
+    )
+}
+
+fn on_desk<N: Naming, R: Wait>(
+    rt: &R,
+    alloc: Global,
+    config: &Config,
+    history: NewHistory,
+    passes: u64,
+    calls: u64,
+) -> Option<u64>
+    requires config { config.now ≡ N.config }
+    requires first_tick { 0 ≡ N.first_tick }
+    requires history { history ≡ N.history }
+{
+    let desk = Desk::<N>::with_history(alloc, config, 0, history).ok()?;
+    let passes = called_passes(rt, alloc, &desk, passes, calls)?;
+    let book = desk.close(passes).ok()?;
+    Some(book.log().len() as u64)
+}
+
+fn called_passes<N: Naming>(
+    rt: &impl Wait,
+    alloc: Global,
+    desk: &Desk<N>,
+    number: u64,
+    calls: u64,
+) -> Option<Vec<Pass<N>>> {
+    let mut passes = Vec::new(alloc);
+    for _pass in 0..number {
+        passes.push(called_pass(rt, desk, calls)?).ok()?;
+    }
+    Some(passes)
+}
+
+// A new pass of so many calls.
+fn called_pass<N: Naming>(rt: &impl Wait, desk: &Desk<N>, calls: u64) -> Option<Pass<N>> {
+    let mut pass = desk.pass(rt).ok()?;
+    for _call in 0..calls {
+        let _ = desk.call(rt, &mut pass, FIRST, Command::ShowMode).ok()?;
+    }
+    Some(pass)
+}

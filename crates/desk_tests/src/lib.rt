@@ -1,0 +1,17 @@
+//! Tests of desks, workers and sessions: what only a call shows, as in rig_tests, which says how tests are written.
+#![tactic(auto)]
+
+#[cfg(test)]
+mod desks;
+#[cfg(test)]
+mod pools;
+#[cfg(test)]
+mod sessions;
+#[cfg(test)]
+mod shown;
+#[cfg(test)]
+mod suppliers;
+#[cfg(test)]
+mod surface;
+#[cfg(test)]
+mod threads;

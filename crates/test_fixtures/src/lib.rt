@@ -1,0 +1,79 @@
+//! What tests begin with: programs, names and hosts of the built-in configuration. What fails here ends the test at once.
+#![tactic(auto)]
+
+ghost use Rattle.std.specs.Prelude.{◌≡◌, [], ◌∷◌};
+
+pub mod readers;
+
+use giotto_tasks::lists::List;
+use giotto_tasks::names::Name;
+use host_core::hosts::Host;
+use rig_model::config::{Config, TenantId, built_in};
+use rig_model::lines::commands::Command;
+use rig_model::lines::texts::Text;
+use std::alloc::Global;
+use std::process::Abort;
+use tenant_jobs::jobs::JobId;
+
+pub const ALPHA: TenantId = 0;
+
+pub const BETA: TenantId = 1;
+
+/// No tenant of the built-in configuration.
+pub const NOBODY: TenantId = 2;
+
+/// Reads a sensor, adds 1, and drives an actuator with the sum, with a period of 2 ticks.
+pub const ADDER: &str =
+    "sensor s := 0 line 0; actuator a := 0; output o := 0; task T(i) output o { o := i + 1; } mode m period 2 { actfreq 1 do a := o; taskfreq 1 do T(s); } start m;";
+
+/// Drives line 0 with 4.
+pub const FOUR: &str = "actuator a := 4 line 0; mode k period 1 { } start k;";
+
+/// Has a sensor that takes a granted value, and does nothing.
+pub const LISTENER: &str = "sensor g := -1 grant; mode n period 1 { } start n;";
+
+pub fn name(rt: &impl Abort, text: &str) -> Name
+    ensures { result ≡ text.now }
+{
+    Name::new(text).expect(rt, "a name")
+}
+
+/// A list of this alone.
+pub fn one<T: Drop>(rt: &impl Abort, alloc: Global, item: T) -> List<T>
+    ensures { result ≡ item ∷ [] }
+{
+    let mut items = Vec::new(alloc);
+    items.push(item).expect(rt, "memory");
+    List::from_vec(items)
+}
+
+/// The load of this program.
+pub fn load(rt: &impl Abort, alloc: Global, program: &str) -> Command {
+    Command::Load(Text::from_str(alloc, program).expect(rt, "memory"))
+}
+
+/// The frame of the built-in configuration's one line.
+pub fn frame(rt: &impl Abort, alloc: Global, reading: i64) -> List<i64> {
+    List::from_vec(Vec::from_slice(alloc, &[reading]).expect(rt, "memory"))
+}
+
+/// A tenant's release of T at this tick.
+pub fn release(rt: &impl Abort, tenant: TenantId, tick: u64) -> JobId {
+    JobId {
+        tenant,
+        tick,
+        task: name(rt, "T"),
+    }
+}
+
+pub fn rig(rt: &impl Abort, alloc: Global) -> Config {
+    built_in(alloc).expect(rt, "memory")
+}
+
+/// A host whose first instant has this number.
+pub fn new_host(rt: &impl Abort, alloc: Global, first_tick: u64) -> Host {
+    let config = rig(rt, alloc);
+    let host = Host::new(alloc, &config, first_tick).expect(rt, "memory");
+    drop(config);
+    host
+}
