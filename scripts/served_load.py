@@ -20,6 +20,8 @@ LONG_ROUNDS, LONG_LINES = 40, 100
 # How many bytes a connection without calls may leave behind, until the halt, and a question that was asked before with the same answer.
 LEFT = 400
 LEFT_BY_A_POLL = 160
+# How many processor seconds eight sessions of as many calls as a pass has may take, on any machine.
+MOST_OF_POLLS = 0.25
 
 REPLIES = (
     "ok load,ok replace,ok start,ok stop,ok mode,ok port,ok all,ok trace,ok offer,ok unoffer,ok bind,ok unbind,ok rows,err bad-command,"
@@ -153,15 +155,18 @@ def connections(program):
 
 
 def polls(program):
-    """Who asks the same over and over, and is answered the same, leaves little memory."""
+    """Who asks the same over and over, and is answered the same, leaves little memory. A call costs no more after many than after few."""
     asked = b"hello alpha ka\n" + b"show mode\n" * (CALLS - 1)
     with Server(program) as server:
-        begun = server.resident()
+        begun, before = server.resident(), server.processor()
         for _ in range(8):
             client = server.client()
             client.send(asked + b"quit\n")
             is_same("who polls", client.rest(), "ok hello\n" + "ok mode empty\n" * (CALLS - 1) + "bye\n")
             client.close()
+        took = server.processor() - before
+        if took > MOST_OF_POLLS:
+            raise Failed("%d polls took %.2f seconds of a processor" % (8 * CALLS, took))
         leaves_little(begun, server.resident(), 8 * CALLS, "polls", LEFT_BY_A_POLL)
         server.halt()
 

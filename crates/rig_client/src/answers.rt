@@ -1,6 +1,7 @@
 //! One request, and its answer.
 
-ghost use Rattle.std.specs.Prelude.{◌≡◌, ◌++◌, ◌⊎◌, IfOk, IfErr, IfSome, OnOk, codes};
+ghost use Rattle.std.specs.Prelude.{◌≡◌, ◌≢◌, ◌++◌, ◌⊎◌, IfOk, IfErr, IfSome, OnOk, codes};
+ghost use Rattle.std.specs.declared.io.ErrorKind.TheVariants.{OutOfMemory};
 ghost use Rattle.std.specs.Io.KnownBytes.{Appends};
 ghost use Rattle.std.specs.Io.BufRead.{DropsThrough, take_through};
 ghost use Rattle.rig_client.specs.Answers.{kind_of_answer};
@@ -92,7 +93,9 @@ pub fn receive<R: BufRead>(alloc: Global, reader: &mut R) -> Result<Vec<u8>, Cli
 
 // Why nothing was read.
 fn unread(kind: ErrorKind) -> ClientFault
-    ensures { (result ≡ ClientFault.Lost) ⊎ (result ≡ ClientFault.Memory) }
+    ensures memory { kind ≡ OutOfMemory → result ≡ ClientFault.Memory }
+    ensures lost { kind ≢ OutOfMemory → result ≡ ClientFault.Lost }
+    ensures either { (result ≡ ClientFault.Lost) ⊎ (result ≡ ClientFault.Memory) }
 {
     match kind {
         ErrorKind::OutOfMemory => ClientFault::Memory,
