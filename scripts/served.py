@@ -29,13 +29,13 @@ def becomes(what, holds):
 
 class Server:
     """The program, its port, and its operator. `limits` are the words of a shell's `ulimit` before it; then all of its threads take
-    their memory from one heap, so that how many there can be is a matter of their stacks."""
+    their memory from one heap, so that how many there can be is a matter of their stacks. `beside` is added to its environment."""
 
-    def __init__(self, program, *words, limits=None, patience=PATIENCE):
+    def __init__(self, program, *words, limits=None, patience=PATIENCE, beside=None):
         command = [program, "serve", *words]
         if limits is not None:
             command = ["/bin/sh", "-c", 'ulimit %s; exec "$0" "$@"' % limits, *command]
-        pipe, environment = subprocess.PIPE, os.environ if limits is None else os.environ | {"MALLOC_ARENA_MAX": "1"}
+        pipe, environment = subprocess.PIPE, os.environ | (beside or {}) | ({} if limits is None else {"MALLOC_ARENA_MAX": "1"})
         self.process = subprocess.Popen(command, stdin=pipe, stdout=pipe, stderr=pipe, bufsize=0, env=environment)
         self.patience = patience
         self.pieces = b""

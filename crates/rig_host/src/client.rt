@@ -157,8 +157,11 @@ fn wrong(rt: &HostRuntime, text: &str) -> Failure {
 
 // The first line of the file of this path.
 fn key_of_file(rt: &HostRuntime, path: &str) -> Result<String, ClientFault> {
-    let Ok(text) = fs::read_to_string(rt, path) else {
-        return Err(ClientFault::KeyFile);
-    };
-    Ok(String::from_str(rt.alloc(), first_line(text.as_str()))?)
+    match fs::read_to_string(rt, path) {
+        Ok(text) => Ok(String::from_str(rt.alloc(), first_line(text.as_str()))?),
+        Err(error) => match error.kind() {
+            io::ErrorKind::OutOfMemory => Err(ClientFault::Memory),
+            _ => Err(ClientFault::KeyFile),
+        },
+    }
 }

@@ -1,10 +1,12 @@
 //! How a subcommand ends that doesn't end well: what is said of it on standard error, and the exit status.
 
-ghost use Rattle.std.specs.Prelude.{◌≡◌};
+ghost use Rattle.std.specs.Prelude.{◌≡◌, ◌≢◌};
+ghost use Rattle.std.specs.IoError.{error_kind};
 ghost use Rattle.std.specs.Process.{exit_status};
 ghost use Rattle.rig_subcommands.specs.cited.Statuses.{status_of};
 ghost use Rattle.rig_subcommands.specs.declared.faults.SubcommandFault.TheVariants.{Arguments, Configuration, Picture, Script};
 ghost use Rattle.rig_script.specs.declared.faults.ScriptFault.TheVariants.{Memory};
+ghost use Rattle.std.specs.declared.io.ErrorKind.TheVariants.{OutOfMemory};
 
 use crate::configuration::ConfigurationFault;
 use crate::pictures::PictureFault;
@@ -15,8 +17,8 @@ use rig_retests::courses::Shortfall;
 use rig_script::faults::ScriptFault;
 use script_reports::told::Report;
 use std::alloc::{AllocError, Global};
-use std::fmt;
 use std::process::ExitCode;
+use std::{fmt, io};
 
 /// Why a subcommand ends with another status than 0. Its `Display` is for standard error.
 #[derive(Drop)]
@@ -55,6 +57,17 @@ impl SubcommandFault {
         match unreadable(alloc) {
             Ok(error) => SubcommandFault::Arguments(error),
             Err(error) => SubcommandFault::from(error),
+        }
+    }
+
+    /// What is told of a file that can't be read: this fault, or that memory ran out.
+    pub fn of_unread(self, error: &io::Error) -> SubcommandFault
+        ensures memory { error_kind error.now ≡ OutOfMemory → result ≡ Script Memory }
+        ensures unreadable { error_kind error.now ≢ OutOfMemory → result ≡ self }
+    {
+        match error.kind() {
+            io::ErrorKind::OutOfMemory => SubcommandFault::Script(ScriptFault::Memory),
+            _ => self,
         }
     }
 

@@ -100,8 +100,11 @@ fn write_timeline(
     request: &TimelineRequest<'_>,
     tenant: Option<TenantId>,
 ) -> Result<(), SubcommandFault> {
-    let Ok(bytes) = fs::read(rt, request.script) else {
-        return Err(SubcommandFault::Picture(PictureFault::Script));
+    let bytes = match fs::read(rt, request.script) {
+        Ok(bytes) => bytes,
+        Err(error) => {
+            return Err(SubcommandFault::Picture(PictureFault::Script).of_unread(&error));
+        }
     };
     let picture = timeline(rt.alloc(), &mut bytes.as_slice(), config, tenant)?;
     write_to(

@@ -107,8 +107,11 @@ fn run_expected(
     config: Option<&str>,
     expected: &ExpectRequest<'_>,
 ) -> Result<(), SubcommandFault> {
-    let Ok(text) = fs::read_to_string(rt, expected.run) else {
-        return Err(SubcommandFault::Run(RunFileFault::Unreadable));
+    let text = match fs::read_to_string(rt, expected.run) {
+        Ok(text) => text,
+        Err(error) => {
+            return Err(SubcommandFault::Run(RunFileFault::Unreadable).of_unread(&error));
+        }
     };
     let lines = lines_of(rt.alloc(), text.as_str())?;
     let config = config.or(configuration_of(text.as_str()));
