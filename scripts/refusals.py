@@ -1,5 +1,5 @@
 """A library in C that is loaded before that of the system: it counts a program's requests for memory, and refuses one of them,
-or all from one on."""
+or all from one on. It can also have one of the program's reads or writes fail, and have each take but a few bytes."""
 
 import os
 import re
@@ -13,16 +13,25 @@ REFUSES_ONE = r"""
 #include <errno.h>
 #include <stdio.h>
 #include <stdlib.h>
+#include <string.h>
 #include <sys/syscall.h>
 #include <unistd.h>
 
 static long requests, refused, number;
 static int onwards;
 
+/* The call that fails, by its name and number, and how; and how many bytes each takes at most, 0 for as many as it asks for. */
+static char failing[16];
+static long calls, failing_at, most;
+static int failing_by;
+
 __attribute__((constructor)) static void begin(void) {
-    const char *given = getenv("REFUSED");
+    const char *given = getenv("REFUSED"), *fault = getenv("FAULT"), *few = getenv("MOST");
     number = given ? atol(given) : 0;
     onwards = getenv("ONWARDS") != NULL;
+    if (fault)
+        sscanf(fault, "%15s %ld %d", failing, &failing_at, &failing_by);
+    most = few ? atol(few) : 0;
     requests = 0;
 }
 
@@ -49,9 +58,34 @@ void *realloc(void *old, size_t size) {
     return is_refused() ? NULL : next(old, size);
 }
 
+static int fails(const char *call) {
+    if (strcmp(call, failing) || __sync_add_and_fetch(&calls, 1) != failing_at)
+        return 0;
+    errno = failing_by;
+    return 1;
+}
+
+#define WITH_FEW(size) (most && (size_t)most < (size) ? (size_t)most : (size))
+
+ssize_t read(int file, void *bytes, size_t size) {
+    return fails(file ? "read_file" : "read") ? -1 : syscall(SYS_read, file, bytes, file ? size : WITH_FEW(size));
+}
+
+ssize_t write(int file, const void *bytes, size_t size) {
+    return file == 1 && fails("write") ? -1 : syscall(SYS_write, file, bytes, file == 1 ? WITH_FEW(size) : size);
+}
+
+ssize_t recv(int socket, void *bytes, size_t size, int flags) {
+    return fails("recv") ? -1 : syscall(SYS_recvfrom, socket, bytes, WITH_FEW(size), flags, NULL, NULL);
+}
+
+ssize_t send(int socket, const void *bytes, size_t size, int flags) {
+    return fails("send") ? -1 : syscall(SYS_sendto, socket, bytes, WITH_FEW(size), flags, NULL, 0);
+}
+
 void _exit(int status) {
-    char text[80];
-    int length = snprintf(text, sizeof text, "requests %ld refused %ld\n", requests, refused);
+    char text[120];
+    int length = snprintf(text, sizeof text, "requests %ld refused %ld calls %ld\n", requests, refused, calls);
     if (write(2, text, length) != length)
         status = 99;
     for (;;)
@@ -69,13 +103,30 @@ def shim(room):
     return library
 
 
+TOLD = re.compile(rb"requests (\d+) refused (\d) calls (\d+)\n")
+
+
+def without(error):
+    """A standard error without the line that the library told, and that line's numbers: requests, whether one was refused, and calls."""
+    told = TOLD.search(error)
+    if not told:
+        sys.exit("refusals: the requests weren't counted: %s" % error)
+    return error[: told.start()] + error[told.end() :], int(told[1]), told[2] == b"1", int(told[3])
+
+
 def run(library, words, refused=0, onwards=False, **how):
     """The ended process, how many requests it made, and whether the one of this number was refused, with all behind it where that is
     asked for. Its standard error lacks the line that told."""
     given = dict(os.environ, LD_PRELOAD=library, REFUSED=str(refused), **({"ONWARDS": "1"} if onwards else {}))
     done = subprocess.run(words, env=given, capture_output=True, timeout=60, **how)
-    told = re.search(rb"requests (\d+) refused (\d)\n", done.stderr)
-    if not told:
-        sys.exit("refusals: the requests of %s weren't counted: %s" % (words[0], done.stderr))
-    done.stderr = done.stderr[: told.start()] + done.stderr[told.end() :]
-    return done, int(told[1]), told[2] == b"1"
+    done.stderr, requests, was_refused, _ = without(done.stderr)
+    return done, requests, was_refused
+
+
+def faulty(library, words, call, number, by, most=0, **how):
+    """The ended process whose call of this name and number fails by this number of the system's, and takes no more bytes than `most`; and
+    how many such calls it made. A call is `read` or `write`, of standard input or output, `recv`, `send`, or `read_file`, of another file."""
+    given = dict(os.environ, LD_PRELOAD=library, FAULT="%s %d %d" % (call, number, by), MOST=str(most))
+    done = subprocess.run(words, env=given, capture_output=True, timeout=60, **how)
+    done.stderr, _, _, calls = without(done.stderr)
+    return done, calls

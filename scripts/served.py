@@ -113,6 +113,8 @@ class Client:
     def __init__(self, port, host="127.0.0.1"):
         self.socket = socket.create_connection(("127.0.0.1", port), PATIENCE, (host, 0))
         self.pieces = b""
+        # whether the end came before a line's LF
+        self.is_cut = False
 
     def send(self, data):
         self.socket.sendall(data)
@@ -124,6 +126,7 @@ class Client:
             except TimeoutError:
                 raise Failed("a client waits for an answer in vain") from None
             if not piece:
+                self.is_cut = True
                 break
             self.pieces += piece
         line, _, self.pieces = self.pieces.partition(b"\n")

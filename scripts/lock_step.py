@@ -1,0 +1,111 @@
+"""A server under the library of refusals.py, and what two tenants and the operator are answered there, line by line."""
+
+import refusals
+from served import PATIENCE, Failed, Server, is_same
+
+ADDER = (
+    "sensor s := 0 line 0; actuator a := 0; output o := 0; task T(i) output o { o := i + 1; } "
+    "mode m period 2 { actfreq 1 do a := o; taskfreq 1 do T(s); } start m;"
+)
+LISTENER = "sensor g := -1 grant; actuator b := 3; mode n period 1 { actfreq 1 do b := 4; } start n;"
+LINES = [
+    ("alpha", "load " + ADDER), ("beta", "load " + LISTENER), ("alpha", "load start"), ("alpha", "offer a to beta"), ("beta", "bind g from alpha.a"),
+    ("alpha", "start"), ("beta", "start"), ("op", "tick 5"), ("op", "wait"), ("op", "lines"), ("op", "tick 7"), ("op", "wait"),
+    ("alpha", "show port a"), ("alpha", "replace " + LISTENER), ("op", "tick 9"), ("op", "wait"), ("op", "tick 11"), ("op", "wait"),
+    ("alpha", "show mode"), ("alpha", "show all"), ("alpha", "rows"), ("alpha", "trace"), ("beta", "show mode"), ("beta", "show all"),
+    ("beta", "rows"), ("beta", "trace"), ("alpha", "quit"), ("beta", "quit"),
+]
+# What a line is answered that was carried out before, if that isn't what it is answered the first time.
+AGAIN = {"start": "err running", "offer a to beta": "err twice", "bind g from alpha.a": "err twice"}
+ENDED = ("bye close ok", 0, b"")
+
+
+class Silent(Failed):
+    """The operator isn't answered any more."""
+
+
+class Under(Server):
+    """A server under the library, with these words of its environment."""
+
+    def __init__(self, library, program, **words):
+        super().__init__(program, "--workers", "1", beside={"LD_PRELOAD": library, **words})
+        self.patience = 1
+
+    def asks(self, line):
+        """The answer to a line of the operator, which is given again if there was no memory for it."""
+        for _try in range(2):
+            self.say(line)
+            try:
+                answer = self.line()
+            except Failed:
+                raise Silent(line) from None
+            if answer != "err memory":
+                break
+        return answer
+
+    def ended(self):
+        """After its end: its last line, its status and its standard error; then what the library told."""
+        self.patience = PATIENCE
+        last, status, error = self.line(), self.process.wait(PATIENCE), self.process.stderr.read()
+        error, *told = refusals.without(error)
+        return (last, status, error), told
+
+
+class Tenant:
+    """A tenant's session, which is made again if it was ended."""
+
+    def __init__(self, server, name):
+        self.server, self.greeting = server, "hello %s k%s" % (name, name[0])
+        self.connect()
+
+    def connect(self):
+        for _try in range(2):
+            self.client = self.server.client()
+            if self.asks(self.greeting, again=False) == "ok hello":
+                return
+        raise Failed("no answer to %s" % self.greeting)
+
+    def asks(self, line, again=True):
+        """The answer to a line, which is given again if there was no memory for it, or the session has ended without an answer."""
+        for _try in range(2):
+            try:
+                self.client.send(line.encode() + b"\n")
+                answer = self.client.line()
+            except OSError:
+                answer = ""
+            if self.client.is_cut:
+                answer = ""
+            if answer not in ("err memory", ""):
+                break
+            if answer == "" and again:
+                self.connect()
+        return answer
+
+
+def lock_step(library, program, **words):
+    """What each line is answered at last, or those before the operator isn't answered any more; how the server ends; what the library told."""
+    answers, tenants = [], {}
+    with Under(library, program, **words) as server:
+        try:
+            for name in ("alpha", "beta"):
+                tenants[name] = Tenant(server, name)
+            for who, line in LINES:
+                answers.append((tenants.get(who) or server).asks(line))
+            server.say("halt")
+        except Silent:
+            for tenant in tenants.values():
+                tenant.client.close()
+        return answers, *server.ended()
+
+
+def without_faults(library, program, **words):
+    """What each line is answered if nothing fails, and what the library told."""
+    answers, ended, told = lock_step(library, program, **words)
+    is_same("the end", ended, ENDED)
+    return answers, told
+
+
+def odd_answers(answers, wanted, is_carried_out_again=True):
+    """The lines that aren't answered as they have to be, with both answers."""
+    again = AGAIN if is_carried_out_again else {}
+    return [(line, answer, right) for (_, line), answer, right in zip(LINES, answers, wanted) if answer not in (right, again.get(line))]
