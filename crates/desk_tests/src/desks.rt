@@ -1,5 +1,6 @@
 //! Desks: each way in which a call or a pass is refused.
 
+use crate::fixtures::{ALPHA, NOBODY, load};
 use crate::shown::{Shown, is_shown};
 use locked_book::books::Book;
 use locked_book::desks::Desk;
@@ -12,7 +13,6 @@ use rig_model::lines::replies::Reply;
 use std::alloc::Global;
 use std::process::Abort;
 use std::sync::Wait;
-use test_fixtures::{ALPHA, NOBODY, load};
 
 // What is refused.
 #[derive(Clone, Copy)]

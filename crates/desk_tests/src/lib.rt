@@ -4,6 +4,8 @@
 #[cfg(test)]
 mod desks;
 #[cfg(test)]
+mod fixtures;
+#[cfg(test)]
 mod pools;
 #[cfg(test)]
 mod sessions;

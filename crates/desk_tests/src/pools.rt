@@ -4,6 +4,7 @@
 ghost use Rattle.std.specs.Prelude.{◌≤◌};
 
 use crate::desks::{both, call, entries, load_and_start, new_pass};
+use crate::fixtures::{ADDER, ALPHA, BETA};
 use crate::shown::{Shown, is_shown};
 use locked_book::desks::Desk;
 use locked_book::naming::Naming;
@@ -18,7 +19,6 @@ use std::thread;
 use std::thread::Threads;
 use std::time::{Clock, Duration};
 use tenant_jobs::jobs::{JobId, Jobs};
-use test_fixtures::{ADDER, ALPHA, BETA};
 use worker_pool::gates::{Free, Gate};
 use worker_pool::pools::Pool;
 

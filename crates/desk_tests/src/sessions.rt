@@ -1,6 +1,7 @@
 //! Sessions: what a client is answered, who takes its calls, and two suppliers and the rig's instants in one history.
 
 use crate::desks::{both, entries, new_pass};
+use crate::fixtures::OneByOne;
 use crate::shown::{Shown, is_shown};
 use host_core::hosts::Counted;
 use locked_book::desks::Desk;
@@ -19,7 +20,6 @@ use std::sync::Wait;
 use std::thread::Threads;
 use std::time::Clock;
 use tenant_jobs::jobs::run_job;
-use test_fixtures::readers::OneByOne;
 
 // Alpha's lines: it loads a program that reads a sensor, adds 1 and drives an actuator with the sum, grants the actuator, and starts.
 pub(crate) const ALPHAS: &[u8] =

@@ -3,6 +3,7 @@
 ghost use Rattle.std.specs.Prelude.{◌≡◌};
 
 use crate::desks::{Refusal, refuses};
+use crate::fixtures::rig;
 use crate::pools::{Work, works};
 use crate::sessions::{Session, stand_in_one_history, talks};
 use crate::suppliers::talk_at_once;
@@ -17,7 +18,6 @@ use std::process::Abort;
 use std::sync::Wait;
 use std::thread::Threads;
 use std::time::Clock;
-use test_fixtures::rig;
 
 // What is shown.
 #[derive(Clone, Copy)]

@@ -1,6 +1,7 @@
 //! Two suppliers that talk at once, each in a thread of its own, and two workers that run the jobs: all of it stands in one history.
 
 use crate::desks::new_pass;
+use crate::fixtures::frame;
 use crate::sessions::{
     ALPHAS, ALPHAS_REPLIES, BETAS, BETAS_REPLIES, THIRDS, THIRDS_REPLIES, talked, talked_on,
 };
@@ -18,7 +19,6 @@ use std::sync::Wait;
 use std::thread;
 use std::thread::Threads;
 use std::time::Clock;
-use test_fixtures::frame;
 use worker_pool::gates::Free;
 use worker_pool::pools::Pool;
 

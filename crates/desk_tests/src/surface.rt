@@ -2,6 +2,7 @@
 
 ghost use Rattle.std.specs.Prelude.{◌≡◌};
 
+use crate::fixtures::{ADDER, ALPHA, load, rig};
 use host_core::hosts::Counted;
 use locked_book::books::Book;
 use locked_book::naming::Naming;
@@ -13,7 +14,6 @@ use std::alloc::Global;
 use std::marker::Brand;
 use std::process::Abort;
 use tenant_jobs::jobs::run_job;
-use test_fixtures::{ADDER, ALPHA, load, rig};
 
 // locked_book
 

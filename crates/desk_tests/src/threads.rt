@@ -4,6 +4,7 @@
 use crate::desks::{
     book_of, both, call, entries, is_refused, load_and_start, new_pass, other_pass,
 };
+use crate::fixtures::{ADDER, ALPHA, BETA, FOUR, LISTENER, NOBODY, frame, load, release};
 use crate::shown::{Shown, is_shown};
 use host_core::hosts::Counted;
 use locked_book::books::Book;
@@ -22,7 +23,6 @@ use std::thread;
 use std::thread::Threads;
 use std::time::{Clock, Duration};
 use tenant_jobs::jobs::{Job, run_job};
-use test_fixtures::{ADDER, ALPHA, BETA, FOUR, LISTENER, NOBODY, frame, load, release};
 
 // How many calls each of two threads makes.
 const MANY: usize = 200;

@@ -1,7 +1,7 @@
 //! Instants at the end of the clock, to which no script comes.
 
+use crate::fixtures::new_host;
 use host_core::hosts::TickFault;
-use test_fixtures::new_host;
 
 #[test]
 fn clock_ends_behind_its_last_instant_and_the_frame_is_looked_at_first(rt: HostRuntime) {

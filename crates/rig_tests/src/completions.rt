@@ -1,5 +1,6 @@
 //! Completions of a release before a new start, and of another host's job: one that differs, and one that is just its own.
 
+use crate::fixtures::{ADDER, ALPHA, BETA, load, new_host, release};
 use host_core::hosts::{Counted, Host};
 use rig_model::config::TenantId;
 use rig_model::lines::commands::Command;
@@ -7,7 +8,6 @@ use rig_model::lines::replies::{Reply, print_reply};
 use std::alloc::Global;
 use std::process::Abort;
 use tenant_jobs::jobs::{Job, run_job};
-use test_fixtures::{ADDER, ALPHA, BETA, load, new_host, release};
 
 // What the tenant is answered to this command.
 pub(crate) fn told(rt: &impl Abort, host: &mut Host, tenant: TenantId, command: Command) -> Reply {

@@ -1,5 +1,6 @@
 //! Copies of commands, replies and events, which no line of the program shows.
 
+use crate::fixtures::{BETA, name, one, release};
 use giotto_tasks::lists::List;
 use host_core::events::Event;
 use rig_model::config::intervals::Bounds;
@@ -11,7 +12,6 @@ use rig_model::lines::replies::{Reply, print_reply};
 use rig_model::trace::records::{Happening, Record};
 use std::alloc::Global;
 use std::process::Abort;
-use test_fixtures::{BETA, name, one, release};
 
 // The replies to `show all`, `trace` and `rows` with one port, one record and one row.
 fn one_port(rt: &impl Abort, alloc: Global) -> Reply {

@@ -1,6 +1,6 @@
 //! Greetings of the built-in configuration, of which no line of a script makes one.
 
-use test_fixtures::rig;
+use crate::fixtures::rig;
 
 #[test]
 fn name_and_key_together_greet_a_tenant(rt: HostRuntime) {

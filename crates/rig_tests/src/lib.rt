@@ -13,6 +13,8 @@ mod completions;
 #[cfg(test)]
 mod copies;
 #[cfg(test)]
+mod fixtures;
+#[cfg(test)]
 mod grants;
 #[cfg(test)]
 mod greetings;

@@ -1,8 +1,8 @@
 //! A list of events, what alpha is answered, and an event that can't come: worked out by hand from the definitions.
 
+use crate::fixtures::{ADDER, ALPHA};
 use crate::steps::{Step, are_answered, played};
 use host_core::plays::PlayFault;
-use test_fixtures::{ADDER, ALPHA};
 
 // An overrun at instant 2, a new start, a release at instant 3, and the completion of the release at this tick.
 fn overrun<'a>(release: u64) -> [Step<'a>; 12] {

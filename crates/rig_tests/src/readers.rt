@@ -1,14 +1,38 @@
 //! Scripts whose bytes come one by one, a read that fails in mid-line, and want of memory for a reply.
 
+use crate::fixtures::rig;
 use rig_script::answers::{Answers, answer_lines};
 use rig_script::faults::{ScriptFault, Unanswered};
 use rig_script::script;
 use rig_script::speakers::Speaker;
 use std::alloc::Global;
 use std::io;
+use std::io::Read;
 use std::process::Abort;
-use test_fixtures::readers::OneByOne;
-use test_fixtures::rig;
+
+// Gives one byte a read. Then it says once that it has ended, where it ends, and each read behind that fails.
+#[derive(Drop)]
+pub(crate) struct OneByOne<'a> {
+    pub(crate) left: &'a [u8],
+    pub(crate) ends: bool,
+}
+
+impl<'a> Read for OneByOne<'a> {
+    fn read(&mut self, buf: &mut [u8]) -> io::Result<usize> {
+        match (self.left.split_first(), buf.first_mut()) {
+            (Some((byte, left)), Some(place)) => {
+                *place = *byte;
+                self.left = left;
+                Ok(1)
+            }
+            _ if self.ends => {
+                self.ends = false;
+                Ok(0)
+            }
+            _ => Err(io::Error::from(io::ErrorKind::BrokenPipe)),
+        }
+    }
+}
 
 // How a script ends whose bytes come one by one, and what is written for it.
 fn answer(

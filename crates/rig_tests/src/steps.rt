@@ -1,5 +1,6 @@
 //! Lists of events as they are written here, and what alpha and beta are answered for one.
 
+use crate::fixtures::{ADDER, ALPHA, BETA, LISTENER, frame, load, release, rig};
 use host_core::events::Event;
 use host_core::plays::{PlayFault, play};
 use rig_model::config::TenantId;
@@ -7,7 +8,6 @@ use rig_model::lines::command_lines::command_of;
 use rig_model::lines::texts::Text;
 use std::alloc::Global;
 use std::process::Abort;
-use test_fixtures::{ADDER, ALPHA, BETA, LISTENER, frame, load, release, rig};
 
 // An event as it is written here.
 #[derive(Clone, Copy)]

@@ -6,7 +6,7 @@
 //!
 //! | Calls | Test |
 //! |---|---|
-//! | `built_in`, `Host::new` | `test_fixtures` |
+//! | `built_in`, `Host::new` | `fixtures` |
 //! | `Config::greet` | `greetings` |
 //! | `Trace::new`, `push`, `list`, `copy` | `traces` |
 //! | `Command::copy`, `Reply::copy`, `print_reply` | `copies` |

@@ -1,12 +1,12 @@
 //! Traces with ample memory: one that keeps the last of its records, and that of a tenant.
 
 use crate::completions::{is_answered, run};
+use crate::fixtures::{ALPHA, name, new_host};
 use rig_model::lines::commands::Command;
 use rig_model::trace::records::{Happening, Record};
 use rig_model::trace::traces::Trace;
 use std::alloc::Global;
 use std::process::Abort;
-use test_fixtures::{ALPHA, name, new_host};
 
 // A trace of two records, to which three were given.
 fn last_two_of_three(rt: &impl Abort, alloc: Global) -> Trace {

@@ -1,12 +1,12 @@
 //! What a tenant is answered for a list of events and for what is kept of it: worked out by hand from the definitions.
 
+use crate::fixtures::{ADDER, ALPHA, BETA, LISTENER, NOBODY, rig};
 use crate::steps::{Step, events_of, granted_run};
 use host_core::plays::PlayFault;
 use host_core::trials::{TrialOutcome, trial_outcome};
 use rig_model::config::TenantId;
 use std::alloc::Global;
 use std::process::Abort;
-use test_fixtures::{ADDER, ALPHA, BETA, LISTENER, NOBODY, rig};
 
 // The trial of a list for a tenant of the built-in configuration.
 fn tried(

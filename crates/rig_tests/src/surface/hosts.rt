@@ -1,11 +1,11 @@
 //! The calls of host_core.
 
 use crate::completions::told;
+use crate::fixtures::{ADDER, ALPHA, BETA, FOUR, load, new_host, rig};
 use crate::steps::{events_of, granted_run};
 use host_core::trials::trial;
 use std::alloc::Global;
 use std::process::Abort;
-use test_fixtures::{ADDER, ALPHA, BETA, FOUR, load, new_host, rig};
 
 // host_core
 

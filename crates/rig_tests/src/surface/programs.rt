@@ -3,6 +3,7 @@
 ghost use Rattle.std.specs.Prelude.{◌≡◌, ◌<◌, length};
 ghost use Rattle.giotto_tasks.specs.Sound.{IsSound};
 
+use crate::fixtures::{ADDER, name, one};
 use giotto_check::timetables::{SlotExit, SlotInvocation, SlotUpdate, slot_value};
 use giotto_check::{CheckFault, Checked, check};
 use giotto_read::{Program, ReadFault, print, read};
@@ -18,7 +19,6 @@ use std::alloc::Global;
 use std::marker::Brand;
 use std::process::Abort;
 use std::sync::ledger::{Blank, Ledger};
-use test_fixtures::{ADDER, name, one};
 
 // The adder as it is printed.
 const PRINTED_ADDER: &str =

@@ -2,6 +2,7 @@
 
 ghost use Rattle.std.specs.Prelude.{◌≡◌, ◌<◌, length};
 
+use crate::fixtures::{ALPHA, BETA, name};
 use arrayvec::ArrayVec;
 use giotto_tasks::names::Name;
 use rig_model::config::faults::{ConfigFault, Field, FieldPlace};
@@ -12,7 +13,6 @@ use rig_model::grants::grants::Grants;
 use rig_model::grants::rows::Row;
 use std::alloc::Global;
 use std::process::Abort;
-use test_fixtures::{ALPHA, BETA, name};
 
 // The budgets of a tenant, as a configuration has them.
 const BUDGETS: &str =

@@ -2,6 +2,7 @@
 
 ghost use Rattle.std.specs.Prelude.{◌≡◌, [], length};
 
+use crate::fixtures::{ADDER, ALPHA, BETA, load, name, release, rig};
 use crate::surface::rigs::{alphas_rows, is_of_g, no_rows};
 use arrayvec::ArrayVec;
 use instant_engine::instants::instant;
@@ -13,7 +14,6 @@ use tenant_state::tenants::Tenant;
 use tenant_state::{
     Command, Done, Finished, Job, Jobs, LineFault, command_of, print_reply, run_job,
 };
-use test_fixtures::{ADDER, ALPHA, BETA, load, name, release, rig};
 
 // Adds 1 to what it is granted, at each tick.
 const GRANTED_ADDER: &str =

@@ -1,9 +1,6 @@
 //! What tests begin with: programs, names and hosts of the built-in configuration. What fails here ends the test at once.
-#![tactic(auto)]
 
 ghost use Rattle.std.specs.Prelude.{◌≡◌, [], ◌∷◌};
-
-pub mod readers;
 
 use giotto_tasks::lists::List;
 use giotto_tasks::names::Name;
@@ -15,31 +12,31 @@ use std::alloc::Global;
 use std::process::Abort;
 use tenant_jobs::jobs::JobId;
 
-pub const ALPHA: TenantId = 0;
+pub(crate) const ALPHA: TenantId = 0;
 
-pub const BETA: TenantId = 1;
+pub(crate) const BETA: TenantId = 1;
 
-/// No tenant of the built-in configuration.
-pub const NOBODY: TenantId = 2;
+// No tenant of the built-in configuration.
+pub(crate) const NOBODY: TenantId = 2;
 
-/// Reads a sensor, adds 1, and drives an actuator with the sum, with a period of 2 ticks.
-pub const ADDER: &str =
+// Reads a sensor, adds 1, and drives an actuator with the sum, with a period of 2 ticks.
+pub(crate) const ADDER: &str =
     "sensor s := 0 line 0; actuator a := 0; output o := 0; task T(i) output o { o := i + 1; } mode m period 2 { actfreq 1 do a := o; taskfreq 1 do T(s); } start m;";
 
-/// Drives line 0 with 4.
-pub const FOUR: &str = "actuator a := 4 line 0; mode k period 1 { } start k;";
+// Drives line 0 with 4.
+pub(crate) const FOUR: &str = "actuator a := 4 line 0; mode k period 1 { } start k;";
 
-/// Has a sensor that takes a granted value, and does nothing.
-pub const LISTENER: &str = "sensor g := -1 grant; mode n period 1 { } start n;";
+// Has a sensor that takes a granted value, and does nothing.
+pub(crate) const LISTENER: &str = "sensor g := -1 grant; mode n period 1 { } start n;";
 
-pub fn name(rt: &impl Abort, text: &str) -> Name
+pub(crate) fn name(rt: &impl Abort, text: &str) -> Name
     ensures { result ≡ text.now }
 {
     Name::new(text).expect(rt, "a name")
 }
 
-/// A list of this alone.
-pub fn one<T: Drop>(rt: &impl Abort, alloc: Global, item: T) -> List<T>
+// A list of this alone.
+pub(crate) fn one<T: Drop>(rt: &impl Abort, alloc: Global, item: T) -> List<T>
     ensures { result ≡ item ∷ [] }
 {
     let mut items = Vec::new(alloc);
@@ -47,18 +44,18 @@ pub fn one<T: Drop>(rt: &impl Abort, alloc: Global, item: T) -> List<T>
     List::from_vec(items)
 }
 
-/// The load of this program.
-pub fn load(rt: &impl Abort, alloc: Global, program: &str) -> Command {
+// The load of this program.
+pub(crate) fn load(rt: &impl Abort, alloc: Global, program: &str) -> Command {
     Command::Load(Text::from_str(alloc, program).expect(rt, "memory"))
 }
 
-/// The frame of the built-in configuration's one line.
-pub fn frame(rt: &impl Abort, alloc: Global, reading: i64) -> List<i64> {
+// The frame of the built-in configuration's one line.
+pub(crate) fn frame(rt: &impl Abort, alloc: Global, reading: i64) -> List<i64> {
     List::from_vec(Vec::from_slice(alloc, &[reading]).expect(rt, "memory"))
 }
 
-/// A tenant's release of T at this tick.
-pub fn release(rt: &impl Abort, tenant: TenantId, tick: u64) -> JobId {
+// A tenant's release of T at this tick.
+pub(crate) fn release(rt: &impl Abort, tenant: TenantId, tick: u64) -> JobId {
     JobId {
         tenant,
         tick,
@@ -66,12 +63,12 @@ pub fn release(rt: &impl Abort, tenant: TenantId, tick: u64) -> JobId {
     }
 }
 
-pub fn rig(rt: &impl Abort, alloc: Global) -> Config {
+pub(crate) fn rig(rt: &impl Abort, alloc: Global) -> Config {
     built_in(alloc).expect(rt, "memory")
 }
 
-/// A host whose first instant has this number.
-pub fn new_host(rt: &impl Abort, alloc: Global, first_tick: u64) -> Host {
+// A host whose first instant has this number.
+pub(crate) fn new_host(rt: &impl Abort, alloc: Global, first_tick: u64) -> Host {
     let config = rig(rt, alloc);
     let host = Host::new(alloc, &config, first_tick).expect(rt, "memory");
     drop(config);
