@@ -10,7 +10,7 @@ use Rattle.config_checks.specs.Notes.{as_note, note_of_line, notes_from}
 abbrev pub Told : Type 0
 Told = Severity × List ℕ
 
--- a loop over the lines that a tenant may read, one on
+-- a loop over the lines that a tenant may read, one line further
 pub line_further : (f : ℕ → List (List ℕ)) (lines : List ℕ) (i x : ℕ) (first before after : List Told) → before ≡ first ++ map as_note (flat_map f (take i lines)) → i < length lines → x ≡ get_or lines i x
     → after ≡ before ++ map as_note (f x) → after ≡ first ++ map as_note (flat_map f (take (i + 1) lines))
 line_further f lines i x first before after so_far within item grown =
@@ -19,7 +19,7 @@ line_further f lines i x first before after so_far within item grown =
     let notes : map as_note (flat_map f (take i lines)) ++ map as_note (f x) ≡ map as_note (flat_map f (take (i + 1) lines)) = sym (map-append as_note (flat_map f (take i lines)) (f x)) ∙ ap (map as_note) words in
     grown ∙ (ap (λ (l : List Told). l ++ map as_note (f x)) so_far ∙ (append_assoc first (map as_note (flat_map f (take i lines))) (map as_note (f x)) ∙ ap (λ (l : List Told). first ++ l) notes))
 
--- a loop over tenants, one on
+-- a loop over tenants, one tenant further
 pub reader_further : (rig : Rig) (place : ℕ) (reader : TenantConfig) (before after all : List Told) → place < length rig.tenants → reader ≡ get_or rig.tenants place reader
     → before ++ map as_note (notes_from rig place (drop place rig.tenants)) ≡ all → after ≡ before ++ map as_note (flat_map (note_of_line rig place) reader.budgets.reads)
     → after ++ map as_note (notes_from rig (place + 1) (drop (place + 1) rig.tenants)) ≡ all
@@ -32,7 +32,7 @@ reader_further rig place reader before after all there item h grown =
     ∙ (append_assoc before (map as_note own) (map as_note later)
     ∙ (ap (λ (l : List Told). before ++ l) (sym (map-append as_note own later) ∙ ap (map as_note) (sym here)) ∙ h))
 
--- a loop that adds a text for each element, one on
+-- a loop that adds a text for each element, one element further
 pub text_further : {X : Type 0} (f : X → List ℕ) (xs : List X) (i : ℕ) (x : X) (first before after : List ℕ) → before ≡ first ++ flat_map f (take i xs) → i < length xs → x ≡ get_or xs i x
     → after ≡ before ++ f x → after ≡ first ++ flat_map f (take (i + 1) xs)
 text_further f xs i x first before after so_far within item grown =

@@ -1,4 +1,4 @@
--- The values of an array, told one by one.
+-- The values of an array, written one by one.
 use Rattle.std.proofs.Common.{◌≡◌, ◌+◌, ◌<◌, ℕ, List, [], ◌∷◌, ◌++◌, length, map, take, get_or, codes, refl, sym, ap, subst, ◌∙◌, append_assoc, append-nil}
 use Rattle.std.proofs.lemmas.List.{map-append, take_more}
 use Rattle.toml.specs.Data.{Data}
@@ -14,7 +14,7 @@ told_behind (e ∷ ds) d text one are is =
     ap (λ (t : List ℕ). t ++ more) are.2 ∙ ap (λ (t : List ℕ). codes ", " ++ t) (append_assoc are.0 are.1 more) in
     (are.0, are.1 ++ more, grown, are.3, told_behind ds d are.1 one are.4 is)
 
--- a loop over values, one on
+-- a loop over values, one value further
 pub value_further : (vs : List Value) (i : ℕ) (v : Value) (before one after : List ℕ) → AreTold (items_view (take i vs)) before → i < length vs → v ≡ get_or vs i v → IsToldSo (view v) one
     → after ≡ before ++ (codes ", " ++ one) → AreTold (items_view (take (i + 1) vs)) after
 value_further vs i v before one after so_far within item is grown =

@@ -1,4 +1,4 @@
--- What is told of a configuration.
+-- What is reported about a configuration.
 use Rattle.std.specs.Prelude.{◌≡◌, ℕ, true, false, List, ◌++◌, Result, Ok, Err, string_bytes}
 use Rattle.giotto_faults.specs.declared.findings.Finding.{Finding}
 use Rattle.program_checks.specs.faults.Findings.{BeginsWith, head_of}
@@ -11,7 +11,7 @@ use Rattle.config_checks.specs.Faults.{TellsFault}
 use Rattle.config_checks.specs.Notes.{AreNotes, notes_on}
 use Rattle.config_checks.specs.Summaries.{summary_of}
 
--- What is told of a file is so: its configuration with the notes on it, or the first fault in it, which is shown by a finding.
+-- The report on a file is true: it has the configuration with the notes on it, or a finding that shows its first fault.
 abbrev pub IsToldOf : List ℕ → List ℕ → Report → Type 0
 IsToldOf file text report = by (config_of text)
   where

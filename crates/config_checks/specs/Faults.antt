@@ -23,11 +23,11 @@ use Rattle.config_checks.specs.Values.{IsValue}
 abbrev pub tenant_at : Data → ℕ → Option Data
 tenant_at document t = option_and_then (at t) (get (codes "tenant") document)
 
--- the name of the tenant at a place, where it has one
+-- the name of the tenant at a place, if it has one
 abbrev pub name_of : Data → ℕ → Option (List ℕ)
 name_of document t = option_and_then as_str (option_and_then (get (codes "name")) (tenant_at document t))
 
--- whose field it is: "the rig", "the tenant `NAME`", or where it has no name "tenant N, counted from 1,"
+-- whose field it is: "the rig", "the tenant `NAME`", or if it has no name, "tenant N, counted from 1,"
 abbrev pub owner_of : Data → Option ℕ → List ℕ
 owner_of document None = codes "the rig"
 owner_of document (Some t) = by (name_of document t)
@@ -44,7 +44,7 @@ value_at document place = by place.tenant
     by None = get (word_of place.field) document
     by (Some t) = option_and_then (get (word_of place.field)) (tenant_at document t)
 
--- how many tenants there are, where their field has an array; else its value
+-- how many tenants there are, if their field has an array; else its value
 abbrev pub AreCounted : Data → List ℕ → Type 0
 AreCounted (array values) text = text ≡ codes "an array of " ++ decimal (count_of values)
 AreCounted (string s) text = IsValue (string s) text
@@ -54,7 +54,7 @@ AreCounted (boolean truth) text = IsValue (boolean truth) text
 AreCounted (datetime moment) text = IsValue (datetime moment) text
 AreCounted (table fields) text = IsValue (table fields) text
 
--- how the value of a field is told: the tenants by how many they are
+-- how the value of a field is reported: the tenants by their number
 abbrev pub IsValueOf : Field → Data → List ℕ → Type 0
 IsValueOf field.Tenant value text = AreCounted value text
 IsValueOf _ value text = IsValue value text
@@ -63,7 +63,7 @@ abbrev pub list_of : Items → List Data
 list_of no_items = []
 list_of (item value others) = value ∷ list_of others
 
--- the values of an array; none of any other value
+-- the values of an array; there are none for any other value
 abbrev pub items_in : Data → List Data
 items_in (array values) = list_of values
 items_in _ = []
@@ -76,7 +76,7 @@ tenants_in document = by (get (codes "tenant") document)
     by None = []
     by (Some value) = items_in value
 
--- the values of a tenant's field: those of its array, or the one that it has
+-- the values of a tenant's field: those of its array, or its single value
 abbrev pub values_of : Data → List Data
 values_of (array values) = list_of values
 values_of (string s) = string s ∷ []
@@ -99,11 +99,11 @@ is_same (string s) (string t) = same_name s t
 is_same (integer y) (integer z) = int_eq y z
 is_same _ _ = false
 
--- the value is one of this field, of one of these tenants
+-- one of these tenants has this value in this field
 abbrev pub has_one : Field → List Data → Data → Bool
 has_one f tenants value = list_any (λ tenant. list_any (is_same value) (values_in f tenant)) tenants
 
--- the first value that a tenant has and one before it too, where these stand before
+-- the first value that a tenant shares with an earlier one, if these tenants come before
 abbrev pub shared_from : Field → List Data → List Data → Option Data
 shared_from f before [] = None
 shared_from f before (tenant ∷ others) = by (find (has_one f before) (values_in f tenant)) (shared_from f (before ++ tenant ∷ []) others)
@@ -120,7 +120,7 @@ abbrev pub words_of_shared : Field → List ℕ → List ℕ
 words_of_shared field.Name text = codes "two tenants have the name " ++ text
 words_of_shared _ text = codes "two tenants may drive line " ++ text
 
--- a fault of this document is told so
+-- these words report this fault of a document
 abbrev pub IsFaultTold : Data → ConfigFault → List ℕ → Type 0
 IsFaultTold document (Missing place) words = words ≡ owner_of document place.tenant ++ (codes " has no `" ++ (word_of place.field ++ codes "`"))
 IsFaultTold document (Range place) words =
@@ -130,7 +130,7 @@ IsFaultTold document (Twice f) words = IfSome (shared_in f document) (λ d. (val
 IsFaultTold document NotToml words = Unit {0}
 IsFaultTold document Memory words = Unit {0}
 
--- an error that tells of this fault of a text: "this is no TOML: .." where it is none, and else by what its document has
+-- an error that reports this fault of a text: "this is no TOML: .." if the text is not TOML, else by what its document has
 abbrev pub TellsFault : List ℕ → ConfigFault → Finding → Type 0
 TellsFault text fault f = (f.severity ≡ Error) × by (parse_document text)
   where

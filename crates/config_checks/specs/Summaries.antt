@@ -1,4 +1,4 @@
--- How a rig is told: its lines, and its tenants with their budgets.
+-- The summary of a rig: its lines, and its tenants with their budgets.
 use Rattle.std.specs.Prelude.{ℕ, List, [], ◌∷◌, ◌++◌, length, codes}
 use Rattle.std.specs.Fmt.{decimal, signed_decimal}
 use Rattle.std.specs.List.{flat_map}

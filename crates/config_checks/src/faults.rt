@@ -1,4 +1,4 @@
-//! The fault of a configuration, with the tenant and the value.
+//! The finding about the fault of a configuration, with the tenant and the value.
 
 ghost use Rattle.std.specs.Prelude.{◌≡◌, ◌+◌, ◌++◌, IfOk, IfSome, codes, None, map, option_map, string_bytes};
 ghost use Rattle.std.specs.Fmt.{decimal};
@@ -18,7 +18,7 @@ use rig_model::config::faults::{ConfigFault, Field, FieldPlace};
 use std::alloc::{AllocError, Global};
 use toml::Value;
 
-/// A finding about a field that stands at this offset.
+/// A finding about a field at this offset.
 pub(crate) fn finding(severity: Severity, offset: usize, field: Field, message: String) -> Finding
     ensures severity { result.severity ≡ severity }
     ensures message { result.message ≡ message }
@@ -33,10 +33,10 @@ pub(crate) fn finding(severity: Severity, offset: usize, field: Field, message: 
     }
 }
 
-/// What is told of the fault that this text of a file has.
+/// The finding that reports the fault of this text of a file.
 ///
 /// # Errors
-/// Want of memory.
+/// Out of memory.
 pub(crate) fn finding_of(
     alloc: Global,
     text: &str,
@@ -51,7 +51,7 @@ pub(crate) fn finding_of(
     }
 }
 
-// What is told of a text that is no TOML.
+// The finding about a text that is not TOML.
 fn not_toml(alloc: Global, error: &toml::de::Error) -> Result<Finding, AllocError>
     ensures severity { IfOk result (λ f. f.severity ≡ Severity.Error) }
     ensures message { IfOk result (λ f. BeginsWith (codes "this is no TOML: ") (string_bytes f.message)) }
@@ -72,7 +72,7 @@ fn words_of_no_toml(alloc: Global, why: &str) -> Result<String, AllocError>
     format!(in alloc; "this is no TOML: {why}")
 }
 
-// Where a text is no TOML.
+// The offset of the fault in a text that is not TOML, or 0 if it isn't known.
 fn start_of(error: &toml::de::Error) -> usize {
     match error.span() {
         Some(span) => span.start,
@@ -80,7 +80,7 @@ fn start_of(error: &toml::de::Error) -> usize {
     }
 }
 
-// What is told of the fault of a document.
+// The finding about the fault of a document.
 fn finding_in(
     alloc: Global,
     text: &str,
@@ -102,7 +102,7 @@ fn finding_in(
     })
 }
 
-// What is said of the fault of a document.
+// The message about the fault of a document.
 fn words_of_fault(alloc: Global, document: &Value, fault: ConfigFault) -> Result<String, AllocError>
     ensures { IfOk result (λ words. IsFaultTold (view document.now) fault (string_bytes words)) }
 {
@@ -114,7 +114,7 @@ fn words_of_fault(alloc: Global, document: &Value, fault: ConfigFault) -> Result
     }
 }
 
-// A field isn't there.
+// The message if a field is missing.
 fn words_of_missing(alloc: Global, document: &Value, at: FieldPlace) -> Result<String, AllocError>
     ensures { IfOk result (λ words. IsFaultTold (view document.now) (ConfigFault.Missing at) (string_bytes words)) }
 {
@@ -123,7 +123,7 @@ fn words_of_missing(alloc: Global, document: &Value, at: FieldPlace) -> Result<S
     format!(in alloc; "{} has no `{word}`", owner.as_str())
 }
 
-// The value of a field is another than it may be.
+// The message if a field has a value that it may not have.
 fn words_of_range(alloc: Global, document: &Value, at: FieldPlace) -> Result<String, AllocError>
     ensures { IfOk result (λ words. IsFaultTold (view document.now) (ConfigFault.Range at) (string_bytes words)) }
 {
@@ -133,7 +133,7 @@ fn words_of_range(alloc: Global, document: &Value, at: FieldPlace) -> Result<Str
     format!(in alloc; "`{word}` of {} is {}", owner.as_str(), value.as_str())
 }
 
-// Whose field it is: the rig's, or a tenant's, by its name where it has one.
+// Whose field it is: the rig's or a tenant's. A tenant is named if it has a name.
 fn owner_of(alloc: Global, document: &Value, tenant: Option<TenantId>) -> Result<String, AllocError>
     ensures { IfOk result (λ owner. string_bytes owner ≡ owner_of (view document.now) tenant) }
 {
@@ -146,7 +146,7 @@ fn owner_of(alloc: Global, document: &Value, tenant: Option<TenantId>) -> Result
     }
 }
 
-// A tenant that has no name.
+// The words for a tenant that has no name.
 fn counted(alloc: Global, tenant: TenantId) -> Result<String, AllocError>
     ensures { IfOk result (λ owner. string_bytes owner ≡ codes "tenant " ++ (decimal (tenant + 1) ++ codes ", counted from 1,")) }
 {
@@ -154,7 +154,7 @@ fn counted(alloc: Global, tenant: TenantId) -> Result<String, AllocError>
     format!(in alloc; "tenant {number}, counted from 1,")
 }
 
-/// The name of the tenant at a place, where it has one.
+/// The name of the tenant at a place, if it has one.
 pub(crate) fn name_of(document: &Value, tenant: TenantId) -> Option<&str>
     ensures { option_copied result ≡ name_of (view document.now) tenant }
 {
@@ -191,7 +191,7 @@ fn value_at(document: &Value, at: FieldPlace) -> Option<&Value>
     }
 }
 
-// The value of a field, as it is written; how many tenants there are where it is they.
+// The value of a field as it is written. For the field that has the tenants, it is how many there are.
 fn text_at(alloc: Global, document: &Value, at: FieldPlace) -> Result<String, AllocError>
     ensures { IfOk result (λ text. IfSome (value_at (view document.now) at) (λ value. IsValueOf at.field value (string_bytes text))) }
 {
@@ -210,7 +210,7 @@ fn text_of_field(alloc: Global, field: Field, value: &Value) -> Result<String, A
     }
 }
 
-// How many tenants there are, or what stands in place of their array.
+// How many tenants there are, or the value that is there instead of their array.
 fn text_of_tenants(alloc: Global, value: &Value) -> Result<String, AllocError>
     ensures { IfOk result (λ text. AreCounted (view value.now) (string_bytes text)) }
 {
@@ -229,7 +229,7 @@ fn text_of_count(alloc: Global, values: &[Value]) -> Result<String, AllocError>
     format!(in alloc; "an array of {count}")
 }
 
-// Two tenants have the same name, or may drive the same line.
+// The message if two tenants have the same name, or may drive the same line.
 fn words_of_twice(alloc: Global, document: &Value, field: Field) -> Result<String, AllocError>
     ensures { IfOk result (λ words. IsFaultTold (view document.now) (ConfigFault.Twice field) (string_bytes words)) }
 {
@@ -249,14 +249,14 @@ fn words_of_shared(alloc: Global, field: Field, value: &str) -> Result<String, A
     }
 }
 
-/// A value that a tenant has and one before it too, and the place of the later one.
+/// A value that a tenant shares with an earlier one, and the place of the later tenant.
 #[derive(Clone, Copy)]
 pub(crate) struct Shared<'a> {
     pub(crate) tenant: TenantId,
     pub(crate) value: &'a Value,
 }
 
-/// The first such value of this field.
+/// The first shared value of this field.
 pub(crate) fn shared_in(document: &Value, field: Field) -> Option<Shared>
     ensures { option_map (λ shared. view shared.value.now) result ≡ shared_in field (view document.now) }
 {
@@ -272,7 +272,7 @@ pub(crate) fn shared_in(document: &Value, field: Field) -> Option<Shared>
     None
 }
 
-// The first value of a tenant's field that one of these has too.
+// The first value of a tenant's field that one of the tenants before it has too.
 fn shared_with<'a>(before: &[Value], tenant: &'a Value, field: Field) -> Option<&'a Value>
     ensures { option_map (λ value. view value.now) result ≡ find (has_one field (map view before.now)) (values_in field (view tenant.now)) }
 {
@@ -303,7 +303,7 @@ fn has_one(tenants: &[Value], field: Field, value: &Value) -> bool
     false
 }
 
-/// Whether a value is among these.
+/// Whether a value is among these values.
 pub(crate) fn is_among(values: &[Value], value: &Value) -> bool
     ensures { result ≡ list_any (is_same (view value.now)) (map view values.now) }
 {
@@ -325,7 +325,7 @@ pub(crate) fn tenants_in(document: &Value) -> &[Value]
     }
 }
 
-// The values of an array; none of any other value.
+// The values of an array. There are none for any other value.
 fn items_in(value: &Value) -> &[Value]
     ensures { map view result.now ≡ items_in (view value.now) }
 {
@@ -335,7 +335,7 @@ fn items_in(value: &Value) -> &[Value]
     }
 }
 
-/// The values of a field: those of its array, or the one that it has.
+/// The values of a field: those of its array, or its single value.
 pub(crate) fn values_in(tenant: &Value, field: Field) -> &[Value]
     ensures { map view result.now ≡ values_in field (view tenant.now) }
 {
@@ -365,7 +365,7 @@ fn is_same(one: &Value, other: &Value) -> bool
     }
 }
 
-// Where the fault of a document stands in its text.
+// The offset of a document's fault in its text.
 fn offset_of_fault(text: &str, document: &Value, fault: ConfigFault) -> usize {
     match fault {
         ConfigFault::Missing(at) | ConfigFault::Range(at) => offset_of(text, at),

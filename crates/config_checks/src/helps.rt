@@ -1,4 +1,4 @@
-//! What helps with the fault of a configuration: what a field may be, a key that is misspelled, or which two tenants share a line.
+//! Help on the fault of a configuration: what a field may be, a misspelled key, or which two tenants share a line.
 
 use crate::faults::{is_among, name_of, shared_in, tenant_at, tenants_in, values_in};
 use rig_model::config::faults::{ConfigFault, Field, FieldPlace};
@@ -6,10 +6,10 @@ use std::alloc::{AllocError, Global};
 use strsim::osa_distance;
 use toml::{Table, Value};
 
-/// What helps with the fault of a document, if anything does.
+/// The help on the fault of a document, if there is any.
 ///
 /// # Errors
-/// Want of memory.
+/// Out of memory.
 pub(crate) fn help_on(
     alloc: Global,
     document: &Value,
@@ -23,7 +23,7 @@ pub(crate) fn help_on(
     }
 }
 
-// Which key of the table may be meant for the field that isn't there, or else what the field may be.
+// Says which key of the table may be meant for the missing field, or else what the field may be.
 fn help_on_missing(alloc: Global, document: &Value, at: FieldPlace) -> Result<String, AllocError> {
     let word = at.field.word();
     if let Some(fields) = fields_of(document, at)
@@ -34,7 +34,7 @@ fn help_on_missing(alloc: Global, document: &Value, at: FieldPlace) -> Result<St
     help_on_field(alloc, document, at.field)
 }
 
-// The table in which the field has its place.
+// The table that the field belongs to.
 fn fields_of(document: &Value, at: FieldPlace) -> Option<&Table> {
     match at.tenant {
         None => document.as_table(),
@@ -45,7 +45,8 @@ fn fields_of(document: &Value, at: FieldPlace) -> Option<&Table> {
     }
 }
 
-// A key of the table that is near a field which the table hasn't. No other field is: any two are further from each other.
+// A key of the table that is near the word of a missing field. The key can't be another field: the words of any two fields are
+// further apart.
 fn misspelled_in<'a>(
     alloc: Global,
     fields: &'a Table,
@@ -59,7 +60,7 @@ fn misspelled_in<'a>(
     Ok(None)
 }
 
-// Whether a key is a field's word in capitals, or misspelled by a letter in three at most.
+// Whether a key is the field's word in a different case, or differs from it by at most one edit per three letters of the word.
 fn is_near(alloc: Global, key: &str, word: &str) -> Result<bool, AllocError> {
     if key.eq_ignore_ascii_case(word) {
         return Ok(true);
@@ -67,7 +68,7 @@ fn is_near(alloc: Global, key: &str, word: &str) -> Result<bool, AllocError> {
     Ok(osa_distance(alloc, key, word)? <= word.len() / 3)
 }
 
-// What a field may be.
+// Says what a field may be.
 fn help_on_field(alloc: Global, document: &Value, field: Field) -> Result<String, AllocError> {
     let (word, may) = (field.word(), words_of_field(field));
     match (field, document.get("lines")) {
@@ -97,7 +98,7 @@ fn words_of_field(field: Field) -> &'static str {
     }
 }
 
-// Which two tenants may drive the same line. Of two with one name nothing more is told.
+// Says which two tenants may drive the same line. There is no help on two tenants with the same name.
 fn help_on_twice(
     alloc: Global,
     document: &Value,

@@ -1,4 +1,4 @@
-//! What is told of a configuration: its fault, with the tenant and the value, or what it has.
+//! Reports on a configuration: its fault, with the tenant and the value, or what it has.
 //!
 //! ```text
 //! rig.toml:25:1: error: `steps` of the tenant `beta` is 0
@@ -8,8 +8,9 @@
 //!    = help: `steps` is a number from 1 to 1000000
 //! ```
 //!
-//! It is `rig_config` that finds the fault; only whose it is and where it stands is looked up here. `specs/Configurations.antt` says
-//! what is told, `specs/Summaries.antt` and `specs/Notes.antt` of a good configuration, `specs/Faults.antt` of a fault.
+//! `rig_config` finds the fault. This crate only looks up whose fault it is, and where it is in the text.
+//! `specs/Configurations.antt` says what is reported: `specs/Summaries.antt` and `specs/Notes.antt` for a good configuration, and
+//! `specs/Faults.antt` for a fault.
 #![tactic(auto)]
 
 ghost use Rattle.std.specs.Prelude.{◌≡◌, Err, IfOk, Ok};
@@ -31,11 +32,13 @@ use rig_model::config::faults::ConfigFault;
 use rig_model::config::{Config, read_config};
 use std::alloc::{AllocError, Global};
 
-/// What is told of a configuration's file with this name and this text: its fault, with the tenant and the value; or what it has, and
-/// behind that a note for each line that one tenant may drive and another may read.
+/// The report on a configuration's file with this name and this text.
+///
+/// If there is a fault, the report has the fault, with the tenant and the value. Otherwise it has what the configuration has, and
+/// after that a note for each line that one tenant may drive and another may read.
 ///
 /// # Errors
-/// Want of memory.
+/// Out of memory.
 pub fn check_configuration(alloc: Global, file: &str, text: &str) -> Result<Report, AllocError>
     ensures { IfOk result (IsToldOf file.now text.now) }
 {
@@ -46,7 +49,7 @@ pub fn check_configuration(alloc: Global, file: &str, text: &str) -> Result<Repo
     }
 }
 
-// What is told of the configuration of this text.
+// The report on the configuration of this text.
 fn good(alloc: Global, file: &str, text: &str, config: &Config) -> Result<Report, AllocError>
     requires { config_of text.now ≡ Ok config.now }
     ensures { IfOk result (IsToldOf file.now text.now) }
@@ -60,7 +63,7 @@ fn good(alloc: Global, file: &str, text: &str, config: &Config) -> Result<Report
     })
 }
 
-// What is told of a text with this fault.
+// The report on a text with this fault.
 fn faulty(alloc: Global, file: &str, text: &str, fault: ConfigFault) -> Result<Report, AllocError>
     requires { config_of text.now ≡ Err fault }
     ensures { IfOk result (IsToldOf file.now text.now) }

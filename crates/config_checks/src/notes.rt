@@ -1,4 +1,4 @@
-//! Lines that one tenant may drive and another may read.
+//! Notes on lines that one tenant may drive and another may read.
 
 ghost use Rattle.std.specs.Prelude.{◌≡◌, ◌++◌, IfOk, OnOk, map, string_bytes};
 ghost use Rattle.std.specs.List.{flat_map};
@@ -12,10 +12,10 @@ use rig_model::config::faults::Field;
 use rig_model::config::{Config, TenantId};
 use std::alloc::{AllocError, Global};
 
-/// A note for each line that one tenant may drive and another may read, at what the other may read.
+/// A note for each line that one tenant may drive and another may read. The note is at the `reads` of the other tenant.
 ///
 /// # Errors
-/// Want of memory.
+/// Out of memory.
 pub(crate) fn notes_of(
     alloc: Global,
     text: &str,
@@ -31,7 +31,7 @@ pub(crate) fn notes_of(
     Ok(notes)
 }
 
-// Adds the notes on these lines, which the tenant at a place may read.
+// Adds the notes on these lines, which the tenant at the place `reader` may read.
 fn add_notes(
     alloc: Global,
     notes: &mut Vec<Finding>,
@@ -89,7 +89,7 @@ fn words_of_line(
     )
 }
 
-// The place of the tenant that may drive a line, if one may.
+// The place of the tenant that may drive a line, if there is one.
 fn driver_of(config: &Config, line: usize) -> Option<TenantId>
     ensures { result ≡ driver_of config.now line }
 {
@@ -99,7 +99,7 @@ fn driver_of(config: &Config, line: usize) -> Option<TenantId>
         .position(|tenant| may_use(tenant.budgets.writes.as_slice(), line))
 }
 
-// Whether a line is among these.
+// Whether a line is among these lines.
 fn may_use(lines: &[usize], line: usize) -> bool
     ensures { result ≡ may_use lines.now line }
 {

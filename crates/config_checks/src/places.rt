@@ -1,4 +1,4 @@
-//! Where the fields of a configuration stand in its text.
+//! Where the fields of a configuration are in its text.
 
 use rig_model::config::TenantId;
 use rig_model::config::faults::{Field, FieldPlace};
@@ -11,8 +11,8 @@ pub(crate) fn place_of(tenant: TenantId, field: Field) -> FieldPlace {
     }
 }
 
-/// The offset of a field, as it is usually written: at the front of a line, of a tenant's below the `[[tenant]]` with as many before it.
-/// Where it isn't found, that of the tenant, or else the front of the text.
+/// The offset of a field, if it is written as usual: at the start of a line, and for a tenant's field, below the `[[tenant]]` of
+/// that tenant. If the field isn't found, the result is the offset of the tenant, or else the start of the text.
 pub(crate) fn offset_of(text: &str, at: FieldPlace) -> usize {
     let word = at.field.word();
     let Some(tenant) = at.tenant else {
@@ -27,7 +27,7 @@ pub(crate) fn offset_of(text: &str, at: FieldPlace) -> usize {
     }
 }
 
-// The offset of the header of the tenant with so many before it.
+// The offset of the header of the tenant with this many tenants before it.
 fn offset_of_tenant(text: &str, tenant: usize) -> Option<usize> {
     let mut offset = 0usize;
     let mut before = 0usize;
@@ -43,7 +43,7 @@ fn offset_of_tenant(text: &str, tenant: usize) -> Option<usize> {
     None
 }
 
-// The offset of a field, from an offset on and before the next header.
+// The offset of a field, from the offset `begin` on and before the next header.
 fn offset_in(text: &str, begin: usize, word: &str) -> Option<usize> {
     let mut offset = 0usize;
     for line in text.split_inclusive('\n') {

@@ -10,10 +10,10 @@ use rig_model::config::intervals::Bounds;
 use rig_model::config::{Budgets, Config, TenantConfig};
 use std::alloc::{AllocError, Global};
 
-/// The lines of a rig and its tenants, three lines for each.
+/// The lines of a rig, and its tenants with three rows for each.
 ///
 /// # Errors
-/// Want of memory.
+/// Out of memory.
 pub(crate) fn summary_of(alloc: Global, file: &str, config: &Config) -> Result<String, AllocError>
     ensures { IfOk result (λ told. string_bytes told ≡ summary_of file.now config.now) }
 {

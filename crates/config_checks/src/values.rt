@@ -1,4 +1,4 @@
-//! Values of configurations, as they are told.
+//! Values of configurations as text.
 
 ghost use Rattle.std.specs.Prelude.{◌≡◌, ◌++◌, IfOk, IfSome, codes, string_bytes};
 ghost use Rattle.std.specs.Fmt.{debug_str};
@@ -9,10 +9,11 @@ ghost use Rattle.config_checks.specs.Values.{AreTold, IsArrayTold, IsToldSo, IsV
 use std::alloc::{AllocError, Global};
 use toml::Value;
 
-/// A value, as it is written in a configuration: an array by its numbers and texts, and what else there is by its kind.
+/// A value as text: a number, a text or a truth value as it is written in a configuration, an array by its values, and anything
+/// else by its kind.
 ///
 /// # Errors
-/// Want of memory.
+/// Out of memory.
 pub(crate) fn text_of_value(alloc: Global, value: &Value) -> Result<String, AllocError>
     ensures { IfOk result (λ text. IsValue (view value.now) (string_bytes text)) }
 {
@@ -34,7 +35,7 @@ fn text_of_array(alloc: Global, values: &[Value]) -> Result<String, AllocError>
     format!(in alloc; "[{}{}]", first.as_str(), others.as_str())
 }
 
-// Values, each behind a comma.
+// Values, each after a comma.
 fn text_of_others(alloc: Global, values: &[Value]) -> Result<String, AllocError>
     ensures { IfOk result (λ text. AreTold (items_view values.now) (string_bytes text)) }
 {
@@ -47,7 +48,7 @@ fn text_of_others(alloc: Global, values: &[Value]) -> Result<String, AllocError>
     Ok(text)
 }
 
-// A value that is no array.
+// A value that is not an array.
 fn text_of_one(alloc: Global, value: &Value) -> Result<String, AllocError>
     ensures { IfOk result (λ text. IsToldSo (view value.now) (string_bytes text)) }
 {
