@@ -1,4 +1,4 @@
--- What the threads of a schedule share, and what each has, may cross to them.
+-- What the threads of a schedule share, and what each of them has, may be passed to the threads.
 use denote.RattleType.{RattleType}
 use denote.Ref.{NamedLft}
 use denote.Param.Send.{IsSend, IsSync, sendable}

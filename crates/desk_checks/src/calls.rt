@@ -1,4 +1,4 @@
-//! Many calls at a desk, of which `bench/desks` counts the instructions.
+//! Many calls at a desk. `bench/desks` counts their instructions.
 
 ghost use Rattle.std.specs.Prelude.{◌≡◌};
 
@@ -14,8 +14,9 @@ use std::sync::Wait;
 
 const FIRST: TenantId = 0;
 
-/// So many passes of so many calls each, at a desk of the built-in configuration, which is then closed with all of them. How many entries its
-/// log has; -1 where something is refused.
+/// Makes `passes` passes of `calls` calls each at a desk of the built-in configuration, and closes it with all of them.
+///
+/// Returns the number of entries in the log; -1 if something is refused.
 pub(crate) fn closed<R: Wait>(
     rt: &R,
     alloc: Global,
@@ -63,7 +64,7 @@ fn called_passes<N: Naming>(
     Some(passes)
 }
 
-// A new pass of so many calls.
+// A new pass with this number of calls.
 fn called_pass<N: Naming>(rt: &impl Wait, desk: &Desk<N>, calls: u64) -> Option<Pass<N>> {
     let mut pass = desk.pass(rt).ok()?;
     for _call in 0..calls {

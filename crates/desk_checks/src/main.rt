@@ -1,5 +1,5 @@
-//! Checks of a desk for `scripts/`: random schedules of threads, and steps that are tried again where memory is refused; and many calls
-//! for `bench/`.
+//! Checks of a desk for `scripts/`: random schedules of threads, and steps that are tried again if memory is refused. Many calls for
+//! `bench/`.
 #![tactic(auto)]
 
 ghost use Rattle.std.specs.Prelude.{◌≡◌};
@@ -28,7 +28,7 @@ fn main(rt: HostRuntime) -> anyhow::Result<ExitCode> {
     Ok(ExitCode::SUCCESS)
 }
 
-// What the arguments ask for, and how often.
+// The work that the arguments request, and how often.
 fn asked_by(words: &[String]) -> Option<(Work, u64)> {
     let [_, name, times] = words else {
         return None;

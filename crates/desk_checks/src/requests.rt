@@ -1,4 +1,4 @@
-//! Steps at a desk, each taken once more where it is refused for want of memory: `scripts/check-memory` refuses each request in turn.
+//! Steps at a desk, each taken once more if memory is refused. `scripts/check-memory` refuses each request for memory in turn.
 
 ghost use Rattle.std.specs.Prelude.{◌≡◌};
 
@@ -22,17 +22,17 @@ const ALPHA: TenantId = 0;
 
 const BETA: TenantId = 1;
 
-// No tenant of the built-in configuration.
+// A place without a tenant in the built-in configuration.
 const NOBODY: TenantId = 2;
 
-// A step, and what has to come of it.
+// A step, and its expected result.
 #[derive(Clone, Copy)]
 enum Step {
-    // A pass more.
+    // One more pass.
     Pass,
-    // A line of a tenant, on the pass of that place, and its printed reply.
+    // A line of a tenant, on the pass at that tenant's place, and its printed reply.
     Call(TenantId, &'static str, &'static str),
-    // An instant with this reading, and how many jobs it releases.
+    // An instant with this reading, and the number of jobs that it releases.
     Tick(i64, usize),
     // The completion of the oldest job.
     Done,
@@ -83,8 +83,9 @@ const STEPS: [Step; 24] = [
     Step::Pass,
 ];
 
-/// The first steps, so many, and then the close of the desk with and without their passes, at a desk of the built-in configuration. How
-/// many gave what they have to give, and lost nothing where they were refused. -1 where there is want of memory for the desk.
+/// Takes the first `times` steps at a desk of the built-in configuration, and then its close without and with their passes.
+///
+/// Returns how many gave their expected result, and lost nothing if they were refused; -1 if there is no memory for the desk.
 pub(crate) fn taken<R: Wait>(rt: &R, alloc: Global, times: u64) -> anyhow::Result<i64> {
     let config = built_in(alloc)?;
     let taken = at_desk::<Brand, _>(rt, alloc, &config, NewHistory::new(), times);
@@ -95,7 +96,7 @@ pub(crate) fn taken<R: Wait>(rt: &R, alloc: Global, times: u64) -> anyhow::Resul
     )
 }
 
-// What the steps are taken with: the passes, the jobs that no step has brought back, and how many entries the log has to have.
+// What the steps work with: the passes, the jobs that no step has completed, and the expected number of entries in the log.
 #[derive(Drop)]
 struct Scene<N: Naming> {
     alloc: Global,
@@ -132,7 +133,7 @@ fn new_scene<N: Naming>(alloc: Global) -> Option<Scene<N>> {
     })
 }
 
-// How many of the first steps gave what they have to give.
+// The number of the first steps that gave their expected result.
 fn taken_at<N: Naming>(rt: &impl Wait, desk: &Desk<N>, scene: &mut Scene<N>, times: u64) -> u64 {
     let mut taken = 0u64;
     for (step, _time) in STEPS.iter().zip(0..times) {
@@ -143,7 +144,7 @@ fn taken_at<N: Naming>(rt: &impl Wait, desk: &Desk<N>, scene: &mut Scene<N>, tim
     taken
 }
 
-// 1 where the desk is to be closed behind the steps, and closes.
+// 1 if the desk is to be closed after the steps, and closes, else 0.
 fn taken_at_last<N: Naming>(desk: Desk<N>, scene: Scene<N>, times: u64) -> u64 {
     if times <= STEPS.len() as u64 {
         return 0;
@@ -161,10 +162,10 @@ fn is_taken<N: Naming>(rt: &impl Wait, desk: &Desk<N>, scene: &mut Scene<N>, ste
     }
 }
 
-// How often a step is tried. One request is refused at most, and one that was refused is asked for again.
+// How often a step is tried. At most one request for memory is refused, and the step is tried again then.
 const TRIES: u32 = 2;
 
-// Whether a pass more is given, without calls.
+// Whether one more pass is given, without calls.
 fn is_given<N: Naming>(rt: &impl Wait, desk: &Desk<N>, scene: &mut Scene<N>) -> bool {
     for _try in 0..TRIES {
         match desk.pass(rt) {
@@ -183,7 +184,7 @@ fn is_given<N: Naming>(rt: &impl Wait, desk: &Desk<N>, scene: &mut Scene<N>) -> 
     false
 }
 
-// Whether the desk has as many entries as it has to have.
+// Whether the desk has the expected number of entries.
 fn is_as_before<N: Naming>(rt: &impl Wait, desk: &Desk<N>, scene: &mut Scene<N>) -> bool {
     let Some(pass) = scene.passes.first_mut() else {
         return true;
@@ -229,7 +230,7 @@ fn command_at_last(alloc: Global, line: &str) -> Option<Command> {
     None
 }
 
-// What came of a call: the reply that it has to get, or a refusal for want of memory that left the pass as it was, or anything else.
+// The outcome of a call: the expected reply, a refusal without memory that left the pass unchanged, or anything else.
 #[derive(Clone, Copy)]
 enum Outcome {
     Right,
@@ -237,7 +238,7 @@ enum Outcome {
     Lost,
 }
 
-// What comes of a line.
+// The outcome of a line.
 fn told<N: Naming>(
     rt: &impl Wait,
     desk: &Desk<N>,
@@ -262,7 +263,7 @@ fn told<N: Naming>(
     }
 }
 
-// The reply to a call of this pass, or what came of it where it was refused.
+// The reply to a call of this pass, or its outcome if it was refused.
 fn answer_of<N: Naming>(
     rt: &impl Wait,
     desk: &Desk<N>,
@@ -283,7 +284,7 @@ fn answer_of<N: Naming>(
     }
 }
 
-// What a call came to that was answered so.
+// The outcome of a call with this reply.
 fn judged(alloc: Global, given: &Reply, reply: &str) -> Outcome {
     for _try in 0..TRIES {
         if let Ok(text) = print_reply(alloc, given) {
@@ -301,7 +302,7 @@ fn outcome_of(is_right: bool) -> Outcome {
     }
 }
 
-// Whether an instant stands behind all entries, and releases so many jobs.
+// Whether an instant is placed after all entries, and releases this number of jobs.
 fn is_released<N: Naming>(
     rt: &impl Wait,
     desk: &Desk<N>,
@@ -327,7 +328,7 @@ fn is_released<N: Naming>(
     false
 }
 
-// Whether the completion of the oldest job counts, behind all entries, and nothing is outstanding then.
+// Whether the completion of the oldest job counts, after all entries, and nothing is outstanding then.
 fn is_counted<N: Naming>(rt: &impl Wait, desk: &Desk<N>, scene: &mut Scene<N>) -> bool {
     if scene.jobs.is_empty() {
         return false;
@@ -355,7 +356,7 @@ fn is_driven<N: Naming>(rt: &impl Wait, desk: &Desk<N>, scene: &mut Scene<N>, va
     false
 }
 
-// Whether the desk is handed back where it is closed without passes, and closes with all of them and with all entries.
+// Whether the desk is handed back if it is closed without passes, and closes with all passes and all entries.
 fn is_closed<N: Naming>(desk: Desk<N>, scene: Scene<N>) -> bool {
     let Scene {
         alloc,

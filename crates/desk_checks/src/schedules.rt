@@ -1,5 +1,6 @@
-//! Random schedules of four threads at one desk. The log that is closed is played as a list of events, and what each thread was told is
-//! compared with what `play` answers.
+//! Random schedules of four threads at one desk.
+//!
+//! The log of the closed desk is played as a list of events. The replies that each thread got are compared with those of `play`.
 
 ghost use Rattle.std.specs.Prelude.{◌≡◌};
 
@@ -65,7 +66,7 @@ offers = 2
 binds = 2
 ";
 
-/// So many schedules, each on a desk of its own. In how many of them what each thread was told is what `play` answers to the closed log.
+/// Runs `times` schedules, each on a separate desk. Returns in how many of them the replies to each thread are those of `play` to the log.
 pub(crate) fn agreeing<R: Threads + Wait + Sync>(
     rt: &R,
     alloc: Global,
@@ -81,7 +82,7 @@ pub(crate) fn agreeing<R: Threads + Wait + Sync>(
     Ok(agreeing)
 }
 
-// Whether the schedule of this seed agrees.
+// Whether the schedule with this seed agrees.
 fn agrees<N: Naming + Send + Sync, R: Threads + Wait + Sync>(
     rt: &R,
     alloc: Global,
@@ -115,7 +116,7 @@ fn speak_at<N: Naming + Send + Sync, R: Threads + Wait + Sync>(
     speak_all(rt, &table, voices);
 }
 
-// A pass for each thread, and where its choices begin.
+// A voice for each thread, with a pass and the begin of its choices.
 fn new_voices<N: Naming>(
     rt: &impl Wait,
     alloc: Global,
@@ -131,7 +132,7 @@ fn new_voices<N: Naming>(
     Some(voices)
 }
 
-// Each in a thread of its own.
+// Each voice speaks in a separate thread.
 fn speak_all<N: Naming + Send + Sync, R: Threads + Wait + Sync>(
     rt: &R,
     table: &Table<'_, N>,
@@ -144,7 +145,7 @@ fn speak_all<N: Naming + Send + Sync, R: Threads + Wait + Sync>(
     });
 }
 
-// Whether the desk closes with all passes, and its log, played, answers what each was told.
+// Whether the desk closes with all passes, and playing its log gives the replies that each voice got.
 fn is_played<N: Naming>(
     alloc: Global,
     config: &Config,
@@ -156,7 +157,7 @@ fn is_played<N: Naming>(
     is_answered(alloc, config, &book, &all)
 }
 
-// The desk's book, and what each voice was told.
+// The desk's book, and what each voice heard.
 fn closed<N: Naming>(
     alloc: Global,
     desk: Desk<N>,
@@ -167,7 +168,7 @@ fn closed<N: Naming>(
     desk.close(passes).ok()
 }
 
-// The passes of the voices, and what each was told.
+// The passes of the voices, and what each heard.
 fn passes_of<N: Naming>(
     alloc: Global,
     voices: Vec<Voice<N>>,
@@ -180,14 +181,14 @@ fn passes_of<N: Naming>(
     Some(passes)
 }
 
-// The pass of a voice, and what it was told.
+// The pass of a voice, and what it heard.
 fn pass_of<N: Naming>(voice: Voice<N>, all: &mut Vec<Heard>) -> Option<Pass<N>> {
     let (pass, heard) = voice.into_parts()?;
     all.push(heard).ok()?;
     Some(pass)
 }
 
-// Whether the log of a book, played, answers what each thread was told.
+// Whether playing the log of a book gives the replies that each thread got.
 fn is_answered<N: Naming>(
     alloc: Global,
     config: &Config,
@@ -202,13 +203,13 @@ fn is_answered<N: Naming>(
     Some(same(&texts, &told))
 }
 
-// What `play` answers to a log.
+// The replies of `play` to a log.
 fn played(alloc: Global, config: &Config, log: &[Logged]) -> Option<Vec<Text>> {
     let events = events_of(alloc, log).ok()?;
     play(alloc, config, &events).ok()
 }
 
-// Whether each instant and each completion stands at the place that its thread was told.
+// Whether each instant and each completion is at the place that its thread got.
 fn stand<N: Naming>(book: &Book<N>, all: &[Heard]) -> bool {
     let mut stand = true;
     for heard in all {
@@ -237,8 +238,8 @@ fn event_of(alloc: Global, entry: &Logged) -> Result<Event, AllocError> {
     }
 }
 
-// What each of so many tenants was told: the replies that the threads heard, in the order of the log. None where a thread heard less or
-// more than the log has of it.
+// The replies to each tenant: those that the threads heard, in the order of the log. `None` if a thread heard fewer or more replies than
+// the log has calls of it.
 fn told_in_order(
     alloc: Global,
     log: &[Logged],
@@ -253,7 +254,7 @@ fn told_in_order(
     Some(texts)
 }
 
-// Adds all replies of a log to the texts of their tenants. Whether the threads heard these alone.
+// Adds all replies of a log to the texts of their tenants. Returns whether the threads heard only these.
 fn add_all(texts: &mut [Text], next: &mut [usize], log: &[Logged], all: &[Heard]) -> bool {
     for entry in log {
         if add(texts, next, entry, all).is_none() {
@@ -301,7 +302,7 @@ fn add_line(text: &mut Text, line: &str) -> Result<(), AllocError> {
     text.push_str("\n")
 }
 
-// Whether these are all replies of each.
+// Whether these are all replies that each thread heard.
 fn are_all(all: &[Heard], next: &[usize]) -> bool {
     let mut are_all = true;
     for (heard, next) in all.iter().zip(next) {

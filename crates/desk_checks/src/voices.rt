@@ -1,4 +1,4 @@
-//! Threads at one desk, each with choices of its own: calls, instants and completions.
+//! Threads at one desk, each with its own choices: calls, instants and completions.
 
 ghost use Rattle.std.specs.Prelude.{◌≡◌, ◌<◌};
 
@@ -14,19 +14,19 @@ use std::alloc::{AllocError, Global};
 use std::sync::{Barrier, Mutex, Wait};
 use tenant_jobs::jobs::{Job, Jobs, run_job};
 
-/// How many threads there are.
+/// The number of threads.
 pub(crate) const THREADS: usize = 4;
 
-// How many tenants there are.
+// The number of tenants.
 const TENANTS: u64 = 3;
 
-// How many rounds there are. All threads begin each together.
+// The number of rounds. All threads begin each round together.
 const ROUNDS: u32 = 6;
 
-// The most that a thread does in a round.
+// The most steps that a thread takes in a round.
 const MOST: u64 = 4;
 
-// What is called. The first reads a sensor and takes two ticks.
+// The lines of the calls. The first program reads a sensor and takes two ticks.
 const LINES: [&str; 24] = [
     "load sensor s := 0 line 0; actuator a := 0; output o := 0; task T(i) output o { o := i + 1; } mode m period 2 { actfreq 1 do a := o; taskfreq 1 do T(s); } start m;",
     "load sensor s := 0 line 1; actuator a := 0; output o := 0; task T(i) output o { o := i + 1; } mode m period 1 { actfreq 1 do a := o; taskfreq 1 do T(s); } start m;",
@@ -54,7 +54,7 @@ const LINES: [&str; 24] = [
     "rows",
 ];
 
-/// What the threads share: the desk, the jobs that none of them has taken, and where they wait for each other.
+/// What the threads share: the desk, the jobs that none of them has taken, and the barrier at which they wait for each other.
 #[derive(Drop)]
 pub(crate) struct Table<'a, N: Naming> {
     pub(crate) alloc: Global,
@@ -63,14 +63,14 @@ pub(crate) struct Table<'a, N: Naming> {
     pub(crate) round: Barrier,
 }
 
-/// What a thread was told: the printed reply to each of its calls, and its instants and completions with their places.
+/// What a thread heard: the printed reply to each of its calls, and its instants and completions with their places.
 #[derive(Drop)]
 pub(crate) struct Heard {
     pub(crate) replies: Vec<String>,
     pub(crate) places: Vec<(u128, Logged)>,
 }
 
-/// A thread's choices, its pass, and what it was told.
+/// A thread's choices, its pass, and what it heard.
 #[derive(Drop)]
 pub(crate) struct Voice<N: Naming> {
     random: Random,
@@ -80,7 +80,7 @@ pub(crate) struct Voice<N: Naming> {
 }
 
 impl<N: Naming> Voice<N> {
-    /// One that has said nothing, whose choices begin here.
+    /// Creates a voice that has said nothing, whose choices begin with this seed.
     pub(crate) fn new(alloc: Global, seed: u64, pass: Pass<N>) -> Voice<N> {
         Voice {
             random: Random { state: seed },
@@ -93,7 +93,7 @@ impl<N: Naming> Voice<N> {
         }
     }
 
-    /// Its pass and what it was told; None where it was refused something.
+    /// Returns its pass and what it heard; `None` if something was refused.
     pub(crate) fn into_parts(self) -> Option<(Pass<N>, Heard)> {
         let Voice {
             random: _,
@@ -108,7 +108,7 @@ impl<N: Naming> Voice<N> {
     }
 }
 
-/// All rounds of a thread. It keeps to them where it was refused something, so that the others don't wait for it.
+/// Runs all rounds of a thread. It goes on if something was refused, so that the others don't wait for it.
 pub(crate) fn speak<N: Naming>(rt: &impl Wait, table: &Table<'_, N>, voice: &mut Voice<N>) {
     for _round in 0..ROUNDS {
         let _ = table.round.wait(rt);
@@ -139,7 +139,7 @@ fn call<N: Naming>(rt: &impl Wait, table: &Table<'_, N>, voice: &mut Voice<N>) -
     voice.heard.replies.push(text).ok()
 }
 
-// An instant, whose jobs lie there for all threads.
+// An instant. Its jobs are put on the table for all threads.
 fn tick<N: Naming>(rt: &impl Wait, table: &Table<'_, N>, voice: &mut Voice<N>) -> Option<()> {
     let frame = [voice.random.below(9) as i64, voice.random.below(9) as i64];
     let (jobs, place) = table.desk.tick(rt, &frame).ok()?;
@@ -149,13 +149,13 @@ fn tick<N: Naming>(rt: &impl Wait, table: &Table<'_, N>, voice: &mut Voice<N>) -
     voice.heard.places.push((place, entry)).ok()
 }
 
-// Lays these jobs to the others.
+// Puts these jobs with the others on the table.
 fn lay<N: Naming>(rt: &impl Wait, table: &Table<'_, N>, mut jobs: Jobs) -> Option<()> {
     let mut guard = table.jobs.lock(rt);
     lay_all(&mut *guard, &mut jobs).ok()
 }
 
-/// Lays all of these jobs to the others, as far as there is memory.
+/// Adds all of these jobs to the others, as far as memory allows.
 pub(crate) fn lay_all(all: &mut Vec<Job>, jobs: &mut Jobs) -> Result<(), AllocError> {
     for _job in 0..jobs.len() {
         if let Some(job) = jobs.take() {
@@ -165,7 +165,7 @@ pub(crate) fn lay_all(all: &mut Vec<Job>, jobs: &mut Jobs) -> Result<(), AllocEr
     Ok(())
 }
 
-// The completion of any job that lies there.
+// The completion of any job on the table.
 fn done<N: Naming>(rt: &impl Wait, table: &Table<'_, N>, voice: &mut Voice<N>) -> Option<()> {
     let Some(job) = taken(rt, table, &mut voice.random) else {
         return Some(());
@@ -178,7 +178,7 @@ fn done<N: Naming>(rt: &impl Wait, table: &Table<'_, N>, voice: &mut Voice<N>) -
     voice.heard.places.push((place, Logged::Done(id))).ok()
 }
 
-// Any of the jobs that lie there.
+// Any of the jobs on the table.
 fn taken<N: Naming>(rt: &impl Wait, table: &Table<'_, N>, random: &mut Random) -> Option<Job> {
     let mut guard = table.jobs.lock(rt);
     let all = &mut *guard;
@@ -189,7 +189,7 @@ fn taken<N: Naming>(rt: &impl Wait, table: &Table<'_, N>, random: &mut Random) -
     Some(all.swap_remove(place))
 }
 
-// Numbers that look like chance, the same for the same seed: those of SplitMix64.
+// Pseudo-random numbers, the same for the same seed: those of SplitMix64.
 #[derive(Drop)]
 struct Random {
     state: u64,
@@ -204,7 +204,7 @@ impl Random {
         mixed ^ (mixed >> 31)
     }
 
-    // One below this.
+    // A number below this bound.
     fn below(&mut self, bound: u64) -> u64
         requires { 0 < bound }
         ensures { result < bound }

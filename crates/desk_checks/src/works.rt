@@ -1,14 +1,14 @@
-//! All works, by name.
+//! The kinds of work, by name.
 
 use crate::{calls, requests, schedules};
 use std::alloc::Global;
 use std::sync::Wait;
 use std::thread::Threads;
 
-// How many calls each of many passes has.
+// The number of calls of each pass.
 const CALLS: u64 = 32;
 
-/// What is done so many times.
+/// What is done a number of times.
 #[derive(Clone, Copy)]
 pub(crate) enum Work {
     /// Random schedules at a desk.
@@ -21,7 +21,7 @@ pub(crate) enum Work {
     Calls,
 }
 
-/// The work of this name; `None` where there is no such.
+/// The work with this name; `None` if there is none.
 pub(crate) fn work_of(name: &str) -> Option<Work> {
     let work = match name {
         "schedules" => Work::Schedules,
@@ -33,7 +33,7 @@ pub(crate) fn work_of(name: &str) -> Option<Work> {
     Some(work)
 }
 
-/// Does this work so many times. How often it came out right, or how many calls were logged.
+/// Does this work `times` times. Returns how often it came out right, or how many calls were logged.
 pub(crate) fn done<R: Threads + Wait + Sync>(
     rt: &R,
     alloc: Global,
