@@ -1,4 +1,4 @@
-//! Desks: each way in which a call or a pass is refused.
+//! Desks: each reason for which a call or a pass is refused.
 
 use crate::fixtures::{ALPHA, NOBODY, load};
 use crate::shown::{Shown, is_shown};
@@ -14,7 +14,7 @@ use std::alloc::Global;
 use std::process::Abort;
 use std::sync::Wait;
 
-// What is refused.
+// What a desk refuses.
 #[derive(Clone, Copy)]
 pub(crate) enum Refusal {
     Full,
@@ -43,7 +43,7 @@ pub(crate) fn new_pass<N: Naming>(rt: &(impl Wait + Abort), desk: &Desk<N>) -> P
     desk.pass(rt).expect(rt, "a pass")
 }
 
-// What the tenant is answered to this command.
+// The reply to the tenant's command.
 pub(crate) fn call<N: Naming>(
     rt: &(impl Wait + Abort),
     desk: &Desk<N>,
@@ -54,7 +54,7 @@ pub(crate) fn call<N: Naming>(
     desk.call(rt, pass, tenant, command).expect(rt, "a reply")
 }
 
-// The tenant loads this program and starts it.
+// Has the tenant load this program and start it.
 pub(crate) fn load_and_start<N: Naming>(
     rt: &(impl Wait + Abort),
     alloc: Global,
@@ -67,7 +67,7 @@ pub(crate) fn load_and_start<N: Naming>(
     drop(call(rt, desk, pass, tenant, Command::Start));
 }
 
-// Both, the first one first.
+// A list of both, in this order.
 pub(crate) fn both<N: Naming>(
     rt: &impl Abort,
     alloc: Global,
@@ -85,7 +85,7 @@ pub(crate) fn book_of<N: Naming>(rt: &impl Abort, desk: Desk<N>, passes: Vec<Pas
     desk.close(passes).ok().expect(rt, "a book")
 }
 
-// How many entries its log has.
+// The number of entries in the log of the desk, closed with these passes.
 pub(crate) fn entries<N: Naming>(rt: &impl Abort, desk: Desk<N>, passes: Vec<Pass<N>>) -> usize {
     let book = book_of(rt, desk, passes);
     let entries = book.log().len();
@@ -104,7 +104,7 @@ pub(crate) fn is_refused<N: Naming>(
     desk.call(rt, pass, tenant, Command::ShowMode).err() == Some(why)
 }
 
-// The 4,097th call of a pass is refused, whoever's it is.
+// The 4,097th call of a pass is refused, whichever tenant it is for.
 fn refuses_full_pass<N: Naming>(rt: &(impl Wait + Abort), desk: &Desk<N>) -> bool {
     let mut pass = new_pass(rt, desk);
     for _call in 0..4096u32 {
@@ -124,7 +124,7 @@ pub(crate) fn other_pass<N: Naming>(rt: &(impl Wait + Abort), other: &Desk<N>) -
     pass
 }
 
-// A pass with a call of another desk is refused where its seat was never given, and where that seat has no call.
+// A pass with a call of another desk is refused if its seat was never given, and if that seat has no call.
 fn refuses_strange_pass<N: Naming>(
     rt: &(impl Wait + Abort),
     desk: &Desk<N>,

@@ -1,4 +1,6 @@
-//! What tests begin with, as in rig_tests: a library may not end the process, as these do where something fails.
+//! Fixtures of tests, as in rig_tests.
+//!
+//! They end the process if something fails, which a library may not do.
 
 ghost use Rattle.std.specs.Prelude.{◌≡◌};
 
@@ -17,7 +19,7 @@ pub(crate) const ALPHA: TenantId = 0;
 
 pub(crate) const BETA: TenantId = 1;
 
-// No tenant of the built-in configuration.
+// A place without a tenant in the built-in configuration.
 pub(crate) const NOBODY: TenantId = 2;
 
 // Reads a sensor, adds 1, and drives an actuator with the sum, with a period of 2 ticks.
@@ -36,7 +38,7 @@ pub(crate) fn name(rt: &impl Abort, text: &str) -> Name
     Name::new(text).expect(rt, "a name")
 }
 
-// The load of this program.
+// The command that loads this program.
 pub(crate) fn load(rt: &impl Abort, alloc: Global, program: &str) -> Command {
     Command::Load(Text::from_str(alloc, program).expect(rt, "memory"))
 }
@@ -46,7 +48,7 @@ pub(crate) fn frame(rt: &impl Abort, alloc: Global, reading: i64) -> List<i64> {
     List::from_vec(Vec::from_slice(alloc, &[reading]).expect(rt, "memory"))
 }
 
-// A tenant's release of T at this tick.
+// The id of a tenant's job of T that was released at this tick.
 pub(crate) fn release(rt: &impl Abort, tenant: TenantId, tick: u64) -> JobId {
     JobId {
         tenant,
@@ -59,7 +61,7 @@ pub(crate) fn rig(rt: &impl Abort, alloc: Global) -> Config {
     built_in(alloc).expect(rt, "memory")
 }
 
-// Gives one byte a read. Then it says once that it has ended, where it ends, and each read behind that fails.
+// Gives one byte in each read. After the last byte, it ends once if `ends` is set, and each read after that fails.
 #[derive(Drop)]
 pub(crate) struct OneByOne<'a> {
     pub(crate) left: &'a [u8],

@@ -1,4 +1,4 @@
-//! Tests of desks, workers and sessions: what only a call shows, as in rig_tests, which says how tests are written.
+//! Tests of what only a call shows of desks, workers and sessions. rig_tests says how tests are written.
 #![tactic(auto)]
 
 #[cfg(test)]

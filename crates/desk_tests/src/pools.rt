@@ -1,5 +1,7 @@
-//! Workers: a job that is held lets the others pass, a job that is sent is run before its worker is stopped, and a pool that is dropped
-//! leaves no thread. What passes here fails with each of three wrong crews. `scripts/check-pools` runs two of these tests many times.
+//! Workers: a held job lets the others pass, a sent job is run before its worker is stopped, and a dropped pool leaves no thread.
+//!
+//! What passes here fails with only one thread, with a gate under a lock, and with jobs that are dropped instead of sent.
+//! `scripts/check-pools` runs two of these tests many times.
 
 ghost use Rattle.std.specs.Prelude.{◌≤◌};
 
@@ -26,26 +28,26 @@ use worker_pool::pools::Pool;
 const PAIR: &str =
     "output o := 0; output q := 0; task T() output o { o := 1; } task U() output q { q := 2; } mode m period 1 { taskfreq 1 do T(); taskfreq 1 do U(); } start m;";
 
-// How often the job that is held looks whether two others have entered, a millisecond apart.
+// How often the held job checks whether two others have entered, once a millisecond.
 const TURNS: u32 = 10_000;
 
-// What is shown of workers.
+// What a test shows of workers.
 #[derive(Clone, Copy)]
 pub(crate) enum Work {
-    // Of three jobs the first to enter the gate is held until both others have entered.
+    // The first of three jobs to enter the gate is held until both others have entered.
     HeldJob(Crew),
-    // A job that was sent is run when its worker has been stopped, also where its gate takes a while.
+    // A sent job is run before its worker has stopped, even if its gate takes a while.
     StoppedWorker(End),
-    // A pool that is dropped runs what was sent, and its threads end.
+    // A dropped pool runs what was sent, and its threads end.
     DroppedPool,
 }
 
-// Who computes three jobs.
+// The workers that compute three jobs.
 #[derive(Clone, Copy)]
 pub(crate) enum Crew {
     // Two workers.
     Two,
-    // One thread alone.
+    // Only one thread.
     One,
     // Two workers that call their gate under one lock.
     TwoUnderOneLock,
@@ -81,7 +83,7 @@ pub(crate) fn works<N: Naming + Send + Sync, R: Threads + Wait + Clock + Abort +
 #[derive(Drop)]
 struct HoldsFirst {
     entered: AtomicUsize,
-    // How many were let through though no two others had entered.
+    // The number of jobs that were let through before two others had entered.
     missed: AtomicUsize,
 }
 
@@ -134,7 +136,7 @@ impl Gate for UnderLock {
     }
 }
 
-// Alpha starts the pair and beta the adder, each on its own pass.
+// Alpha starts the pair and beta the adder, each on a separate pass.
 fn both_start<N: Naming>(rt: &(impl Wait + Abort), alloc: Global, desk: &Desk<N>) -> Vec<Pass<N>> {
     let mut alphas = new_pass(rt, desk);
     let mut betas = new_pass(rt, desk);
@@ -143,8 +145,8 @@ fn both_start<N: Naming>(rt: &(impl Wait + Abort), alloc: Global, desk: &Desk<N>
     both(rt, alloc, alphas, betas)
 }
 
-// Three jobs run by this crew, where the first is held until two others have entered: two calls of each tenant, an instant and three
-// completions stand in the log.
+// This crew runs three jobs, the first of which is held until two others have entered. Two calls of each tenant, an instant and three
+// completions are in the log.
 fn held_job_lets_others_pass<N: Naming + Send + Sync, R: Threads + Wait + Clock + Abort + Sync>(
     rt: &R,
     alloc: Global,
@@ -157,7 +159,7 @@ fn held_job_lets_others_pass<N: Naming + Send + Sync, R: Threads + Wait + Clock 
     missed == 0
 }
 
-// How many jobs were held too long. Each of the three asks the gate.
+// The number of jobs that were held too long. Each of the three jobs enters the gate.
 fn missed_by<N: Naming + Send + Sync, R: Threads + Wait + Clock + Abort + Sync>(
     rt: &R,
     alloc: Global,
@@ -177,7 +179,7 @@ fn missed_by<N: Naming + Send + Sync, R: Threads + Wait + Clock + Abort + Sync>(
     locked.gate.missed.load(Ordering::SeqCst)
 }
 
-// An instant with the reading 5, with whose jobs this is done by so many workers with this gate.
+// An instant with the reading 5. Its jobs end in this way, with this number of workers and this gate.
 fn run<N: Naming + Send + Sync, R: Threads + Wait + Clock + Abort + Sync, G: Gate + Sync>(
     rt: &R,
     alloc: Global,
@@ -232,7 +234,7 @@ fn send<N: Naming>(
     }
 }
 
-// Stops the workers, and gives two instants: at the second one a job of two ticks that isn't done is late.
+// Stops the workers, and gives two instants. At the second one, a job of two ticks that isn't done is late.
 fn stop<N: Naming>(rt: &(impl Threads + Wait + Abort), desk: &Desk<N>, pool: Pool) {
     pool.stop(rt);
     drop(jobs_of(rt, desk, 7));
@@ -244,7 +246,7 @@ fn jobs_of<N: Naming>(rt: &(impl Wait + Abort), desk: &Desk<N>, reading: i64) ->
     desk.tick(rt, &[reading]).expect(rt, "an instant").0
 }
 
-// Alpha goes on running after the deadline of the one job of its first instant, and drives the result.
+// Alpha still runs after the deadline of the one job of its first instant, and drives the result.
 fn stopped_worker_has_run_its_job<
     N: Naming + Send + Sync,
     R: Threads + Wait + Clock + Abort + Sync,
@@ -267,7 +269,7 @@ fn stopped_worker_has_run_its_job<
     runs && drives
 }
 
-// Whether alpha's line is answered with this text.
+// Whether the reply to alpha's line is this text.
 fn is_answered<N: Naming>(
     rt: &(impl Wait + Abort),
     alloc: Global,
@@ -283,7 +285,7 @@ fn is_answered<N: Naming>(
     printed.as_str() == text
 }
 
-// The jobs that were sent are run where the pool is dropped, and the scope ends.
+// The sent jobs are run if the pool is dropped, and the scope ends.
 fn dropped_pool_runs_its_jobs<N: Naming + Send + Sync, R: Threads + Wait + Clock + Abort + Sync>(
     rt: &R,
     alloc: Global,

@@ -1,4 +1,4 @@
-//! Sessions: what a client is answered, who takes its calls, and two suppliers and the rig's instants in one history.
+//! Sessions: the replies to a client, the desk that takes its calls, and two suppliers and the rig's instants in one history.
 
 use crate::desks::{both, entries, new_pass};
 use crate::fixtures::OneByOne;
@@ -25,7 +25,7 @@ use tenant_jobs::jobs::run_job;
 pub(crate) const ALPHAS: &[u8] =
     b"hello alpha ka\nload sensor s := 0 line 0; actuator a := 0; output o := 0; task T(i) output o { o := i + 1; } mode m period 2 { actfreq 1 do a := o; taskfreq 1 do T(s); } start m;\noffer a to beta\nstart\n";
 
-// Beta's: it loads a program whose sensor takes the granted value, and starts.
+// Beta's lines: it loads a program whose sensor takes the granted value, and starts.
 pub(crate) const BETAS: &[u8] =
     b"hello beta kb\nload sensor g := -1 grant; mode n period 1 { } start n;\nbind g from alpha.a\nstart\n";
 
@@ -33,15 +33,15 @@ pub(crate) const ALPHAS_REPLIES: &[u8] = b"ok hello\nok load\nok offer\nok start
 
 pub(crate) const BETAS_REPLIES: &[u8] = b"ok hello\nok load\nok bind\nok start\n";
 
-// Beta's in a third session.
+// Beta's lines in a third session.
 pub(crate) const THIRDS: &[u8] = b"hello beta kb\nshow port g\n";
 
 pub(crate) const THIRDS_REPLIES: &[u8] = b"ok hello\nok port g 6\n";
 
-// What is shown of sessions.
+// What a test shows of sessions.
 #[derive(Clone, Copy)]
 pub(crate) enum Session<'a> {
-    // These bytes are answered so, with so many calls.
+    // The reply to these bytes is the second text, with this number of calls.
     Said(&'a [u8], &'a [u8], usize),
     Refused(DeskFault),
     FailedRead,
@@ -65,7 +65,7 @@ pub(crate) fn talks<N: Naming, R: Wait + Abort>(
     is_so
 }
 
-// Whether these bytes are answered so, with so many calls.
+// Whether the reply to these bytes is `expected`, with this number of calls.
 fn is_said_at<N: Naming, R: Wait + Abort>(
     rt: &R,
     alloc: Global,
@@ -81,7 +81,7 @@ fn is_said_at<N: Naming, R: Wait + Abort>(
     made == calls
 }
 
-// The pass behind a session of a new one, in which these bytes are answered so.
+// The pass after a session on a new pass, in which the reply to these bytes is `expected`.
 pub(crate) fn talked<N: Naming, R: Wait + Abort>(
     rt: &R,
     alloc: Global,
@@ -93,7 +93,7 @@ pub(crate) fn talked<N: Naming, R: Wait + Abort>(
     talked_on(rt, alloc, config, desk, new_pass(rt, desk), text, expected)
 }
 
-// The pass behind a session of this one, in which these bytes are answered so.
+// The pass after a session on this pass, in which the reply to these bytes is `expected`.
 pub(crate) fn talked_on<N: Naming, D: Calls<N>, R: Wait + Abort>(
     rt: &R,
     alloc: Global,
@@ -143,7 +143,7 @@ impl<N: Naming> Calls<N> for Once {
     }
 }
 
-// A call that is refused ends the session, which tells why.
+// A refused call ends the session, whose last line says why.
 fn is_refused<N: Naming, R: Wait + Abort>(
     rt: &R,
     alloc: Global,
@@ -185,7 +185,7 @@ fn ends_at_failed_read<N: Naming, R: Wait + Abort>(
     ends == Err(TalkFault::Read) && written.as_slice() == said && calls == 1
 }
 
-// Two suppliers and three instants, told to a third session: all of it stands in one history.
+// Two suppliers, three instants, and a third session that asks for the result: all of it is in one history.
 pub(crate) fn stand_in_one_history<N: Naming, R: Wait + Abort>(
     rt: &R,
     alloc: Global,
@@ -202,7 +202,7 @@ pub(crate) fn stand_in_one_history<N: Naming, R: Wait + Abort>(
     releases && entries == 12
 }
 
-// Whether an instant with this reading releases a job. There is one at the most; it is completed then, and counts.
+// Whether an instant with this reading releases a job. There is at most one; it is completed, and counts.
 fn work_at<N: Naming>(rt: &(impl Wait + Abort), desk: &Desk<N>, reading: i64) -> bool {
     let (mut jobs, _place) = desk.tick(rt, &[reading]).expect(rt, "an instant");
     let releases = match jobs.take() {
@@ -217,7 +217,7 @@ fn work_at<N: Naming>(rt: &(impl Wait + Abort), desk: &Desk<N>, reading: i64) ->
     releases
 }
 
-// Whether these bytes are answered so in a session, which makes so many calls.
+// Whether the reply to these bytes is `expected` in a session, which makes this number of calls.
 fn is_said<R: Threads + Wait + Clock + Abort + Sync>(
     rt: &R,
     alloc: Global,
@@ -232,8 +232,8 @@ fn is_said<R: Threads + Wait + Clock + Abort + Sync>(
     )
 }
 
-// Who isn't greeted makes no call; an unknown tenant and a wrong key are answered alike; a blank line has no reply, and the last line
-// needs no LF.
+// A client that hasn't greeted makes no call. An unknown tenant and a wrong key get the same reply. A blank line has no reply, and the
+// last line needs no LF.
 #[test]
 fn session_greets_before_it_calls(rt: HostRuntime) {
     let text =
@@ -243,7 +243,7 @@ fn session_greets_before_it_calls(rt: HostRuntime) {
     assert!(rt; is_said(&rt, rt.alloc(), text, expected, 1));
 }
 
-// A byte that is no text ends a session.
+// A byte that isn't UTF-8 ends a session.
 #[test]
 fn bad_line_ends_a_session(rt: HostRuntime) {
     let text = b"hello alpha ka\nshow \xff\nshow mode\n".as_slice();

@@ -1,4 +1,4 @@
-//! What is shown on desks of the built-in configuration. A type says which desk it is; only this file picks that type.
+//! What tests show on desks of the built-in configuration. A type says which desk it is; only this file picks that type.
 
 ghost use Rattle.std.specs.Prelude.{◌≡◌};
 
@@ -19,7 +19,7 @@ use std::sync::Wait;
 use std::thread::Threads;
 use std::time::Clock;
 
-// What is shown.
+// What a test shows.
 #[derive(Clone, Copy)]
 pub(crate) enum Shown<'a> {
     Refusal(Refusal),
@@ -30,7 +30,7 @@ pub(crate) enum Shown<'a> {
     Suppliers,
 }
 
-// Whether it is so.
+// Whether it holds.
 pub(crate) fn is_shown<R: Threads + Wait + Clock + Abort + Sync>(
     rt: &R,
     alloc: Global,
@@ -42,7 +42,7 @@ pub(crate) fn is_shown<R: Threads + Wait + Clock + Abort + Sync>(
     is_so
 }
 
-// Whether it is so on a desk, beside another of the same configuration.
+// Whether it holds on a desk, next to another desk of the same configuration.
 fn on_desks<N: Naming + Send + Sync, R: Threads + Wait + Clock + Abort + Sync>(
     rt: &R,
     alloc: Global,

@@ -1,4 +1,4 @@
-//! Two suppliers that talk at once, each in a thread of its own, and two workers that run the jobs: all of it stands in one history.
+//! Two suppliers that talk at once, each in a separate thread, and two workers that run the jobs: all of it is in one history.
 
 use crate::desks::new_pass;
 use crate::fixtures::frame;
@@ -31,7 +31,7 @@ struct Day<N: Naming> {
     instants: Vec<(u128, Logged)>,
 }
 
-// All that two suppliers, a third session and three instants do stands in one history.
+// All that two suppliers, a third session and three instants do is in one history.
 pub(crate) fn talk_at_once<N: Naming + Send + Sync, R: Threads + Wait + Clock + Abort + Sync>(
     rt: &R,
     alloc: Global,
@@ -44,7 +44,7 @@ pub(crate) fn talk_at_once<N: Naming + Send + Sync, R: Threads + Wait + Clock + 
     stands_in_one_history(rt, desk, day, new_pass(rt, other))
 }
 
-// A day beside two workers.
+// A day with two workers.
 fn with_workers<N: Naming + Send + Sync, R: Threads + Wait + Clock + Abort + Sync>(
     rt: &R,
     alloc: Global,
@@ -60,7 +60,7 @@ fn with_workers<N: Naming + Send + Sync, R: Threads + Wait + Clock + Abort + Syn
     })
 }
 
-// Both suppliers begin, three instants pass, and beta asks in a third session what it was granted.
+// Both suppliers begin, three instants pass, and beta asks in a third session for its granted value.
 fn whole_day<N: Naming + Send + Sync, R: Threads + Wait + Abort + Sync>(
     rt: &R,
     alloc: Global,
@@ -88,7 +88,7 @@ fn whole_day<N: Naming + Send + Sync, R: Threads + Wait + Abort + Sync>(
     }
 }
 
-// Their passes, where each is answered in its thread as it is to be.
+// The passes of both suppliers, each of which gets the expected replies in its thread.
 fn both_talk<N: Naming + Send + Sync, D: Calls<N> + Sync, R: Threads + Wait + Abort + Sync>(
     rt: &R,
     alloc: Global,
@@ -111,7 +111,7 @@ fn both_talk<N: Naming + Send + Sync, D: Calls<N> + Sync, R: Threads + Wait + Ab
     })
 }
 
-// The instants with the readings 5, 7 and 9, behind the first of which all jobs are done before the second, and their places.
+// The instants with the readings 5, 7 and 9, and their places. All jobs of the first are done before the second.
 fn three_instants<N: Naming>(
     rt: &(impl Wait + Abort),
     alloc: Global,
@@ -142,7 +142,7 @@ fn pass_instant<N: Naming>(
     instants.push((place, instant)).expect(rt, "memory");
 }
 
-// Whether the desk closes with the day's passes alone, in a log that has all of the day.
+// Whether the desk closes with only the day's passes, and its log has all of the day.
 fn stands_in_one_history<N: Naming>(
     rt: &impl Abort,
     desk: Desk<N>,

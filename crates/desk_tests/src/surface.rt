@@ -1,4 +1,4 @@
-//! The calls of locked_book and rig_sessions that no other test makes, once each, as in `surface` of rig_tests.
+//! Each call of locked_book and rig_sessions that no other test makes, once, as in `surface` of rig_tests.
 
 ghost use Rattle.std.specs.Prelude.{◌≡◌};
 
@@ -42,7 +42,7 @@ fn keeps_a_log<N: Naming>(rt: &impl Abort, alloc: Global, config: &Config) -> bo
     tick == 2 && done == 3 && counted == Counted::Counted && entries == 4
 }
 
-// Whether a book of the built-in configuration does.
+// Whether a book of the built-in configuration logs them.
 fn is_logged(rt: &impl Abort, alloc: Global) -> bool {
     let config = rig(rt, alloc);
     let is_logged = keeps_a_log::<Brand>(rt, alloc, &config);
@@ -57,7 +57,7 @@ fn book_keeps_a_log(rt: HostRuntime) {
 
 // rig_sessions
 
-// What a session answers without a call, if it does.
+// The reply that a session gives without a call, if it gives one.
 fn said(rt: &impl Abort, alloc: Global, session: &mut Session<'_>, line: &str) -> Option<OwnReply> {
     match session.line(alloc, line).expect(rt, "memory") {
         Step::Say(reply) => Some(reply),

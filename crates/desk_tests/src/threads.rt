@@ -1,5 +1,5 @@
-//! Desks that threads share: two suppliers whose calls are in one history, many calls at once, and a thread that waits for the last job.
-//! And a completion after a stop.
+//! Desks that threads share: two suppliers whose calls are in one history, many calls at once, a thread that waits for the last job, and a
+//! completion after a stop.
 
 use crate::desks::{
     book_of, both, call, entries, is_refused, load_and_start, new_pass, other_pass,
@@ -24,16 +24,16 @@ use std::thread::Threads;
 use std::time::{Clock, Duration};
 use tenant_jobs::jobs::{Job, run_job};
 
-// How many calls each of two threads makes.
+// The number of calls that each of two threads makes.
 const MANY: usize = 200;
 
-// What is shown of desks that threads share.
+// What a test shows of desks that threads share.
 #[derive(Clone, Copy)]
 pub(crate) enum Shared {
     OneHistory,
     Late,
     OneBook,
-    // A thread that waits for the last job comes back once that has ended so.
+    // A thread that waits for the last job returns once that has ended in this way.
     Settled(JobEnd),
 }
 
@@ -63,7 +63,7 @@ pub(crate) fn shares<N: Naming + Send + Sync, R: Threads + Wait + Clock + Abort 
     }
 }
 
-// Alpha loads the adder and starts it, and beta the listener, each in a thread of its own and on its own pass.
+// Alpha loads the adder and starts it, and beta the listener, each in a separate thread and on a separate pass.
 fn both_start<N: Naming + Send + Sync, R: Threads + Wait + Abort + Sync>(
     rt: &R,
     alloc: Global,
@@ -108,8 +108,8 @@ fn one_job<N: Naming>(rt: &(impl Wait + Abort), desk: &Desk<N>) -> (Job, u128) {
     (jobs.take().expect(rt, "a job"), place)
 }
 
-// An instant with the reading 5 and the completion of its one job, which counts; their places. The desk settles behind them, with line
-// 0 at 0.
+// The places of an instant with the reading 5 and of the completion of its one job, which counts. The desk settles after them, with line 0
+// at 0.
 fn tick_and_done<N: Naming>(rt: &(impl Wait + Abort), desk: &Desk<N>) -> (u128, u128) {
     let (job, tick) = one_job(rt, desk);
     let (counted, done) = desk.done(rt, run_job(job));
@@ -125,7 +125,7 @@ fn has_line<N: Naming>(rt: &(impl Wait + Abort), desk: &Desk<N>, value: i64) -> 
     matches!(values.as_slice(), [line] if *line == value)
 }
 
-// Two suppliers with a pass and a thread each, an instant and its completion: all of it stands in one history, and in no other turn.
+// Two suppliers with a pass and a thread each, an instant and its completion: all of it is in one history, and in no other order.
 fn stand_in_one_history<N: Naming + Send + Sync, R: Threads + Wait + Abort + Sync>(
     rt: &R,
     alloc: Global,
@@ -144,7 +144,7 @@ fn stand_in_one_history<N: Naming + Send + Sync, R: Threads + Wait + Abort + Syn
     have_started && are_at
 }
 
-// Whether the log has 6 entries, and the instant and the completion stand at these places and not in the other turn.
+// Whether the log has 6 entries, and the instant and the completion are at these places, and not the other way round.
 fn are_at<N: Naming>(
     rt: &impl Abort,
     alloc: Global,
@@ -157,7 +157,7 @@ fn are_at<N: Naming>(
         && !stand_at(rt, alloc, book, done, tick)
 }
 
-// The desk's book, closed with these passes. Before that it doesn't close without alpha's, and not with a stranger's.
+// The desk's book, closed with these passes. Before that, it closes neither without alpha's pass nor with a stranger's.
 pub(crate) fn closed<N: Naming>(
     rt: &impl Abort,
     desk: Desk<N>,
@@ -174,7 +174,7 @@ pub(crate) fn closed<N: Naming>(
     closed_without_stranger(rt, desk, passes)
 }
 
-// Desk and passes, which with this pass added don't close for this fault.
+// Adds this pass, with which the desk doesn't close, for this reason. Returns the desk and the passes.
 fn refused_with<N: Naming>(
     rt: &impl Abort,
     desk: Desk<N>,
@@ -189,7 +189,7 @@ fn refused_with<N: Naming>(
     (desk, passes)
 }
 
-// The book closed with these passes but for the last one but one.
+// The book, closed with these passes without the last but one.
 fn closed_without_stranger<N: Naming>(
     rt: &impl Abort,
     desk: Desk<N>,
@@ -201,7 +201,7 @@ fn closed_without_stranger<N: Naming>(
     book_of(rt, desk, passes)
 }
 
-// Whether the instant with the reading 5 and the completion of its job stand in the log at these places.
+// Whether the instant with the reading 5 and the completion of its job are in the log at these places.
 fn stand_at<N: Naming>(
     rt: &impl Abort,
     alloc: Global,
@@ -214,7 +214,7 @@ fn stand_at<N: Naming>(
     book.stands(&[(tick, instant), (done, completion)])
 }
 
-// A completion behind a stop is late and not logged, and the next program drives its line at once.
+// A completion after a stop is late and not logged, and the next program drives its line at once.
 fn drops_late_completion<N: Naming>(
     rt: &(impl Wait + Abort),
     alloc: Global,
@@ -239,7 +239,7 @@ fn drives_four<N: Naming>(
     is_four && has_line(rt, desk, 4)
 }
 
-// Whether alpha's job, which it stops before it is done, is late.
+// Whether alpha's job is late. Alpha is stopped before the job is done.
 fn is_late_behind_stop<N: Naming>(
     rt: &(impl Wait + Abort),
     alloc: Global,
@@ -277,7 +277,7 @@ fn is_cut_short(log: &[Logged]) -> bool {
     )
 }
 
-// Two passes on which two threads make many calls at once close in one log, in which each of their calls stands.
+// Two passes on which two threads make many calls at once close in one log, which has each of their calls.
 fn stand_in_one_book<N: Naming + Send + Sync, R: Threads + Wait + Abort + Sync>(
     rt: &R,
     alloc: Global,
@@ -292,7 +292,7 @@ fn stand_in_one_book<N: Naming + Send + Sync, R: Threads + Wait + Abort + Sync>(
     are_many && entries == 2 * MANY
 }
 
-// Both tenants ask for their modes many times, each in a thread of its own.
+// Both tenants ask for their modes many times, each in a separate thread.
 fn both_call<N: Naming + Send + Sync, R: Threads + Wait + Sync>(
     rt: &R,
     desk: &Desk<N>,
@@ -315,7 +315,7 @@ fn call_often<N: Naming>(rt: &impl Wait, desk: &Desk<N>, pass: &mut Pass<N>, ten
     }
 }
 
-// A thread waits until no job is outstanding, while the only one ends so. Where that thread isn't woken, this never comes back.
+// A thread waits until no job is outstanding, while the only one ends in this way. If the thread isn't woken, this never returns.
 fn settles<N: Naming + Send + Sync, R: Threads + Wait + Clock + Abort + Sync>(
     rt: &R,
     alloc: Global,
@@ -331,7 +331,7 @@ fn settles<N: Naming + Send + Sync, R: Threads + Wait + Clock + Abort + Sync>(
     true
 }
 
-// The job ends 50 milliseconds after a thread was started that settles, so that it waits by then.
+// The job ends 50 milliseconds after the start of a thread that settles, so that the thread is waiting by then.
 fn settle_beside<N: Naming + Send + Sync, R: Threads + Wait + Clock + Abort + Sync>(
     rt: &R,
     desk: &Desk<N>,
