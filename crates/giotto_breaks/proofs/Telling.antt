@@ -1,4 +1,4 @@
--- Findings that tell of a broken rule, one more behind them.
+-- Findings that report a broken rule, with one more after them.
 use Rattle.std.proofs.Common.{◌≡◌, List, [], ◌∷◌, ◌++◌, subst, sym}
 use Rattle.giotto_faults.proofs.cited.TellingFaults.{error_behind, more_behind}
 use Rattle.giotto_faults.specs.Findings.{BeginWithError, TellFault}

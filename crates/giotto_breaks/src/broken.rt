@@ -1,4 +1,4 @@
-//! The first rule that a program breaks, and what is told of it.
+//! The first rule that a program breaks, and the findings that report it.
 
 ghost use Rattle.std.specs.Prelude.{◌≡◌, ◌↔◌, IfOk, IfSome, OnOk, Some, None};
 ghost use Rattle.giotto_faults.specs.Findings.{BeginWithError, IsErrorAt, TellFault};
@@ -14,7 +14,7 @@ use giotto_rules::first_broken;
 use giotto_rules::text::lexer;
 use std::alloc::{AllocError, Global};
 
-/// A rule that a program breaks, and what is told of each place that breaks it.
+/// A rule that a program breaks, with the findings that report each place that breaks it.
 #[derive(Drop)]
 pub struct BrokenRule {
     /// The rule's number, 1 to 11.
@@ -23,11 +23,12 @@ pub struct BrokenRule {
     pub findings: Vec<Finding>,
 }
 
-/// The first rule that a program breaks, and what is told of it, where this is the text that reads as the program; or `None` where
-/// the program is well-formed.
+/// The first rule that a program breaks, with its findings. `None` if the program is well-formed.
+///
+/// `text` is the text that reads as the program.
 ///
 /// # Errors
-/// Want of memory.
+/// Out of memory.
 pub fn broken_rule(
     alloc: Global,
     program: &Program,
@@ -46,7 +47,7 @@ pub fn broken_rule(
     }
 }
 
-// What is told of the places of this text that break the rule.
+// The findings for the places in this text that break the rule.
 fn findings_of(alloc: Global, rule: usize, text: &str) -> Result<Vec<Finding>, AllocError>
     ensures { IfOk result (λ findings. TellFault findings.items) }
 {
@@ -59,7 +60,7 @@ fn findings_of(alloc: Global, rule: usize, text: &str) -> Result<Vec<Finding>, A
     findings_in(alloc, rule, text, &outline)
 }
 
-// The same, where the outline of the text is this one.
+// The same, with the outline of the text.
 #[tactic(auto, using(crate::proofs::Telling::error_pushed))]
 fn findings_in(
     alloc: Global,
@@ -81,7 +82,7 @@ fn findings_in(
     Ok(findings)
 }
 
-// Adds what is told of a place that breaks the rule, with the words of the rule, and of the other place that belongs to it.
+// Adds a finding for a place that breaks the rule, with the rule's words, and a note on the other place that belongs to it.
 #[tactic(auto, using(crate::proofs::Telling::error_pushed, crate::proofs::Telling::more_pushed))]
 fn add_break(
     alloc: Global,
@@ -107,7 +108,7 @@ fn add_break(
     Ok(())
 }
 
-// The rule is told with the first place alone.
+// The rule's words are reported only with the first place.
 fn words_once(alloc: Global, rule: usize, is_first: bool) -> Result<Option<String>, AllocError> {
     if !is_first {
         return Ok(None);
@@ -131,7 +132,7 @@ fn note(alloc: Global, text: &str, site: Site, words: &str) -> Result<Finding, A
     })
 }
 
-// What is told where no place is found.
+// The finding if no place is found.
 fn without_place(alloc: Global, rule: usize) -> Result<Finding, AllocError>
     ensures { IfOk result (IsErrorAt 0) }
 {

@@ -1,4 +1,4 @@
-//! Each place that breaks a rule: a file for each group of rules.
+//! Finds each place that breaks a rule: a file for each group of rules.
 
 use crate::outlines::{Outline, PlacedName, PlacedNumber};
 use crate::rule_breaks::RuleBreak;
@@ -13,7 +13,7 @@ mod invocations;
 mod kinds;
 mod switches;
 
-/// A stretch of the text.
+/// A range of bytes of the text.
 #[derive(Clone, Copy, Debug, PartialEq, Eq)]
 pub(crate) struct Site {
     pub(crate) offset: usize,
@@ -21,7 +21,7 @@ pub(crate) struct Site {
 }
 
 impl Site {
-    /// How many bytes of the text it has, where this is the text: all digits of a number.
+    /// How many bytes of this text it has. For a number, all of its digits.
     pub(crate) fn len_in(&self, text: &str) -> usize {
         let digits = text
             .as_bytes()
@@ -33,7 +33,7 @@ impl Site {
     }
 }
 
-/// A place that breaks a rule, and another that belongs to it, with what is told of that one.
+/// A place that breaks a rule, and another place that belongs to it, with the words that are reported about that one.
 #[derive(Clone, Copy)]
 pub(crate) struct Break<'a> {
     pub(crate) what: RuleBreak<'a>,
@@ -53,7 +53,7 @@ pub(crate) fn alone<'a>(what: RuleBreak<'a>, name: PlacedName<'a>) -> Break<'a> 
 /// Each place that breaks this rule, in text order.
 ///
 /// # Errors
-/// Want of memory.
+/// Out of memory.
 pub(crate) fn breaks_of<'a>(
     alloc: Global,
     rule: usize,
@@ -76,7 +76,7 @@ pub(crate) fn breaks_of<'a>(
     Ok(breaks)
 }
 
-/// Where a name stands.
+/// The place of a name.
 pub(crate) fn site_of(name: PlacedName) -> Site {
     Site {
         offset: name.offset,
@@ -84,7 +84,7 @@ pub(crate) fn site_of(name: PlacedName) -> Site {
     }
 }
 
-/// Where a number stands: its first digit.
+/// The place of a number: its first digit.
 pub(crate) fn site_of_number(number: PlacedNumber) -> Site {
     Site {
         offset: number.offset,
@@ -92,7 +92,7 @@ pub(crate) fn site_of_number(number: PlacedNumber) -> Site {
     }
 }
 
-/// The first of these that is this name.
+/// The first of `names` that is this name.
 pub(crate) fn find_name<'a>(names: &[PlacedName<'a>], name: &Name) -> Option<PlacedName<'a>> {
     for placed in names {
         if *placed.name == *name {
@@ -102,7 +102,7 @@ pub(crate) fn find_name<'a>(names: &[PlacedName<'a>], name: &Name) -> Option<Pla
     None
 }
 
-/// Whether one of these is this name.
+/// Whether one of `names` is this name.
 pub(crate) fn is_among(names: &[PlacedName], name: &Name) -> bool {
     find_name(names, name).is_some()
 }

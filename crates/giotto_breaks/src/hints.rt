@@ -1,4 +1,4 @@
-//! How the slips of a first day are mended: a file for each part of a program.
+//! Hints on how to fix common mistakes of beginners: a file for each part of a program.
 
 use crate::outlines::Outline;
 use crate::rule_breaks::RuleBreak;
@@ -11,7 +11,7 @@ mod names;
 /// A hint of one line for what breaks a rule, if there is one.
 ///
 /// # Errors
-/// Want of memory.
+/// Out of memory.
 pub(crate) fn hint(
     alloc: Global,
     outline: &Outline,
@@ -35,7 +35,7 @@ pub(crate) fn hint(
     }
 }
 
-// Those that are the same in each program.
+// The hints whose words are the same for each program.
 fn fixed_hint(what: &RuleBreak) -> Option<&'static str> {
     match what {
         RuleBreak::LineTwice { .. } => {

@@ -1,6 +1,7 @@
 //! Which rule a program in Giotto breaks, and each place that breaks it, with the names concerned.
 //!
-//! [`broken_rule`] gives the first rule that a program breaks, as `giotto_rules` does, and a finding for each place in its text:
+//! [`broken_rule`] returns the first rule that a program breaks, as `giotto_rules` does, and a finding for each place in its
+//! text:
 //!
 //! ```text
 //! controller.giotto:11:19: error: `T` is invoked twice in mode `m`
@@ -10,9 +11,9 @@
 //!    = rule 5: no task is invoked twice in one mode
 //! ```
 //!
-//! Programs carry no places. `outlines` finds where their names and numbers stand in the tokens of their text, and `finders` has a file for
-//! each group of rules, over that outline. That each place is found, and none besides, is only tested; where none is found, the rule is
-//! told without a place.
+//! A program doesn't record where its parts are in its text. `outlines` finds where its names and numbers are in the tokens of
+//! the text. `finders` has a file for each group of rules, and works on that outline. It is only tested, not proved, that each
+//! place is found and no others. If no place is found, the rule is reported without one.
 #![tactic(auto)]
 
 mod broken;

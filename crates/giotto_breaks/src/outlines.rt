@@ -1,17 +1,17 @@
-//! Where the names and numbers of a program stand in its text.
+//! Where the names and numbers of a program are in its text.
 
 use giotto_rules::text::tokens::{Keyword, PlacedToken, Symbol, Token};
 use giotto_tasks::names::Name;
 use std::alloc::{AllocError, Global};
 
-/// A name, at its place.
+/// A name and its place.
 #[derive(Clone, Copy)]
 pub(crate) struct PlacedName<'a> {
     pub(crate) name: &'a Name,
     pub(crate) offset: usize,
 }
 
-/// A number, at its place.
+/// A number and its place.
 #[derive(Clone, Copy)]
 pub(crate) struct PlacedNumber {
     pub(crate) value: u64,
@@ -74,7 +74,7 @@ pub(crate) struct Outline<'a> {
 /// Adds more names to these.
 ///
 /// # Errors
-/// Want of memory.
+/// Out of memory.
 pub(crate) fn push_names<'a>(
     names: &mut Vec<PlacedName<'a>>,
     more: &[PlacedName<'a>],
@@ -88,7 +88,7 @@ pub(crate) fn push_names<'a>(
 /// The outline of the program that these tokens spell.
 ///
 /// # Errors
-/// Want of memory.
+/// Out of memory.
 pub(crate) fn outline_of<'a>(
     alloc: Global,
     tokens: &'a [PlacedToken],
@@ -120,7 +120,7 @@ pub(crate) fn outline_of<'a>(
     Ok(outline)
 }
 
-// In which part of a program the next token stands.
+// The part of a program that the next token is in.
 #[derive(Clone, Copy, Debug, PartialEq, Eq)]
 enum Part {
     Nothing,

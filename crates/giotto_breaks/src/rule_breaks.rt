@@ -6,60 +6,60 @@ use std::fmt;
 /// A way in which a program breaks one of the eleven rules, with the names and numbers concerned.
 #[derive(Clone, Copy)]
 pub enum RuleBreak<'a> {
-    /// Rule 1: a name that is declared before.
+    /// Rule 1: a name that is already declared.
     DeclaredTwice {
         name: &'a Name,
     },
-    /// Rule 1: an output that stands before it in the task's list.
+    /// Rule 1: an output that is already in the task's list.
     OutputTwice {
         name: &'a Name,
         task: &'a Name,
     },
-    /// Rule 1: an input or a state that stands before it among the task's.
+    /// Rule 1: an input or a state whose name is already among those of the task.
     PortTwice {
         name: &'a Name,
         task: &'a Name,
     },
-    /// Rule 1: an input or a state with a name that is declared.
+    /// Rule 1: an input or a state with a name that is declared outside of its task.
     PortDeclared {
         name: &'a Name,
         task: &'a Name,
     },
-    /// Rule 1: a line that an actuator before drives.
+    /// Rule 1: a line that an earlier actuator drives.
     LineTwice {
         line: u64,
     },
-    /// Rule 2: what a task names as its output.
+    /// Rule 2: a name in a task's list of outputs that is not an output.
     NoOutput {
         name: &'a Name,
         task: &'a Name,
     },
-    /// Rule 2: what an update writes.
+    /// Rule 2: a name that an update writes, and that is not an actuator.
     NoActuator {
         name: &'a Name,
     },
-    /// Rule 2: where a switch leads.
+    /// Rule 2: the target of a switch that is not a mode.
     NoTarget {
         name: &'a Name,
     },
-    /// Rule 2: to what a switch gives a value.
+    /// Rule 2: a destination of a switch that is not an output.
     NoDestination {
         name: &'a Name,
     },
-    /// Rule 2: what is invoked.
+    /// Rule 2: a name that is invoked, and that is not a task.
     NoTask {
         name: &'a Name,
     },
-    /// Rule 2: what a driver reads.
+    /// Rule 2: a name that a driver reads, and that is not a sensor, an actuator or an output.
     NoPort {
         name: &'a Name,
     },
-    /// Rule 3: what a body assigns.
+    /// Rule 3: a name that a body assigns, and that is not an output or a state of its task.
     Assigned {
         name: &'a Name,
         task: &'a Name,
     },
-    /// Rule 3: what a body reads.
+    /// Rule 3: a name that a body reads, and that is not a port of its task.
     Read {
         name: &'a Name,
         task: &'a Name,
@@ -75,24 +75,24 @@ pub enum RuleBreak<'a> {
         period: u64,
         frequency: u64,
     },
-    /// Rule 5: a task that the mode invokes before.
+    /// Rule 5: a task that the mode already invokes.
     InvokedTwice {
         task: &'a Name,
         mode: &'a Name,
     },
-    /// Rule 6: a task, invoked behind another that has one of its outputs.
+    /// Rule 6: a task that is invoked after another one with which it shares an output.
     SharedOutput {
         output: &'a Name,
         task: &'a Name,
         other: &'a Name,
         mode: &'a Name,
     },
-    /// Rule 7: an actuator that the mode updates before.
+    /// Rule 7: an actuator that the mode already updates.
     UpdatedTwice {
         actuator: &'a Name,
         mode: &'a Name,
     },
-    /// Rule 8: how many arguments a task with so many inputs is given.
+    /// Rule 8: the number of arguments that a task with this number of inputs is given.
     Arguments {
         task: &'a Name,
         inputs: usize,
@@ -106,22 +106,22 @@ pub enum RuleBreak<'a> {
     ReadsActuator {
         name: &'a Name,
     },
-    /// Rule 9: an output that a driver reads, of no task that the mode invokes.
+    /// Rule 9: an output that a driver reads, and that belongs to no task that the mode invokes.
     ReadsOther {
         name: &'a Name,
         mode: &'a Name,
     },
-    /// Rule 9: an output to which a switch gives a value, of no task that its target invokes.
+    /// Rule 9: an output to which a switch gives a value, and that belongs to no task that its target invokes.
     GivesOther {
         name: &'a Name,
         target: &'a Name,
     },
-    /// Rule 9: an output to which the switch gives a value before.
+    /// Rule 9: an output to which the switch already gives a value.
     GivesTwice {
         name: &'a Name,
     },
-    /// Rule 10: a task, invoked with this period and frequency, that may be unfinished at a switch, and that the target doesn't
-    /// invoke with the same period, but with another one or not at all.
+    /// Rule 10: a task, invoked with this period and frequency, that may be unfinished at a switch. The target invokes it with
+    /// another period, or not at all.
     Unfinished {
         task: &'a Name,
         period: u64,
@@ -129,7 +129,7 @@ pub enum RuleBreak<'a> {
         target: &'a Name,
         other: Option<u64>,
     },
-    /// Rule 11: where the program starts.
+    /// Rule 11: a name after `start` that is not a mode.
     NoStart {
         name: &'a Name,
     },

@@ -1,6 +1,6 @@
 //! The rules in words.
 
-/// The rule of this number in words, as the language's document has it; empty for a number that is none of a rule.
+/// The rule with this number in words, as the language's document has it. Empty if no rule has this number.
 pub fn words_of_rule(rule: usize) -> &'static str {
     match rule {
         1 =>

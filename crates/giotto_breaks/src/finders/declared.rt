@@ -28,7 +28,7 @@ pub(crate) fn declared_twice<'a>(
     lines_twice(outline, breaks)
 }
 
-// The names of the five groups.
+// The names of sensors, actuators, outputs, tasks and modes.
 fn declared_names<'a>(
     alloc: Global,
     outline: &Outline<'a>,

@@ -1,4 +1,4 @@
-//! Rule 9: what drivers read, and to what switches give values.
+//! Rule 9: what drivers read, and the destinations of switches.
 
 use crate::finders::{Break, alone, find_name, is_among, site_of};
 use crate::outlines::{DriverKind, DriverOutline, ModeOutline, Outline, PlacedName, push_names};

@@ -56,7 +56,7 @@ pub(crate) fn updated_twice<'a>(
     Ok(())
 }
 
-// Where the first of these drivers that is of this kind writes or invokes what has this name.
+// The subject of the first of these drivers that is of this kind and writes or invokes this name.
 fn first_with<'a>(
     drivers: &[DriverOutline<'a>],
     kind: DriverKind,
@@ -73,7 +73,7 @@ fn first_with<'a>(
     None
 }
 
-/// Tasks that a mode invokes behind others that have one of their outputs.
+/// Tasks that a mode invokes after other tasks with which they share an output.
 pub(crate) fn sharing<'a>(
     outline: &Outline<'a>,
     breaks: &mut Vec<Break<'a>>,
@@ -99,7 +99,7 @@ fn sharing_before<'a>(
     Ok(())
 }
 
-// Where both drivers invoke tasks that share an output.
+// Adds a break if both drivers invoke tasks that share an output.
 fn push_shared<'a>(
     outline: &Outline<'a>,
     mode: &ModeOutline<'a>,
@@ -125,7 +125,7 @@ fn push_shared<'a>(
     Ok(())
 }
 
-// The first of these names that is one of those.
+// The first of `names` that is one of `others`.
 fn first_common<'a>(names: &[PlacedName<'a>], others: &[PlacedName<'a>]) -> Option<&'a Name> {
     for name in names {
         if is_among(others, name.name) {

@@ -1,4 +1,4 @@
-//! Rules 2 and 11: names that are used as what they aren't.
+//! Rules 2 and 11: names that are of the wrong kind.
 
 use crate::finders::{Break, alone, is_among};
 use crate::outlines::{DriverKind, DriverOutline, Outline};
@@ -30,7 +30,7 @@ pub(crate) fn wrong_kinds<'a>(
     Ok(())
 }
 
-/// A name behind `start` that is no mode.
+/// A name after `start` that is not a mode.
 pub(crate) fn no_start<'a>(
     outline: &Outline<'a>,
     breaks: &mut Vec<Break<'a>>,

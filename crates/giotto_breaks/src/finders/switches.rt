@@ -6,7 +6,7 @@ use crate::rule_breaks::RuleBreak;
 use giotto_tasks::names::Name;
 use std::alloc::AllocError;
 
-/// Switches at which a task may be unfinished that their target doesn't invoke with the same period.
+/// Switches at which a task may be unfinished, and whose target doesn't invoke that task with the same period.
 pub(crate) fn unfinished<'a>(
     outline: &Outline<'a>,
     breaks: &mut Vec<Break<'a>>,
@@ -51,7 +51,7 @@ fn at_switch<'a>(
     Ok(())
 }
 
-// The period of a task in the mode of this name, where that invokes it.
+// The period of a task in the mode with this name, if that mode invokes it.
 fn period_in(outline: &Outline, mode: &Name, task: &Name) -> Option<u64> {
     let mode = outline
         .modes
@@ -67,7 +67,7 @@ fn period_in(outline: &Outline, mode: &Name, task: &Name) -> Option<u64> {
     None
 }
 
-// How many ticks lie between two of so many in a period.
+// How many ticks lie between two events that happen `frequency` times in a period.
 fn ticks(period: u64, frequency: u64) -> u64 {
     period.checked_div(frequency).unwrap_or(0)
 }

@@ -1,14 +1,14 @@
-//! What bodies assign and read.
+//! Hints on what bodies assign and read.
 
 use crate::hints::names::{kind_of, name_hint, similar_hint};
 use crate::outlines::{Outline, TaskOutline, push_names};
 use giotto_tasks::names::Name;
 use std::alloc::{AllocError, Global};
 
-/// A hint on a name that a body assigns, and that is no output and no state of its task.
+/// A hint on a name that a body assigns, but that is neither an output nor a state of its task.
 ///
 /// # Errors
-/// Want of memory.
+/// Out of memory.
 pub(crate) fn assigned_hint(
     alloc: Global,
     outline: &Outline,
@@ -24,7 +24,7 @@ pub(crate) fn assigned_hint(
     Ok(Some(hint_with_names(alloc, kind, name.as_str(), task.as_str())?))
 }
 
-// The hint on a name of this kind that a body assigns, where it has no name in it.
+// The hint on a name of this kind that a body assigns, if the hint itself has no name in it.
 fn fixed_hint(kind: &str) -> Option<&'static str> {
     match kind {
         "a sensor" => Some("a sensor has its reading, and nothing gives it a value"),
@@ -74,10 +74,10 @@ fn unknown_hint(
     Ok(Some(words))
 }
 
-/// A hint on a name that a body reads, and that is no port of its task.
+/// A hint on a name that a body reads, but that is not a port of its task.
 ///
 /// # Errors
-/// Want of memory.
+/// Out of memory.
 pub(crate) fn read_hint(
     alloc: Global,
     outline: &Outline,
@@ -102,7 +102,7 @@ pub(crate) fn read_hint(
     Ok(Some(hint))
 }
 
-// A hint on a name that a body reads, and that is no value of any other task.
+// A hint on a name that a body reads, but that is not a sensor, an output, an actuator or a state.
 fn unknown_read_hint(
     alloc: Global,
     outline: &Outline,

@@ -1,4 +1,4 @@
-//! Frequencies, reads and switches of modes.
+//! Hints on frequencies, reads and switches of modes.
 
 use crate::finders::is_among;
 use crate::outlines::Outline;
@@ -9,10 +9,10 @@ use std::alloc::{AllocError, Global};
 // The longest period, in ticks.
 const LONGEST: u64 = 1_000_000;
 
-/// A hint on a frequency that doesn't divide the period, with the nearest that do.
+/// A hint on a frequency that doesn't divide the period, with the nearest ones that do.
 ///
 /// # Errors
-/// Want of memory.
+/// Out of memory.
 pub(crate) fn frequency_hint(
     alloc: Global,
     period: u64,
@@ -35,10 +35,10 @@ pub(crate) fn frequency_hint(
     Ok(Some(hint))
 }
 
-/// A hint on an output that a driver reads, and that no task of its mode has.
+/// A hint on an output that a driver reads, but that no task of its mode has.
 ///
 /// # Errors
-/// Want of memory.
+/// Out of memory.
 pub(crate) fn reads_hint(
     alloc: Global,
     outline: &Outline,
@@ -64,7 +64,7 @@ pub(crate) fn reads_hint(
 /// A hint on a task that may be unfinished at a switch.
 ///
 /// # Errors
-/// Want of memory.
+/// Out of memory.
 pub(crate) fn unfinished_hint(
     alloc: Global,
     what: &RuleBreak,

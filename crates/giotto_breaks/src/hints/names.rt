@@ -1,4 +1,4 @@
-//! Names that are of another kind, misspelled or not declared.
+//! Hints on names that are of the wrong kind, misspelled or not declared.
 
 use crate::finders::is_among;
 use crate::outlines::{Outline, PlacedName};
@@ -7,10 +7,10 @@ use giotto_tasks::names::Name;
 use std::alloc::{AllocError, Global};
 use strsim::osa_distance;
 
-/// A hint on a name that stands where another kind of thing has to be named.
+/// A hint on a name that is used where a name of another kind is expected.
 ///
 /// # Errors
-/// Want of memory.
+/// Out of memory.
 pub(crate) fn hint(
     alloc: Global,
     outline: &Outline,
@@ -32,10 +32,10 @@ pub(crate) fn hint(
     }
 }
 
-/// What a name is declared as, or which of these names may be meant by it.
+/// A hint on what a name is declared as, or on which of these names may be meant by it.
 ///
 /// # Errors
-/// Want of memory.
+/// Out of memory.
 pub(crate) fn name_hint(
     alloc: Global,
     outline: &Outline,
@@ -54,7 +54,7 @@ pub(crate) fn name_hint(
 /// A hint on an input or a state with a name that is declared outside of its task.
 ///
 /// # Errors
-/// Want of memory.
+/// Out of memory.
 pub(crate) fn own_name_hint(
     alloc: Global,
     outline: &Outline,
@@ -84,10 +84,10 @@ fn unknown_hint(outline: &Outline, name: &Name) -> &'static str {
     }
 }
 
-/// Which of these names may be meant by a name that is misspelled: the most similar one, the first of several.
+/// A hint on which of these names may be meant by a misspelled name: the most similar one, and the first if there are several.
 ///
 /// # Errors
-/// Want of memory.
+/// Out of memory.
 pub(crate) fn similar_hint(
     alloc: Global,
     name: &Name,
@@ -111,7 +111,7 @@ pub(crate) fn similar_hint(
     }
 }
 
-// A hint on a name in a task's list of outputs that is no output's.
+// A hint on a name in a task's list of outputs that is not the name of an output.
 fn output_hint(
     alloc: Global,
     outline: &Outline,
@@ -128,7 +128,7 @@ fn output_hint(
     Ok(Some(words))
 }
 
-// A hint on a name that is no mode's.
+// A hint on a name that is not the name of a mode.
 fn mode_hint(alloc: Global, outline: &Outline, name: &Name) -> Result<Option<String>, AllocError> {
     let modes = modes_of(alloc, outline)?;
     let few = !modes.is_empty() && modes.len() <= 6;
