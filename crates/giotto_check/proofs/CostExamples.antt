@@ -7,7 +7,7 @@ use Rattle.giotto_rules.proofs.of_text.Adder.{adder}
 use Rattle.giotto_rules.proofs.cited.ExamplePrograms.{switcher, two_constants}
 use Rattle.giotto_rules.specs.Costs.{greatest_cost_of}
 
--- the body o := i + 1 is the dearest
+-- the body o := i + 1 is the most expensive part
 pub adder_costs : greatest_cost_of adder ≡ 2
 adder_costs = refl
 
@@ -35,7 +35,7 @@ two_more = binary Add (binary Add (port (codes "o")) (number (pos 1))) (number (
 abbrev large : Expression
 large = binary Greater (port (codes "o")) (number (pos 4))
 
--- the adder with an update that is dearer than its body: actfreq 1 if o > 4 do a := (o + 1) + 1;
+-- the adder with an update that is more expensive than its body: actfreq 1 if o > 4 do a := (o + 1) + 1;
 abbrev dear_update : GiottoProgram
 dear_update = record adder { modes = map with_update adder.modes }
   where
@@ -45,7 +45,8 @@ dear_update = record adder { modes = map with_update adder.modes }
 pub dear_update_costs : greatest_cost_of dear_update ≡ 3
 dear_update_costs = refl
 
--- the adder with a switch of two destinations, which add up: exitfreq 1 if o > 4 do m { o := (o + 1) + 1; o := (o + 1) + 1; };
+-- the adder with a switch of two destinations, whose costs add up:
+-- exitfreq 1 if o > 4 do m { o := (o + 1) + 1; o := (o + 1) + 1; };
 abbrev dear_switch : GiottoProgram
 dear_switch = record adder { modes = map with_switch adder.modes }
   where

@@ -1,4 +1,4 @@
--- What drivers of a well-formed program read and write are sensors, actuators and outputs.
+-- Drivers of a well-formed program read and write only sensors, actuators and outputs.
 use Rattle.std.proofs.Common.{◌≡◌, true, List, ◌++◌, sym, ◌∙◌}
 use Rattle.std.specs.List.{list_all}
 use Rattle.giotto_tasks.specs.declared.names.Name.{Name}

@@ -1,4 +1,4 @@
--- The program with every construct, from its text: it is well-formed, what it costs, and what three releases of its task compute.
+-- The program with every construct, from its text: it is well-formed, its cost, and what three releases of its task compute.
 use Rattle.std.proofs.Common.{◌≡◌, ℕ, ℤ, pos, negsuc, List, [], ◌∷◌, map, None, refl, codes}
 use Rattle.std.specs.Prelude.{Ok, Err, Result}
 use Rattle.giotto_tasks.specs.Meaning.{outputs_of, states_of}
@@ -29,7 +29,7 @@ abbrev tasks_of : List GiottoProgram → List TaskDeclaration
 tasks_of [] = []
 tasks_of (p ∷ ps) = p.tasks
 
--- the outputs and the states behind a release with these inputs and states
+-- the outputs and the states after a release with these inputs and states
 abbrev computed : List ℤ → List ℤ → List (List ℤ × List ℤ)
 computed inputs states = map (λ (t : TaskDeclaration). (outputs_of (body_of t) inputs states, states_of (body_of t) inputs states)) (tasks_of every_construct)
 

@@ -1,4 +1,4 @@
--- The value of an expression over the values of more ports than it reads.
+-- The value of an expression, given the values of more ports than it reads.
 use Rattle.std.proofs.Common.{◌≡◌, ◌≤◌, Bool, true, false, cond, ◌||◌, ℤ, pos, List, [], ◌∷◌, ◌++◌, length, Option, Some, refl, ap, arith}
 use Rattle.std.specs.List.{list_all, zip}
 use Rattle.std.specs.Prelude.{unwrap_or}
@@ -11,7 +11,7 @@ use Rattle.giotto_tasks.specs.Syntax.{Expression, number, port, unary, binary}
 use Rattle.giotto_rules.specs.Declarations.{names_read}
 use Rattle.giotto_check.proofs.TestLists.{all_in_parts}
 
--- a name among the first has its value there
+-- a name in the first list has its value there
 first_value : (ns ms : List Name) (vs : List ℤ) (x : Name) → is_among ns x ≡ true → length ns ≤ length vs → value_at (zip (ns ++ ms) vs) x ≡ value_at (zip ns vs) x
 first_value [] ms vs x there le = absurd (false≢true there)
 first_value (n ∷ ns) ms [] x there le = absurd (omega (arith, le))

@@ -1,4 +1,4 @@
--- What the rules say of a well-formed program: of its tasks, and of its modes with their updates, switches and invocations.
+-- What the rules say about a well-formed program: its tasks, and its modes with their updates, switches and invocations.
 use Rattle.std.proofs.Common.{◌≡◌, ℕ, zero, suc, ◌/◌, ◌%◌, ◌*◌, ◌≤◌, Bool, true, false, cond, ◌||◌, List, [], ◌∷◌, ◌++◌, length, map, Option, Some, None, refl, sym, subst, ◌∙◌, append_assoc, arith}
 use Rattle.std.specs.Prelude.{nat_le, ◌==◌, is_some, IsSomeAnd}
 use Rattle.std.specs.List.{list_all, find, flat_map, AllByRecursion}
@@ -30,7 +30,7 @@ use Rattle.giotto_check.proofs.SoundNames.{names_have_no_dots}
 
 -- frequencies
 
--- the ticks between two times of a frequency that divides the period
+-- the number of ticks between two events of a frequency that divides the period
 spaced_by : (period w : ℕ) → 1 ≤ period → period % w ≡ 0 → 1 ≤ period / w
 spaced_by period w positive divides = apart (period / w) refl
   where
@@ -50,7 +50,7 @@ frequency_of m w positive h =
     let divides : m.period % w ≡ 0 = eqb-true _ _ both.1 in
     record { positive = leb-true _ _ both.0; divides = divides; interval = spaced_by m.period w positive divides }
 
--- what is found by name
+-- lookups by name
 
 found_some : {X : Type 0} (name : X → Name) (xs : List X) (x : Name) → is_among (map name xs) x ≡ true → is_some (find (λ y. same_name (name y) x) xs) ≡ true
 found_some name [] x h = absurd (false≢true h)
@@ -70,11 +70,11 @@ arguments_for : (i : TaskInvocation) (o : Option TaskDeclaration) → has_argume
 arguments_for i None h = absurd (false≢true h)
 arguments_for i (Some t) h = eqb-true _ _ h
 
--- what a test that all elements pass says of each
+-- what follows for each element from a test that all elements pass
 passed : {X : Type 0} (test : X → Bool) (xs : List X) → list_all test xs ≡ true → AllByRecursion (λ x. test x ≡ true) xs
 passed test xs h = all_pass (λ x. test x ≡ true) test (λ x k. k) xs h
 
--- what four tests that all elements pass say of each
+-- what follows for each element from four tests that all elements pass
 four_pass : {X : Type 0} (P : X → Type 0) (one two three four : X → Bool)
     → ((x : X) → one x ≡ true → two x ≡ true → three x ≡ true → four x ≡ true → P x) → (xs : List X)
     → list_all one xs ≡ true → list_all two xs ≡ true → list_all three xs ≡ true → list_all four xs ≡ true → AllByRecursion P xs

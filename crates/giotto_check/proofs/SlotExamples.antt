@@ -1,4 +1,4 @@
--- The slots and the timetables' numbers of the example programs.
+-- The slots and timetables of the example programs.
 use Rattle.std.proofs.Common.{◌≡◌, ℕ, pos, List, [], ◌∷◌, Some, None, refl, sym}
 use Rattle.std.specs.Prelude.{codes, Ok}
 use Rattle.giotto_tasks.specs.Syntax.{number, port, binary, assign, finished, step}
@@ -97,7 +97,7 @@ summer_ports = refl
 summer_slots : slots_of summer ≡ 9
 summer_slots = refl
 
--- an input or a state is a port of its own task alone
+-- an input or a state is a port only of its own task
 output_slot : slot_of summer None (codes "p") ≡ Some 3
 output_slot = refl
 

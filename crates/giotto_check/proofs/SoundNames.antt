@@ -1,4 +1,4 @@
--- The names that a printable program declares have no dot.
+-- The names that a printable program declares contain no dot.
 use Rattle.std.proofs.Common.{◌≡◌, ℕ, Bool, true, false, not, nat_eq, List, [], ◌∷◌, ◌++◌, map, refl, sym, subst, ◌∙◌}
 use Rattle.std.specs.List.{list_all, flat_map}
 use Rattle.std.proofs.lemmas.Bool.{and_parts, and_from, false≢true, eqb-true}
@@ -33,7 +33,7 @@ sound_has_no_dot (c ∷ cs) h =
     let bytes = and_parts _ _ name.0 in
     and_from _ _ (no_dot c (letter_is_name_byte c bytes.0)) (all_wider is_name_byte (λ c. not (nat_eq 46 c)) no_dot cs bytes.1)
 
--- names whose tokens stand among sound ones
+-- names whose tokens are among sound ones
 names_among : {X : Type 0} (tokens : X → List Token) (name : X → Name) → ((x : X) → list_all is_sound_token (tokens x) ≡ true → is_sound_name (name x) ≡ true)
     → (xs : List X) → list_all is_sound_token (flat_map tokens xs) ≡ true → list_all has_no_dot (map name xs) ≡ true
 names_among tokens name means [] h = refl

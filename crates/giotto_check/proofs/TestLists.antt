@@ -1,4 +1,4 @@
--- Tests that all elements of joined lists pass.
+-- Tests that all elements of concatenated lists pass.
 use Rattle.std.proofs.Common.{◌≡◌, ℕ, zero, suc, ◌<◌, Bool, true, List, [], ◌∷◌, ◌++◌, length, map, get_or, refl, ap, ◌∙◌, arith}
 use Rattle.std.specs.List.{flat_map, list_all}
 use Rattle.std.proofs.lemmas.Bool.{and_parts, and_from}
@@ -33,7 +33,7 @@ all_in_item {X = X} test f g xs i x h is lt = ap (λ z. list_all test (g (f z)))
     at (y ∷ ys) zero h lt = (all_in_parts test (g (f y)) (flat_map g (map f ys)) h).0
     at (y ∷ ys) (suc i) h lt = at ys i (all_in_parts test (g (f y)) (flat_map g (map f ys)) h).1 (omega arith)
 
--- a test that all images pass
+-- a test that all images pass is passed by the image of one element
 pub test_at_item : {X A : Type 0} (test : A → Bool) (f : X → A) (xs : List X) (i : ℕ) (x : X) → list_all test (map f xs) ≡ true → x ≡ get_or xs i x → i < length xs → test (f x) ≡ true
 test_at_item {X = X} test f xs i x h is lt = ap (λ z. test (f z)) is ∙ at xs i h lt
   where

@@ -8,7 +8,7 @@ use giotto_rules::text::programs::{Invocation, Mode, Program, Switch, Update};
 use giotto_tasks::bodies::{Body, Expr};
 use giotto_tasks::{cost, driver_cost};
 
-/// The greatest cost over the bodies and drivers of a program, in steps, or `u64::MAX` where it is greater.
+/// The greatest cost over the bodies and drivers of a program, in steps, or `u64::MAX` if it is greater.
 pub(crate) fn greatest_cost(program: &Program) -> u64
     ensures { result ≡ min (costs.greatest_cost_of program.now) (2 ^ 64 - 1) }
 {

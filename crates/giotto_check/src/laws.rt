@@ -1,4 +1,4 @@
-//! Laws of slots: what one list of the values of all ports says of the map from the ports' names to their values.
+//! Laws of slots: how a list of the values of all ports represents the map from the ports' names to their values.
 //!
 //! The functions do nothing: each contract is a law.
 
@@ -19,7 +19,7 @@ pub fn in_order()
     ensures names { (p : GiottoProgram) (values : List ℤ) → length values ≡ slots_of p → names_in (valuation_of p values) ≡ port_names p }
 {}
 
-/// The value of a port stands at its slot, and those of ports of a task that stand next to one another are a range.
+/// A port's value is at its slot. The values of consecutive ports of a task are a range.
 pub fn read_by_slot()
     ensures value { (p : GiottoProgram) (vs : List ℤ) (port : ProgramPort) (k : ℕ) → PortNamesDiffer p → HasSlot p port k
         → value_at (valuation_of p vs) (shown_name port) ≡ slice_get vs k }
@@ -27,8 +27,8 @@ pub fn read_by_slot()
         → own_values p vs t xs ≡ slice_range vs k (k + length xs) }
 {}
 
-/// A port's value is changed at its slot, several one after the other, and those of ports of a task that stand next to one
-/// another as a range.
+/// A port's value is changed at its slot, several values one after the other. The values of consecutive ports of a task
+/// are changed as a range.
 pub fn changed_by_slot()
     ensures value { (p : GiottoProgram) (vs : List ℤ) (port : ProgramPort) (k : ℕ) (z : ℤ) → AreValuesOf p vs → HasSlot p port k
         → with_value (valuation_of p vs) (shown_name port) z ≡ valuation_of p (slice_set vs k z) }

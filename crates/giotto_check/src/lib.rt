@@ -1,7 +1,7 @@
 //! Well-formed Giotto programs, checked and numbered.
 //!
-//! [`check`] tells whether a program that was read keeps the eleven rules, or names the first that it breaks and hands the
-//! program back:
+//! [`check`] checks that a program keeps the eleven rules. If it doesn't, `check` returns the first rule that it breaks
+//! and the program:
 //!
 //! ```text
 //! match check(alloc, program) {
@@ -10,10 +10,10 @@
 //! }
 //! ```
 //!
-//! A [`Checked`] program has its greatest cost, and its ports, tasks and modes by number: [`timetables`] has what an instant
-//! needs of it. The rules, the ports in their order and the costs are those of the crate `giotto_rules`; `specs/Slots.antt` says
-//! for which map a list of values stands, and in `specs/cited/` `Facts.antt` what follows from the rules, `Slots.antt` at which
-//! slots values are, and `Timetables.antt` what the entries stand for.
+//! A [`Checked`] program has its greatest cost, and its ports, tasks and modes by number: [`timetables`] has what an
+//! instant needs of it. The rules, the order of the ports and the costs are those of the crate `giotto_rules`.
+//! `specs/Slots.antt` says which map a list of values represents. In `specs/cited/`, `Facts.antt` says what follows
+//! from the rules, `Slots.antt` at which slots values are, and `Timetables.antt` what the entries mean.
 #![tactic(auto)]
 
 ghost use Rattle.std.specs.Prelude.{◌≡◌, ◌<◌, ◌≤◌, ℕ, ◌-◌, ◌^◌, min, [], Some, None, IsOk, IfOk, IfErr, IsSomeAnd, length};
@@ -45,7 +45,7 @@ use std::marker::Model;
 use std::sync::Arc;
 use thiserror::Error;
 
-// What its shares have in common.
+// The contents that all shares have in common.
 #[derive(Drop)]
 struct Contents {
     program: Program,
@@ -77,7 +77,7 @@ impl Contents {
     }
 }
 
-/// A well-formed program, with its greatest cost and what an instant needs of it. A share of it takes no copy.
+/// A well-formed program, with its greatest cost and what an instant needs of it. Sharing it copies nothing.
 #[derive(Drop)]
 pub struct Checked {
     contents: Arc<Contents, Global>,
@@ -101,7 +101,7 @@ pub enum CheckFault {
     /// The program breaks this rule, the first that it breaks: 1 to 11.
     #[error("the program breaks rule {0}")]
     Rule(usize),
-    /// Want of memory.
+    /// Out of memory.
     #[error("no memory for the check of the program")]
     Memory,
 }
@@ -117,7 +117,7 @@ impl Checked {
         &contents.program
     }
 
-    /// Opens what is known of the type, for a proof; does nothing.
+    /// Opens the invariant of the type for a proof. Does nothing at run time.
     #[inline(always)]
     pub fn known(&self)
         ensures rules { KeepsRules self.now }
@@ -131,7 +131,7 @@ impl Checked {
     /// A share of the same program.
     ///
     /// # Errors
-    /// The share is refused.
+    /// A new share can't be made.
     pub fn share(&self) -> Result<Checked, AllocError>
         ensures { IfOk result (λ c. c ≡ self.now) }
     {
@@ -140,7 +140,8 @@ impl Checked {
         })
     }
 
-    /// The greatest cost over its bodies and drivers, in steps; `u64::MAX` where it is greater, and 0 where there are none.
+    /// The greatest cost over the program's bodies and drivers, in steps: `u64::MAX` if it is greater, and 0 if there
+    /// are none.
     pub fn greatest_cost(&self) -> u64
         ensures { result ≡ min (greatest_cost_of self.now) (2 ^ 64 - 1) }
     {
@@ -148,7 +149,7 @@ impl Checked {
         contents.cost
     }
 
-    /// How many ports it has: their slots are the numbers below.
+    /// The number of ports. Their slots are the numbers below it.
     pub fn slots(&self) -> usize
         ensures { result ≡ slots_of self.now }
     {
@@ -156,17 +157,17 @@ impl Checked {
         contents.numbering.slots
     }
 
-    /// The slot of a port: an input or a state of a task, if one is named, and else a sensor, an actuator or an output.
-    /// `None` where there is no such port.
+    /// The slot of a port: an input or a state of `task`, or a sensor, an actuator or an output if no task is given.
+    /// `None` if there is no such port.
     pub fn slot(&self, task: Option<&str>, name: &str) -> Option<usize>
         ensures { result ≡ slot_of self.now (option_map (λ t. t.now) task.entry) name.now }
     {
-        // They can be counted, so no sum below is too large.
+        // The slots can be counted, so no sum below is too large.
         self.known();
         slots::slot(self.program(), task, name)
     }
 
-    /// Where the ports of each task lie, in text order.
+    /// The slots of each task's ports, in text order.
     pub fn tasks(&self) -> &[TaskSlots]
         ensures { AreEach (AreTaskSlots self.now) self.now.tasks result.now }
     {
@@ -174,7 +175,7 @@ impl Checked {
         contents.numbering.tasks.as_slice()
     }
 
-    /// The updates of the mode at this place, in text order; none where there is no such mode.
+    /// The updates of the mode at this place, in text order; none if there is no such mode.
     pub fn updates(&self, mode: usize) -> &[SlotUpdate]
         ensures there { (m : ModeDeclaration) → slice_get self.now.modes mode ≡ Some m → AreUpdates self.now m result.now }
         ensures none { length self.now.modes ≤ mode → result.now ≡ [] }
@@ -186,7 +187,7 @@ impl Checked {
         }
     }
 
-    /// The exits of the mode at this place, in text order; none where there is no such mode.
+    /// The exits of the mode at this place, in text order; none if there is no such mode.
     pub fn exits(&self, mode: usize) -> &[SlotExit]
         ensures there { (m : ModeDeclaration) → slice_get self.now.modes mode ≡ Some m → AreExits self.now m result.now }
         ensures none { length self.now.modes ≤ mode → result.now ≡ [] }
@@ -198,7 +199,7 @@ impl Checked {
         }
     }
 
-    /// The invocations of the mode at this place, in text order; none where there is no such mode.
+    /// The invocations of the mode at this place, in text order; none if there is no such mode.
     pub fn invocations(&self, mode: usize) -> &[SlotInvocation]
         ensures there { (m : ModeDeclaration) → slice_get self.now.modes mode ≡ Some m → AreInvocations self.now m result.now }
         ensures none { length self.now.modes ≤ mode → result.now ≡ [] }
@@ -211,7 +212,7 @@ impl Checked {
     }
 }
 
-// What the rules say of a program that breaks none.
+// What the rules say about a program that breaks none of them.
 fn fits(program: &Program)
     requires { first_broken_rule program.now ≡ None }
     ensures rules { KeepsRules program.now }
@@ -221,10 +222,11 @@ fn fits(program: &Program)
     giotto_rules::text::laws::shallow();
 }
 
-/// The program checked, if it keeps the eleven rules.
+/// Checks a program: returns it as checked if it keeps the eleven rules.
 ///
 /// # Errors
-/// The program as it was, with `Rule` and the first rule that it breaks, or with `Memory` where there is want of memory.
+/// Returns the unchanged program, with `Rule` and the first rule that it breaks, or with `Memory` if an allocation
+/// fails.
 pub fn check(alloc: Global, program: Program) -> Result<Checked, (Program, CheckFault)>
     ensures checked { IfOk result (λ c. c ≡ program) }
     ensures kept { IsOk result → first_broken_rule program ≡ None }

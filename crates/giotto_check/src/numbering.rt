@@ -1,4 +1,4 @@
-//! The numbers of a program's ports, tasks and modes, and its lines read through them.
+//! The numbers of a program's ports, tasks and modes, and its timetables over these numbers.
 
 ghost use Rattle.std.specs.Prelude.{IfOk};
 ghost use Rattle.giotto_check.specs.cited.Facts.{ProgramFits};
@@ -19,7 +19,7 @@ use std::alloc::{AllocError, Global};
 /// A program by number.
 #[derive(Drop)]
 pub(crate) struct Numbering {
-    /// How many ports there are.
+    /// The number of ports.
     pub(crate) slots: usize,
     /// In text order.
     pub(crate) tasks: Vec<TaskSlots>,
@@ -28,7 +28,7 @@ pub(crate) struct Numbering {
 }
 
 impl Numbering {
-    /// The numbering of a well-formed program. Fails where there is want of memory.
+    /// The numbering of a well-formed program. Fails if an allocation fails.
     pub(crate) fn new(alloc: Global, program: &Program) -> Result<Numbering, AllocError>
         requires { ProgramFits program.now }
         ensures { IfOk result (λ n. IsNumbering program.now n) }

@@ -13,7 +13,7 @@ use giotto_rules::text::programs::{Program, Task};
 use giotto_tasks::bodies::Body;
 use giotto_tasks::names::Name;
 
-/// The slot of a port of a task, if one is named, and else of a sensor, an actuator or an output. It goes over the
+/// The slot of a port of `task`, or of a sensor, an actuator or an output if no task is given. Goes through the
 /// program's names once.
 pub(crate) fn slot(program: &Program, task: Option<&str>, name: &str) -> Option<usize>
     requires { slots_of program.now < 2 ^ 64 }
@@ -65,7 +65,7 @@ fn own_slot(program: &Program, task: &str, name: &str) -> Option<usize>
     None
 }
 
-// The place of a port among those of a task, if the task has this name.
+// The place of a port among the ports of a declared task, if that task has this name.
 fn own_place(declared: &Task, task: &str, name: &str) -> Option<usize>
     ensures { result ≡ position_from (is_port (Some task.now) name.now) 0 (ports_of_task (task_of declared.now)) }
 {
@@ -83,7 +83,7 @@ fn own_place(declared: &Task, task: &str, name: &str) -> Option<usize>
     }
 }
 
-// How many inputs and states a task has.
+// The number of a task's inputs and states.
 fn own_slots(declared: &Task) -> usize
     ensures { result ≡ length (ports_of_task (task_of declared.now)) }
 {
@@ -91,7 +91,7 @@ fn own_slots(declared: &Task) -> usize
     body.inputs.as_slice().len() + body.states.as_slice().len()
 }
 
-// How many sensors, actuators and outputs there are.
+// The number of sensors, actuators and outputs.
 fn shared_slots(program: &Program) -> usize
     requires { slots_of program.now < 2 ^ 64 }
     ensures { result ≡ length (driver_ports program.now) }

@@ -1,4 +1,4 @@
-//! What an instant needs of a program, over the numbers of its ports: no name is looked up.
+//! What an instant needs of a program, over the numbers of its ports: no names are looked up.
 
 ghost use Rattle.std.specs.Prelude.{◌≡◌};
 ghost use Rattle.giotto_check.specs.cited.Timetables.{value_over};
@@ -14,16 +14,16 @@ pub struct SlotExpr {
 /// An update of an actuator.
 #[derive(Drop)]
 pub struct SlotUpdate {
-    /// In ticks: it is due where this divides the mode time.
+    /// In ticks. The update is due if this divides the mode time.
     pub interval: u64,
-    /// The update is left out where this is 0. No guard is always true.
+    /// The update is skipped if this is 0. An absent guard is always true.
     pub guard: Option<SlotExpr>,
     /// The slot of the actuator.
     pub actuator: usize,
     pub value: SlotExpr,
 }
 
-/// What a switch gives an output.
+/// A value that a switch gives to an output.
 #[derive(Drop)]
 pub struct SlotDestination {
     /// The slot of the output.
@@ -31,25 +31,25 @@ pub struct SlotDestination {
     pub value: SlotExpr,
 }
 
-/// A switch to another mode, or to its own.
+/// A switch to another mode or to the same one.
 #[derive(Drop)]
 pub struct SlotExit {
-    /// In ticks: it is looked at where this divides the mode time.
+    /// In ticks. The switch is checked if this divides the mode time.
     pub interval: u64,
-    /// The switch is taken where this is not 0. No guard is always true.
+    /// The switch is taken if this is not 0. An absent guard is always true.
     pub guard: Option<SlotExpr>,
-    /// The place of the mode that comes next, in text order from 0.
+    /// The place of the next mode, in text order from 0.
     pub target: usize,
-    /// In text order. All values are taken before the first is written.
+    /// In text order. All values are computed before the first one is written.
     pub destinations: Vec<SlotDestination>,
 }
 
 /// An invocation of a task.
 #[derive(Drop)]
 pub struct SlotInvocation {
-    /// In ticks: it is due where this divides the mode time.
+    /// In ticks. The invocation is due if this divides the mode time.
     pub interval: u64,
-    /// The task isn't run where this is 0. No guard is always true.
+    /// The task is not run if this is 0. An absent guard is always true.
     pub guard: Option<SlotExpr>,
     /// The place of the task, in text order from 0.
     pub task: usize,
@@ -59,12 +59,12 @@ pub struct SlotInvocation {
     pub arguments: Vec<SlotExpr>,
 }
 
-/// Where a task's ports lie.
+/// The slots of a task's ports.
 #[derive(Drop)]
 pub struct TaskSlots {
-    /// The slot of its first input; the others follow it.
+    /// The slot of the task's first input; the others follow it.
     pub inputs: usize,
-    /// The slot of its first state; the others follow it.
+    /// The slot of the task's first state; the others follow it.
     pub states: usize,
     /// The slot of each output, in the order of the task's list.
     pub outputs: Vec<usize>,
@@ -78,7 +78,7 @@ pub(crate) struct Timetable {
     pub(crate) invocations: Vec<SlotInvocation>,
 }
 
-/// The value of an expression where these are the values of all ports by their slots. Takes no memory.
+/// The value of an expression, given the values of all ports by slot. Allocates nothing.
 #[inline(always)]
 pub fn slot_value(e: &SlotExpr, values: &[i64]) -> i64
     ensures { result ≡ value_over e.now values.now }

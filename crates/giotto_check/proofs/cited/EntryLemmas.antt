@@ -1,4 +1,4 @@
--- What the parts of an entry are.
+-- What the parts of an entry mean.
 use Rattle.std.proofs.Common.{◌≡◌, ℕ, ◌+◌, ◌<◌, true, ℤ, List, [], ◌∷◌, length, get_or, map, Option, Some, None, refl, sym, ap, ◌∙◌, arith}
 use Rattle.std.specs.List.{list_all, flat_map, position_from, zip}
 use Rattle.std.specs.Prelude.{IsSome, IsSomeAnd, IsTrue, is_some, slice_get}
@@ -38,7 +38,7 @@ is_expression p e c names is reads code values long =
     code values ∙ ap (λ ns. value_of e (zip ns values)) is ∙ sym (value_of_first e (driver_ports p) (map shown_name rest) values reads (omega (arith, long, count)))
     ∙ ap (λ ns. value_of e (zip ns values)) (sym (port_names_begin p))
 
--- the mode of a name
+-- the place of the mode with this name
 pub mode_found : (p : GiottoProgram) (x : Name) (modes : List Mode) (r : Option ℕ) → r ≡ position_from (λ (m : Mode). same_name m.name x) 0 modes → map trees.mode_of modes ≡ p.modes → place_of_mode p x ≡ r
 mode_found p x modes r e is =
     let test = λ (m : ModeDeclaration). same_name m.name x in
@@ -47,7 +47,7 @@ mode_found p x modes r e is =
 pub mode_there : (p : GiottoProgram) (x : Name) → IsSome (mode_named p x) → place_of_mode p x ≡ None → ⊥
 mode_there p x there none = false≢true (sym (ap is_some none) ∙ place_if_found (λ (m : ModeDeclaration). same_name m.name x) 0 p.modes ∙ there)
 
--- the task of a name
+-- the place of the task with this name
 pub task_found : (p : GiottoProgram) (x : Name) (tasks : List Task) (r : Option ℕ) → r ≡ position_from (λ (t : Task). same_name t.name x) 0 tasks → map trees.task_of tasks ≡ p.tasks → place_of_task p x ≡ r
 task_found p x tasks r e is =
     let test = λ (t : TaskDeclaration). same_name t.name x in
@@ -56,7 +56,7 @@ task_found p x tasks r e is =
 pub task_there : (p : GiottoProgram) (x : Name) → IsSome (task_named p x) → place_of_task p x ≡ None → ⊥
 task_there p x there none = false≢true (sym (ap is_some none) ∙ place_if_found (λ (t : TaskDeclaration). same_name t.name x) 0 p.tasks ∙ there)
 
--- a switch gives values to outputs
+-- a switch gives values only to outputs
 pub destinations_are_outputs : (p : GiottoProgram) (s : ModeSwitch) → ProgramFits p → IsSomeAnd (mode_named p s.target) (λ m. IsTrue (list_all (is_among (mode_ports p m)) (destinations_of s)))
     → list_all (is_among (output_names p)) (destinations_of s) ≡ true
 destinations_are_outputs p s fits target = by (mode_named p s.target) refl target
@@ -67,7 +67,7 @@ destinations_are_outputs p s fits target = by (mode_named p s.target) refl targe
         let m_fits = found_has (ModeFits p) (λ (n : ModeDeclaration). same_name n.name s.target) p.modes m fits.modes e in
         weaker_all (mode_ports p m) (output_names p) (λ x h. among_passes (is_among (output_names p)) (mode_ports p m) x m_fits.ports_are_outputs h) (destinations_of s) t
 
--- the slots of the task of a name
+-- the slots of the task with this name
 pub task_within : (p : GiottoProgram) (x : Name) (tasks : List TaskSlots) (k : ℕ) → AreEach (AreTaskSlots p) p.tasks tasks → place_of_task p x ≡ Some k → k < length tasks
 task_within p x tasks k each place = omega (arith, place_within (λ (t : TaskDeclaration). same_name t.name x) 0 p.tasks k place, each_long (AreTaskSlots p) p.tasks tasks each)
 
@@ -96,7 +96,7 @@ mode_is p x P there = by (mode_named p x) there
     by None t = absurd t
     by (Some d) t = refl
 
--- the slots of a switch's destinations, in their order
+-- the slots of a switch's destinations, in order
 pub destination_slots : (p : GiottoProgram) (ds : List (Name × Expression)) (entries : List SlotDestination) → AreEach (IsDestination p) ds entries
     → map (slot_of p None) (map (λ (d : Name × Expression). d.0) ds) ≡ map Some (map (λ (e : SlotDestination). e.output) entries)
 destination_slots p [] [] each = refl

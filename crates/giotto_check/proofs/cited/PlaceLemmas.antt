@@ -19,7 +19,7 @@ pub place-map : {X Y : Type 0} (test : Y → Bool) (f : X → Y) (i : ℕ) (xs :
 place-map test f i [] = refl
 place-map test f i (x ∷ xs) = ap (λ o. cond (test (f x)) (Some i) o) (place-map test f (i + 1) xs)
 
--- counting from another number
+-- places counted from another number
 pub place_from : {X : Type 0} (test : X → Bool) (i : ℕ) (xs : List X) → position_from test i xs ≡ option_map (λ k. i + k) (position_from test 0 xs)
 place_from {X = X} test i xs = let none : i + 0 ≡ i = omega arith in ap (λ k. position_from test k xs) (sym none) ∙ on 0 xs
   where
@@ -32,7 +32,7 @@ place_from {X = X} test i xs = let none : i + 0 ≡ i = omega arith in ap (λ k.
         by true rest = refl
         by false rest = rest
 
--- tests that agree find the same place
+-- tests with the same results find the same place
 pub place_same : {X : Type 0} (p q : X → Bool) → ((x : X) → p x ≡ q x) → (i : ℕ) (xs : List X) → position_from p i xs ≡ position_from q i xs
 place_same p q same i [] = refl
 place_same p q same i (x ∷ xs) =
@@ -40,7 +40,7 @@ place_same p q same i (x ∷ xs) =
     let rest = place_same p q same (i + 1) xs in
     rw (first, rest) refl
 
--- a test that none passes finds no place
+-- a test that no element passes finds no place
 pub place_none : {X : Type 0} (test : X → Bool) → ((x : X) → test x ≡ false) → (i : ℕ) (xs : List X) → position_from test i xs ≡ None
 place_none test none i [] = refl
 place_none test none i (x ∷ xs) =
@@ -48,7 +48,7 @@ place_none test none i (x ∷ xs) =
     let rest = place_none test none (i + 1) xs in
     rw (first, rest) refl
 
--- what is found first stands at the first place
+-- the first element that is found is at the first place
 pub found_there : {X : Type 0} (test : X → Bool) (i : ℕ) (xs : List X) (k : ℕ) (x : X) → position_from test i xs ≡ Some k → find test xs ≡ Some x → (j : ℕ) × (k ≡ i + j) × (slice_get xs j ≡ Some x)
 found_there test i [] k x e f = absurd (cc)
 found_there test i (y ∷ xs) k x e f = by (test y) e f (found_there test (i + 1) xs k x)
@@ -59,7 +59,7 @@ found_there test i (y ∷ xs) k x e f = by (test y) e f (found_there test (i + 1
     by true e f rest = let same : i ≡ k = cc in (0, omega arith, f)
     by false e f rest = let there = rest e f in (suc there.0, omega (arith, there.1), there.2)
 
--- where something passes there is a place
+-- there is a place exactly if some element passes
 pub place_if_found : {X : Type 0} (test : X → Bool) (i : ℕ) (xs : List X) → is_some (position_from test i xs) ≡ is_some (find test xs)
 place_if_found test i [] = refl
 place_if_found test i (x ∷ xs) = by (test x) (place_if_found test (i + 1) xs)
@@ -68,7 +68,7 @@ place_if_found test i (x ∷ xs) = by (test x) (place_if_found test (i + 1) xs)
     by true rest = refl
     by false rest = rest
 
--- the first list decides where something passes there, and the second where nothing does
+-- the place in the first list if an element passes there, and in the second list if none does
 pub place_first : {X : Type 0} (test : X → Bool) (i k : ℕ) (xs ys : List X) → position_from test 0 xs ≡ Some k → position_from test i (xs ++ ys) ≡ Some (i + k)
 place_first test i k xs ys e = place-append test i xs ys ∙ ap (λ o. option_or o (position_from test (i + length xs) ys)) (place_from test i xs ∙ ap (option_map (λ n. i + n)) e)
 
@@ -84,7 +84,7 @@ place_within test i (x ∷ xs) k e = by (test x) e (place_within test (i + 1) xs
     by true e rest = let same : i ≡ k = cc in omega arith
     by false e rest = let lt = rest e in omega (arith, lt)
 
--- what stands at the first place passes the test
+-- the element at the first place passes the test
 pub passes_there : {X : Type 0} (test : X → Bool) (i : ℕ) (xs : List X) (k : ℕ) → position_from test i xs ≡ Some k → (j : ℕ) × (x : X) × (k ≡ i + j) × (slice_get xs j ≡ Some x) × (test x ≡ true)
 passes_there test i [] k e = absurd (cc)
 passes_there {X = X} test i (y ∷ xs) k e = by (test y) refl e (passes_there test (i + 1) xs k)

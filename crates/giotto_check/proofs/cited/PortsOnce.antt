@@ -1,4 +1,4 @@
--- No two ports of a well-formed program are shown alike.
+-- No two ports of a well-formed program have the same displayed name.
 use Rattle.std.proofs.Common.{◌≡◌, Bool, true, false, not, ◌&&◌, nat_eq, List, [], ◌∷◌, ◌++◌, map, refl, sym, ap, subst, ◌∙◌, append_assoc}
 use Rattle.std.specs.List.{list_all, flat_map}
 use Rattle.std.proofs.lemmas.Bool.{and_parts, and_from, or_left, or_right, false≢true}
@@ -18,14 +18,14 @@ use Rattle.giotto_rules.specs.Ports.{shared_port, task_port, shown_name, ports_o
 use Rattle.giotto_check.specs.Slots.{port_names}
 use Rattle.giotto_check.proofs.SoundNames.{has_no_dot, HaveNoDots}
 
--- a test that fails wherever it would be a contradiction
+-- a test that can't succeed fails
 refuted : (b : Bool) → (b ≡ true → false ≡ true) → not b ≡ true
 refuted false f = refl
 refuted true f = f refl
 
 -- a name before a dot
 
--- the first dot tells the name before it
+-- the first dot ends the task's name
 pub before_dot : (t u x y : Name) → has_no_dot t ≡ true → has_no_dot u ≡ true → own_port t x ≡ own_port u y → (t ≡ u) × (x ≡ y)
 before_dot [] [] x y h k e = (refl, cc)
 before_dot [] (d ∷ u) x y h k e = let same : 46 ≡ d = cc in absurd (false≢true (subst (λ c. has_no_dot (c ∷ u) ≡ true) (sym same) k))
@@ -59,7 +59,7 @@ own_dotted : (t : Name) (xs : List Name) → list_all (λ y. not (has_no_dot y))
 own_dotted t [] = refl
 own_dotted t (x ∷ xs) = and_from _ _ (dotted t x) (own_dotted t xs)
 
--- an own port of one task among those of another: the tasks have one name
+-- if a port of one task is among the ports of another, the tasks have the same name
 one_owner : (t u x : Name) (ys : List Name) → has_no_dot t ≡ true → has_no_dot u ≡ true → is_among (own_ports u ys) (own_port t x) ≡ true
     → (t ≡ u) × (is_among ys x ≡ true)
 one_owner t u x [] h k e = absurd (false≢true e)
@@ -75,7 +75,7 @@ own_different t (x ∷ xs) h d =
     let both = and_parts (not (is_among xs x)) (all_different xs) d in
     and_from _ _ (refuted (is_among (own_ports t xs) (own_port t x)) (λ e. ap not (sym (one_owner t t x xs h h e).1) ∙ both.0)) (own_different t xs h both.1)
 
--- the task of an own port
+-- if some tasks have a task's port, the task is among them
 owner_among : (t x : Name) (us : List TaskDeclaration) → has_no_dot t ≡ true → list_all has_no_dot (map (λ (u : TaskDeclaration). u.name) us) ≡ true
     → is_among (flat_map shown_of_task us) (own_port t x) ≡ true → is_among (map (λ (u : TaskDeclaration). u.name) us) t ≡ true
 owner_among t x [] h k e = absurd (false≢true e)
@@ -85,7 +85,7 @@ owner_among t x (u ∷ us) h k e =
     (λ here. or_left _ _ (subst (λ z. same_name u.name z ≡ true) (sym (one_owner t u.name x _ h none.0 here).0) (same_name_self u.name)))
     (λ later. or_right (same_name u.name t) _ (owner_among t x us h none.1 later))
 
--- names of a task's own ports that aren't among other tasks' ones
+-- a task's ports aren't among those of tasks with other names
 apart_from_others : (t : Name) (us : List TaskDeclaration) (xs : List Name) → has_no_dot t ≡ true → list_all has_no_dot (map (λ (u : TaskDeclaration). u.name) us) ≡ true
     → not (is_among (map (λ (u : TaskDeclaration). u.name) us) t) ≡ true → list_all (λ y. not (is_among (flat_map shown_of_task us) y)) (own_ports t xs) ≡ true
 apart_from_others t us [] h k n = refl
@@ -110,7 +110,7 @@ tasks_dotted [] = refl
 tasks_dotted (t ∷ ts) =
     list_all-append (λ y. not (has_no_dot y)) (shown_of_task t) (flat_map shown_of_task ts) ∙ and_from _ _ (own_dotted t.name (own_names t)) (tasks_dotted ts)
 
--- names with a dot aren't among names without
+-- names with a dot aren't among names without a dot
 undotted_apart : (xs ys : List Name) → list_all has_no_dot xs ≡ true → list_all (λ y. not (has_no_dot y)) ys ≡ true → list_all (λ x. not (is_among ys x)) xs ≡ true
 undotted_apart xs ys h k =
     all_wider has_no_dot (λ x. not (is_among ys x)) (λ x e. refuted (is_among ys x) (λ there. ap not (sym e) ∙ among_passes (λ y. not (has_no_dot y)) ys x k there)) xs h

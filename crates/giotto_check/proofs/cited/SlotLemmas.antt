@@ -22,7 +22,7 @@ use Rattle.giotto_check.specs.Slots.{port_names}
 use Rattle.giotto_check.specs.cited.Timetables.{HaveSlotsFrom}
 use Rattle.giotto_check.proofs.cited.PlaceLemmas.{passes_there, place-append, place-map, place_first, place_from, place_none, place_same, place_second}
 
--- a port of a task is none without a task
+-- a task's port isn't a port without a task
 pub no_shared : (x : Name) (i : ℕ) (ts : List TaskDeclaration) → position_from (is_port None x) i (flat_map ports_of_task ts) ≡ None
 no_shared x i [] = refl
 no_shared x i (t ∷ ts) =
@@ -30,7 +30,7 @@ no_shared x i (t ∷ ts) =
     place-map (is_port None x) (task_port t.name) i (t.inputs ++ names_of t.states) ∙ place_none (λ y. is_port None x (task_port t.name y)) (λ y. refl) i (t.inputs ++ names_of t.states) in
     place-append (is_port None x) i (ports_of_task t) (flat_map ports_of_task ts) ∙ rw own (no_shared x (i + length (ports_of_task t)) ts)
 
--- ports without a task are found among the names of these alone
+-- ports without a task are found among their names
 pub shared_place : (x : Name) (i : ℕ) (names : List Name) (ts : List TaskDeclaration)
     → position_from (is_port None x) i (map shared_port names ++ flat_map ports_of_task ts) ≡ position_from (λ n. same_name n x) i names
 shared_place x i names ts =
@@ -45,7 +45,7 @@ shared_place x i names ts =
 pub slot_shared : (p : GiottoProgram) (x : Name) → slot_of p None x ≡ position_from (λ n. same_name n x) 0 (driver_ports p)
 slot_shared p x = shared_place x 0 (driver_ports p) p.tasks
 
--- ports without a task are none of a task
+-- ports without a task aren't ports of a task
 no_own : (t x : Name) (i : ℕ) (names : List Name) → position_from (is_port (Some t) x) i (map shared_port names) ≡ None
 no_own t x i names = place-map (is_port (Some t) x) shared_port i names ∙ place_none (λ y. is_port (Some t) x (shared_port y)) (λ y. refl) i names
 
@@ -56,13 +56,13 @@ slot_own p t x =
     let long : 0 + length shared ≡ length (driver_ports p) = omega (arith, length-map (driver_ports p) shared_port) in
     place-append (is_port (Some t) x) 0 shared (flat_map ports_of_task p.tasks) ∙ rw none (ap (λ k. position_from (is_port (Some t) x) k (flat_map ports_of_task p.tasks)) long)
 
--- the ports of a task of another name are none of this task
+-- the ports of a task with another name aren't ports of this task
 pub other_task : (t x : Name) (i : ℕ) (d : TaskDeclaration) → same_name d.name t ≡ false → position_from (is_port (Some t) x) i (ports_of_task d) ≡ None
 other_task t x i d other =
     place-map (is_port (Some t) x) (task_port d.name) i (d.inputs ++ names_of d.states)
     ∙ place_none (λ y. is_port (Some t) x (task_port d.name y)) (λ y. ap (λ b. b && same_name y x) other) i (d.inputs ++ names_of d.states)
 
--- those of a task of this name are its inputs, then its states
+-- the ports of a task with this name are its inputs, then its states
 pub this_task : (t x : Name) (i : ℕ) (d : TaskDeclaration) → same_name d.name t ≡ true
     → position_from (is_port (Some t) x) i (ports_of_task d) ≡ position_from (λ n. same_name n x) i (d.inputs ++ names_of d.states)
 this_task t x i d this =
@@ -84,11 +84,11 @@ own_states t x d o this none e =
     this_task t x 0 d this ∙ place_second test 0 d.inputs (names_of d.states) none ∙ ap (λ k. position_from test k (names_of d.states)) zero
     ∙ place_from test (length d.inputs) (names_of d.states) ∙ ap (option_map (λ k. length d.inputs + k)) e
 
--- how many ports a task has
+-- the number of a task's ports
 pub ports_long : (d : TaskDeclaration) → length (ports_of_task d) ≡ length d.inputs + length (names_of d.states)
 ports_long d = length-map (d.inputs ++ names_of d.states) (task_port d.name) ∙ length-append d.inputs (names_of d.states)
 
--- where there is such a name, it has a slot
+-- if a driver may read the name, it has a slot
 pub no_slot : (p : GiottoProgram) (x : Name) → is_among (driver_ports p) x ≡ true → slot_of p None x ≡ None → ⊥
 no_slot p x there none = lost 0 (driver_ports p) there (sym (slot_shared p x) ∙ none)
   where
@@ -100,7 +100,7 @@ no_slot p x there none = lost 0 (driver_ports p) there (sym (slot_shared p x) �
         by true there none further = absurd (cc)
         by false there none further = further there none
 
--- which port a test is for
+-- the port that a test looks for
 
 abbrev is_this : ProgramPort → ProgramPort → Bool
 is_this port = is_port port.task port.name
@@ -121,7 +121,7 @@ is_this_shown port other e = by port.task other.task (and_parts _ _ e).0 (same_n
     by (Some s) None same names = absurd (false≢true same)
     by (Some s) (Some t) same names = let tasks : t ≡ s = same_name_is t s same in cc
 
--- where no two ports are shown alike, the first place of a port is its own
+-- if no two ports have the same displayed name, a port is the first one that passes its test
 pub place_of_port : (i : ℕ) (before : List ProgramPort) (port : ProgramPort) (after : List ProgramPort) → all_different (map shown_name (before ++ port ∷ after)) ≡ true
     → position_from (is_port port.task port.name) i (before ++ port ∷ after) ≡ Some (i + length before)
 place_of_port i [] port after different =
@@ -142,7 +142,7 @@ place_of_port i (b ∷ bs) port after different =
         absurd (false≢true (ap not (sym (ap (is_among (map shown_name (bs ++ port ∷ after))) shown ∙ there bs)) ∙ none))
     by false e none rest = let on : i + 1 + length bs ≡ i + suc (length bs) = omega arith in rest ∙ ap Some on
 
--- ports of one task that stand next to one another have such slots
+-- consecutive ports of a task have consecutive slots
 pub slots_in_a_row : (p : GiottoProgram) (t : Name) (before : List ProgramPort) (names : List Name) (after : List ProgramPort) → all_different (port_names p) ≡ true
     → ports_of p ≡ before ++ (map (task_port t) names ++ after) → HaveSlotsFrom p t names (length before)
 slots_in_a_row p t before [] after different is = refl
@@ -158,7 +158,7 @@ slots_in_a_row p t before (x ∷ xs) after different is =
     let others : map (slot_of p (Some t)) xs ≡ map Some (range_with_len (length before + 1) (length xs)) = further ∙ ap (λ k. map Some (range_with_len k (length xs))) long in
     cc
 
--- the names of ports begin with those that drivers read
+-- the names of ports begin with those that drivers may read
 pub port_names_begin : (p : GiottoProgram) → port_names p ≡ driver_ports p ++ map shown_name (flat_map ports_of_task p.tasks)
 port_names_begin p =
     map-append shown_name (map shared_port (driver_ports p)) (flat_map ports_of_task p.tasks) ∙ ap (λ ns. ns ++ map shown_name (flat_map ports_of_task p.tasks)) (same (driver_ports p))
@@ -167,7 +167,7 @@ port_names_begin p =
     same [] = refl
     same (n ∷ ns) = ap (λ ms. n ∷ ms) (same ns)
 
--- the slots of a task's ports, where this is how many ports stand before it
+-- the slots of a task's ports; `first` is the number of ports before the task
 pub own_slots : (p : GiottoProgram) (before after : List TaskDeclaration) (d : TaskDeclaration) (first : ℕ) → all_different (port_names p) ≡ true → p.tasks ≡ before ++ d ∷ after
     → first ≡ length (map shared_port (driver_ports p) ++ flat_map ports_of_task before) → HaveSlotsFrom p d.name d.inputs first × HaveSlotsFrom p d.name (names_of d.states) (first + length d.inputs)
 own_slots p before after d first different is count =
@@ -187,7 +187,7 @@ own_slots p before after d first different is count =
       subst (HaveSlotsFrom p d.name (names_of d.states)) next (slots_in_a_row p d.name (front ++ inputs) (names_of d.states) rest different other),
     )
 
--- how many ports stand before the next task
+-- the number of ports before the next task
 pub before_more : (p : GiottoProgram) (items : List Task) (i : ℕ) (t : Task) → t ≡ get_or items i t → i < length items
     → length (map shared_port (driver_ports p) ++ flat_map ports_of_task (map trees.task_of (take (i + 1) items)))
     ≡ length (map shared_port (driver_ports p) ++ flat_map ports_of_task (map trees.task_of (take i items))) + (length (trees.task_of t).inputs + length (names_of (trees.task_of t).states))
@@ -216,7 +216,7 @@ small_task d sound =
     let states = (and_parts (nat_le (length d.outputs) 16) _ inputs.1).1 in
     (grind (arith, nat_tests, inputs.0), grind (arith, nat_tests, states))
 
--- the name of a port stands at its slot
+-- the name of a port is at its slot
 pub name_at_slot : (p : GiottoProgram) (task : Option Name) (x : Name) (k : ℕ) → slot_of p task x ≡ Some k → slice_get (port_names p) k ≡ Some (shown_name (record { task = task; name = x }))
 name_at_slot p task x k e =
     let port : ProgramPort = record { task = task; name = x } in
@@ -240,13 +240,13 @@ pub shared_shown : (names : List Name) → map (λ x. shown_name (record { task 
 shared_shown [] = refl
 shared_shown (n ∷ ns) = ap (λ ms. n ∷ ms) (shared_shown ns)
 
--- and those of ports of a task next to one another
+-- the names of consecutive ports of a task are at consecutive slots
 pub names_in_row : (p : GiottoProgram) (t : Name) (names : List Name) (first : ℕ) → HaveSlotsFrom p t names first
     → map (slice_get (port_names p)) (range_with_len first (length (map (own_port t) names))) ≡ map Some (map (own_port t) names)
 names_in_row p t names first slots =
     ap (λ n. map (slice_get (port_names p)) (range_with_len first n)) (length-map names (own_port t)) ∙ names_at_slots p (Some t) names (range_with_len first (length names)) slots
 
--- a port's slot is its place
+-- a port's slot is its place in the order of ports
 pub slot_of_port : (p : GiottoProgram) (k : ℕ) (port : ProgramPort) → all_different (port_names p) ≡ true → slice_get (ports_of p) k ≡ Some port → slot_of p port.task port.name ≡ Some k
 slot_of_port p k port different at =
     let lt = slice_get_within (ports_of p) k port at in

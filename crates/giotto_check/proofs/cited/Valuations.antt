@@ -13,13 +13,13 @@ use Rattle.giotto_tasks.proofs.cited.NameLemmas.{same_name_self, same_name_is}
 use Rattle.giotto_rules.specs.text.PortNames.{with_values}
 use Rattle.giotto_check.specs.cited.Slots.{with_slots, with_range}
 
--- a name that stands at a place of a list is among it
+-- a name at a place of a list is among its names
 there : (ns : List Name) (k : ℕ) (n : Name) → slice_get ns k ≡ Some n → is_among ns n ≡ true
 there [] k n at = absurd (cc)
 there (m ∷ ms) zero n at = let same : m ≡ n = cc in or_left (same_name m n) (is_among ms n) (ap (same_name m) (sym same) ∙ same_name_self m)
 there (m ∷ ms) (suc k) n at = or_right (same_name m n) (is_among ms n) (there ms k n at)
 
--- so it isn't another name in front of it
+-- so it differs from a name that isn't in the list
 apart : (m : Name) (ms : List Name) (k : ℕ) (n : Name) → not (is_among ms m) ≡ true → slice_get ms k ≡ Some n → same_name m n ≡ false
 apart m ms k n none at = by (same_name m n) refl
   where
@@ -27,7 +27,7 @@ apart m ms k n none at = by (same_name m n) refl
     by false e = refl
     by true e = let same : m ≡ n = same_name_is m n e in absurd (false≢true (sym (ap (λ x. not (is_among ms x)) same ∙ ap not (there ms k n at)) ∙ none))
 
--- among different names, a name's value stands at its place
+-- if all names are different, a name's value is at its place
 pub value_at_place : (ns : List Name) (vs : List ℤ) (k : ℕ) (n : Name) → all_different ns ≡ true → slice_get ns k ≡ Some n → value_at (zip ns vs) n ≡ slice_get vs k
 value_at_place [] vs k n different at = absurd (cc)
 value_at_place (m ∷ ms) [] k n different at = refl
@@ -37,7 +37,7 @@ value_at_place (m ∷ ms) (v ∷ vs) (suc k) n different at =
     let both = and_parts (not (is_among ms m)) (all_different ms) different in
     ap (λ b. cond b (Some v) (value_at (zip ms vs) n)) (apart m ms k n both.0 at) ∙ value_at_place ms vs k n both.1 at
 
--- and is changed there
+-- if all names are different, a name's value is changed at its place
 pub with_value_at_place : (ns : List Name) (vs : List ℤ) (k : ℕ) (n : Name) (z : ℤ) → all_different ns ≡ true → slice_get ns k ≡ Some n → length ns ≡ length vs
     → with_value (zip ns vs) n z ≡ zip ns (set vs k z)
 with_value_at_place [] vs k n z different at long = absurd (cc)
@@ -49,7 +49,7 @@ with_value_at_place (m ∷ ms) (v ∷ vs) (suc k) n z different at long =
     ap (λ b. cond b ((m, z) ∷ zip ms vs) ((m, v) ∷ with_value (zip ms vs) n z)) (apart m ms k n both.0 at)
     ∙ ap (λ r. (m, v) ∷ r) (with_value_at_place ms vs k n z both.1 at (omega (arith, long)))
 
--- several, one after the other
+-- several values are changed, one after the other
 pub with_values_at_places : (ns : List Name) (vs : List ℤ) (xs : List Name) (ks : List ℕ) (zs : List ℤ) → all_different ns ≡ true → map (slice_get ns) ks ≡ map Some xs → length ns ≡ length vs
     → with_values (zip ns vs) xs zs ≡ zip ns (with_slots vs ks zs)
 with_values_at_places ns vs [] [] zs different at long = refl
@@ -62,7 +62,7 @@ with_values_at_places ns vs (x ∷ xs) (k ∷ ks) (z ∷ zs) different at long =
     ap (λ m. with_values m xs zs) (with_value_at_place ns vs k x z different first long)
     ∙ with_values_at_places ns (set vs k z) xs ks zs different rest (omega (arith, long, length-set vs k z))
 
--- the values of names that stand next to one another
+-- the values of consecutive names
 pub values_in_range : (ns : List Name) (vs : List ℤ) (xs : List Name) (first : ℕ) → all_different ns ≡ true → map (slice_get ns) (range_with_len first (length xs)) ≡ map Some xs → length ns ≡ length vs
     → values_of (zip ns vs) xs ≡ slice_range vs first (first + length xs)
 values_in_range ns vs [] first different at long = let none : first + 0 - first ≡ 0 = omega arith in sym (ap (λ n. take n (drop first vs)) none)
@@ -80,7 +80,7 @@ values_in_range ns vs (x ∷ xs) first different at long =
     read (v ∷ vs) zero lt = refl
     read (v ∷ vs) (suc i) lt = read vs i (omega arith)
 
--- numbers at places next to one another are a range
+-- numbers at consecutive places are a range
 pub slots_are_range : (vs : List ℤ) (first : ℕ) (zs : List ℤ) → first + length zs ≤ length vs → with_slots vs (range_with_len first (length zs)) zs ≡ with_range vs first zs
 slots_are_range vs first [] le = let none : first + 0 ≡ first = omega arith in sym (ap (λ n. take first vs ++ drop n vs) none ∙ take-append-drop first vs)
 slots_are_range vs first (z ∷ zs) le =
@@ -90,7 +90,7 @@ slots_are_range vs first (z ∷ zs) le =
     slots_are_range (set vs first z) (first + 1) zs (omega (arith, le, length-set vs first z))
     ∙ rw (front, back) (append_assoc (take first vs) (z ∷ []) (zs ++ drop (first + suc (length zs)) vs))
 
--- the values of names next to one another, all changed
+-- the values of consecutive names, all changed
 pub with_values_in_range : (ns : List Name) (vs : List ℤ) (xs : List Name) (first : ℕ) (zs : List ℤ) → all_different ns ≡ true → map (slice_get ns) (range_with_len first (length xs)) ≡ map Some xs
     → length ns ≡ length vs → length zs ≡ length xs → with_values (zip ns vs) xs zs ≡ zip ns (with_range vs first zs)
 with_values_in_range ns vs [] first [] different at long same =

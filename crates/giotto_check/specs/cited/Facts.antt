@@ -1,4 +1,4 @@
--- What follows from the rules for whoever runs a program: names stand once, frequencies divide, lists fit, and drivers are shallow.
+-- What follows from the rules for running a program: names occur once, frequencies divide, lists fit, and drivers are shallow.
 use Rattle.std.specs.Prelude.{◌≡◌, ℕ, ◌/◌, ◌%◌, ◌≤◌, List, length, IsTrue, IsSomeAnd, IsSome}
 use Rattle.std.specs.List.{AllByRecursion}
 use Rattle.giotto_tasks.specs.declared.names.Name.{Name}
@@ -12,13 +12,13 @@ use Rattle.giotto_rules.specs.Names.{are_among, all_different_numbers}
 use Rattle.giotto_rules.specs.Reads.{names_in_update, names_in_switch, names_in_invocation}
 use Rattle.giotto_check.specs.cited.Slots.{PortNamesDiffer}
 
--- a frequency that divides the mode's period into intervals of a tick at least
+-- a frequency that divides the mode's period into intervals of at least one tick
 pub record IsFrequencyOf (m : ModeDeclaration) (w : ℕ) : Type 0 where
   pub positive : 1 ≤ w
   pub divides : m.period % w ≡ 0
   pub interval : 1 ≤ m.period / w
 
--- a driver may read the ports of these names
+-- a driver may read the ports with these names
 abbrev pub DriversMayRead : GiottoProgram → List Name → Type 0
 DriversMayRead p names = IsTrue (are_among (driver_ports p) names)
 
@@ -29,7 +29,7 @@ pub record UpdateFits (p : GiottoProgram) (m : ModeDeclaration) (u : ActuatorUpd
   pub reads : IsTrue (are_among (mode_ports p m) (names_in_update u))
   pub shallow : IsTrue (is_shallow_update u)
 
--- a switch goes to a mode, gives values to ports of it, each once, reads ports of its own mode and sensors, and is shallow
+-- a switch has a target mode and gives values to its ports, each once; it reads ports of its own mode and sensors; it is shallow
 pub record SwitchFits (p : GiottoProgram) (m : ModeDeclaration) (s : ModeSwitch) : Type 0 where
   pub frequency : IsFrequencyOf m s.frequency
   pub target : IsSomeAnd (mode_named p s.target) (λ target. IsTrue (are_among (mode_ports p target) (destinations_of s)))
@@ -61,7 +61,7 @@ pub record TaskFits (p : GiottoProgram) (t : TaskDeclaration) : Type 0 where
   pub outputs : IsTrue (are_among (output_names p) t.outputs)
   pub sound : IsSound (body_of t)
 
--- a well-formed program: no name is declared twice, no line has two actuators, no two ports are shown alike, and it starts in a mode
+-- a well-formed program: declared names differ, no line has two actuators, displayed port names differ, and the start mode exists
 pub record ProgramFits (p : GiottoProgram) : Type 0 where
   pub declared_once : IsTrue (all_different (declared_names p))
   pub lines_once : IsTrue (all_different_numbers (lines_written p))

@@ -1,4 +1,4 @@
--- Lists of the values of all ports, and what the maps of the definitions are in them.
+-- Lists of the values of all ports, compared with the maps of the definitions.
 use Rattle.std.specs.Prelude.{ℕ, length, IsTrue, ◌≡◌, ℤ, List, Some, map, None, [], ◌∷◌, slice_set, ◌+◌, ◌++◌, take, drop}
 use Rattle.giotto_rules.specs.text.Program.{GiottoProgram}
 use Rattle.giotto_rules.specs.Ports.{ports_of, ProgramPort, slot_of}
@@ -8,15 +8,15 @@ use Rattle.giotto_tasks.specs.declared.names.Name.{Name}
 use Rattle.giotto_tasks.specs.Names.{values_of, Valuation}
 use Rattle.giotto_rules.specs.text.PortNames.{own_ports, with_values}
 
--- how many values a list for all ports has
+-- the length of a list of the values of all ports
 abbrev pub slots_of : GiottoProgram → ℕ
 slots_of p = length (ports_of p)
 
--- no two ports of the program are shown alike
+-- no two ports of the program have the same displayed name
 abbrev pub PortNamesDiffer : GiottoProgram → Type 0
 PortNamesDiffer p = IsTrue (all_different (port_names p))
 
--- the values of all ports of a program in which no two ports are shown alike
+-- the values of all ports of a program in which no two ports have the same displayed name
 pub record AreValuesOf (p : GiottoProgram) (values : List ℤ) : Type 0 where
   pub ports_once : PortNamesDiffer p
   pub long : length values ≡ slots_of p

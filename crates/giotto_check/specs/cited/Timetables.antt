@@ -1,4 +1,4 @@
--- What the entries of a mode's timetables stand for: its updates, switches and invocations, read through the numbers of ports.
+-- What the entries of a mode's timetables mean: its updates, switches and invocations, over the numbers of ports.
 use Rattle.std.specs.Prelude.{◌≡◌, ℕ, ◌/◌, ℤ, List, [], ◌∷◌, map, length, Option, Some, None, IsSomeAnd}
 use Rattle.std.specs.List.{position_from, range_with_len}
 use Rattle.giotto_tasks.specs.declared.names.Name.{Name}
@@ -21,18 +21,18 @@ use Rattle.giotto_check.specs.declared.timetables.TaskSlots.{TaskSlots}
 use Rattle.giotto_check.specs.declared.timetables.Timetable.{Timetable}
 use Rattle.giotto_check.specs.declared.numbering.Numbering.{Numbering}
 
--- there are as many of the one as of the other, and each is as it must be to the one at its place
+-- the lists have the same length, and the elements at each place are related
 abbrev pub AreEach : {A B : Type 0} → (A → B → Type 0) → List A → List B → Type 0
 AreEach R [] [] = Unit
 AreEach R [] (y ∷ ys) = ⊥
 AreEach R (x ∷ xs) [] = ⊥
 AreEach R (x ∷ xs) (y ∷ ys) = R x y × AreEach R xs ys
 
--- the value of an expression over numbered ports where these are the values of all ports
+-- the value of an expression over numbered ports, given the values of all ports
 abbrev pub value_over : SlotExpr → List ℤ → ℤ
 value_over c values = driver_value c.code values
 
--- the same value as that of the expression over named ports
+-- the expression over numbered ports has the value of the expression over named ports
 abbrev pub IsExpression : GiottoProgram → Expression → SlotExpr → Type 0
 IsExpression p e c = (values : List ℤ) → length values ≡ slots_of p → value_over c values ≡ value_of e (valuation_of p values)
 
@@ -43,19 +43,19 @@ IsGuard p None (Some c) = ⊥
 IsGuard p (Some e) None = ⊥
 IsGuard p (Some e) (Some c) = IsExpression p e c
 
--- the place of the mode of this name, counted from 0
+-- the place of the mode with this name, counted from 0
 abbrev pub place_of_mode : GiottoProgram → Name → Option ℕ
 place_of_mode p x = position_from (λ (m : ModeDeclaration). same_name m.name x) 0 p.modes
 
--- the place of the task of this name, counted from 0
+-- the place of the task with this name, counted from 0
 abbrev pub place_of_task : GiottoProgram → Name → Option ℕ
 place_of_task p x = position_from (λ (t : TaskDeclaration). same_name t.name x) 0 p.tasks
 
--- these ports of a task have slots next to one another, from this one on
+-- these ports of a task have consecutive slots, from this one on
 abbrev pub HaveSlotsFrom : GiottoProgram → Name → List Name → ℕ → Type 0
 HaveSlotsFrom p t names first = map (slot_of p (Some t)) names ≡ map Some (range_with_len first (length names))
 
--- these ports of a task stand in a row from this slot on, and there is a value for each
+-- these ports of a task have consecutive slots, from this one on, and there is a value for each
 pub record AreInRow (p : GiottoProgram) (t : Name) (names : List Name) (first : ℕ) (values : List ℤ) : Type 0 where
   pub slots : HaveSlotsFrom p t names first
   pub long : length values ≡ length names
@@ -65,7 +65,7 @@ pub record AreDriverPorts (p : GiottoProgram) (names : List Name) : Type 0 where
   pub fits : ProgramFits p
   pub in_order : names ≡ driver_ports p
 
--- an update of the mode: it happens where the interval divides the mode time, and writes the slot of its actuator
+-- an update of the mode: it is due if the interval divides the mode time, and writes the slot of its actuator
 pub record IsUpdate (p : GiottoProgram) (m : ModeDeclaration) (u : ActuatorUpdate) (entry : SlotUpdate) : Type 0 where
   pub interval : entry.interval ≡ m.period / u.frequency
   pub guard : IsGuard p u.guard entry.guard
@@ -112,7 +112,7 @@ AreExits p m entries = AreEach (IsExit p m) m.switches entries
 abbrev pub AreInvocations : GiottoProgram → ModeDeclaration → List SlotInvocation → Type 0
 AreInvocations p m entries = AreEach (IsInvocation p m) m.invocations entries
 
--- a task's slots: those of its inputs, of its states, and of each output
+-- a task's slots: those of its inputs, its states and each output
 pub record AreTaskSlots (p : GiottoProgram) (t : TaskDeclaration) (entry : TaskSlots) : Type 0 where
   pub inputs : HaveSlotsFrom p t.name t.inputs entry.inputs
   pub states : HaveSlotsFrom p t.name (names_of t.states) entry.states

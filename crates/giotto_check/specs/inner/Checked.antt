@@ -1,4 +1,4 @@
--- What is known of a checked program, and of what is kept with it.
+-- What holds for a checked program, and for what is kept with it.
 use Rattle.std.specs.Prelude.{◌≡◌, ℕ, ◌-◌, ◌^◌, min}
 use Rattle.giotto_rules.specs.text.Program.{GiottoProgram}
 use Rattle.giotto_rules.specs.cited.KeepsRules.{KeepsRules}

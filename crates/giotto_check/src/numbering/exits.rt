@@ -45,7 +45,7 @@ impl Numbered<'_> {
         })
     }
 
-    // The place of the mode of this name. Goes over the modes once.
+    // The place of the mode with this name. Goes through the modes once.
     fn target(&self, name: &Name) -> usize
         requires { IsSome (mode_named self.now name.now) }
         ensures { place_of_mode self.now name.now ≡ Some result }

@@ -19,7 +19,7 @@ use giotto_tasks::names::Name;
 use std::alloc::AllocError;
 
 impl Numbered<'_> {
-    /// The invocations of a mode, in text order, where these are the slots of the tasks.
+    /// The invocations of a mode, in text order. `tasks` has the slots of the tasks.
     pub(crate) fn invocations(
         &self,
         tasks: &[TaskSlots],
@@ -58,7 +58,7 @@ impl Numbered<'_> {
         })
     }
 
-    // The place of the task of this name. Goes over the tasks once.
+    // The place of the task with this name. Goes through the tasks once.
     fn task(&self, name: &Name) -> usize
         requires { IsSome (task_named self.now name.now) }
         ensures { place_of_task self.now name.now ≡ Some result }

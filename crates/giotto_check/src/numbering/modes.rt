@@ -11,7 +11,7 @@ use giotto_rules::text::programs::Mode;
 use std::alloc::AllocError;
 
 impl Numbered<'_> {
-    /// The timetables of all modes, in text order, where these are the slots of the tasks.
+    /// The timetables of all modes, in text order. `tasks` has the slots of the tasks.
     pub(crate) fn modes(&self, tasks: &[TaskSlots]) -> Result<Vec<Timetable>, AllocError>
         requires { AreEach (AreTaskSlots self.now) self.now.tasks tasks.now }
         ensures { IfOk result (λ tables. AreEach (IsTimetable self.now) self.now.modes tables.items) }

@@ -22,8 +22,8 @@ use giotto_tasks::names::Name;
 use std::alloc::{AllocError, Global};
 use std::marker::Model;
 
-/// A well-formed program, with the names of its sensors, actuators and outputs, which are the first ports, in the order of
-/// their slots.
+/// A well-formed program, with the names of its sensors, actuators and outputs. These are the first ports, in the order
+/// of their slots.
 #[derive(Drop)]
 pub(crate) struct Numbered<'a> {
     pub(crate) alloc: Global,
@@ -46,7 +46,7 @@ impl<'a> Model for Numbered<'a> {
 }
 
 impl<'a> Numbered<'a> {
-    /// Fails where there is want of memory.
+    /// Fails if an allocation fails.
     pub(crate) fn new(alloc: Global, program: &'a Program) -> Result<Numbered<'a>, AllocError>
         requires { ProgramFits program.now }
         ensures { IfOk result (λ n. n ≡ program.now) }

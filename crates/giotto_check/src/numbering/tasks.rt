@@ -1,4 +1,4 @@
-//! Where the ports of tasks lie.
+//! The slots of tasks' ports.
 
 ghost use Rattle.std.specs.Prelude.{◌≡◌, Some, None, IfOk, IsTrue, map};
 ghost use Rattle.giotto_rules.specs.Declarations.{output_names};
@@ -14,7 +14,7 @@ use giotto_tasks::names::Name;
 use std::alloc::AllocError;
 
 impl Numbered<'_> {
-    /// The slots of all tasks, in text order, and how many ports there are.
+    /// The slots of all tasks, in text order, and the number of ports.
     pub(crate) fn tasks(&self) -> Result<(Vec<TaskSlots>, usize), AllocError>
         ensures tasks { IfOk result (λ r. AreEach (AreTaskSlots self.now) self.now.tasks r.0.items) }
         ensures slots { IfOk result (λ r. r.1 ≡ slots_of self.now) }

@@ -5,7 +5,7 @@ use Rattle.giotto_rules.specs.Ports.{is_port, ports_of_task, slot_of}
 use Rattle.giotto_check.specs.cited.Slots.{slots_of}
 use Rattle.giotto_check.proofs.slots.own_slot.Given as goal
 
--- the ports of the tasks that are left give the slot
+-- the slot is found among the ports of the remaining tasks
 abbrev pub invariant-loop-declared : goal.invariant-loop-declared
 invariant-loop-declared l =
     let rest = flat_map ports_of_task (map task_of (drop l.declared-index l.declared-items)) in

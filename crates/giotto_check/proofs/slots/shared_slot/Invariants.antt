@@ -6,7 +6,7 @@ use Rattle.giotto_rules.specs.Ports.{is_port, ports_of_task, shared_port, slot_o
 use Rattle.giotto_check.specs.cited.Slots.{slots_of}
 use Rattle.giotto_check.proofs.slots.shared_slot.Given as goal
 
--- what is left of the ports gives the slot
+-- the slot is found among the remaining ports
 abbrev pub invariant-loop-sensor : goal.invariant-loop-sensor
 invariant-loop-sensor l =
     let rest = map (λ s. s.name) (map sensor_of (drop l.sensor-index l.sensor-items)) ++ (actuator_names l.program ++ output_names l.program) in

@@ -6,7 +6,7 @@ use Rattle.giotto_rules.specs.Ports.{ports_of_task, shared_port}
 use Rattle.giotto_check.specs.cited.Timetables.{AreEach, AreTaskSlots}
 use Rattle.giotto_check.proofs.numbering.numbered.Numbered.tasks.Given as goal
 
--- the slot of the next input is how many ports stand before it: at most 32 for each task
+-- the slot of the next input is the number of ports before it: at most 32 for each task
 abbrev pub invariant-loop-task : goal.invariant-loop-task
 invariant-loop-task l = record {
   each : AreEach (AreTaskSlots l.self) (map task_of (take l.task-index l.task-items)) l.tasks.items;
