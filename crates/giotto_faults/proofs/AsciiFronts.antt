@@ -1,4 +1,5 @@
--- What stands before a token of a text, or before the fault of a text without tokens, is ASCII: so the text can be cut there.
+-- The bytes before a token of a text are ASCII, and so are those before the fault of a text without tokens. So the text can be
+-- cut there.
 use Rattle.std.specs.Prelude.{nat_lt, nat_eq, Option}
 use Rattle.std.proofs.Common.{◌≡◌, ℕ, zero, suc, ◌+◌, ◌-◌, ◌^◌, ◌<◌, Bool, true, false, ◌&&◌, List, [], ◌∷◌, ◌++◌, length, take, cond, Some, None, Ok, Err, refl, ap, sym, ◌∙◌, subst, arith, lit<}
 use Rattle.std.proofs.lemmas.Bool.{and_parts, and_from}
@@ -33,7 +34,7 @@ name_byte_ascii c e = grind (arith, nat_tests)
 blank_ascii : (c : ℕ) → is_blank_of_text c ≡ true → is_ascii c ≡ true
 blank_ascii c e = grind (arith, nat_tests)
 
--- a run of bytes that pass a test of ASCII
+-- a run of bytes that all pass a test which only ASCII passes
 run_ascii : (p : ℕ → Bool) → ((c : ℕ) → p c ≡ true → is_ascii c ≡ true) → (xs : List ℕ) → are_ascii (take (length (take_while p xs)) xs) ≡ true
 run_ascii p small [] = refl
 run_ascii p small (x ∷ xs) = by (run_ascii p small xs) (p x) refl
@@ -46,7 +47,7 @@ run_ascii p small (x ∷ xs) = by (run_ascii p small xs) (p x) refl
         let is : take_while p (x ∷ xs) ≡ [] = take_while-cons p x xs ∙ ap (λ b. cond b (x ∷ take_while p xs) []) here in
         rw is refl
 
--- The first byte of what is found and all others are ASCII.
+-- The first byte of the token found is ASCII, and so are all others.
 abbrev IsAsciiFound : ℕ → List ℕ → FoundToken → Type 0
 IsAsciiFound c cs None = Unit {0}
 IsAsciiFound c cs (Some f) = (is_ascii c ≡ true) × (are_ascii (take (f.1 - 1) cs) ≡ true)
@@ -138,7 +139,7 @@ first_ascii c cs = by (is_letter c) refl (is_digit c) refl
         (number_ascii c cs (take_while is_digit (c ∷ cs)) (digit_ascii c digit) (run_tail_ascii is_digit digit_ascii c cs digit))
     by false letter false digit = subst (IsAsciiFound c cs) (sym (mark_begins c cs letter digit)) (mark_ascii c cs)
 
--- what stands between this offset and a place is ASCII, where this text begins at the offset
+-- the bytes between this offset and a place are ASCII, if this text begins at the offset
 abbrev pub AsciiUpTo : ℕ → List ℕ → ℕ → Type 0
 AsciiUpTo offset text place = are_ascii (take (place - offset) text) ≡ true
 
@@ -150,7 +151,7 @@ abbrev pub AsciiFronts : ℕ → List ℕ → Tokens → Type 0
 AsciiFronts offset text (Ok ts) = AsciiUpToEach offset text ts
 AsciiFronts offset text (Err fault) = AsciiUpTo offset text fault
 
--- with an ASCII byte before
+-- the same with one more ASCII byte before
 one_earlier : (offset : ℕ) (c : ℕ) (cs : List ℕ) (place : ℕ) → is_ascii c ≡ true → AsciiUpTo (offset + 1) cs place → AsciiUpTo offset (c ∷ cs) place
 one_earlier offset c cs place here rest = by (place - offset) refl
   where

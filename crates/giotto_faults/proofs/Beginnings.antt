@@ -1,4 +1,4 @@
--- A text begins a program exactly where its reader tells so.
+-- A text begins a program exactly if the reader says so.
 use Rattle.std.specs.Prelude.{nat_eq, ◌↔◌, Result}
 use Rattle.std.proofs.Common.{◌≡◌, ℕ, ◌<◌, true, false, List, [], ◌∷◌, ◌++◌, length, Ok, refl, sym, subst, arith, append-nil}
 use Rattle.std.proofs.lemmas.Bool.Decides.{nat_tests}

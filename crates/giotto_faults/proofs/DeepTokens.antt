@@ -1,4 +1,4 @@
--- Tokens that nest too deep do so somewhere.
+-- If tokens nest too deep, there is a token at which they do.
 use Rattle.std.specs.Prelude.{nat_le}
 use Rattle.std.proofs.Common.{◌≡◌, ℕ, Bool, true, false, List, [], ◌∷◌, Some, None, Ok, Err, refl, ap, sym, ◌∙◌}
 use Rattle.giotto_read.specs.declared.text.faults.ReadFault.TheVariants.{TooDeep, TooMany}

@@ -24,7 +24,7 @@ boundary text n utf8 within ascii =
     let whole : n - 0 ≡ n = omega arith in
     IsCharBoundary-from_take text n utf8 within (IsUtf8-from_ascii (take n text) (as_ascii (take n text) (rw whole at ascii)))
 
--- the fault's offset, where what the tokens read as is this
+-- the text can be cut at the fault's offset, if this is the result of reading it
 Cuttable : List ℕ → Result GiottoProgram ReadFault → Type 0
 Cuttable text r = (n : ℕ) → r ≡ Err (Syntax n) → IsCharBoundary text n
 

@@ -1,4 +1,4 @@
--- The tokens of a text, and the fault of one that has none, stand before its end.
+-- The tokens of a text come before its end, and so does the fault of a text that has no tokens.
 use Rattle.std.proofs.Common.{◌≡◌, ℕ, zero, suc, ◌+◌, ◌-◌, ◌<◌, Bool, true, false, List, [], ◌∷◌, ◌++◌, length, Some, None, Ok, Err, refl, arith}
 use Rattle.giotto_read.specs.declared.text.tokens.Token.{Token}
 use Rattle.giotto_read.specs.declared.text.tokens.PlacedToken.{PlacedToken}

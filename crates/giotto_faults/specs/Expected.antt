@@ -1,4 +1,4 @@
--- What could stand at a place in a text: each kind of token with which the text up to there begins some program.
+-- Which tokens could follow a text: each kind of token with which the text begins some program.
 use Rattle.std.specs.Prelude.{◌≡◌, ℕ, nat_eq, Bool, true, false, List, ◌∷◌, ◌++◌, length, filter, Result, Ok, Err}
 use Rattle.giotto_read.specs.declared.text.faults.ReadFault.{ReadFault}
 use Rattle.giotto_read.specs.declared.text.faults.ReadFault.TheVariants.{Syntax, TooDeep, TooMany, Memory}
@@ -19,7 +19,8 @@ pub record BeginsProgram (text : List ℕ) : Type 0 where
   pub prefix : IsPrefix (bare tokens)
   pub shallow : nests_too_deep (bare tokens) ≡ false
 
--- a text of this length reads so: a program, or one that only goes on too short or has too many ports
+-- whether a text of this length begins a program, by the result of reading it: it is a program, or it only ends too early or has
+-- too many ports
 abbrev pub begins_if_read : ℕ → Result GiottoProgram ReadFault → Bool
 begins_if_read end (Ok p) = true
 begins_if_read end (Err (Syntax offset)) = nat_eq offset end
@@ -27,11 +28,11 @@ begins_if_read end (Err TooDeep) = false
 begins_if_read end (Err TooMany) = true
 begins_if_read end (Err Memory) = false
 
--- the text begins a program, as its reader tells
+-- the text begins a program, according to the reader
 abbrev pub begins_program : List ℕ → Bool
 begins_program text = begins_if_read (length text) (parsed text)
 
--- the text with a blank and a token of this kind behind it
+-- the text followed by a blank and a token of this kind
 abbrev pub with_token : List ℕ → TokenKind → List ℕ
 with_token text kind = text ++ 32 ∷ sample_of kind
 

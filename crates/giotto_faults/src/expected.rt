@@ -1,4 +1,4 @@
-//! What could stand at a place in a text.
+//! The kinds of tokens that could follow a text.
 
 ghost use Rattle.std.specs.Prelude.{◌≡◌, IfOk, filter};
 ghost use Rattle.giotto_faults.specs.Expected as spec;
@@ -7,13 +7,13 @@ use crate::kinds::{KINDS, TokenKind};
 use giotto_read::{ReadFault, read};
 use std::alloc::{AllocError, Global};
 
-/// The kinds of tokens that could stand behind a text, each once: those with which it begins some program that nests at most
-/// 32 deep. There is none where the text itself begins no program.
+/// The kinds of tokens that could follow a text, each once. These are the kinds with which the text begins some program that
+/// nests at most 32 deep. There are none if the text itself begins no program.
 ///
-/// Each kind is tried with the reader itself, so this takes as long as to read the text 40 times.
+/// Tries each kind with the reader itself, so it takes as long as reading the text 40 times.
 ///
 /// # Errors
-/// Want of memory.
+/// Out of memory.
 #[tactic(auto, unfolding(crate::specs::Expected::expected_behind))]
 pub fn expected_behind(alloc: Global, text: &str) -> Result<Vec<TokenKind>, AllocError>
     ensures { IfOk result (λ kinds. kinds.items ≡ spec.expected_behind text.now) }
@@ -21,7 +21,7 @@ pub fn expected_behind(alloc: Global, text: &str) -> Result<Vec<TokenKind>, Allo
     those_expected(alloc, text, &KINDS)
 }
 
-// Those of some kinds that could stand behind the text.
+// Those of `kinds` that could follow the text.
 fn those_expected(
     alloc: Global,
     text: &str,
@@ -38,7 +38,7 @@ fn those_expected(
     Ok(those)
 }
 
-// Whether the text with a token of this kind behind it begins a program.
+// Whether the text followed by a token of this kind begins a program.
 fn could_stand_behind(alloc: Global, text: &str, kind: TokenKind) -> Result<bool, AllocError>
     ensures { IfOk result (λ could. could ≡ spec.begins_program (spec.with_token text.now kind)) }
 {
@@ -51,7 +51,7 @@ fn could_stand_behind(alloc: Global, text: &str, kind: TokenKind) -> Result<bool
 /// Whether the tokens of a text are a prefix of some program's tokens, and nest at most 32 deep.
 ///
 /// # Errors
-/// Want of memory.
+/// Out of memory.
 pub fn begins_program(alloc: Global, text: &str) -> Result<bool, AllocError>
     ensures { IfOk result (λ begins. begins ≡ spec.begins_program text.now) }
 {

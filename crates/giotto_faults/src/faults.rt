@@ -1,4 +1,4 @@
-//! Why a text is no program, with what was found and what could stand there.
+//! Why a text is not a program: where the fault is, and which tokens could come there.
 
 ghost use Rattle.std.specs.Prelude.{◌≡◌, IfOk, IfErr, Ok, Err};
 ghost use Rattle.giotto_read.specs.text.Parsing.{parsed};
@@ -14,7 +14,7 @@ use giotto_read::{Program, ReadFault, read};
 use giotto_tasks::lists::List;
 use std::alloc::Global;
 
-/// Why a text is no program. The reasons are looked for in the order of the reader, which are those of `ReadFault`.
+/// Why a text is not a program. The reasons are those of `ReadFault`, and they are looked for in the reader's order.
 #[derive(Drop)]
 pub enum ProgramFault {
     /// The text spells no program.
@@ -23,18 +23,18 @@ pub enum ProgramFault {
     TooDeep(usize),
     /// A task has more than 16 inputs, outputs or states.
     TooMany(Option<CrowdedPort>),
-    /// Want of memory.
+    /// Out of memory.
     Memory,
 }
 
-/// Where a text spells no program, and what could stand there.
+/// Where a text spells no program, and which tokens could come there.
 #[derive(Drop)]
 pub struct SyntaxFault {
-    /// The offset, in bytes, of the first byte at which no token begins, or else of the first token with which the tokens are
-    /// no prefix of any program, or else the length of the text.
+    /// The offset in bytes of the first byte at which no token begins. Or else that of the first token with which the tokens are
+    /// not a prefix of any program. Or else the length of the text.
     pub offset: usize,
-    /// Each kind of token with which the text up to there begins some program. There is none where the text up to there
-    /// begins no program.
+    /// Each kind of token with which the text up to there begins some program. There are none if the text up to there begins no
+    /// program.
     pub expected: List<TokenKind>,
 }
 
@@ -52,7 +52,7 @@ pub fn read_or_tell(alloc: Global, text: &str) -> Result<Program, ProgramFault>
     }
 }
 
-// What could stand where the text is refused.
+// Finds which tokens could come where the text is refused.
 fn syntax_fault(alloc: Global, text: &str, offset: usize) -> ProgramFault
     requires { parsed text.now ≡ Err (ReadFault.Syntax offset) }
     ensures { Tells text.now result }
@@ -67,7 +67,7 @@ fn syntax_fault(alloc: Global, text: &str, offset: usize) -> ProgramFault
     })
 }
 
-// Where the text nests too deep.
+// Finds where the text nests too deep.
 fn too_deep(alloc: Global, text: &str) -> ProgramFault
     requires { parsed text.now ≡ Err ReadFault.TooDeep }
     ensures { Tells text.now result }
@@ -81,7 +81,7 @@ fn too_deep(alloc: Global, text: &str) -> ProgramFault
     ProgramFault::TooDeep(offset)
 }
 
-// Which port is too many.
+// Finds the port that is too many.
 fn too_many(alloc: Global, text: &str) -> ProgramFault
     requires { parsed text.now ≡ Err ReadFault.TooMany }
     ensures { Tells text.now result }

@@ -1,4 +1,4 @@
-//! What is told of a text, in the form of a compiler's messages.
+//! Findings about a text, shown in the form of a compiler's messages.
 
 ghost use Rattle.std.specs.Prelude.{◌≡◌, IfOk, length, min, string_bytes};
 ghost use Rattle.giotto_faults.specs.Findings.{BeginsWith, head_at, head_of};
@@ -9,12 +9,12 @@ use std::alloc::{AllocError, Global};
 use std::fmt;
 use unicode_width::UnicodeWidthStr;
 
-/// How grave a finding is.
+/// How severe a finding is.
 #[derive(Clone, Copy, Debug, PartialEq, Eq)]
 pub enum Severity {
-    /// The text is refused for it.
+    /// The text is refused because of it.
     Error,
-    /// It belongs to the error above it, or is worth a look.
+    /// It belongs to the error above it, or is worth checking.
     Note,
 }
 
@@ -32,29 +32,31 @@ impl fmt::Display for Severity {
     }
 }
 
-/// Something that is told of a text.
+/// Something that is reported about a text.
 #[derive(Drop)]
 pub struct Finding {
     pub severity: Severity,
-    /// The offset in the text, in bytes, of what it is about.
+    /// The offset in the text, in bytes, of what the finding is about.
     pub offset: usize,
-    /// How many bytes of the text it is about: 0 at the text's end.
+    /// How many bytes of the text the finding is about: 0 at the text's end.
     pub len: usize,
     /// What is found, in one line.
     pub message: String,
     /// The rule that it breaks, in one line.
     pub rule: Option<String>,
-    /// How it can be mended, in one line.
+    /// How to fix it, in one line.
     pub help: Option<String>,
 }
 
 impl Finding {
-    /// The finding as text of several lines: `file`, its place and what is found; the text's line with a caret below each column
-    /// of what it is about; and the help. A tab, like any other control character, is shown as one blank, and of a line with more
-    /// than 120 characters those around the place alone, with `..` where some are left out.
+    /// The finding as text of several lines. The first line has `file`, the place and what is found. Below it are the text's
+    /// line, with a caret below each column of what the finding is about, and the rule and the help, if there are any.
+    ///
+    /// A tab, like any other control character, is shown as one blank. If the text's line has more than 120 characters, only
+    /// those around the place are shown, with `..` where some are left out.
     ///
     /// # Errors
-    /// Want of memory.
+    /// Out of memory.
     pub fn shown(&self, alloc: Global, file: &str, text: &str) -> Result<String, AllocError>
         ensures { IfOk result (λ shown. BeginsWith (head_of self.now file.now text.now) (string_bytes shown)) }
     {
@@ -73,7 +75,7 @@ impl Finding {
         format!(in alloc; "{file}:{line}:{column}: {severity}: {message}\n")
     }
 
-    // What stands below it: the text's line with carets, the rule and the help.
+    // The lines below it: the text's line with carets, the rule and the help.
     fn below(&self, alloc: Global, text: &str, place: Place) -> Result<String, AllocError> {
         let line = line_of(text, place.line);
         let number = format!(in alloc; "{}", place.line)?;
@@ -110,7 +112,7 @@ impl Finding {
     }
 }
 
-// How many bytes stand before the offset in its line.
+// How many bytes are before the offset in its line.
 fn bytes_before(text: &str, offset: usize) -> usize {
     text.as_bytes()
         .iter()
@@ -120,22 +122,22 @@ fn bytes_before(text: &str, offset: usize) -> usize {
         .count()
 }
 
-// The line of this number, counted from 1, without its end.
+// The line with this number, counted from 1, without its line end.
 fn line_of(text: &str, number: usize) -> &str {
     text.lines().nth(number.saturating_sub(1)).unwrap_or("")
 }
 
-// As many characters of a line are shown.
+// At most this many characters of a line are shown.
 const WIDEST: usize = 120;
 
-// What is shown of a line, and how many columns stand before the place that it is about.
+// The shown part of a line, and how many columns are before the place that the finding is about.
 #[derive(Drop)]
 struct Excerpt {
     text: String,
     indent: usize,
 }
 
-// The line, or where it is too long, the part around the byte at `start`.
+// The line, or if it is too long, the part around the byte at `start`.
 fn excerpt_of(alloc: Global, line: &str, start: usize) -> Result<Excerpt, AllocError> {
     let before = line.get(..start).unwrap_or(line).chars().count();
     let count = line.chars().count();
@@ -157,7 +159,7 @@ fn excerpt_of(alloc: Global, line: &str, start: usize) -> Result<Excerpt, AllocE
     Ok(Excerpt { text, indent })
 }
 
-// Adds `count` characters of the line from this one on, with blanks for control characters.
+// Adds `count` characters of the line, starting with character `from`. Control characters become blanks.
 fn push_characters(
     text: &mut String,
     line: &str,
@@ -174,7 +176,7 @@ fn push_characters(
     Ok(())
 }
 
-// A caret for each column of these bytes of the line, and one at least, at most half a long line.
+// A caret for each column of these bytes of the line: at least one, and at most half of `WIDEST`.
 fn carets(alloc: Global, line: &str, start: usize, len: usize) -> Result<String, AllocError> {
     let end = start.saturating_add(len).min(line.len());
     let width = line.get(start..end).unwrap_or("").width();

@@ -1,9 +1,9 @@
-//! What stands at a place of a text.
+//! What is at a place in a text.
 
 use giotto_read::text::name_bytes::{is_digit, is_letter, is_name_byte};
 
-/// What stands at this offset: a run of letters and digits behind a letter, a run of digits, a mark, or else one character.
-/// It is empty at the end of the text.
+/// The piece of text at this offset: a run of letters and digits that begins with a letter, a run of digits, a mark, or else one
+/// character. It is empty at the end of the text.
 pub(crate) fn piece_at(text: &str, offset: usize) -> &str {
     let rest = text.get(offset..).unwrap_or("");
     rest.get(..piece_len(rest)).unwrap_or("")
@@ -32,7 +32,7 @@ fn is_long_mark(text: &[u8]) -> bool {
     )
 }
 
-/// Whether nothing but blanks stands before this offset in its line.
+/// Whether only blanks come before this offset in its line.
 pub(crate) fn is_first_in_line(text: &str, offset: usize) -> bool {
     text.as_bytes()
         .iter()

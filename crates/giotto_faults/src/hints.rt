@@ -1,4 +1,4 @@
-//! How the slips of a first day are mended: a file for each part of a program.
+//! Hints on how to fix common mistakes of beginners: a file for each part of a program.
 
 use crate::kinds::TokenKind;
 use crate::places::Place;
@@ -14,10 +14,10 @@ mod modes;
 mod similar;
 mod spot;
 
-/// A hint of one line for a text that goes on at this offset with something else than what is expected there, if there is one.
+/// A hint of one line for a text that has something unexpected at this offset. `None` if there is no hint for it.
 ///
 /// # Errors
-/// Want of memory.
+/// Out of memory.
 pub(crate) fn hint(
     alloc: Global,
     text: &str,
@@ -43,14 +43,14 @@ pub(crate) fn hint(
     Ok(None)
 }
 
-// Whether nothing but a name could stand there, or a name or the end of a list of them.
+// Whether only a name could come there, or only a name or the end of a list of names.
 fn is_name_place(spot: &Spot) -> bool {
     spot.expects(TokenKind::Name)
         && !spot.expects(TokenKind::Number)
         && !spot.expects_mark(Symbol::CloseBrace)
 }
 
-// Those that are the same in each text.
+// The hints whose words are the same for each text.
 fn fixed_hint(spot: &Spot) -> Option<&'static str> {
     marks::character_hint(spot)
         .or(marks::comment_hint(spot))
@@ -62,7 +62,7 @@ fn fixed_hint(spot: &Spot) -> Option<&'static str> {
         .or(ends::hint(spot))
 }
 
-// The `;` that may be missing behind what ends at this offset.
+// Asks about the `;` that may be missing after what ends at this offset.
 fn semicolon_hint(alloc: Global, source: &str, end: usize) -> Result<String, AllocError> {
     let line = Place::of(source, end.min(source.len())).line;
     let rest = source.get(end..).unwrap_or("").lines().next();

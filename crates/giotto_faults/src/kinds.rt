@@ -6,7 +6,7 @@ ghost use Rattle.giotto_faults.specs.Kinds.{sample_of};
 use giotto_read::text::tokens::{Keyword, Symbol};
 use std::fmt;
 
-/// A kind of token: all names are one, all numbers are one, and each keyword and each mark is one of its own.
+/// A kind of token: names are one kind, numbers are one kind, and each keyword and each mark is a separate kind.
 #[derive(Clone, Copy, Debug, PartialEq, Eq)]
 pub enum TokenKind {
     Name,
@@ -28,7 +28,7 @@ impl TokenKind {
         }
     }
 
-    /// Whether it is a mark between two operands.
+    /// Whether it is a binary operator.
     pub(crate) fn is_operator(self) -> bool {
         matches!(
             self,

@@ -6,8 +6,8 @@ ghost use Rattle.giotto_faults.specs.declared.kinds.TokenKind.{TokenKind};
 
 use giotto_read::text::laws;
 
-/// A text begins a program, as its reader tells it, exactly where its tokens are a prefix of some program's tokens and nest
-/// at most 32 deep.
+/// A text begins a program, according to the reader, exactly if its tokens are a prefix of some program's tokens and nest at most
+/// 32 deep.
 pub fn beginnings()
     ensures { (text : List ℕ) → (begins_program text ≡ true) ↔ BeginsProgram text }
 {
@@ -15,7 +15,7 @@ pub fn beginnings()
     laws::prefixes();
 }
 
-/// Each kind of token with which a text begins a program is expected behind it, and no other.
+/// The kinds of tokens expected after a text are exactly those with which it begins a program.
 pub fn expected_kinds()
     ensures { (text : List ℕ) (kind : TokenKind) → Contains (expected_behind text) kind ↔ BeginsProgram (with_token text kind) }
 {

@@ -1,4 +1,4 @@
-//! What is told of a fault.
+//! The messages that report a fault.
 
 ghost use Rattle.std.specs.Prelude.{◌≡◌, IfOk, IsErr};
 ghost use Rattle.giotto_faults.specs.Findings.{IsErrorAt, offset_told, shown_offset};
@@ -15,11 +15,11 @@ use std::alloc::{AllocError, Global};
 use unicode_width::UnicodeWidthStr;
 
 impl ProgramFault {
-    /// What is told of the fault, where this is the text that has it. `source` is that text as it stands in its file, with the
-    /// same bytes in the same places but for line ends and comments.
+    /// The finding that reports the fault. `text` is the text that has the fault. `source` is that text as it is in its file,
+    /// with the same bytes in the same places except for line ends and comments.
     ///
     /// # Errors
-    /// Want of memory, and always where that is the fault.
+    /// Out of memory, and always if the fault is `Memory`.
     pub fn finding(&self, alloc: Global, text: &str, source: &str) -> Result<Finding, AllocError>
         ensures error { IfOk result (IsErrorAt (offset_told text.now self.now)) }
         ensures memory { self.now ≡ Memory → IsErr result }
@@ -54,7 +54,7 @@ fn syntax_finding(
     })
 }
 
-// The end of the text is shown behind its last word.
+// A fault at the end of the text is shown after its last word.
 fn shown_offset(text: &str, offset: usize) -> usize
     ensures { result ≡ shown_offset text.now offset }
 {
@@ -90,7 +90,7 @@ fn syntax_message(
     format!(in alloc; "{found} can't stand here")
 }
 
-// The piece in backquotes, or the number of a character that can't be seen.
+// The piece in backquotes, or for a character that can't be seen, its number.
 fn shown_piece(alloc: Global, piece: &str) -> Result<String, AllocError> {
     match piece.chars().next() {
         Some(first) if first.is_control() || first.is_whitespace() || piece.width() == 0 => {
@@ -135,7 +135,7 @@ fn no_token_message(alloc: Global, piece: &str) -> Result<String, AllocError> {
     }
 }
 
-// Words for each of some kinds, as `a name, `;` or `,``. All operators together are `an operator`.
+// The kinds in words, as in `a name, `;` or `,``. Several operators together are `an operator`.
 fn any_of(alloc: Global, kinds: &[TokenKind]) -> Result<String, AllocError> {
     let words = words_of(alloc, kinds)?;
     let mut text = String::new(alloc);

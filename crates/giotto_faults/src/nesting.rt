@@ -6,7 +6,7 @@ ghost use Rattle.giotto_faults.specs.Nesting.{first_too_deep};
 
 use giotto_read::text::tokens::{PlacedToken, Symbol, Token};
 
-/// The offset of the first token behind which more than 32 parentheses and braces are open.
+/// The offset of the first token after which more than 32 parentheses and braces are open.
 pub(crate) fn first_too_deep(tokens: &[PlacedToken]) -> Option<usize>
     ensures { result ≡ first_too_deep 0 tokens.now }
 {
@@ -20,7 +20,7 @@ pub(crate) fn first_too_deep(tokens: &[PlacedToken]) -> Option<usize>
     None
 }
 
-// How many are open behind the token, where so many are open before it.
+// How many are open after the token if `depth` are open before it.
 fn depth_behind(depth: usize, token: &Token) -> usize
     requires { depth ≤ 32 }
     ensures { result ≡ open_behind depth token.now }

@@ -13,8 +13,8 @@ pub struct Place {
 }
 
 impl Place {
-    /// The place of the byte with this offset. An LF ends a line; where the offset is the text's length, the place is that
-    /// behind its last character.
+    /// The place of the byte with this offset. An LF ends a line. If the offset is the text's length, it is the place after the
+    /// last character.
     pub fn of(text: &str, offset: usize) -> Place
         requires { offset ≤ length text.now }
         ensures { result ≡ spec.place_of text.now offset }
@@ -35,7 +35,7 @@ fn line_ends_in(bytes: &[u8]) -> usize
     bytes.iter().filter(|byte| ends_line(**byte)).count()
 }
 
-// How many characters stand at the end of these bytes, back to the last line end.
+// How many characters come after the last line end in these bytes.
 fn characters_back(bytes: &[u8]) -> usize
     ensures count { result ≡ characters_back bytes.now }
     ensures bound { result ≤ length bytes.now }
@@ -54,7 +54,7 @@ fn ends_line(byte: u8) -> bool
     byte == b'\n'
 }
 
-// Whether a byte is the first one of a character in UTF-8.
+// Whether a byte is the first byte of a character in UTF-8.
 fn begins_character(byte: u8) -> bool
     ensures { result ≡ begins_character byte }
 {

@@ -27,7 +27,7 @@ impl PortGroup {
     }
 }
 
-/// The first port of a task for which there is no room: the 17th of its group.
+/// The first port of a task that is too many: the 17th of its group.
 #[derive(Drop)]
 pub struct CrowdedPort {
     pub task: Name,
@@ -36,7 +36,7 @@ pub struct CrowdedPort {
     pub offset: usize,
 }
 
-// The head of a task, as far as it is read: its name, and how many ports of the group so far.
+// The head of a task as far as it is read: its name, the current group, and how many ports of that group came so far.
 #[derive(Drop)]
 struct Head<'a> {
     task: Option<&'a Name>,
@@ -58,7 +58,7 @@ impl<'a> Head<'a> {
         self.count = 0;
     }
 
-    // Takes a name: the task's own, or a port's. Gives the task where this port is its 17th.
+    // Takes a name: the task's, or a port's. Returns the task if this port is the 17th of its group.
     fn take(&mut self, name: &'a Name) -> Option<&'a Name> {
         let Some(task) = self.task else {
             self.task = Some(name);
@@ -69,7 +69,7 @@ impl<'a> Head<'a> {
     }
 }
 
-/// The first 17th port of a group in the tokens of a program.
+/// The first port in the tokens of a program that is the 17th of its group.
 pub(crate) fn first_crowded(tokens: &[PlacedToken]) -> Option<CrowdedPort> {
     let mut head = None;
     for placed in tokens {

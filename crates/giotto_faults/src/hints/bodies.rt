@@ -1,4 +1,4 @@
-//! Statements and expressions.
+//! Hints on statements and expressions.
 
 use crate::hints::spot::Spot;
 use crate::kinds::TokenKind;
@@ -28,12 +28,12 @@ fn block_hint(spot: &Spot) -> Option<&'static str> {
     }
 }
 
-// Whether a word is found, or stands before, that is an operator elsewhere.
+// Whether the word found, or the word before it, is an operator in other languages.
 fn is_operator_word(spot: &Spot) -> bool {
     matches!(spot.found, "and" | "or" | "mod") || spot.last == "not"
 }
 
-// Loops, and what else begins with a word in other languages.
+// Loops, and other statements that begin with a word in other languages.
 fn loop_hint(spot: &Spot) -> Option<&'static str> {
     match spot.last {
         "repeat" if spot.expects(TokenKind::Number) => {

@@ -1,4 +1,4 @@
-//! Sensors, actuators, outputs, and the heads of tasks.
+//! Hints on sensors, actuators, outputs, and the heads of tasks.
 
 use crate::hints::spot::{Spot, is_keyword};
 use crate::kinds::TokenKind;
@@ -60,7 +60,7 @@ fn initial_hint(spot: &Spot) -> Option<&'static str> {
     }
 }
 
-// Whether a declaration begins before it.
+// Whether the place is in a declaration.
 fn is_declared(spot: &Spot) -> bool {
     matches!(spot.opening, "sensor" | "actuator" | "output" | "task")
 }

@@ -1,10 +1,10 @@
-//! Ends of declarations, blocks and texts.
+//! Hints on the ends of declarations, blocks and texts.
 
 use crate::found::is_first_in_line;
 use crate::hints::spot::{Spot, is_keyword};
 use giotto_read::text::tokens::{Keyword, Symbol};
 
-/// A hint on what is missing at the end of a block or a text, or too much there.
+/// A hint on what is missing, or is too much, at the end of a block or a text.
 pub(crate) fn hint(spot: &Spot) -> Option<&'static str> {
     match spot.found {
         "" if spot.expects_word(Keyword::Start) => {

@@ -1,4 +1,4 @@
-//! Marks, numbers, comments and words that are written in another way elsewhere.
+//! Hints on marks, numbers, comments and words that other languages write differently.
 
 use crate::hints::spot::Spot;
 use crate::kinds::TokenKind;
@@ -29,7 +29,7 @@ pub(crate) fn number_hint(spot: &Spot) -> Option<&'static str> {
     None
 }
 
-/// A hint on operators, and on marks in their place.
+/// A hint on operators, and on marks used in place of them.
 pub(crate) fn hint(spot: &Spot) -> Option<&'static str> {
     value_hint(spot)
         .or(comparison_hint(spot))
@@ -38,7 +38,7 @@ pub(crate) fn hint(spot: &Spot) -> Option<&'static str> {
         .or(operand_hint(spot))
 }
 
-// What gives a value, and what compares two.
+// Marks that give a value, and marks that compare two values.
 fn value_hint(spot: &Spot) -> Option<&'static str> {
     match spot.found {
         "=" if matches!(spot.last, "+" | "-" | "*" | "/" | "%" | "&" | "|") => {
@@ -66,7 +66,7 @@ fn comparison_hint(spot: &Spot) -> Option<&'static str> {
     }
 }
 
-// Words in the place of operators.
+// Words used as operators.
 fn word_hint(spot: &Spot) -> Option<&'static str> {
     if !spot.expects_operator() && !is_behind_operation(spot) {
         return None;
@@ -108,7 +108,7 @@ fn operand_hint(spot: &Spot) -> Option<&'static str> {
     }
 }
 
-// Whether an expression ends there, and no operator goes on with it.
+// Whether an expression ends there, and no operator can continue it.
 fn is_behind_operation(spot: &Spot) -> bool {
     !spot.expects_operator()
         && !spot.expects_operand()
@@ -123,7 +123,7 @@ fn is_behind_operation(spot: &Spot) -> bool {
             .any(|symbol| spot.expects_mark(*symbol)))
 }
 
-/// A hint on characters beyond ASCII.
+/// A hint on characters that are not ASCII.
 pub(crate) fn character_hint(spot: &Spot) -> Option<&'static str> {
     match spot.found.chars().next() {
         Some('\u{feff}') => Some(

@@ -1,4 +1,4 @@
-//! Modes and their lines.
+//! Hints on modes and their lines.
 
 use crate::hints::spot::Spot;
 use giotto_read::text::tokens::{Keyword, Symbol};
@@ -44,7 +44,7 @@ fn is_line(spot: &Spot) -> bool {
     matches!(spot.opening, "actfreq" | "exitfreq" | "taskfreq")
 }
 
-// Guards behind what they guard, and two updates in one.
+// Guards after what they guard, and two updates in one line.
 fn guard_hint(spot: &Spot) -> Option<&'static str> {
     match spot.found {
         "if" if is_line(spot) && spot.expects_mark(Symbol::Semicolon) => {

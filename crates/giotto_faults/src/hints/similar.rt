@@ -1,14 +1,14 @@
-//! Keywords that are misspelled.
+//! Hints on misspelled keywords.
 
 use crate::hints::spot::{Spot, is_keyword};
 use crate::kinds::TokenKind;
 use std::alloc::{AllocError, Global};
 use strsim::osa_distance;
 
-/// A hint on the keyword that may be meant by the word that is found.
+/// A hint that names the keyword of which the word found may be a misspelling.
 ///
 /// # Errors
-/// Want of memory.
+/// Out of memory.
 pub(crate) fn hint(alloc: Global, spot: &Spot) -> Result<Option<String>, AllocError> {
     if !spot.finds_word() || is_keyword(spot.found) {
         return Ok(None);
@@ -24,7 +24,7 @@ pub(crate) fn hint(alloc: Global, spot: &Spot) -> Result<Option<String>, AllocEr
     Ok(None)
 }
 
-// Whether a word is another one in capitals, or misspelled by a letter in three at most.
+// Whether a word is the keyword in a different case, or differs from it by at most one edit per three letters of the keyword.
 fn is_similar(alloc: Global, word: &str, keyword: &str) -> Result<bool, AllocError> {
     if word.eq_ignore_ascii_case(keyword) {
         return Ok(true);

@@ -1,11 +1,11 @@
-//! Where a text goes on otherwise than expected.
+//! A place at which a text has something unexpected.
 
 use crate::found::piece_at;
 use crate::kinds::TokenKind;
 use giotto_read::text::name_bytes::{is_digit, is_letter, is_name_byte};
 use giotto_read::text::tokens::{Keyword, Symbol};
 
-/// A place at which a text goes on with something else than what is expected there.
+/// A place at which a text has something other than what is expected there.
 #[derive(Clone, Copy)]
 pub(crate) struct Spot<'a> {
     /// Its offset in the text, in bytes.
@@ -16,11 +16,11 @@ pub(crate) struct Spot<'a> {
     pub(crate) rest: &'a str,
     /// What is found there; nothing at the end of the text.
     pub(crate) found: &'a str,
-    /// What stands last before it: a word, a number or a character.
+    /// What comes last before it: a word, a number or a character.
     pub(crate) last: &'a str,
-    /// The first word of the declaration, the statement or the line of a mode in which it stands.
+    /// The first word of the declaration, the statement or the line of a mode that it is in.
     pub(crate) opening: &'a str,
-    /// What could stand there.
+    /// What could come there.
     pub(crate) expected: &'a [TokenKind],
 }
 
@@ -50,22 +50,22 @@ impl<'a> Spot<'a> {
         self.expects(TokenKind::Keyword(keyword))
     }
 
-    /// Whether this mark alone could stand there.
+    /// Whether only this mark could come there.
     pub(crate) fn expects_only(&self, symbol: Symbol) -> bool {
         self.expected.len() == 1 && self.expects_mark(symbol)
     }
 
-    /// Whether an operator could stand there.
+    /// Whether an operator could come there.
     pub(crate) fn expects_operator(&self) -> bool {
         self.expects_mark(Symbol::Plus)
     }
 
-    /// Whether an operand could stand there.
+    /// Whether an operand could come there.
     pub(crate) fn expects_operand(&self) -> bool {
         self.expects(TokenKind::Number) && self.expects_mark(Symbol::OpenParenthesis)
     }
 
-    /// Whether a mark between two operands is found.
+    /// Whether a binary operator is found.
     pub(crate) fn finds_operator(&self) -> bool {
         matches!(
             self.found,
@@ -78,22 +78,22 @@ impl<'a> Spot<'a> {
         begins_word(self.found)
     }
 
-    /// Whether a number is found, or digits that are none.
+    /// Whether a number is found, or digits that are not a number.
     pub(crate) fn finds_number(&self) -> bool {
         begins_number(self.found)
     }
 
-    /// Whether no blank stands before what is found.
+    /// Whether there is no blank before what is found.
     pub(crate) fn is_joined(&self) -> bool {
         self.before.len() == self.offset
     }
 
-    /// Whether a word that is no keyword stands last before it.
+    /// Whether a word that is not a keyword comes last before it.
     pub(crate) fn is_behind_name(&self) -> bool {
         begins_word(self.last) && !is_keyword(self.last)
     }
 
-    /// Whether a number stands last before it.
+    /// Whether a number comes last before it.
     pub(crate) fn is_behind_number(&self) -> bool {
         begins_number(self.last)
     }
@@ -119,7 +119,7 @@ fn last_piece(text: &str) -> &str {
     text.get(start..).unwrap_or("")
 }
 
-// The first word behind the last mark that ends a declaration or a statement.
+// The first word after the last mark that ends a declaration or a statement.
 fn opening_of(text: &str) -> &str {
     let bytes = text.as_bytes();
     let run = bytes
