@@ -1,4 +1,4 @@
--- Loops of the reader, as the parser repeats.
+-- The loops of the reader, compared with the repetitions of the parser.
 use Rattle.std.proofs.Common.{◌≡◌, ℕ, zero, suc, ◌<◌, Bool, true, false, List, [], ◌∷◌, ◌++◌, length, Option, Some, None, refl, sym, ap, ◌∙◌, subst, arith}
 use Rattle.std.proofs.lemmas.List.{append-nil, append_assoc}
 use Rattle.giotto_read.specs.declared.reader.Reader.{Reader}
@@ -18,7 +18,7 @@ use Rattle.giotto_read.proofs.NextToken.{next_token}
 use Rattle.giotto_text.proofs.cited.SameToken.{same_token_self, is_this}
 use Rattle.giotto_read.proofs.Shrinking.{Shrinks, Progresses, one_progresses, progresses_bind}
 
--- these values, and then those
+-- these values, followed by those of the outcome
 abbrev pub prepend : {V : Type 0} → List V → Outcome (List V) → Outcome (List V)
 prepend vs (got more rest) = got (vs ++ more) rest
 prepend vs (stopped rest) = stopped rest
@@ -31,7 +31,7 @@ prepend_both : {V : Type 0} (vs : List V) (v : V) (o : Outcome (List V)) → pre
 prepend_both vs v (got more rest) = ap (λ x. got x rest) (sym (append_assoc vs (v ∷ []) more))
 prepend_both vs v (stopped rest) = refl
 
--- the bound doesn't matter
+-- the bound doesn't matter, if it is large enough
 same_up_to : {V : Type 0} (test : Token → Bool) (p : Parser V) → Progresses p → (m n : ℕ) (ts : List PlacedToken) → length ts < m → length ts < n → up_to m test p ts ≡ up_to n test p ts
 same_up_to test p prog zero n ts lm ln = absurd (omega arith)
 same_up_to test p prog (suc m) zero ts lm ln = absurd (omega arith)
@@ -67,7 +67,7 @@ many_stopped test p ts rest fits e =
 many_ended : {V : Type 0} (test : Token → Bool) (p : Parser V) (ts : List PlacedToken) → test (next_of ts) ≡ false → many test p ts ≡ got [] ts
 many_ended test p ts other = ap (λ b. pick b (p >>= λ v. up_to (length ts) test p >>= λ vs. done (v ∷ vs)) (done []) ts) other
 
--- a loop that has read some of them
+-- the state of a loop that has read some values
 pub record HasRead {V : Type 0} (test : Token → Bool) (p : Parser V) (old : Reader) (vs : List V) (new : Reader) : Type 0 where
   pub is : many test p (left old) ≡ prepend vs (many test p (left new))
 
@@ -139,7 +139,7 @@ took_none {V = V} f (p ∷ ts) rest end e = by (f p.token) e
     by (Some w) e = absurd (cc)
     by None e = refl
 
--- a list with commas, of at least one thing, as far as it is read
+-- a list with commas, of at least one element, as far as it is read
 
 abbrev pub comma : Token
 comma = tokens.Symbol Comma
@@ -178,7 +178,7 @@ list_stopped_first p r u e = ap (λ o. behind o (λ x. many (same_token comma) (
 pub thing_progresses : {V : Type 0} {p : Parser V} → Shrinks p → Progresses (next_thing p)
 thing_progresses h = progresses_bind _ (one_progresses (this comma)) (λ _. h)
 
--- "(" and then no ")"
+-- "(" that isn't followed by ")"
 
 abbrev open_token : Token
 open_token = tokens.Symbol OpenParenthesis
@@ -197,7 +197,7 @@ pub parentheses_read : {V : Type 0} (p : Parser V) (r s m u : Reader) (vs : List
     → read_token close_token (left m) ≡ got tt (left u) → read_parentheses p (left r) ≡ got vs (left u)
 parentheses_read p r s m u vs opened other e closed = let test = took_other (left s) (left s) close_token refl other in rw (opened, test, e, closed) refl
 
--- something in braces
+-- a list in braces
 
 abbrev pub open_brace : Token
 open_brace = tokens.Symbol OpenBrace
@@ -219,7 +219,7 @@ pub braces_read : {V W : Type 0} (f : V → W) (q : Parser V) (r s m u : Reader)
     → braces f q (left r) ≡ got (f v) (left u)
 braces_read f q r s m u v opened e closed = rw (opened, e, closed) refl
 
--- something in braces, or nothing
+-- a list in braces, or nothing
 abbrev pub if_in_braces : {V : Type 0} → Parser (List V) → Parser (List V)
 if_in_braces q = if_next (same_token open_brace) (braces (λ vs. vs) q) (done [])
 
@@ -231,7 +231,7 @@ pub if_in_braces_read : {V : Type 0} (q : Parser (List V)) (r s m u : Reader) (v
     → if_in_braces q (left r) ≡ got vs (left u)
 if_in_braces_read q r s m u vs opened e closed = let test = took_this (left r) (left s) open_brace opened in rw test (braces_read (λ vs. vs) q r s m u vs opened e closed)
 
--- a reader that didn't move
+-- a reader that took no token
 
 pub does_same : {T V : Type 0} (value_of : T → V) (p : Parser V) (r s u : Reader) (x : Result T Stop) → s ≡ r → Does value_of p s x u → Does value_of p r x u
 does_same value_of p r s u x same d = subst (λ y. Does value_of p y x u) same d

@@ -1,4 +1,4 @@
--- Which statement is read, by its first token.
+-- The kind of a statement, decided by its first token.
 use Rattle.std.proofs.Common.{◌≡◌, true, false, List, refl}
 use Rattle.giotto_read.specs.inner.Doing.{left}
 use Rattle.giotto_read.specs.declared.reader.Reader.{Reader}

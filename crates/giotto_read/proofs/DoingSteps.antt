@@ -1,4 +1,4 @@
--- One token of the reader, as the parser takes it.
+-- Single tokens: the reader takes them as the parser does.
 use Rattle.std.proofs.Common.{◌≡◌, ◌≢◌, ℕ, zero, suc, ◌+◌, ◌≤◌, Bool, true, false, List, [], ◌∷◌, length, drop, Option, Some, None, slice_get, refl, sym, ap, ◌∙◌, arith}
 use Rattle.std.specs.Prelude.{if◌then◌else◌, nat_le, Err}
 use Rattle.giotto_text.specs.declared.faults.ReadFault.TheVariants.{Syntax, TooDeep}
@@ -17,7 +17,7 @@ use Rattle.giotto_text.specs.Parsing.{end_mark, Outcome, got, stopped, reading, 
 use Rattle.giotto_read.proofs.NextToken.{next_token}
 use Rattle.giotto_text.proofs.cited.SameToken.{same_token_self, is_this}
 
--- the next token is the first that is left
+-- the next token is the first one that is left
 next_left : (ts : List PlacedToken) (i : ℕ) (t : Token) → slice_get (with_end ts) i ≡ Some t → next_of (drop i ts) ≡ t
 next_left [] zero t e = same_Some end_mark t e
 next_left [] (suc i) t e = absurd (none-some t e)
@@ -52,7 +52,7 @@ this_other : (t u : Token) (b : Bool) → same_token t u ≡ b → u ≢ t → t
 this_other t u true e other = absurd (other (is_this t u e))
 this_other t u false e other = ap (λ b. if b then Some tt else None) e
 
--- another token than this comes next
+-- the next token isn't this one
 pub not_this : (r : Reader) (t : Token) → ¬ ComesNext r t → read_one (this t) (left r) ≡ stopped (left r)
 not_this r t not =
     let next = next_token r in
@@ -106,7 +106,7 @@ not_unary r none = let next = next_token r in one_stopped unary_in r next.0 next
 pub not_binary : (r : Reader) → ((s : Symbol) → ¬ ComesNext r (Mark s)) → read_one binary_in (left r) ≡ stopped (left r)
 not_binary r none = let next = next_token r in one_stopped binary_in r next.0 next.1 (no_binary_in next.0 (λ s same. none s (next.1 ∙ ap Some same)))
 
--- what a reader at a place says of all tokens
+-- what the position of a reader says about all tokens
 
 pub reads_stopped : (ts : List PlacedToken) (i end : ℕ) → reading end (stopped (drop i ts)) ≡ Err (Syntax (offset_at ts i end))
 reads_stopped [] zero end = refl
@@ -129,7 +129,7 @@ nothing_left (t ∷ ts) (suc i) e = nothing_left ts i (omega arith)
 pub all_left : (r : Reader) (ts : List PlacedToken) → r.tokens.now ≡ ts → r.at ≡ 0 → left r ≡ ts
 all_left r ts is start = ap (λ n. drop n r.tokens.now) start ∙ is
 
--- what is read of a reader's tokens, where they don't nest too deep
+-- what all tokens read as, if they don't nest too deep
 pub read_of : (r : Reader) (ts : List PlacedToken) (o : Outcome GiottoProgram) → r.tokens.now ≡ ts → r.at ≡ 0 → nests_too_deep (bare ts) ≡ false → read_program (left r) ≡ o → (end : ℕ) → read_all end ts ≡ reading end o
 read_of r ts o is start flat e end =
     ap (λ b. if b then Err TooDeep else reading end (read_program ts)) flat ∙ ap (λ us. reading end (read_program us)) (sym (all_left r ts is start)) ∙ ap (reading end) e

@@ -1,4 +1,4 @@
--- Expressions and blocks nest: the bound that the parser is given doesn't matter, if it is large enough.
+-- Nested expressions and blocks: the parser's bound doesn't matter, if it is large enough.
 use Rattle.std.proofs.Common.{◌≡◌, ℕ, zero, suc, ◌<◌, ◌≤◌, Bool, true, false, List, [], ◌∷◌, length, Option, refl, sym, ap, ◌∙◌, arith}
 use Rattle.std.specs.Prelude.{Result, Ok, Err, not}
 use Rattle.giotto_read.specs.inner.Doing.{left, Does}
@@ -15,7 +15,7 @@ use Rattle.giotto_text.specs.Parsing.{Outcome, got, stopped, Parser, done, behin
 use Rattle.giotto_read.proofs.Shrinking as shrinking
 use Rattle.giotto_read.proofs.Shrinking.{Shrinks, shrinks, one_progresses, up_to_shrinks, many_shrinks}
 
--- two parsers agree on fewer tokens than this
+-- two parsers agree on lists of fewer than n tokens
 pub record Agree {V : Type 0} (n : ℕ) (p q : Parser V) : Type 0 where
   pub same : (ts : List PlacedToken) → length ts < n → p ts ≡ q ts
 
@@ -32,7 +32,7 @@ agree_bind {V = V} {W = W} {n = n} {p = p} {p' = p'} q q' h hp hq = record { sam
         ap (λ o. behind o q) e ∙ (hq v).same rest less ∙ sym (ap (λ o. behind o q') (sym (hp.same ts lt) ∙ e))
     by ts lt (stopped rest) e = ap (λ o. behind o q) e ∙ sym (ap (λ o. behind o q') (sym (hp.same ts lt) ∙ e))
 
--- behind a token there are fewer
+-- fewer tokens are left after a token
 agree_behind : {V W : Type 0} {n : ℕ} (f : Token → Option V) (q q' : V → Parser W) → ((v : V) → Agree n (q v) (q' v)) → Agree (suc n) (read_one f >>= q) (read_one f >>= q')
 agree_behind {V = V} {W = W} {n = n} f q q' hq = record { same = λ ts lt. by ts lt (read_one f ts) refl }
   where
@@ -78,7 +78,7 @@ expressions_agree (suc n) zero k lm lk = absurd (omega arith)
 expressions_agree (suc n) (suc m) zero lm lk = absurd (omega arith)
 expressions_agree (suc n) (suc m) (suc k) lm lk = expression_agrees (shrinking.expressions_shrink m) (expressions_agree n m k (omega arith) (omega arith))
 
--- an expression is one whose operands have expressions in their parentheses
+-- an expression is read with `read_expression` for the expressions in parentheses
 pub expression_again : (ts : List PlacedToken) → read_expression ts ≡ read_expression_of read_expression ts
 expression_again ts =
     let shorter : Agree (length ts) (expressions (length ts)) read_expression =
@@ -110,13 +110,13 @@ blocks_agree (suc n) zero k lm lk = absurd (omega arith)
 blocks_agree (suc n) (suc m) zero lm lk = absurd (omega arith)
 blocks_agree (suc n) (suc m) (suc k) lm lk = block_agrees (shrinking.blocks_shrink m) (blocks_agree n m k (omega arith) (omega arith))
 
--- a block is one whose statements have blocks in them
+-- a block is read with `read_block` for the blocks in its statements
 pub block_again : (ts : List PlacedToken) → read_block ts ≡ read_block_of read_block ts
 block_again ts =
     let shorter : Agree (length ts) (blocks (length ts)) read_block = record { same = λ us lt. (blocks_agree (suc (length us)) (length ts) (suc (length us)) (omega arith) (omega arith)).same us (omega arith) } in
     (block_agrees (shrinking.blocks_shrink (length ts)) shorter).same ts (omega arith)
 
--- a function does what another parser says, if both say the same
+-- if two parsers agree, a function that does what one says does what the other says
 pub does_as : {T V : Type 0} (value_of : T → V) (p q : Parser V) (r u : Reader) (x : Result T Stop) → p (left r) ≡ q (left r) → Does value_of q r x u → Does value_of p r x u
 does_as value_of p q r u (Ok x) same d = same ∙ d
 does_as value_of p q r u (Err Unexpected) same d = same ∙ d

@@ -1,4 +1,4 @@
--- The token that comes next.
+-- The next token.
 use Rattle.std.proofs.Common.{◌≡◌, ◌≢◌, ℕ, zero, suc, ◌+◌, ◌^◌, ◌<◌, ◌≤◌, ◌⊎◌, inl, inr, true, false, List, [], ◌∷◌, ◌++◌, length, Option, Some, None, slice_get, get_or, sym, ap, ◌∙◌, arith, length-append}
 use Rattle.std.proofs.lemmas.List.{length-map}
 use Rattle.std.proofs.lemmas.Option.{none-some, same_Some, slice_get_cases}
@@ -27,7 +27,7 @@ end_at [] (suc i) t e other = absurd (none-some t e)
 end_at (x ∷ ts) zero t e other = omega arith
 end_at (x ∷ ts) (suc i) t e other = let lt = end_at ts i t e other in omega (arith, lt)
 
--- there is room for a token that isn't the end
+-- a next token other than the end mark is within the list
 pub room : (r : Reader) (t : Token) → ComesNext r t → t ≢ end_mark → r.at + 1 ≤ length r.tokens.now
 room r t e other = let lt = end_at (bare r.tokens.now) r.at t e other in omega (arith, lt, length-map r.tokens.now (λ p. p.token))
 
@@ -37,7 +37,7 @@ room_behind r n le e = room r (Number n) e (λ same. let m : n ≡ 2 ^ 63 + 1 = 
 pub same_number : (r : Reader) (m n : ℕ) → ComesNext r (Number m) → ComesNext r (Number n) → m ≡ n
 same_number r m n e f = let same : Number m ≡ Number n = same_Some (Number m) (Number n) (sym e ∙ f) in cc
 
--- what is known of an optional value
+-- what is known about an optional value
 
 pub at_some : {X : Type 0} {P : X → Type 0} (o : Option X) → true ≡ is_some o → IfSome o P → (x : X) × P x
 at_some (Some x) e p = (x, p)

@@ -1,4 +1,4 @@
--- Two lists of one length, each with one element more.
+-- Two lists of the same length, each with one more element.
 use Rattle.std.proofs.Common.{◌≡◌, ◌+◌, List, [], ◌∷◌, ◌++◌, length, ap, sym, ◌∙◌, refl, arith, length-append}
 use Rattle.std.specs.List.{zip}
 

@@ -1,4 +1,4 @@
--- Lists, blocks and whole texts, as they are written.
+-- How lists, blocks and whole texts are written.
 use Rattle.std.proofs.Common.{◌≡◌, ℕ, Bool, true, false, ◌+◌, ◌<◌, List, [], ◌∷◌, ◌++◌, length, length-append, get_or, take, map, Vec, Global, refl, sym, ap, ◌∙◌, append_assoc, arith, rules}
 use Rattle.std.specs.Prelude.{◌==◌}
 use Rattle.std.specs.List.{flat_map, join_with_byte}
@@ -20,7 +20,7 @@ use Rattle.giotto_text.specs.Canonical.{actuator_tokens, block_tokens, canonical
 use Rattle.giotto_read.specs.inner.Printing.{written, comma_before}
 use Rattle.giotto_read.proofs.Writing.{written_first, written-append}
 
--- the elements of a list, each written as f says: one more
+-- one more element of a list whose elements are written with f
 pub written_more : {X Y : Type 0} (f : Y → List Token) (g : X → Y) (text : List ℕ) (xs : List X) (i : ℕ) (x : X) (now next : List ℕ) → i < length xs → x ≡ get_or xs i x
     → now ≡ written text (flat_map f (map g (take i xs))) → next ≡ written now (f (g x)) → next ≡ written text (flat_map f (map g (take (i + 1) xs)))
 written_more f g text xs i x now next within is before after =
@@ -35,7 +35,7 @@ with_commas_push (q ∷ r ∷ qs) p =
     let rest : with_commas (r ∷ qs ++ p ∷ []) ≡ with_commas (r ∷ qs) ++ (symbol Comma ∷ p) = with_commas_push (r ∷ qs) p in
     rw (rest, append_assoc q (symbol Comma ∷ with_commas (r ∷ qs)) (symbol Comma ∷ p)) refl
 
--- the elements of a list with commas: one more
+-- one more element of a list with commas
 pub commas_more : {X : Type 0} (f : X → List Token) (text : List ℕ) (xs : List X) (i : ℕ) (x : X) (now between next : List ℕ) → i < length xs → x ≡ get_or xs i x
     → now ≡ written text (with_commas (map f (take i xs))) → between ≡ written now (comma_before i) → next ≡ written between (f x)
     → next ≡ written text (with_commas (map f (take (i + 1) xs)))
@@ -45,7 +45,7 @@ commas_more f text xs i x now between next within is before comma after =
     rw (take_more xs i x within, sym is, map-append, with_commas_push, size) refl in
     rw (after, comma, before, one, written-append, written-append) refl
 
--- a list that isn't empty stands behind its keyword
+-- a list that isn't empty is written after its keyword
 pub optional_some : {X : Type 0} (k : Keyword) (f : X → List Token) (xs : List X) → 0 < length xs → optional_list k (map f xs) ≡ keyword k ∷ with_commas (map f xs)
 optional_some k f [] some = absurd (omega arith)
 optional_some k f (x ∷ xs) some = refl
@@ -58,7 +58,7 @@ statements_written (s ∷ ss) = rw (statements_written ss) refl
 pub repeat_of : (n : ℕ) (b : Vec Stmt Global) → statement_of (Repeat n b) ≡ repeat n (block_of b.items)
 repeat_of n b = search (rules, the_lemmas)
 
--- Tokens as they are written: with a space between each two, and one behind the last.
+-- Tokens as they are written: with a space between each two, and one after the last.
 pub written_joined : (text : List ℕ) (ts : List Token) → 0 < length ts → written text ts ≡ (text ++ join_with_byte 32 (map text_of ts)) ++ 32 ∷ []
 unfolding written
 written_joined text [] some = absurd (omega arith)
@@ -69,7 +69,7 @@ written_joined text (t ∷ u ∷ ts) some =
     written_joined (text ++ (text_of t ++ 32 ∷ [])) (u ∷ ts) others
     ∙ ap (λ bytes. bytes ++ 32 ∷ []) (append_assoc text (text_of t ++ 32 ∷ []) rest ∙ ap (λ bytes. text ++ bytes) (append_assoc (text_of t) (32 ∷ []) rest))
 
--- a program has tokens: its start mode is one
+-- a program has at least one token: its start mode
 pub some_tokens : (p : GiottoProgram) → 0 < length (canonical_tokens p)
 some_tokens p =
     let a = flat_map sensor_tokens p.sensors in
@@ -80,14 +80,14 @@ some_tokens p =
     let end = keyword Start ∷ tokens.Name p.start ∷ symbol Semicolon ∷ [] in
     omega (arith, length-append a (b ++ (c ++ (d ++ (e ++ end)))), length-append b (c ++ (d ++ (e ++ end))), length-append c (d ++ (e ++ end)), length-append d (e ++ end), length-append e end)
 
--- what `is_empty` tells of a list
+-- what `is_empty` says about a list
 pub none_left : {X : Type 0} (xs : List X) (b : Bool) → b ≡ (length xs == 0) → b ≡ true → xs ≡ []
 none_left xs b test is = nil_from_length xs (grind (arith, nat_tests, test, is))
 
 pub some_left : {X : Type 0} (xs : List X) (b : Bool) → b ≡ (length xs == 0) → b ≡ false → 0 < length xs
 some_left xs b test is = grind (arith, nat_tests, test, is)
 
--- the text behind the first token
+-- the text after the first token
 pub behind : (text now : List ℕ) (t : Token) (ts : List Token) → now ≡ written text (t ∷ []) → written text (t ∷ ts) ≡ written now ts
 behind text now t ts is = rw (written_first text t ts, is) refl
 
@@ -100,7 +100,7 @@ pub branch_written : (text word test then : List ℕ) (condition block rest : Li
 branch_written text word test then condition block rest first second third =
     rw (behind text word (keyword If) (condition ++ (block ++ rest)) first, written-append word condition (block ++ rest), sym second, written-append test block rest, third) refl
 
--- a block that isn't empty stands behind its `else`
+-- a block that isn't empty is written after its `else`
 pub else_some : (ss : List Stmt) (ts : List Token) → 0 < length ss → else_tokens (block_of ss) ts ≡ keyword Else ∷ in_braces ts
 else_some [] ts some = absurd (omega arith)
 else_some (s ∷ ss) ts some = refl

@@ -1,4 +1,4 @@
--- The tokens that are left nest no deeper than all.
+-- The tokens that are left nest no deeper than all tokens.
 use Rattle.std.proofs.Common.{◌≡◌, false, ◌++◌, take, ap, sym, ◌∙◌, arith}
 use Rattle.std.proofs.lemmas.List.{map-append, take-append-drop}
 use Rattle.giotto_text.specs.Nesting.{nests_too_deep}

@@ -1,4 +1,4 @@
--- What is read leaves fewer tokens, or as many.
+-- After reading there are fewer tokens, or as many.
 use Rattle.std.proofs.Common.{◌≡◌, ℕ, zero, suc, ◌-◌, ◌^◌, ◌<◌, ◌≤◌, Bool, true, false, List, [], ◌∷◌, length, Option, Some, None, refl, ap, arith}
 use Rattle.std.specs.Prelude.{not}
 use Rattle.giotto_tasks.specs.Syntax.{Expression, Block}
@@ -14,7 +14,7 @@ use Rattle.giotto_text.specs.Parsing.{Outcome, got, stopped, Parser, done, behin
 pub record Shrinks {V : Type 0} (p : Parser V) : Type 0 where
   pub shorter : (ts : List PlacedToken) (v : V) (rest : List PlacedToken) → p ts ≡ got v rest → length rest ≤ length ts
 
--- each value takes at least a token
+-- each value takes at least one token
 pub record Progresses {V : Type 0} (p : Parser V) : Type 0 where
   pub shorter : (ts : List PlacedToken) (v : V) (rest : List PlacedToken) → p ts ≡ got v rest → length rest < length ts
 

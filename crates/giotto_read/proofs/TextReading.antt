@@ -1,4 +1,4 @@
--- What a text reads as, where it is cut into no tokens.
+-- What a text reads as, if it can't be cut into tokens.
 use Rattle.std.proofs.Common.{◌≡◌, ◌≢◌, List, ℕ, Err, length, refl, ap}
 use Rattle.giotto_text.specs.declared.faults.ReadFault.{ReadFault}
 use Rattle.giotto_text.specs.declared.faults.ReadFault.TheVariants.{Syntax, TooDeep, TooMany, Memory}

@@ -9,18 +9,18 @@ pub written_none : (text : List ℕ) → written text [] ≡ text
 unfolding written
 written_none text = refl
 
--- the first token, and then the others
+-- the first token, followed by the others
 pub written_first : (text : List ℕ) (t : Token) (ts : List Token) → written text (t ∷ ts) ≡ written (written text (t ∷ [])) ts
 unfolding written
 written_first text t ts = refl
 
--- tokens, and then others
+-- tokens, followed by others
 pub written-append : (text : List ℕ) (ts us : List Token) → written text (ts ++ us) ≡ written (written text ts) us
 unfolding written
 written-append text [] us = refl
 written-append text (t ∷ ts) us = written-append (text ++ (text_of t ++ 32 ∷ [])) ts us
 
--- what joins the tokens that calls wrote one after another
+-- the rules that join tokens written by several calls
 pub ruleset writing = (written_none, written_first, written-append)
 
 pub comma_behind : (i : ℕ) → i ≢ 0 → comma_before i ≡ symbol Comma ∷ []

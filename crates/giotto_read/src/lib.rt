@@ -1,7 +1,7 @@
 //! Reads programs in Giotto from their texts, and prints them.
 //!
-//! [`read`] reads a text as a [`Program`], or says in [`ReadFault`] why it spells none; [`print`] gives the canonical text of
-//! a program, which reads as that program again:
+//! [`read`] returns the [`Program`] that a text spells, or a [`ReadFault`] that says why it spells none. [`print`]
+//! returns the canonical text of a program, which reads as that program again:
 //!
 //! ```text
 //! let program = read(alloc, "mode m period 02 { } start m;")?;
@@ -9,9 +9,9 @@
 //! assert_eq!(rt; text.as_str(), "mode m period 2 { } start m ;");
 //! ```
 //!
-//! The definitions stand in the crate `giotto_text`. The private module `reader` has one function for each line of the
-//! grammar, each against its line of `giotto_text/specs/Parsing.antt`; `printing` has one for each part of
-//! `giotto_text/specs/Canonical.antt`.
+//! The definitions are in the crate `giotto_text`. The private module `reader` has one function for each line of the
+//! grammar, each proved against its line of `giotto_text/specs/Parsing.antt`. The private module `printing` has one for
+//! each part of `giotto_text/specs/Canonical.antt`.
 #![tactic(auto)]
 
 mod printing;

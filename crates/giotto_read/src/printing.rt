@@ -1,6 +1,6 @@
 //! Prints a program as its canonical text.
 //!
-//! A method of the printer writes what one definition of `Canonical` names, and stands under its grammar line.
+//! Each method of the printer writes what one definition of `Canonical` describes. Its grammar line is above it.
 
 ghost use Rattle.std.specs.Prelude.{◌≡◌, ℕ, List, [], ◌∷◌, ◌++◌, Ok, IfOk, OnOk};
 ghost use Rattle.std.specs.String.{string_bytes};
@@ -22,12 +22,12 @@ use std::alloc::{AllocError, Global};
 use std::fmt::Write;
 use std::marker::Model;
 
-/// The canonical text of a program: its tokens with one space between each two. Parentheses stand only round an operand
-/// that is itself an operation, there is no empty `else`, an exit without destinations has no braces, and no number has
-/// leading zeros. What the text reads as is the program again.
+/// The canonical text of a program: its tokens with one space between each two. Only an operand that is itself an
+/// operation is in parentheses, there is no empty `else`, a switch without destinations has no braces, and no number
+/// has leading zeros. The text reads as the program again.
 ///
 /// # Errors
-/// Want of memory.
+/// Out of memory.
 pub fn print(alloc: Global, program: &Program) -> Result<String, AllocError>
     ensures text { IfOk result (λ text. string_bytes text ≡ canonical_of program.now) }
     ensures reads_back { IfOk result (λ text. parsed (string_bytes text) ≡ Ok program.now) }
@@ -40,7 +40,7 @@ pub fn print(alloc: Global, program: &Program) -> Result<String, AllocError>
     Ok(printer.into_text())
 }
 
-// The text so far: each token with a space behind it.
+// The text so far: each token, followed by a space.
 #[derive(Drop)]
 struct Printer {
     text: String,

@@ -17,12 +17,12 @@ use giotto_text::programs::Parts;
 use giotto_text::tokens::{Keyword, PlacedToken, Symbol, Token};
 use std::alloc::{AllocError, AllocFailed, Global};
 
-/// Why a reader stopped where it stands.
+/// Why a reader stopped at its token.
 #[derive(Clone, Copy, Debug, PartialEq, Eq)]
 pub(crate) enum Stop {
-    /// The next token, or the end, fits no grammar line here.
+    /// The next token, or the end of the text, fits no grammar line here.
     Unexpected,
-    /// Want of memory.
+    /// Out of memory.
     Memory,
 }
 
@@ -48,7 +48,7 @@ impl From<AllocError> for Stop {
     }
 }
 
-/// The tokens of a text, which nest at most 32 deep, and how many of them are read.
+/// The tokens of a text, nested at most 32 deep, and how many of them are read.
 #[derive(Drop)]
 pub(crate) struct Reader<'a> {
     alloc: Global,
@@ -59,7 +59,7 @@ pub(crate) struct Reader<'a> {
 }
 
 impl<'a> Reader<'a> {
-    /// A reader of these tokens, at the first.
+    /// A reader of these tokens, at the first one.
     pub(crate) fn new(alloc: Global, tokens: &'a [PlacedToken]) -> Reader<'a>
         requires { nests_too_deep (bare tokens.now) ≡ false }
         ensures tokens { result.tokens.now ≡ tokens.now }
@@ -106,7 +106,7 @@ impl Reader<'_> {
         self.at == self.tokens.len()
     }
 
-    /// The offset of the next token, or the end.
+    /// The offset of the next token, or `end` if there is none.
     pub(crate) fn offset(&self, end: usize) -> usize
         ensures { result ≡ offset_at self.now.tokens.now self.now.at end }
     {
@@ -253,7 +253,7 @@ impl Reader<'_> {
         Ok(number)
     }
 
-    // INT behind "-": at most 9223372036854775808
+    // INT after "-": at most 9223372036854775808
     fn size(&mut self) -> Result<u64, Stop>
         ensures read { Does (λ n. n) (read_one (number_in (2 ^ 63))) self.old result self.new }
         ensures small { IfOk result (λ n. n ≤ 2 ^ 63) }
@@ -268,7 +268,7 @@ impl Reader<'_> {
         Ok(number)
     }
 
-    // init = ["-"] INT, behind "-" up to 9223372036854775808
+    // init = ["-"] INT, after "-" up to 9223372036854775808
     fn initial(&mut self) -> Result<i64, Stop>
         ensures { Does (λ z. z) read_initial self.old result self.new }
     {
@@ -281,7 +281,7 @@ impl Reader<'_> {
     }
 }
 
-// The number with a "-" before it.
+// The number after a "-", negated.
 fn negated(size: u64) -> i64
     requires { size ≤ 2 ^ 63 }
     ensures { result ≡ neg_ℤ (pos size) }

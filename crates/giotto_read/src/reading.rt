@@ -20,11 +20,14 @@ use std::alloc::Global;
 
 /// The program that a text spells.
 ///
-/// A text that spells none is refused, and the first reason in this order is named: `Syntax` with the offset in bytes of
-/// the first byte at which no token begins; `TooDeep` where more than 32 parentheses and braces are open at once;
-/// `Syntax` with the offset of the first token with which the tokens are no prefix of a program, or with the length of the
-/// text, blanks at its end included, where the tokens end too early; `TooMany` where a task has more than 16 inputs,
-/// outputs or states. Want of memory is `Memory`.
+/// Refuses a text that spells no program. The reasons are checked in this order:
+/// - `Syntax` with the offset in bytes of the first byte at which no token begins.
+/// - `TooDeep` if more than 32 parentheses and braces are open at once.
+/// - `Syntax` with the offset of the first token with which the tokens are no prefix of a program. If the tokens end
+///   too early, the offset is the length of the text, including blanks at its end.
+/// - `TooMany` if a task has more than 16 inputs, outputs or states.
+///
+/// If an allocation fails, the fault is `Memory`.
 pub fn read(alloc: Global, text: &str) -> Result<Program, ReadFault>
     ensures found { IfOk result (λ p. parsed text.now ≡ Ok p) }
     ensures fault { (f : ReadFault) → result ≡ Err f → f ≢ ReadFault.Memory → parsed text.now ≡ Err f }
@@ -35,8 +38,8 @@ pub fn read(alloc: Global, text: &str) -> Result<Program, ReadFault>
     Ok(Program::new(parts))
 }
 
-// The parts of the program that the tokens of a text spell, where `end` is the length of the text in bytes. Nesting is
-// counted first, so that the reader, which recurses through what nests, takes little of the stack.
+// The parts of the program that the tokens of a text spell. `end` is the length of the text in bytes. Checks the
+// nesting first, so that the reader, which recurses through nested parts, takes little of the stack.
 fn read_tokens(alloc: Global, tokens: &[PlacedToken], end: usize) -> Result<Parts, ReadFault>
     ensures found { IfOk result (λ p. read_all end tokens.now ≡ Ok p) }
     ensures fault { (f : ReadFault) → result ≡ Err f → f ≢ ReadFault.Memory → read_all end tokens.now ≡ Err f }
@@ -59,7 +62,7 @@ fn read_tokens(alloc: Global, tokens: &[PlacedToken], end: usize) -> Result<Part
     Ok(program)
 }
 
-// More than 32 parentheses and braces are open at once.
+// Whether more than 32 parentheses and braces are open at once.
 fn nests_too_deep(tokens: &[PlacedToken]) -> bool
     ensures { result ≡ nests_too_deep (bare tokens.now) }
 {
@@ -73,7 +76,7 @@ fn nests_too_deep(tokens: &[PlacedToken]) -> bool
     false
 }
 
-// How many are open behind the token, where so many are open before it.
+// How many are open after the token, if `depth` are open before it.
 fn depth_behind(depth: usize, token: &Token) -> usize
     requires { depth ≤ 32 }
     ensures { result ≡ open_behind depth token.now }

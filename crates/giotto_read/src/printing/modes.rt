@@ -75,7 +75,7 @@ impl Printer {
         self.symbol(Symbol::Semicolon)
     }
 
-    // ["{" {destination} "}"], where destination = NAME ":=" expr ";"
+    // ["{" {destination} "}"], with destination = NAME ":=" expr ";"
     fn destinations(&mut self, destinations: &[Destination]) -> Result<(), AllocError>
         ensures { OnOk result (self.new ≡ written self.old (destination_tokens (map destination_of destinations.now))) }
     {
@@ -121,7 +121,7 @@ impl Printer {
         Ok(())
     }
 
-    // INT ["if" expr] "do", behind its keyword
+    // INT ["if" expr] "do", after its keyword
     fn at_frequency(
         &mut self,
         kind: Keyword,

@@ -109,7 +109,7 @@ impl Reader<'_> {
     }
 }
 
-// What stands beside no operator.
+// An operand without an operator, as an expression.
 fn expression_alone(primary: Primary) -> Expr
     ensures { expression_of result ≡ primary_of primary }
 {

@@ -134,7 +134,7 @@ impl Reader<'_> {
     }
 }
 
-// The body with these ports and this block, which is not too deep for its code.
+// The body with these ports and this block. The block must be shallow enough to have code.
 fn shallow_body(
     alloc: Global,
     inputs: List<Name>,
