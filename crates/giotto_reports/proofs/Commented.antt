@@ -1,4 +1,4 @@
--- A text from a place on, inside of a comment or outside of one.
+-- A text from a given place on, inside or outside of a comment.
 use Rattle.std.proofs.Common.{◌≡◌, ℕ, Bool, true, false, ◌||◌, cond, List, ◌∷◌, refl}
 use Rattle.giotto_reports.specs.Comments.{is_line_end, begins_comment, blank, one_line, rest_of_comment}
 

@@ -1,4 +1,5 @@
--- The line of a text is text: a character outside of comments stays whole, and the bytes of one in a comment become blanks.
+-- The line of a text is UTF-8: a character outside of comments stays whole, and the bytes of a character in a comment become
+-- blanks.
 use Rattle.std.proofs.Common.{◌≡◌, ℕ, suc, ◌<◌, ◌≤◌, Bool, true, false, ◌||◌, cond, List, [], ◌∷◌, ◌++◌, map, length, get_or, IsUtf8, inl, inr, refl, sym, ap, subst, arith, append-nil}
 use Rattle.std.proofs.lemmas.Bool.{cases_lt}
 use Rattle.std.proofs.lemmas.Bool.Decides.{nat_tests}
@@ -18,7 +19,7 @@ blanks_utf8 (x ∷ xs) ys u = ascii_then 32 _ (omega arith) (blanks_utf8 xs ys u
 AreHigh : List ℕ → Type 0
 AreHigh xs = (k : ℕ) → k < length xs → 128 ≤ get_or xs k 0
 
--- a byte above 127 is no line end and begins no comment
+-- a byte above 127 is not a line end and doesn't begin a comment
 high_is_other : (x : ℕ) → 128 ≤ x → is_line_end x ≡ false
 high_is_other x high = grind (arith, nat_tests)
 
@@ -43,7 +44,7 @@ encode_high c big k below = elim (cases_lt (get_or (encode c) k 0) 128) [
   | inr h ↦ h
 ]
 
--- where what follows a character is text, inside of a comment and outside, then so with the character
+-- if what follows a character is UTF-8, inside and outside of a comment, then so is the whole with the character
 one_char : (b : Bool) (c : ℕ) (rest : List ℕ) → scalar c ≡ true → ((b : Bool) → IsUtf8 (from b rest)) → IsUtf8 (from b (encode c ++ rest))
 one_char b c rest ok more = elim (cases_lt c 128) [ inl small ↦ rw (encode_ascii c small) (low (is_line_end c) refl small) | inr big ↦ high b big ]
   where

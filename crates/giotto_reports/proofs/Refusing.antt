@@ -1,4 +1,4 @@
--- A text for which the reader tells a fault.
+-- A text for which the reader reports a fault.
 use Rattle.std.proofs.Common.{◌≡◌, ◌∷◌, [], List, ℕ, Ok, Err, refl, sym, inl, ◌∙◌}
 use Rattle.giotto_faults.specs.declared.faults.ProgramFault.{ProgramFault}
 use Rattle.giotto_faults.specs.declared.faults.ProgramFault.TheVariants.{Syntax, TooDeep, TooMany, Memory}

@@ -1,4 +1,4 @@
--- The first part of some that costs so much, looked for one by one.
+-- The first part with a given cost, looked for one by one.
 use Rattle.std.proofs.Common.{◌≡◌, ◌+◌, ◌<◌, ◌≤◌, ◌==◌, ℕ, Bool, true, false, List, [], ◌∷◌, ◌++◌, length, map, take, drop, get_or, Option, Some, None, refl, sym, ap, ◌∙◌, append-nil, arith}
 use Rattle.std.specs.Option.{option_or}
 use Rattle.std.specs.List.{flat_map}
@@ -12,7 +12,7 @@ module _ (cost : ℕ) where
   test : ProgramPart → Bool
   test part = steps_of_part part == cost
 
-  -- behind parts of which none does
+  -- after parts none of which has this cost
   pub behind : (before here : List ProgramPart) (r : Option ProgramPart) → first_of_cost cost before ≡ None → first_of_cost cost here ≡ r → first_of_cost cost (before ++ here) ≡ r
   behind before here r none is = find-append (λ part. steps_of_part part == cost) before here ∙ (ap (λ o. option_or o (first_of_cost cost here)) none ∙ is)
 
@@ -29,7 +29,7 @@ module _ (cost : ℕ) where
       by true e = absurd (other (is ∙ grind (arith, nat_tests, e)))
       by false e = rw e refl
 
-  -- a loop over a list, which looks through the parts that `H` makes of each element
+  -- a loop over a list that searches the parts which `H` makes of each element
   module _ {X : Type 0} (H : List X → List ProgramPart) (joins : (us vs : List X) → H (us ++ vs) ≡ H us ++ H vs) (xs : List X) (i : ℕ) where
     module _ (x : X) (none : first_of_cost cost (H (take i xs)) ≡ None) (within : i < length xs) (item : x ≡ get_or xs i x) where
       further : (r : Option ProgramPart) → first_of_cost cost (H (x ∷ [])) ≡ r → first_of_cost cost (H (take (i + 1) xs)) ≡ r

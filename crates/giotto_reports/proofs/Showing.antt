@@ -11,7 +11,7 @@ module _ (file source : List ℕ) where
   shown_more (g ∷ gs) f text part are begins =
       (are.0, are.1 ++ part, ap (λ (t : List ℕ). t ++ part) are.2 ∙ append_assoc are.0 are.1 part, are.3, shown_more gs f are.1 part are.4 begins)
 
-  -- a loop over findings, one finding on
+  -- a loop over findings, one finding further
   pub shown_further : (fs : List Finding) (i : ℕ) (f : Finding) (before part after : List ℕ) → AreShown file source (take i fs) before → i < length fs → f ≡ get_or fs i f
       → BeginsWith (head_of f file source) part → after ≡ before ++ part → AreShown file source (take (i + 1) fs) after
   shown_further fs i f before part after are within item begins grown =

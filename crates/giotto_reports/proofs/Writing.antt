@@ -1,4 +1,4 @@
--- A loop that writes what stands for each element, one element on.
+-- A loop that writes a text for each element, one element further.
 use Rattle.std.proofs.Common.{◌≡◌, ◌+◌, ◌<◌, ℕ, List, [], ◌∷◌, ◌++◌, length, map, take, get_or, sym, ap, ◌∙◌}
 use Rattle.std.specs.List.{flat_map}
 use Rattle.std.proofs.lemmas.List.{take_more, flat_map_more, map-append}

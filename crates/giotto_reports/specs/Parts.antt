@@ -15,7 +15,7 @@ pub data ProgramPart : Type 0 where
   switch : ModeDeclaration → ModeSwitch → ProgramPart
   invocation : ModeDeclaration → TaskInvocation → ProgramPart
 
--- the part that one of the program's own types stands for
+-- the part that a `Part` of the code represents
 abbrev pub part_of : Part → ProgramPart
 part_of (Body t) = body (task_of t.now)
 part_of (Update m u) = update (mode_of m.now) (update_of u.now)
@@ -29,7 +29,7 @@ cost_of_part (update m u) = update_cost u
 cost_of_part (switch m s) = switch_cost s
 cost_of_part (invocation m i) = invocation_cost i
 
--- what is told of it: the greatest number of 64 bits where it costs more
+-- the cost that is reported: the greatest number of 64 bits if the part costs more
 abbrev pub steps_of_part : ProgramPart → ℕ
 steps_of_part part = min (cost_of_part part) (2 ^ 64 - 1)
 
@@ -41,11 +41,11 @@ drivers_of m = map (update m) m.updates ++ (map (switch m) m.switches ++ map (in
 abbrev pub parts_of : GiottoProgram → List ProgramPart
 parts_of p = map body p.tasks ++ flat_map drivers_of p.modes
 
--- the first of these parts of which this is told
+-- the first of these parts for which this cost is reported
 abbrev pub first_of_cost : ℕ → List ProgramPart → Option ProgramPart
 first_of_cost cost parts = find (λ part. steps_of_part part == cost) parts
 
--- a part is named by its task, or by its mode and what it writes, where it leads or what it invokes
+-- a part is named by its task, or by its mode and what it writes, switches to or invokes
 abbrev pub text_of_part : ProgramPart → List ℕ
 text_of_part (body t) = codes "the body of `" ++ (t.name ++ codes "`")
 text_of_part (update m u) = codes "the update of `" ++ (u.actuator ++ (codes "` in mode `" ++ (m.name ++ codes "`")))

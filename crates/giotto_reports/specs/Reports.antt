@@ -1,4 +1,4 @@
--- When a text is good, and what is told of it.
+-- When a text is good, and what is reported about it.
 use Rattle.std.specs.Prelude.{◌≡◌, ◌≢◌, ◌⊎◌, ℕ, Bool, true, false, List, [], ◌∷◌, ◌++◌, Ok, None, codes, string_bytes}
 use Rattle.giotto_faults.specs.declared.faults.ProgramFault.{ProgramFault}
 use Rattle.giotto_faults.specs.declared.faults.ProgramFault.TheVariants.{Memory}
@@ -21,20 +21,20 @@ use Rattle.giotto_reports.specs.Summaries.{summary_of}
 abbrev pub IsWellFormed : List ℕ → Type 0
 IsWellFormed text = (p : GiottoProgram) × (parsed text ≡ Ok p) × (first_broken_rule p ≡ None)
 
--- just one finding, an error where the fault for which the reader refuses the text is shown
+-- exactly one finding: an error, at the place where the fault for which the reader refuses the text is shown
 abbrev pub IsUnreadable : List ℕ → List Finding → Type 0
 IsUnreadable text findings =
     (fault : ProgramFault) × (fault ≢ Memory) × faults.Tells text fault × ((f : Finding) × (findings ≡ f ∷ []) × IsErrorAt (offset_told text fault) f)
 
--- an error first, of a text that spells a program which breaks a rule
+-- findings that begin with an error, about a text that spells a program which breaks a rule
 abbrev pub IsBroken : List ℕ → List Finding → Type 0
 IsBroken text findings = (p : GiottoProgram) × (parsed text ≡ Ok p) × (first_broken_rule p ≢ None) × TellFault findings
 
--- the findings tell why a text isn't well-formed: it spells no program, or one that breaks a rule
+-- the findings say why a text isn't well-formed: it spells no program, or one that breaks a rule
 abbrev pub TellWhy : List ℕ → List Finding → Type 0
 TellWhy text findings = IsUnreadable text findings ⊎ IsBroken text findings
 
--- what a text was found to be is so
+-- what a text was found to be is true
 abbrev pub IsExamined : List ℕ → Examined → Type 0
 IsExamined text (Good p) = (parsed text ≡ Ok p) × (first_broken_rule p ≡ None)
 IsExamined text (Faulty findings) = (¬ IsWellFormed text) × TellWhy text findings.items
@@ -43,7 +43,7 @@ IsExamined text (Faulty findings) = (¬ IsWellFormed text) × TellWhy text findi
 abbrev pub IsGood : List ℕ → Type 0
 IsGood source = IsWellFormed (one_line source)
 
--- what is written of a program where this is wanted: its summary, the line of a script that loads its canonical text, that text, or a
+-- what is written about a program for this wish: its summary, the line of a script that loads its canonical text, that text, or a
 -- text that reads as the program
 abbrev pub IsWritten : Wish → GiottoProgram → List ℕ → Type 0
 IsWritten Summary p text = text ≡ summary_of p
@@ -56,7 +56,8 @@ abbrev pub AreShown : List ℕ → List ℕ → List Finding → List ℕ → Ty
 AreShown file source [] text = text ≡ []
 AreShown file source (f ∷ fs) text = (part : List ℕ) × (later : List ℕ) × (text ≡ part ++ later) × BeginsWith (head_of f file source) part × AreShown file source fs later
 
--- what is told of a file is so: what was wished of the program that it spells, where it is good, else findings that tell why it isn't
+-- the report on a file is true: if the file is good, it has what was wished about its program; otherwise it has findings that say
+-- why the file isn't good
 abbrev pub Tells : List ℕ → List ℕ → Wish → Report → Type 0
 Tells file source wish report = by report.is_good
   where

@@ -7,11 +7,11 @@ use Rattle.giotto_breaks.specs.rules.Costs.{greatest_cost_of}
 use Rattle.giotto_breaks.specs.rules.Ports.{ports_of}
 use Rattle.giotto_reports.specs.Parts.{ProgramPart, body, steps_of_part, parts_of, first_of_cost, text_of_part}
 
--- a line has its end behind it
+-- a line followed by its end
 abbrev pub ended : List ℕ → List ℕ
 ended line = line ++ 10 ∷ []
 
--- "reads line LINE", and what it takes where it reads none
+-- "reads line LINE", or what the sensor takes if it reads no line
 abbrev pub text_of_source : Source → List ℕ
 text_of_source (from_line line) = codes ": reads line " ++ decimal line
 text_of_source from_grant = codes ": takes what is granted to it"
@@ -45,15 +45,15 @@ abbrev pub line_of_dearest : ℕ → Option ProgramPart → List ℕ
 line_of_dearest cost None = codes "greatest cost: " ++ decimal cost
 line_of_dearest cost (Some part) = codes "greatest cost: " ++ (decimal cost ++ (codes ", of " ++ text_of_part part))
 
--- what is told of the greatest cost: the greatest number of 64 bits where it is more
+-- the greatest cost that is reported: the greatest number of 64 bits if the cost is more
 abbrev pub steps_told : GiottoProgram → ℕ
 steps_told p = min (greatest_cost_of p) (2 ^ 64 - 1)
 
--- the line of the part that costs most, the first of those that do
+-- the line of the part that costs most, or of the first such part
 abbrev pub dearest_line : GiottoProgram → List ℕ
 dearest_line p = line_of_dearest (steps_told p) (first_of_cost (steps_told p) (parts_of p))
 
--- a line for each sensor, actuator, output, task and mode, and last how many ports there are, and the part that costs most
+-- a line for each sensor, actuator, output, task and mode, and at the end how many ports there are, and the part that costs most
 abbrev pub summary_of : GiottoProgram → List ℕ
 summary_of p =
     flat_map (λ s. ended (line_of_sensor s)) p.sensors ++ (flat_map (λ a. ended (line_of_actuator a)) p.actuators ++ (flat_map (λ o. ended (line_of_output o)) p.outputs

@@ -1,12 +1,13 @@
-//! Programs in files: with line ends and comments, which a line of a session or a script has no place for.
+//! Programs in files, with line ends and comments. A line of a session or a script can have neither.
 //!
 //! ```text
 //! sensor s := 0 line 0;    // the pump's pressure
 //! actuator a := 0;
 //! ```
 //!
-//! [`one_line`] makes one line of such a text, in which each byte of the program stands where it stood: the offset of a fault in the line
-//! is its offset in the file. `specs/Comments.antt` says what becomes of each byte, and `proofs/CommentRows.antt` shows it by example.
+//! [`one_line`] turns such a text into one line in which each byte of the program keeps its place. So the offset of a fault in
+//! the line is its offset in the file. `specs/Comments.antt` says what becomes of each byte, and `proofs/CommentRows.antt` shows
+//! it with examples.
 
 ghost use Rattle.std.specs.Prelude.{◌≡◌, ◌<◌, ℕ, IfOk, IsErr, drop, length, string_bytes, true};
 ghost use Rattle.std.specs.List.{starts_with};
@@ -14,14 +15,16 @@ ghost use Rattle.giotto_reports.specs.Comments.{is_line_end, begins_comment, one
 
 use std::alloc::{AllocError, Global};
 
-// What stands in the place of a byte that is no part of the program.
+// Replaces a byte that is not part of the program.
 const BLANK: u8 = b' ';
 
-/// The text of a program's file as one line, of as many bytes: each LF and CR becomes a blank, and so does each byte of a comment, which
-/// begins with `//` and goes up to the next LF or CR, or to the end. All other bytes are as they were.
+/// The text of a program's file as one line with the same number of bytes.
+///
+/// Each LF and CR becomes a blank, and so does each byte of a comment. A comment begins with `//` and goes up to the next LF or
+/// CR, or to the end. All other bytes stay as they are.
 ///
 /// # Errors
-/// Want of memory, where the text isn't empty.
+/// Out of memory, unless the text is empty.
 pub fn one_line(alloc: Global, text: &str) -> Result<String, AllocError>
     ensures line { IfOk result (λ line. string_bytes line ≡ one_line text.now) }
     ensures memory { IsErr result → 0 < length text.now }
@@ -33,7 +36,7 @@ pub fn one_line(alloc: Global, text: &str) -> Result<String, AllocError>
     Ok(line)
 }
 
-// The same of bytes.
+// The same for bytes.
 fn without_comments(alloc: Global, text: &[u8]) -> Result<Vec<u8>, AllocError>
     ensures line { IfOk result (λ line. line.items ≡ one_line text.now) }
     ensures memory { IsErr result → 0 < length text.now }

@@ -6,7 +6,7 @@ use std::alloc::{AllocError, Global};
 /// The tokens of a program, laid out over lines.
 ///
 /// # Errors
-/// Want of memory.
+/// Out of memory.
 pub(crate) fn laid_out(alloc: Global, tokens: &[PlacedToken]) -> Result<String, AllocError> {
     let mut page = Page {
         alloc,
@@ -27,7 +27,7 @@ pub(crate) fn laid_out(alloc: Global, tokens: &[PlacedToken]) -> Result<String, 
     Ok(page.into_text())
 }
 
-// What stands between the last token and the next one.
+// What is written between the last token and the next one.
 #[derive(Clone, Copy, Debug, PartialEq, Eq)]
 enum Gap {
     None,
@@ -35,7 +35,7 @@ enum Gap {
     Line,
 }
 
-// Where in a switch the next token stands. Its braces stay on its line.
+// Where in a switch the next token is. A switch's braces stay on its line.
 #[derive(Clone, Copy, Debug, PartialEq, Eq)]
 enum SwitchPart {
     Outside,
@@ -69,7 +69,7 @@ impl Page {
         text
     }
 
-    // Writes a token, where this one follows it.
+    // Writes a token. `next` is the token after it.
     fn write(&mut self, token: &Token, next: Option<&Token>) -> Result<(), AllocError> {
         let in_line = self.switch != SwitchPart::Outside;
         if is_mark(token, Symbol::CloseBrace) && !in_line {
@@ -153,7 +153,7 @@ fn is_else(next: Option<&Token>) -> bool {
     matches!(next, Some(Token::Keyword(Keyword::Else)))
 }
 
-// Where the token behind this one stands.
+// Where in a switch the token after this one is.
 fn switch_behind(part: SwitchPart, token: &Token) -> SwitchPart {
     match (part, token) {
         (_, Token::Keyword(Keyword::ExitFreq)) => SwitchPart::Line,

@@ -1,4 +1,4 @@
-//! What is told of a program's file: what the program has, or what is wrong with it and where.
+//! Reports on a program's file: what the program has, or what is wrong with it and where.
 //!
 //! [`report_on`] reads the text of a file, with its line ends and comments, as the host would read it in a `load`:
 //!
@@ -7,8 +7,9 @@
 //! print!(rt; "{}", report.text)?;
 //! ```
 //!
-//! [`examine`] gives the program that a text spells, or what is told of the text, for whoever asks more of a program than that it is
-//! well-formed. `specs/Reports.antt` says when a text is good: exactly where `read` and `check` pass its program.
+//! [`examine`] returns the program that a text spells, or the findings about the text. It is for callers that need to know more
+//! about a program than that it is well-formed. `specs/Reports.antt` says when a text is good: exactly if `read` and `check`
+//! accept its program.
 #![tactic(auto)]
 
 ghost use Rattle.std.specs.Prelude.{◌≡◌, ◌++◌, ◌∷◌, [], IfOk, Ok, None, string_bytes};
@@ -33,26 +34,26 @@ use giotto_faults::findings::Finding;
 use giotto_read::{Program, print};
 use std::alloc::{AllocError, Global};
 
-/// What is wanted of a good program.
+/// What to write about a good program.
 #[derive(Clone, Copy, Debug, PartialEq, Eq)]
 pub enum Wish<'a> {
     /// What it has, in a few lines.
     Summary,
-    /// The line of a script by which this tenant loads it.
+    /// The line of a script with which this tenant loads it.
     Load(&'a str),
     /// Its canonical text.
     Print,
-    /// It laid out over many lines.
+    /// Its text, laid out over many lines.
     Pretty,
 }
 
-/// What is told of a file.
+/// The report on a file.
 #[derive(Drop)]
 pub struct Report {
-    /// Whether nothing is wrong with it.
+    /// Whether nothing is wrong with the file.
     pub is_good: bool,
-    /// What was wanted of a good file; of another what is wrong with it, as findings in the form of a compiler's messages. Each line
-    /// ends with an LF.
+    /// For a good file, the wished text. For any other file, what is wrong with it, as findings in the form of a compiler's
+    /// messages. Each line ends with an LF.
     pub text: String,
 }
 
@@ -61,14 +62,14 @@ pub struct Report {
 pub enum Examined {
     /// It spells this well-formed program.
     Good(Checked),
-    /// It spells none, as is told by one finding at least.
+    /// It spells no well-formed program, as at least one finding reports.
     Faulty(Vec<Finding>),
 }
 
-/// What is told of a program's file with this name and this text.
+/// The report on a program's file with this name and this text.
 ///
 /// # Errors
-/// Want of memory.
+/// Out of memory.
 pub fn report_on(alloc: Global, file: &str, source: &str, wish: Wish) -> Result<Report, AllocError>
     ensures { IfOk result (λ report. Tells file.now source.now wish.entry report) }
 {
@@ -85,11 +86,11 @@ pub fn report_on(alloc: Global, file: &str, source: &str, wish: Wish) -> Result<
     }
 }
 
-/// The well-formed program that a text spells, or what is told of the text. `source` is the text as it stands in its file, with the
-/// same bytes in the same places but for line ends and comments.
+/// The well-formed program that a text spells, or the findings about the text. `source` is the text as it is in its file, with
+/// the same bytes in the same places except for line ends and comments.
 ///
 /// # Errors
-/// Want of memory.
+/// Out of memory.
 pub fn examine(alloc: Global, text: &str, source: &str) -> Result<Examined, AllocError>
     ensures { IfOk result (IsExamined text.now) }
 {
@@ -105,7 +106,7 @@ pub fn examine(alloc: Global, text: &str, source: &str) -> Result<Examined, Allo
     }
 }
 
-// What is told of the program of this text.
+// Examines the program that this text spells.
 fn by_rules(alloc: Global, program: Program, text: &str) -> Result<Examined, AllocError>
     requires { parsed text.now ≡ Ok program }
     ensures { IfOk result (IsExamined text.now) }
@@ -128,10 +129,10 @@ fn checked(alloc: Global, program: Program) -> Result<Checked, AllocError>
     }
 }
 
-/// What was wanted of a well-formed program. Each line ends with an LF.
+/// The wished text about a well-formed program. Each line ends with an LF.
 ///
 /// # Errors
-/// Want of memory.
+/// Out of memory.
 pub fn written(alloc: Global, checked: &Checked, wish: Wish) -> Result<String, AllocError>
     ensures { IfOk result (λ text. IsWritten wish.entry checked.now (string_bytes text)) }
 {
@@ -143,10 +144,10 @@ pub fn written(alloc: Global, checked: &Checked, wish: Wish) -> Result<String, A
     }
 }
 
-/// Findings as text, one below the other, where `source` is the text of the file.
+/// Findings as text, one below the other. `source` is the text of the file.
 ///
 /// # Errors
-/// Want of memory.
+/// Out of memory.
 pub fn shown(
     alloc: Global,
     file: &str,

@@ -22,7 +22,7 @@ pub enum Part<'a> {
 }
 
 impl Part<'_> {
-    /// What the part costs, in steps; `u64::MAX` where it is more.
+    /// The cost of the part in steps, or `u64::MAX` if it costs more.
     pub fn cost(&self) -> u64
         ensures { result ≡ steps_of_part (part_of self.now) }
     {
@@ -70,7 +70,7 @@ fn write_part<W: fmt::Write>(f: &mut fmt::Formatter<W>, part: &Part) -> fmt::Res
     }
 }
 
-/// The first part of a program that costs this: its tasks come first, and then, mode by mode, its updates, switches and invocations.
+/// The first part of a program with this cost. The tasks come first, and then the updates, switches and invocations of each mode.
 pub fn part_of_cost<'a>(program: &'a Program, cost: u64) -> Option<Part<'a>>
     ensures { option_map part_of result ≡ first_of_cost cost (parts_of program.now) }
 {
@@ -88,7 +88,7 @@ pub fn part_of_cost<'a>(program: &'a Program, cost: u64) -> Option<Part<'a>>
     None
 }
 
-// The first driver of the mode that costs this.
+// The first driver of the mode with this cost.
 fn driver_of_cost<'a>(mode: &'a Mode, cost: u64) -> Option<Part<'a>>
     ensures { option_map part_of result ≡ first_of_cost cost (drivers_of (mode_of mode.now)) }
 {

@@ -12,11 +12,11 @@ use giotto_check::Checked;
 use giotto_text::programs::{Actuator, Mode, Output, Program, Sensor, Source, Task};
 use std::alloc::{AllocError, Global};
 
-/// A line for each sensor, actuator, output, task and mode of the program, and last what it has in all: how many ports, and the part
-/// that costs most. Each line ends with an LF.
+/// The summary of a program. It has a line for each sensor, actuator, output, task and mode. The last two lines say how many
+/// ports there are in all, and which part costs most. Each line ends with an LF.
 ///
 /// # Errors
-/// Want of memory.
+/// Out of memory.
 pub fn summary_of(alloc: Global, checked: &Checked) -> Result<String, AllocError>
     ensures { IfOk result (λ text. string_bytes text ≡ summary_of checked.now) }
 {

@@ -1,6 +1,6 @@
 //! Programs as texts for files and for scripts.
 //!
-//! [`pretty`] lays a program out over lines, and [`load_line`] gives the line of a script that loads it:
+//! [`pretty`] lays a program out over lines, and [`load_line`] returns the line of a script that loads it:
 //!
 //! ```text
 //! task T(i) output o {
@@ -8,8 +8,8 @@
 //! }
 //! ```
 //!
-//! What the texts read as is the program again. `pretty` reads back what it laid out before it gives it, so its layout can be changed
-//! without a proof.
+//! The texts read as the same program again. `pretty` reads back the text that it laid out before it returns it, so its layout
+//! can be changed without a proof.
 
 ghost use Rattle.std.specs.Prelude.{◌≡◌, ◌++◌, IfOk, Ok, codes, string_bytes, true};
 ghost use Rattle.giotto_breaks.specs.text.Canonical.{canonical_of};
@@ -20,10 +20,10 @@ use giotto_read::{Program, ReadFault, print, read};
 use giotto_text::lexer;
 use std::alloc::{AllocError, Global};
 
-/// The line of a script by which the tenant of this name loads the program: the name, ` load ` and the canonical text.
+/// The line of a script with which the tenant of this name loads the program: the name, ` load ` and the canonical text.
 ///
 /// # Errors
-/// Want of memory.
+/// Out of memory.
 pub fn load_line(alloc: Global, tenant: &str, program: &Program) -> Result<String, AllocError>
     ensures { IfOk result (λ line. string_bytes line ≡ tenant.now ++ codes " load " ++ canonical_of program.now) }
 {
@@ -34,11 +34,12 @@ pub fn load_line(alloc: Global, tenant: &str, program: &Program) -> Result<Strin
     Ok(line)
 }
 
-/// The program over many lines: each declaration, each statement of a body and each line of a mode on a line of its own, indented by four
-/// blanks for each block that it stands in, and an LF behind each line. What the text reads as is the program again.
+/// The program laid out over many lines, as a text that reads as the same program again. Each declaration, each statement of a
+/// body and each line of a mode is on a separate line, indented by four blanks for each block that it is in. Each line ends with
+/// an LF.
 ///
 /// # Errors
-/// Want of memory.
+/// Out of memory.
 pub fn pretty(alloc: Global, program: &Program) -> Result<String, AllocError>
     ensures { IfOk result (λ text. parsed (string_bytes text) ≡ Ok program.now) }
 {
