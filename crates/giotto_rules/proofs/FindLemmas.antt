@@ -35,7 +35,7 @@ pub place_from-map : {X : Type 0} (name_of : X → Name) (i : ℕ) (xs : List X)
 place_from-map name_of i [] x = refl
 place_from-map name_of i (y ∷ ys) x = ap (λ r. cond (same_name (name_of y) x) (Some i) r) (place_from-map name_of (i + 1) ys x)
 
--- a search finds what stands at the first place that passes
+-- a search finds the element at the first place that passes
 pub find_at_place : {X : Type 0} (test : X → Bool) (xs : List X) → find test xs ≡ element_at xs (position_from test 0 xs)
 find_at_place test xs =
     find_at test xs ∙ (at_place (ltb (position_or_len test xs) (length xs)) refl ∙ ap (element_at xs) (position_from-zero test xs))
@@ -44,7 +44,7 @@ find_at_place test xs =
     at_place true e = refl
     at_place false e = slice_get_past xs (position_or_len test xs) (ltb-false (position_or_len test xs) (length xs) e)
 
--- the task of a name stands at the name's place, and so does the mode
+-- the task with this name is at the name's place, and so is the mode
 pub task_at_place : (p : GiottoProgram) (x : Name) (place : Option ℕ) → place ≡ place_from 0 (task_names p) x → task_named p x ≡ element_at p.tasks place
 task_at_place p x place e =
     find_at_place (λ (t : TaskDeclaration). same_name t.name x) p.tasks ∙ ap (element_at p.tasks) (sym (e ∙ place_from-map (λ (t : TaskDeclaration). t.name) 0 p.tasks x))
@@ -53,7 +53,7 @@ pub mode_at_place : (p : GiottoProgram) (x : Name) (place : Option ℕ) → plac
 mode_at_place p x place e =
     find_at_place (λ (m : ModeDeclaration). same_name m.name x) p.modes ∙ ap (element_at p.modes) (sym (e ∙ place_from-map (λ (m : ModeDeclaration). m.name) 0 p.modes x))
 
--- the ports of a target are those at its place, and none where there is none
+-- the ports of a target mode are those at its place; none if it has no place
 pub ports_at_place : (p : GiottoProgram) (x : Name) (place : Option ℕ) → place ≡ place_from 0 (mode_names p) x
     → ports_of_target p (mode_named p x) ≡ unwrap_or (element_at (map (mode_ports p) p.modes) place) []
 ports_at_place p x place e = ap (ports_of_target p) (mode_at_place p x place e) ∙ at_place place
@@ -66,7 +66,7 @@ ports_at_place p x place e = ap (ports_of_target p) (mode_at_place p x place e) 
     at_place None = refl
     at_place (Some k) = of_mode (slice_get p.modes k) ∙ ap (λ o. unwrap_or o []) (sym (slice_get-map (mode_ports p) p.modes k))
 
--- what a look-up at that place gave
+-- the result of a lookup at that place
 pub task_found : (p : GiottoProgram) (x : Name) (names : List Name) (ts : List Task) (k : ℕ) (found : Option (Bor Task)) → names ≡ task_names p → place_from 0 names x ≡ Some k
     → map tree_of_task ts ≡ p.tasks → option_copied found ≡ slice_get ts k → task_named p x ≡ option_map tree_of_task (option_copied found)
 task_found p x names ts k found e at all got =
@@ -81,7 +81,7 @@ pub ports_found_in : {X : Type 0} (ports : List X) (found : Option (Bor (List X)
 ports_found_in ports None e = tt
 ports_found_in ports (Some x) e = sym e
 
--- what a look-up in a slice lends
+-- the result of a lookup in a slice
 pub copied_at : {X : Type 0} (xs : List X) (k : ℕ) (found : Option (Bor X)) → IsItemAt xs k found → option_copied found ≡ slice_get xs k
 copied_at xs k None h = sym (slice_get_past xs k (ltb-false k (length xs) (sym h.0)))
 copied_at xs k (Some x) h = sym (slice_get_read xs (length xs) k x.now refl (ltb-true k (length xs) (sym h.0)) h.1)
@@ -99,7 +99,7 @@ pub mapped_at : {X Y Z : Type 0} (f : Y → Z) (g : X → Y) (zs : List Z) (ys :
     → i < length xs → z ≡ get_or zs i z → x ≡ get_or xs i x → z ≡ f (g x)
 mapped_at f g zs ys xs i z x each all within is at = is ∙ mapped_or f g zs ys xs i z x each all within at
 
--- what a list for each mode has at a name's place
+-- an element of a list with one element for each mode, at a name's place
 pub mode_mapped : {Y : Type 0} (f : ModeDeclaration → Y) (p : GiottoProgram) (x : Name) (place : Option ℕ) → place ≡ place_from 0 (mode_names p) x
     → option_map f (mode_named p x) ≡ element_at (map f p.modes) place
 mode_mapped f p x place e = ap (option_map f) (mode_at_place p x place e) ∙ at_place place
@@ -117,13 +117,13 @@ find_name (n ∷ ns) x = at_head (same_name n x) refl (find_name ns x)
     at_head true e rest = ap Some (same_name_is n x e)
     at_head false e rest = rest
 
--- a name stands at its place
+-- a name is at its place
 pub name_at_place : (names : List Name) (x : Name) (k : ℕ) → Some k ≡ place_from 0 names x → slice_get names k ≡ Some x
 name_at_place names x k e =
     let there : true ≡ is_among names x = ap is_some e ∙ is_some-place_from 0 names x in
     ap (element_at names) e ∙ (sym (find_at_place (λ n. same_name n x) names) ∙ (find_name names x ∙ ap (λ b. cond b (Some x) None) (sym there)))
 
--- the period at a task's place tells whether the task goes on
+-- the period at a task's place decides whether the task is continued
 pub goes_on_at_place : (p : GiottoProgram) (target x : Name) (k every : ℕ) (row : Option (List (Option ℕ))) → row ≡ option_map (periods_in p) (mode_named p target)
     → Some k ≡ place_from 0 (task_names p) x → is_period (period_at row k) every ≡ goes_on_with (mode_named p target) x every
 goes_on_at_place p target x k every row e at = ap (λ r. is_period (period_at r k) every) e ∙ in_mode (mode_named p target)

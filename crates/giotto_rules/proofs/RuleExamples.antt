@@ -13,6 +13,6 @@ switcher_is_well_formed = refl
 pub two_constants_is_well_formed : first_broken_rule two_constants ≡ None
 two_constants_is_well_formed = refl
 
--- a switch that could cut a task short
+-- a switch that could interrupt a task that isn't continued
 pub broken_switcher_breaks : first_broken_rule broken_switcher ≡ Some 10
 broken_switcher_breaks = refl

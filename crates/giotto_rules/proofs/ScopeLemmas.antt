@@ -1,4 +1,4 @@
--- Names of two lists.
+-- The names of two lists.
 use Rattle.std.proofs.Common.{◌≡◌, ◌||◌, List, ◌++◌}
 use Rattle.giotto_tasks.specs.declared.names.Name.{Name}
 use Rattle.giotto_tasks.specs.Names.{is_among}

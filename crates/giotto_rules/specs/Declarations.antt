@@ -10,39 +10,39 @@ use Rattle.giotto_text.specs.Program.{Source, from_line, from_grant, SensorDecla
 abbrev pub sensor_names : GiottoProgram → List Name
 sensor_names p = map (λ s. s.name) p.sensors
 
--- the actuators that it declares
+-- its actuators
 abbrev pub actuator_names : GiottoProgram → List Name
 actuator_names p = map (λ a. a.name) p.actuators
 
--- the outputs that it declares
+-- its outputs
 abbrev pub output_names : GiottoProgram → List Name
 output_names p = map (λ o. o.name) p.outputs
 
--- the tasks that it declares
+-- its tasks
 abbrev pub task_names : GiottoProgram → List Name
 task_names p = map (λ t. t.name) p.tasks
 
--- the modes that it declares
+-- its modes
 abbrev pub mode_names : GiottoProgram → List Name
 mode_names p = map (λ m. m.name) p.modes
 
--- what a driver may read at most: sensors, actuators and outputs
+-- the only names that a driver may read: sensors, actuators and outputs
 abbrev pub driver_ports : GiottoProgram → List Name
 driver_ports p = sensor_names p ++ (actuator_names p ++ output_names p)
 
--- the names of the five groups, which are one name space
+-- the names of all five groups, which share one name space
 abbrev pub declared_names : GiottoProgram → List Name
 declared_names p = sensor_names p ++ (actuator_names p ++ (output_names p ++ (task_names p ++ mode_names p)))
 
--- the first task of this name
+-- the first task with this name
 abbrev pub task_named : GiottoProgram → Name → Option TaskDeclaration
 task_named p x = find (λ t. same_name t.name x) p.tasks
 
--- the first mode of this name
+-- the first mode with this name
 abbrev pub mode_named : GiottoProgram → Name → Option ModeDeclaration
 mode_named p x = find (λ m. same_name m.name x) p.modes
 
--- the outputs of the task of this name, and none where there is no such task
+-- the outputs of the task with this name; none if there is no such task
 abbrev pub outputs_of_task : GiottoProgram → Name → List Name
 outputs_of_task p x = outputs (task_named p x)
   where
@@ -66,7 +66,7 @@ destinations_of s = map (λ d. d.0) s.destinations
 abbrev pub mode_ports : GiottoProgram → ModeDeclaration → List Name
 mode_ports p m = flat_map (λ (i : TaskInvocation). outputs_of_task p i.task) m.invocations
 
--- how many ticks lie between two invocations of a task in a mode, if the mode invokes it
+-- the number of ticks between two invocations of a task in a mode, if the mode invokes it
 abbrev pub period_of_task : ModeDeclaration → Name → Option ℕ
 period_of_task m x = period (find (λ (i : TaskInvocation). same_name i.task x) m.invocations)
   where

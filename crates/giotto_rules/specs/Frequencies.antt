@@ -7,15 +7,15 @@ use Rattle.giotto_text.specs.Program.{ActuatorUpdate, ModeSwitch, TaskInvocation
 abbrev pub divides : ℕ → ℕ → Bool
 divides w period = nat_le 1 w && period % w == 0
 
--- the frequencies of updates do
+-- the frequencies of the updates divide the period
 abbrev pub updates_divide : ℕ → List ActuatorUpdate → Bool
 updates_divide period us = list_all (λ (u : ActuatorUpdate). divides u.frequency period) us
 
--- those of switches
+-- the frequencies of the switches divide the period
 abbrev pub switches_divide : ℕ → List ModeSwitch → Bool
 switches_divide period ss = list_all (λ (s : ModeSwitch). divides s.frequency period) ss
 
--- those of invocations
+-- the frequencies of the invocations divide the period
 abbrev pub invocations_divide : ℕ → List TaskInvocation → Bool
 invocations_divide period is = list_all (λ (i : TaskInvocation). divides i.frequency period) is
 

@@ -1,9 +1,9 @@
--- Whether an invocation gives its task what it takes.
+-- Whether an invocation has the arguments that its task takes.
 use Rattle.std.specs.Prelude.{Bool, false, length, ◌==◌, Option, Some, None}
 use Rattle.giotto_text.specs.Program.{TaskDeclaration, TaskInvocation, GiottoProgram}
 use Rattle.giotto_rules.specs.Declarations.{task_named}
 
--- as many arguments as a task has inputs, where there is such a task
+-- the task exists, and there are as many arguments as it has inputs
 abbrev pub has_arguments_for : TaskInvocation → Option TaskDeclaration → Bool
 has_arguments_for i None = false
 has_arguments_for i (Some t) = length i.arguments == length t.inputs

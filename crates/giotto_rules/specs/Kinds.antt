@@ -1,4 +1,4 @@
--- What names are used as: actuators, outputs, tasks and modes where these are wanted.
+-- What names are used as: actuators, outputs, tasks and modes, where the grammar requires them.
 use Rattle.std.specs.Prelude.{Bool, ◌&&◌, List}
 use Rattle.std.specs.List.{list_all}
 use Rattle.giotto_tasks.specs.declared.names.Name.{Name}
@@ -37,10 +37,10 @@ switch_uses k s = is_among k.modes s.target && are_among k.outputs (destinations
 abbrev pub invocation_uses : Kinds → TaskInvocation → Bool
 invocation_uses k i = is_among k.tasks i.task && are_among k.ports (names_in_invocation i)
 
--- each driver of a mode uses names as what they are
+-- each driver of a mode uses names as what they are declared as
 abbrev pub mode_uses : Kinds → ModeDeclaration → Bool
 mode_uses k m = list_all (update_uses k) m.updates && list_all (switch_uses k) m.switches && list_all (invocation_uses k) m.invocations
 
--- each task and each mode of a program does
+-- each task and each mode of a program uses names as what they are declared as
 abbrev pub program_uses : Kinds → GiottoProgram → Bool
 program_uses k p = list_all (task_uses k) p.tasks && list_all (mode_uses k) p.modes

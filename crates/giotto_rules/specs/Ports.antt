@@ -8,7 +8,7 @@ use Rattle.giotto_text.specs.PortNames.{own_port}
 use Rattle.giotto_text.specs.Program.{TaskDeclaration, GiottoProgram, names_of}
 use Rattle.giotto_rules.specs.Declarations.{driver_ports}
 
--- a port: an input or a state of a task, or else a sensor, an actuator or an output
+-- a port: an input or a state of a task, or a sensor, an actuator or an output
 pub record ProgramPort : Type 0 where
   pub task : Option Name
   pub name : Name
@@ -19,7 +19,7 @@ shared_port x = record { task = None; name = x }
 abbrev pub task_port : Name → Name → ProgramPort
 task_port t x = record { task = Some t; name = x }
 
--- its name as it is shown
+-- the displayed name of a port
 abbrev pub shown_name : ProgramPort → Name
 shown_name port = option_map_or (λ t. own_port t port.name) port.task port.name
 
@@ -37,7 +37,7 @@ same_task None (Some u) = false
 same_task (Some t) None = false
 same_task (Some t) (Some u) = same_name t u
 
--- the port is the one of this task, if one is named, and this name
+-- the port has this task, or none if none is given, and this name
 abbrev pub is_port : Option Name → Name → ProgramPort → Bool
 is_port task x port = same_task port.task task && same_name port.name x
 

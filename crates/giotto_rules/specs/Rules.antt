@@ -1,4 +1,4 @@
--- When a program is well-formed: eleven rules, each a test, read in their order. Each is read for programs that keep those before it.
+-- When a program is well-formed: eleven rules, each a test, in their order. Each assumes that the rules before it are kept.
 use Rattle.std.specs.Prelude.{ℕ, ◌+◌, Bool, ◌&&◌, if◌then◌else◌, List, [], ◌∷◌, Option, Some, None}
 use Rattle.std.specs.List.{list_all}
 use Rattle.giotto_tasks.specs.Names.{is_among}
@@ -17,11 +17,11 @@ use Rattle.giotto_rules.specs.Switches.{mode_keeps_periods}
 abbrev pub each_mode : (ModeDeclaration → Bool) → GiottoProgram → Bool
 each_mode test p = list_all test p.modes
 
--- names are declared once, a task's own ones too
+-- names are declared once, including the private names of tasks
 abbrev pub declares_names_once : GiottoProgram → Bool
 declares_names_once p = all_different (declared_names p) && tasks_declare_own (declared_names p) p.tasks
 
--- a line is driven by one actuator
+-- a line is driven by at most one actuator
 abbrev pub drives_lines_once : GiottoProgram → Bool
 drives_lines_once p = all_different_numbers (lines_written p)
 
@@ -29,15 +29,15 @@ drives_lines_once p = all_different_numbers (lines_written p)
 abbrev pub declares_once : GiottoProgram → Bool
 declares_once p = declares_names_once p && drives_lines_once p
 
--- 2: names stand for what they are used as
+-- 2: each name is used as what it is declared as
 abbrev pub uses_right_kinds : GiottoProgram → Bool
 uses_right_kinds p = program_uses (kinds_of p) p
 
--- 3: a body uses its task's own ports alone
+-- 3: a body uses only its task's ports
 abbrev pub bodies_use_own_ports : GiottoProgram → Bool
 bodies_use_own_ports p = list_all (λ t. uses_own_ports (body_of t)) p.tasks
 
--- 4: a period is 1 to 1,000,000 ticks, and a frequency is at least 1 and divides it
+-- 4: a period is 1 to 1,000,000 ticks; a frequency is at least 1 and divides the period
 abbrev pub frequencies_divide : GiottoProgram → Bool
 frequencies_divide p = each_mode frequencies_divide_in p
 
@@ -57,11 +57,12 @@ updates_once p = each_mode (λ m. all_different (updated_actuators m)) p
 abbrev pub arguments_fit : GiottoProgram → Bool
 arguments_fit p = each_mode (λ m. list_all (argument_for_each_input p) m.invocations) p
 
--- 9: drivers read mode ports of their mode, those of switches and invocations sensors too; a switch's destinations are mode ports of its target, each once
+-- 9: updates read only mode ports of their mode; switches and invocations may read sensors too; a switch's destinations are mode
+-- ports of its target, each once
 abbrev pub drivers_read_mode_ports : GiottoProgram → Bool
 drivers_read_mode_ports p = each_mode (drivers_fit p) p
 
--- 10: a task that a switch can interrupt goes on in the target mode with its period
+-- 10: the target mode of a switch continues each task that the switch can interrupt, with the task's period
 abbrev pub switches_keep_periods : GiottoProgram → Bool
 switches_keep_periods p = each_mode (mode_keeps_periods p) p
 
@@ -69,7 +70,7 @@ switches_keep_periods p = each_mode (mode_keeps_periods p) p
 abbrev pub starts_in_a_mode : GiottoProgram → Bool
 starts_in_a_mode p = is_among (mode_names p) p.start
 
--- the eleven, in their order
+-- the eleven rules, in their order
 abbrev pub rules : List (GiottoProgram → Bool)
 rules =
     declares_once ∷ uses_right_kinds ∷ bodies_use_own_ports ∷ frequencies_divide ∷ invokes_once ∷ tasks_share_no_output ∷ updates_once
@@ -80,6 +81,6 @@ abbrev pub first_broken : ℕ → List (GiottoProgram → Bool) → GiottoProgra
 first_broken n [] p = None
 first_broken n (rule ∷ rules) p = if rule p then first_broken (n + 1) rules p else Some n
 
--- the number of the first rule that the program breaks, and None where it is well-formed
+-- the number of the first rule that the program breaks, or None if it is well-formed
 abbrev pub first_broken_rule : GiottoProgram → Option ℕ
 first_broken_rule p = first_broken 1 rules p

@@ -1,21 +1,21 @@
--- Whether a task that a switch can interrupt goes on.
+-- Whether the target mode of a switch continues the tasks that the switch can interrupt.
 use Rattle.std.specs.Prelude.{ℕ, ◌/◌, ◌%◌, ◌==◌, Bool, false, ◌||◌, Option, Some, None}
 use Rattle.std.specs.List.{list_all}
 use Rattle.giotto_tasks.specs.declared.names.Name.{Name}
 use Rattle.giotto_text.specs.Program.{ModeSwitch, TaskInvocation, ModeDeclaration, GiottoProgram}
 use Rattle.giotto_rules.specs.Declarations.{mode_named, period_of_task}
 
--- a task has a period in a mode, and it is this one
+-- the task has a period in the mode, and it is this one
 abbrev pub is_period : Option ℕ → ℕ → Bool
 is_period None ticks = false
 is_period (Some period) ticks = period == ticks
 
--- there is such a mode, and it invokes the task each so many ticks
+-- the mode exists, and it invokes the task with a period of this many ticks
 abbrev pub goes_on_with : Option ModeDeclaration → Name → ℕ → Bool
 goes_on_with None task ticks = false
 goes_on_with (Some m) task ticks = is_period (period_of_task m task) ticks
 
--- In a mode of this period the switch comes only where the invocation ends, or the target goes on with its task and period.
+-- In a mode of this period, the switch is due only when the invocation ends, or the target invokes the task with the same period.
 abbrev pub keeps_period : GiottoProgram → ℕ → ModeSwitch → TaskInvocation → Bool
 keeps_period p period s i =
     (period / s.frequency) % (period / i.frequency) == 0 || goes_on_with (mode_named p s.target) i.task (period / i.frequency)
@@ -24,6 +24,6 @@ keeps_period p period s i =
 abbrev pub switch_keeps_periods : GiottoProgram → ModeDeclaration → ModeSwitch → Bool
 switch_keeps_periods p m s = list_all (keeps_period p m.period s) m.invocations
 
--- so does each switch of the mode
+-- each switch of the mode keeps the period of each task that the mode invokes
 abbrev pub mode_keeps_periods : GiottoProgram → ModeDeclaration → Bool
 mode_keeps_periods p m = list_all (switch_keeps_periods p m) m.switches

@@ -29,7 +29,7 @@ pub(crate) fn actuator_names(alloc: Global, program: &Program) -> Result<Vec<Nam
     Ok(names)
 }
 
-// Adds the names of the actuators at the end.
+// Appends the names of the actuators.
 fn add_actuator_names(names: &mut Vec<Name>, program: &Program) -> Result<(), AllocError>
     ensures { OnOk result (names.new.items ≡ names.old.items ++ declared.actuator_names program.now) }
 {
@@ -47,7 +47,7 @@ pub(crate) fn output_names(alloc: Global, program: &Program) -> Result<Vec<Name>
     Ok(names)
 }
 
-// Adds the names of the outputs at the end.
+// Appends the names of the outputs.
 fn add_output_names(names: &mut Vec<Name>, program: &Program) -> Result<(), AllocError>
     ensures { OnOk result (names.new.items ≡ names.old.items ++ declared.output_names program.now) }
 {
@@ -65,7 +65,7 @@ pub(crate) fn task_names(alloc: Global, program: &Program) -> Result<Vec<Name>, 
     Ok(names)
 }
 
-// Adds the names of the tasks at the end.
+// Appends the names of the tasks.
 fn add_task_names(names: &mut Vec<Name>, program: &Program) -> Result<(), AllocError>
     ensures { OnOk result (names.new.items ≡ names.old.items ++ declared.task_names program.now) }
 {
@@ -83,7 +83,7 @@ pub(crate) fn mode_names(alloc: Global, program: &Program) -> Result<Vec<Name>, 
     Ok(names)
 }
 
-// Adds the names of the modes at the end.
+// Appends the names of the modes.
 fn add_mode_names(names: &mut Vec<Name>, program: &Program) -> Result<(), AllocError>
     ensures { OnOk result (names.new.items ≡ names.old.items ++ declared.mode_names program.now) }
 {
@@ -93,10 +93,10 @@ fn add_mode_names(names: &mut Vec<Name>, program: &Program) -> Result<(), AllocE
     Ok(())
 }
 
-/// The names of sensors, actuators and outputs, in text order: what drivers may read at most.
+/// The names of sensors, actuators and outputs, in text order: the only names that drivers may read.
 ///
 /// # Errors
-/// Want of memory.
+/// Out of memory.
 pub fn driver_ports(alloc: Global, program: &Program) -> Result<Vec<Name>, AllocError>
     ensures { IfOk result (λ names. names.items ≡ declared.driver_ports program.now) }
 {
@@ -106,7 +106,7 @@ pub fn driver_ports(alloc: Global, program: &Program) -> Result<Vec<Name>, Alloc
     Ok(names)
 }
 
-/// All names that the program declares at its top.
+/// All names that the program declares at its top level.
 pub(crate) fn declared_names(alloc: Global, program: &Program) -> Result<Vec<Name>, AllocError>
     ensures { IfOk result (λ names. names.items ≡ declared.declared_names program.now) }
 {
@@ -145,7 +145,7 @@ pub(crate) fn mode_ports(
     Ok(names)
 }
 
-// Adds the outputs of a task at the end.
+// Appends the outputs of a task.
 fn push_outputs(names: &mut Vec<Name>, program: &Indexed, task: &Name) -> Result<(), AllocError>
     ensures { OnOk result
         (names.new.items ≡ names.old.items ++ declared.outputs_of_task program.now task.now) }

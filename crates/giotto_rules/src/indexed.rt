@@ -1,4 +1,4 @@
-//! A program whose tasks and modes are found by name.
+//! A program with lookup of tasks and modes by name.
 
 ghost use Rattle.std.specs.Prelude.{◌≡◌, map, Some, None, IfOk, IfSome};
 ghost use Rattle.giotto_text.specs.ProgramTrees.{mode_of, task_of};
@@ -75,7 +75,7 @@ impl<'a> Indexed<'a> {
         &self.modes
     }
 
-    /// The task of this name.
+    /// The task with this name.
     pub(crate) fn task(&self, name: &Name) -> Option<&Task>
         ensures found { IfSome result
             (λ t. declared.task_named self.now name.now ≡ Some (task_of t.now)) }
@@ -87,14 +87,14 @@ impl<'a> Indexed<'a> {
         }
     }
 
-    /// The place of the task of this name among the tasks, counted from 0.
+    /// The place of the task with this name among the tasks, counted from 0.
     pub(crate) fn place_of_task(&self, name: &Name) -> Option<usize>
         ensures { result ≡ place_from 0 (declared.task_names self.now) name.now }
     {
         self.tasks.place(name)
     }
 
-    /// The place of the mode of this name among the modes, counted from 0.
+    /// The place of the mode with this name among the modes, counted from 0.
     pub(crate) fn place_of_mode(&self, name: &Name) -> Option<usize>
         ensures { result ≡ place_from 0 (declared.mode_names self.now) name.now }
     {

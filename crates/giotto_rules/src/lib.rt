@@ -1,6 +1,6 @@
-//! When a Giotto program is well-formed, and what is counted of it: its ports and its costs.
+//! When a Giotto program is well-formed, and what its ports and costs are.
 //!
-//! [`first_broken`] names the first of the eleven rules that a program breaks:
+//! [`first_broken`] returns the first of the eleven rules that a program breaks:
 //!
 //! ```text
 //! match first_broken(alloc, &program)? {
@@ -9,10 +9,10 @@
 //! }
 //! ```
 //!
-//! The rules stand in `specs/Rules.antt`, over what a program declares (`specs/Declarations.antt`), and the code that tests
-//! them in `src/rules.rt`; `proofs/RuleExamples.antt` computes them on examples. [`laws`] says what follows from the rules.
-//! `specs/Ports.antt` has the ports of a program in their order, and `specs/Costs.antt` what it costs at most; the crate
-//! `giotto_check` computes both.
+//! The rules are in `specs/Rules.antt`, over what a program declares (`specs/Declarations.antt`). The code that tests
+//! them is in `src/rules.rt`, and `proofs/RuleExamples.antt` computes them on examples. [`laws`] says what follows from
+//! the rules. `specs/Ports.antt` has the ports of a program in their order, and `specs/Costs.antt` the greatest cost of
+//! its bodies and drivers; the crate `giotto_check` computes both.
 #![tactic(auto)]
 
 pub mod declarations;

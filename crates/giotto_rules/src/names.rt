@@ -8,14 +8,14 @@ use giotto_tasks::index::Index;
 use giotto_tasks::names::Name;
 use std::alloc::AllocError;
 
-/// Whether each of some names is one of these.
+/// Whether all of `some` are among these names.
 pub(crate) fn are_among(names: &Index, some: &[Name]) -> bool
     ensures { result ≡ spec.are_among names.now some.now }
 {
     some.iter().all(|name| names.contains(name))
 }
 
-/// Whether none of some names is one of these.
+/// Whether none of `some` is among these names.
 pub(crate) fn share_none(names: &Index, some: &[Name]) -> bool
     ensures { result ≡ spec.share_none names.now some.now }
 {
@@ -27,7 +27,7 @@ pub(crate) fn share_none(names: &Index, some: &[Name]) -> bool
     true
 }
 
-/// Whether no number stands twice.
+/// Whether no number occurs twice.
 pub(crate) fn all_different_numbers(numbers: &[u64]) -> bool
     ensures { result ≡ spec.all_different_numbers numbers.now }
 {
@@ -39,7 +39,7 @@ pub(crate) fn all_different_numbers(numbers: &[u64]) -> bool
     true
 }
 
-/// Adds copies of these names at the end.
+/// Appends copies of these names.
 pub(crate) fn push_names(names: &mut Vec<Name>, more: &[Name]) -> Result<(), AllocError>
     ensures { OnOk result (names.new.items ≡ names.old.items ++ more.now) }
 {

@@ -1,4 +1,4 @@
-//! Which names expressions, guards and the drivers of a mode read: its updates, switches and invocations.
+//! The names that expressions, guards and the drivers of a mode (updates, switches and invocations) read.
 
 ghost use Rattle.std.specs.Prelude.{◌≡◌, map};
 ghost use Rattle.giotto_tasks.specs.Names as tasks;
@@ -14,7 +14,7 @@ use giotto_tasks::bodies::{Expr, Primary};
 use giotto_tasks::index::Index;
 use giotto_text::programs::{Destination, Invocation, Switch, Update};
 
-/// Whether an expression reads these names alone.
+/// Whether an expression reads only these names.
 #[cycle(expressions)]
 pub(crate) fn reads_only(names: &Scope, e: &Expr) -> bool
     ensures body { result ≡ sound.reads_only (tasks.is_among names.now) (expression_of e.now) }
@@ -40,7 +40,7 @@ fn primary_reads_only(names: &Scope, primary: &Primary) -> bool
     }
 }
 
-/// Whether a guard, if there is one, reads these names alone.
+/// Whether a guard, if there is one, reads only these names.
 pub(crate) fn guard_reads_only(names: &Scope, guard: &Option<Expr>) -> bool
     ensures { result ≡ are_among names.now (names_in_guard (guard_of guard.now)) }
 {
@@ -50,14 +50,14 @@ pub(crate) fn guard_reads_only(names: &Scope, guard: &Option<Expr>) -> bool
     }
 }
 
-/// Whether an update reads these names alone.
+/// Whether an update reads only these names.
 pub(crate) fn update_reads_only(names: &Scope, update: &Update) -> bool
     ensures { result ≡ are_among names.now (names_in_update (update_of update.now)) }
 {
     guard_reads_only(names, &update.guard) && reads_only(names, &update.value)
 }
 
-/// Whether a switch reads these names alone.
+/// Whether a switch reads only these names.
 pub(crate) fn switch_reads_only(names: &Scope, switch: &Switch) -> bool
     ensures { result ≡ are_among names.now (names_in_switch (switch_of switch.now)) }
 {
@@ -65,7 +65,7 @@ pub(crate) fn switch_reads_only(names: &Scope, switch: &Switch) -> bool
         && destinations_read_only(names, switch.destinations.as_slice())
 }
 
-/// Whether a switch gives values to these names alone.
+/// Whether a switch gives values only to these names.
 pub(crate) fn switch_gives_only(names: &Index, switch: &Switch) -> bool
     ensures { result ≡ are_among names.now (destinations_of (switch_of switch.now)) }
 {
@@ -77,7 +77,7 @@ pub(crate) fn switch_gives_only(names: &Index, switch: &Switch) -> bool
     true
 }
 
-/// Whether an invocation reads these names alone.
+/// Whether an invocation reads only these names.
 pub(crate) fn invocation_reads_only(names: &Scope, invocation: &Invocation) -> bool
     ensures { result ≡ are_among names.now (names_in_invocation (invocation_of invocation.now)) }
 {

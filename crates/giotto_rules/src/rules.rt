@@ -1,4 +1,4 @@
-//! The eleven rules that a well-formed program keeps, in their order; a file for each group of them.
+//! The eleven rules that a well-formed program keeps, in order. Each group of rules has a file.
 
 ghost use Rattle.std.specs.Prelude.{◌≡◌, drop, map, IfOk};
 ghost use Rattle.giotto_rules.specs.Declarations.{mode_ports};
@@ -20,10 +20,10 @@ mod start;
 mod switches;
 mod updates;
 
-/// The first rule that the program breaks, 1 to 11, or `None` where it is well-formed.
+/// The first rule that the program breaks, 1 to 11, or `None` if the program is well-formed.
 ///
 /// # Errors
-/// Want of memory.
+/// Out of memory.
 pub fn first_broken(alloc: Global, program: &Program) -> Result<Option<usize>, AllocError>
     ensures { IfOk result (λ rule. rule ≡ first_broken_rule program.now) }
 {
@@ -45,7 +45,7 @@ pub fn first_broken(alloc: Global, program: &Program) -> Result<Option<usize>, A
     first_broken_from_sixth(alloc, program)
 }
 
-// The first rule from the sixth on that the program breaks. These find tasks and modes by name.
+// The first rule from the sixth on that the program breaks. These rules look up tasks and modes by name.
 fn first_broken_from_sixth(alloc: Global, program: &Program) -> Result<Option<usize>, AllocError>
     ensures { IfOk result (λ rule. rule ≡ spec.first_broken 6 (drop 5 spec.rules) program.now) }
 {
@@ -54,7 +54,7 @@ fn first_broken_from_sixth(alloc: Global, program: &Program) -> Result<Option<us
     first_broken_with_ports(alloc, &program, &ports)
 }
 
-// The same, where these are the ports of each mode.
+// The same, given the ports of each mode.
 fn first_broken_with_ports(
     alloc: Global,
     program: &Indexed,

@@ -7,7 +7,7 @@ use giotto_tasks::index::Index;
 use giotto_tasks::names::Name;
 use std::marker::Model;
 
-// The names of one list, or of two after one another. Contracts see it as the list of them all.
+// The names of one list, or of two lists in a row. Contracts see it as the list of all of them.
 #[derive(Drop)]
 pub(crate) struct Scope<'a> {
     first: &'a Index,
@@ -36,7 +36,7 @@ impl<'a> Scope<'a> {
         }
     }
 
-    /// The names of two lists, after one another.
+    /// The names of two lists in a row.
     pub(crate) fn joined(first: &'a Index, second: &'a Index) -> Scope<'a>
         ensures { result ≡ first.now ++ second.now }
     {

@@ -1,4 +1,4 @@
--- The programs of the examples, beside the adder.
+-- The example programs other than the adder.
 use Rattle.std.proofs.Common.{◌≡◌, ℕ, pos, List, [], ◌∷◌, map, Some, None, refl}
 use Rattle.std.specs.Prelude.{codes, Ok, if◌then◌else◌}
 use Rattle.giotto_tasks.specs.Names.{same_name}
@@ -55,7 +55,7 @@ two_constants = record {
   start = codes "k";
 }
 
--- the switcher with a mode n that doesn't invoke T, so that a switch may cut T short
+-- the switcher with a mode n that doesn't invoke T, so that a switch can interrupt T
 abbrev pub broken_switcher : GiottoProgram
 broken_switcher = record switcher { modes = map without_invocations switcher.modes }
   where

@@ -1,4 +1,4 @@
--- A program breaks no rule where it keeps each, and only there.
+-- A program breaks no rule exactly if it keeps each of them.
 use Rattle.std.proofs.Common.{◌≡◌, ℕ, ◌+◌, ◌-◌, Bool, true, false, cond, List, [], ◌∷◌, Option, Some, None, refl, subst}
 use Rattle.std.specs.List.{AllByRecursion, slice_get}
 use Rattle.std.proofs.lemmas.Option.{get_or_from_slice_get, slice_get_within}
@@ -10,7 +10,7 @@ use Rattle.giotto_rules.specs.Rules.{rules, first_broken, first_broken_rule}
 abbrev Passes : GiottoProgram → List (GiottoProgram → Bool) → Type 0
 Passes p tests = AllByRecursion (λ (test : GiottoProgram → Bool). test p ≡ true) tests
 
--- a rule holds where neither it nor a later one is the first that is broken
+-- a rule is kept if neither it nor a later one is the first that is broken
 kept : (holds : Bool) (n : ℕ) (later : Option ℕ) → cond holds later (Some n) ≡ None → (holds ≡ true) × (later ≡ None)
 kept true n later e = (refl, e)
 kept false n later e = absurd (cc)

@@ -2,7 +2,7 @@
 use Rattle.std.specs.Prelude.{List, ◌++◌, Option, Some, None}
 use Rattle.giotto_tasks.specs.declared.names.Name.{Name}
 
--- the names of one list, and of a second one where there is one
+-- the names of one list, and of a second one if there is one
 abbrev pub joined : List Name → Option (List Name) → List Name
 joined first None = first
 joined first (Some second) = first ++ second

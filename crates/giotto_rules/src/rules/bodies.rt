@@ -1,4 +1,4 @@
-//! Rule 3: a body uses its task's own ports alone.
+//! Rule 3: a body uses only its task's ports.
 
 ghost use Rattle.std.specs.Prelude.{◌≡◌, IfOk};
 ghost use Rattle.giotto_tasks.specs.Names.{is_among};
@@ -17,7 +17,7 @@ use giotto_tasks::index::Index;
 use giotto_text::programs::{Program, Task};
 use std::alloc::{AllocError, Global};
 
-/// Whether each body reads its task's own ports alone, and assigns outputs and states alone.
+/// Whether each body reads only its task's ports, and assigns only the task's outputs and states.
 pub(crate) fn bodies_use_own_ports(alloc: Global, program: &Program) -> Result<bool, AllocError>
     ensures { IfOk result (λ holds. holds ≡ rules.bodies_use_own_ports program.now) }
 {

@@ -37,7 +37,7 @@ fn lines_declared_once(alloc: Global, program: &Program) -> Result<bool, AllocEr
     Ok(names::all_different_numbers(&lines))
 }
 
-// Whether each task's ports are different, and its inputs and states are no declared names.
+// Whether each task's ports are different, and none of its inputs and states is a declared name.
 fn tasks_declare_own(alloc: Global, declared: &Index, tasks: &[Task]) -> Result<bool, AllocError>
     ensures { IfOk result
         (λ holds. holds ≡ tasks_declare_own declared.now (map task_of tasks.now)) }

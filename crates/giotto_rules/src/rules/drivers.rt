@@ -1,4 +1,4 @@
-//! Rule 9: drivers read mode ports of their mode, those of switches and invocations sensors too, and a switch's
+//! Rule 9: updates read only mode ports of their mode; switches and invocations may read sensors too. A switch's
 //! destinations are mode ports of its target, each once.
 
 ghost use Rattle.std.specs.Prelude.{◌≡◌, [], map, None, IfOk, IfSome};
@@ -16,8 +16,8 @@ use giotto_tasks::names::Name;
 use giotto_text::programs::{Invocation, Mode, Switch, Update};
 use std::alloc::{AllocError, Global};
 
-/// Whether updates read ports of their mode, switches and invocations these and sensors, and whether a switch gives
-/// values to ports of its target, each once; where these are the ports of each mode.
+/// Whether updates read only ports of their mode, and switches and invocations only these and sensors; and whether a
+/// switch gives values only to ports of its target, each once. `ports` has the ports of each mode.
 pub(crate) fn drivers_read_mode_ports(
     alloc: Global,
     program: &Indexed,
@@ -30,7 +30,7 @@ pub(crate) fn drivers_read_mode_ports(
     modes_fit(alloc, program, ports, &sensors)
 }
 
-// Whether the drivers of each mode read what they may, where these are the ports of each mode and the sensors.
+// Whether the drivers of each mode read only what they may, given the ports of each mode and the sensors.
 fn modes_fit(
     alloc: Global,
     program: &Indexed,
@@ -53,8 +53,8 @@ fn modes_fit(
     Ok(true)
 }
 
-// Whether the drivers of a mode read what they may, where these are the ports of each mode, and those of the mode, alone
-// and with the sensors.
+// Whether the drivers of a mode read only what they may. `ports` has the ports of each mode, `own` those of this mode,
+// and `sources` those of this mode and the sensors.
 fn mode_drivers_fit(
     alloc: Global,
     program: &Indexed,
@@ -124,7 +124,7 @@ fn switch_fits(
     )
 }
 
-// Whether the switch gives a value to a port once.
+// Whether the switch gives each port at most one value.
 fn gives_once(alloc: Global, switch: &Switch) -> Result<bool, AllocError>
     ensures { IfOk result
         (λ holds. holds ≡ sound.all_different (declared.destinations_of (switch_of switch.now))) }
@@ -133,7 +133,7 @@ fn gives_once(alloc: Global, switch: &Switch) -> Result<bool, AllocError>
     Ok(Index::new(alloc, destinations)?.all_different())
 }
 
-// Whether the switch gives values to ports of its target alone.
+// Whether the switch gives values only to ports of its target.
 fn gives_to_target(program: &Indexed, ports: &[Index], switch: &Switch) -> bool
     requires { ports.now ≡ map (declared.mode_ports program.now) program.now.modes }
     ensures { result ≡ spec.gives_to_target program.now (switch_of switch.now) }
@@ -144,7 +144,7 @@ fn gives_to_target(program: &Indexed, ports: &[Index], switch: &Switch) -> bool
     }
 }
 
-// The ports of the target mode, or `None` where there is no such mode.
+// The ports of the target mode, or `None` if there is no such mode.
 fn ports_of_target<'a>(program: &Indexed, ports: &'a [Index], mode: &Name) -> Option<&'a Index>
     requires { ports.now ≡ map (declared.mode_ports program.now) program.now.modes }
     ensures found { IfSome result

@@ -1,4 +1,4 @@
-//! Rule 4: a period is 1 to 1,000,000 ticks, and a frequency is at least 1 and divides it.
+//! Rule 4: a period is 1 to 1,000,000 ticks; a frequency is at least 1 and divides the period.
 
 ghost use Rattle.std.specs.Prelude.{◌≡◌, map};
 ghost use Rattle.giotto_text.specs.ProgramTrees.{update_of, switch_of, invocation_of};
@@ -7,7 +7,7 @@ ghost use Rattle.giotto_rules.specs.Rules as rules;
 
 use giotto_text::programs::{Invocation, Program, Switch, Update};
 
-/// Whether each period is 1 to 1,000,000 ticks, and each frequency is at least 1 and divides it.
+/// Whether each period is 1 to 1,000,000 ticks, and each frequency is at least 1 and divides the period.
 pub(crate) fn frequencies_divide(program: &Program) -> bool
     ensures { result ≡ rules.frequencies_divide program.now }
 {

@@ -55,7 +55,7 @@ fn ports_of_mode(alloc: Global, program: &Indexed, mode: &Mode) -> Result<Index,
     Index::new(alloc, ports)
 }
 
-/// Whether two tasks of a mode share no output, where these are the ports of each mode.
+/// Whether two tasks of a mode share no output, given the ports of each mode.
 pub(crate) fn tasks_share_no_output(program: &Indexed, ports: &[Index]) -> bool
     requires { ports.now ≡ map (declared.mode_ports program.now) program.now.modes }
     ensures { result ≡ rules.tasks_share_no_output program.now }

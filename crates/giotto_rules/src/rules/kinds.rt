@@ -1,4 +1,4 @@
-//! Rule 2: names stand for what they are used as.
+//! Rule 2: each name is used as what it is declared as.
 
 ghost use Rattle.std.specs.Prelude.{◌≡◌, map, IfOk};
 ghost use Rattle.std.specs.List.{list_all};
@@ -41,8 +41,8 @@ impl<'a> Model for Kinds<'a> {
     } };
 }
 
-/// Whether tasks write outputs, and modes name actuators, modes, outputs and tasks where these are wanted and read
-/// sensors, actuators and outputs alone.
+/// Whether tasks write only outputs, and modes name actuators, modes, outputs and tasks where the grammar requires
+/// them, and read only sensors, actuators and outputs.
 pub(crate) fn uses_right_kinds(alloc: Global, program: &Program) -> Result<bool, AllocError>
     ensures { IfOk result (λ holds. holds ≡ rules.uses_right_kinds program.now) }
 {
@@ -51,7 +51,7 @@ pub(crate) fn uses_right_kinds(alloc: Global, program: &Program) -> Result<bool,
     uses_with_ports(alloc, &program, &ports)
 }
 
-// The same, by the index of what drivers may read.
+// The same, with an index of the names that drivers may read.
 fn uses_with_ports(alloc: Global, program: &Indexed, ports: &Index) -> Result<bool, AllocError>
     requires { ports.now ≡ driver_ports program.now }
     ensures { IfOk result (λ holds. holds ≡ rules.uses_right_kinds program.now) }
@@ -71,7 +71,7 @@ fn uses_with_ports(alloc: Global, program: &Indexed, ports: &Index) -> Result<bo
     Ok(program_uses(&kinds, program.program()))
 }
 
-// Whether tasks and modes use these names as what they are.
+// Whether tasks and modes use each name as what it is declared as.
 fn program_uses(kinds: &Kinds<'_>, program: &Program) -> bool
     ensures { result ≡ spec.program_uses kinds.now program.now }
 {

@@ -1,4 +1,4 @@
-//! Rule 10: a task that a switch can interrupt goes on in the target mode with its period.
+//! Rule 10: the target mode of a switch continues each task that the switch can interrupt, with the task's period.
 
 ghost use Rattle.std.specs.Prelude.{◌≡◌, ◌/◌, ◌%◌, ◌==◌, map, IfOk};
 ghost use Rattle.std.specs.Option.{option_copied};
@@ -19,14 +19,14 @@ use std::alloc::{AllocError, Global};
 // An invocation of a mode.
 #[derive(Drop)]
 struct Repetition {
-    // How many ticks lie between two.
+    // The number of ticks between two of them.
     every: u64,
     // The place of its task among the program's tasks.
     task: Option<usize>,
 }
 
-/// Whether each switch comes where an invocation of a task ends, or goes on to a mode that invokes the task with its
-/// period.
+/// Whether each switch is due only when an invocation of a task ends, or has a target mode that invokes the task with
+/// the same period.
 pub(crate) fn switches_keep_periods(alloc: Global, program: &Indexed) -> Result<bool, AllocError>
     ensures { IfOk result (λ holds. holds ≡ rules.switches_keep_periods program.now) }
 {
@@ -34,7 +34,7 @@ pub(crate) fn switches_keep_periods(alloc: Global, program: &Indexed) -> Result<
     modes_keep_periods(alloc, program, &periods)
 }
 
-// For each mode how many ticks lie between two invocations of each task.
+// For each mode, the number of ticks between two invocations of each task.
 fn periods_of_modes(alloc: Global, program: &Indexed) -> Result<Vec<List<Option<u64>>>, AllocError>
     ensures { IfOk result
         (λ periods. periods.items ≡ map (by_place.periods_in program.now) program.now.modes) }
@@ -180,7 +180,7 @@ fn keeps_period(
     ) || goes_on(program, row, &switch.target, &invocation.task, repetition)
 }
 
-// Whether the mode, whose periods these are, invokes the task each so many ticks.
+// Whether the mode with these periods invokes the task with this period, in ticks.
 fn goes_on(
     program: &Indexed,
     row: Option<&List<Option<u64>>>,
@@ -215,7 +215,7 @@ fn is_period_at(row: Option<&List<Option<u64>>>, place: usize, period: u64) -> b
     }
 }
 
-// Whether the mode invokes the task each so many ticks. A task that isn't declared has no place.
+// Whether the mode invokes the task with this period, in ticks. Used for a task that isn't declared: it has no place.
 fn goes_on_by_name(program: &Program, mode: &Name, task: &Name, period: u64) -> bool
     ensures { result ≡ spec.goes_on_with (declared.mode_named program.now mode.now) task.now period }
 {
@@ -246,7 +246,7 @@ fn period_of_task(mode: &Mode, task: &Name) -> Option<u64>
     None
 }
 
-// How many ticks lie between two of so many in a period, or 0 where there are none.
+// The number of ticks between two events of this frequency in a period, or 0 if the frequency is 0.
 fn ticks_between(period: u64, frequency: u64) -> u64
     ensures { result ≡ period / frequency }
 {
