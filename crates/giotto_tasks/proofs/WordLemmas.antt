@@ -1,4 +1,4 @@
--- The first bytes of a name, and a number of them.
+-- The first bytes of a name, as a number.
 use Rattle.std.proofs.Common.{rules, arith, ℕ, zero, suc, ◌≡◌, ◌<◌, List, [], ◌∷◌, ◌++◌, length, take, drop, replicate, get_or, min, refl, ap}
 use Rattle.giotto_tasks.specs.inner.Words.{padded}
 
@@ -6,7 +6,7 @@ pub zeros_padded : (n : ℕ) → replicate n 0 ≡ padded n []
 zeros_padded zero = refl
 zeros_padded (suc n) = ap (λ bs. 0 ∷ bs) (zeros_padded n)
 
--- the first bytes, put in front of n zeros
+-- the first bytes, written over the start of n zeros
 pub first_padded : (n k : ℕ) (bs : List ℕ) → k ≡ min (length bs) n → take k bs ++ drop k (replicate n 0) ≡ padded n bs
 first_padded zero zero bs e = refl
 first_padded zero (suc k) bs e = absurd (omega (arith, e))

@@ -3,7 +3,7 @@ use Rattle.std.specs.Prelude.{nat_eq, Bool, false, ◌||◌, if◌then◌else◌
 use Rattle.std.specs.Cmp.Lexicographic.{pointwise}
 use Rattle.giotto_tasks.specs.declared.names.Name.{Name}
 
--- two names are one where their bytes are the same
+-- two names are the same if their bytes are
 abbrev pub same_name : Name → Name → Bool
 same_name x y = pointwise nat_eq x y
 
@@ -16,12 +16,12 @@ is_among (n ∷ ns) x = same_name n x || is_among ns x
 abbrev pub Valuation : Type 0
 Valuation = List (Name × ℤ)
 
--- the value that the map gives a name
+-- the value of a name in the map
 abbrev pub value_at : Valuation → Name → Option ℤ
 value_at [] x = None
 value_at (v ∷ vs) x = if same_name v.0 x then Some v.1 else value_at vs x
 
--- the map that gives the name this value, and every other name its old one
+-- the map with this value for the name, and every other value as it was
 abbrev pub with_value : Valuation → Name → ℤ → Valuation
 with_value [] x z = (x, z) ∷ []
 with_value (v ∷ vs) x z = if same_name v.0 x then (v.0, z) ∷ vs else v ∷ with_value vs x z

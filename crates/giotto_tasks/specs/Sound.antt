@@ -4,7 +4,7 @@ use Rattle.giotto_tasks.specs.declared.names.Name.{Name}
 use Rattle.giotto_tasks.specs.Names.{is_among}
 use Rattle.giotto_tasks.specs.Syntax.{Expression, number, port, unary, binary, Statement, assign, branch, repeat, Block, finished, step, TaskBody}
 
--- no name stands twice
+-- no name occurs twice
 abbrev pub all_different : List Name → Bool
 all_different [] = true
 all_different (n ∷ ns) = not (is_among ns n) && all_different ns

@@ -1,4 +1,4 @@
--- The trees that the program's own types stand for.
+-- The trees that values of the program's own types represent.
 use Rattle.std.specs.Prelude.{List, [], ◌∷◌, map}
 use Rattle.giotto_tasks.specs.Syntax.{Expression, number, port, unary, binary, Statement, assign, branch, repeat, Block, finished, step, TaskBody}
 use Rattle.giotto_tasks.specs.declared.names.Name.{Name}
@@ -18,7 +18,7 @@ abbrev mutual
   expression_of (Unary o a) = unary o (primary_of a)
   expression_of (Binary o a b) = binary o (primary_of a) (primary_of b)
 
-  -- what an operation is of, as an expression: parentheses leave no mark
+  -- an operand of an operation, as an expression: parentheses leave no trace
   pub primary_of : Primary → Expression
   primary_of (primary.Number z) = number z
   primary_of (primary.Port x) = port x
@@ -29,7 +29,7 @@ abbrev pub in_order : List Statement → Block
 in_order [] = finished
 in_order (s ∷ ss) = step s (in_order ss)
 
--- one statement, with the tree of each statement below in its place
+-- one statement, given the tree of each statement inside it
 abbrev pub statement_with : Stmt-F Statement → Statement
 statement_with (Assign x e) = assign x (expression_of e)
 statement_with (If c a b) = branch (expression_of c) (in_order a.items) (in_order b.items)
@@ -39,7 +39,7 @@ statement_with (Repeat n b) = repeat n (in_order b.items)
 abbrev pub statement_of : Stmt → Statement
 statement_of = fold-Stmt Statement statement_with
 
--- the block that a list of statements stands for
+-- the block that a list of statements represents
 abbrev pub block_of : List Stmt → Block
 block_of ss = in_order (map statement_of ss)
 

@@ -31,7 +31,7 @@ pub enum Expr {
     Binary(BinaryOperator, Primary, Primary),
 }
 
-/// What an operation is of. A number or a name lies in the operation itself.
+/// An operand of an operation. A number or a name is stored in the operation itself.
 #[derive(Drop)]
 #[cycle(expression)]
 pub enum Primary {
@@ -46,16 +46,16 @@ pub enum Primary {
 /// A statement of a body.
 #[derive(Drop)]
 pub enum Stmt {
-    /// Gives an output or a state the value of an expression.
+    /// Assigns the value of an expression to an output or a state.
     Assign(Name, Expr),
-    /// Runs the first block where the expression isn't 0, and else the second.
+    /// Runs the first block if the expression isn't 0, otherwise the second.
     If(Expr, Vec<Stmt>, Vec<Stmt>),
     /// Runs a block this number of times.
     Repeat(u64, Vec<Stmt>),
 }
 
 /// The body of a task: the names of its ports, and its block. Contracts see it as this tree,
-/// wherever its parts lie in memory.
+/// independent of where its parts are in memory.
 ///
 /// Inputs and outputs are those of a Giotto task (Henzinger, Horowitz, Kirsch, Proc. IEEE 91(1),
 /// 2003), and states are its private ports. Giotto leaves the task's function to other code; here
@@ -89,13 +89,13 @@ impl Model for Body {
 }
 
 impl Body {
-    /// The body with these ports and this block, together with its code: whoever makes a body makes
-    /// it ready to run. A body of more than 16 inputs, outputs or states, which can't be evaluated,
-    /// has no code.
+    /// The body with these ports and this block. Compiles its code too, so that the body is ready
+    /// to run. A body with more than 16 inputs, outputs or states can't be evaluated and has no
+    /// code.
     ///
     /// # Errors
-    /// `Memory` where there is want of memory, `TooDeep` only where an expression has more than 32
-    /// operations inside one another, as no program's text can have it.
+    /// `Memory` if an allocation fails. `TooDeep` only if an expression has more than 32 nested
+    /// operations; no program's text has such an expression.
     pub fn new(
         alloc: Global,
         inputs: List<Name>,
@@ -116,14 +116,14 @@ impl Body {
         })
     }
 
-    /// The code of its block.
+    /// The code of the body's block.
     pub(crate) fn code(&self) -> &Code
         ensures { IsCompiled self.now result.now }
     {
         &self.code
     }
 
-    /// Whether the two bodies are one: the same names in the same order, and the same statements.
+    /// Whether the two bodies are equal: the same names in the same order, and the same statements.
     pub fn is_same(&self, other: &Body) -> bool
         ensures { IsTrue result ↔ (self.now ≡ other.now) }
     {
@@ -143,7 +143,7 @@ impl Body {
     }
 }
 
-// The code over all ports: inputs, then states, then outputs.
+// The code over all ports: first the inputs, then the states, then the outputs.
 fn compiled(
     alloc: Global,
     inputs: &List<Name>,

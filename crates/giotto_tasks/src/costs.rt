@@ -1,4 +1,4 @@
-//! What a body and a driver cost at most.
+//! Upper bounds on the steps of bodies and drivers.
 
 ghost use Rattle.std.specs.Prelude.{◌≡◌, ◌-◌, ◌^◌, min};
 ghost use Rattle.giotto_tasks.specs.Cost.{operators_of, cost_of_statement, cost_of};
@@ -6,17 +6,18 @@ ghost use Rattle.giotto_tasks.specs.Trees.{expression_of, primary_of, statement_
 
 use crate::bodies::{Body, Expr, Primary, Stmt};
 
-/// The steps that a body takes at most, whatever its inputs and states are, or `u64::MAX` where
-/// they are more. An assignment costs 1 and its operators; an `if` 1, the operators of its
-/// condition and its dearer branch; `repeat N` 1, and N times one more than its block.
+/// An upper bound on the steps that a body takes, whatever its inputs and states, or `u64::MAX` if
+/// that is less. An assignment costs 1 plus its operators. An `if` costs 1, plus the operators of
+/// its condition and the cost of its more expensive branch. `repeat N` costs 1, plus N times one
+/// more than the cost of its block.
 pub fn cost(body: &Body) -> u64
     ensures { result ≡ min (cost_of body.now.block) (2 ^ 64 - 1) }
 {
     block_cost(&body.block)
 }
 
-/// The number of operators of an expression, or `u64::MAX` where there are more: the steps that it
-/// takes as a part of a driver.
+/// The number of operators of an expression, or `u64::MAX` if there are more. These are the steps
+/// that it takes as part of a driver.
 #[cycle(operators)]
 pub fn driver_cost(e: &Expr) -> u64
     ensures { result ≡ min (operators_of (expression_of e.now)) (2 ^ 64 - 1) }

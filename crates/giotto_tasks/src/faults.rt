@@ -6,11 +6,11 @@ use thiserror::Error;
 /// Why there is no code.
 #[derive(Clone, Copy, Debug, PartialEq, Eq, Error)]
 pub enum CodeFault {
-    /// Want of memory.
+    /// Out of memory.
     #[error("no memory for the code")]
     Memory,
-    /// More than 32 operations stand inside one another, which no program's text can have: their
-    /// values in between have no place.
+    /// More than 32 operations are nested, so that their intermediate values have no place. No
+    /// program's text has such an expression.
     #[error("more than 32 operations inside one another")]
     TooDeep,
 }

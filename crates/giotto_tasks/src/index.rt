@@ -1,4 +1,4 @@
-//! Names by their places in a list.
+//! An index from names to their places in a list.
 
 ghost use Rattle.std.specs.Prelude.{◌≡◌, ◌<◌, ◌≤◌, ◌^◌, IfOk, length};
 ghost use Rattle.giotto_tasks.specs.cited.Places.{place_from};
@@ -11,13 +11,14 @@ use indexmap::IndexMap;
 use std::alloc::{AllocError, Global};
 use std::marker::Model;
 
-/// A list of names that finds each by a table, mostly in the same time however long the list. Contracts see it as the list.
+/// A list of names with a lookup table: finding a name takes mostly the same time, however long the
+/// list is. Contracts see it as the list.
 #[derive(Drop)]
 pub struct Index {
     names: Vec<Name>,
-    // The first place of each name, where there are more than a few.
+    // The first place of each name, if there are more than `FEW` names.
     places: IndexMap<Name, usize>,
-    // Whether no name stands twice.
+    // Whether no name occurs twice.
     different: bool,
 }
 
@@ -34,14 +35,14 @@ impl Model for Index {
     ghost invariant = { λ i. (16 < length i.names.items → HasPlaces 0 i.names.items i.places) × (i.different ≡ sound.all_different i.names.items) };
 }
 
-// So many names are found sooner as they lie than by a map.
+// Up to this many names, scanning the list is faster than the map.
 const FEW: usize = 16;
 
 impl Index {
-    /// The index of these names, in which a name may stand more than once.
+    /// The index of these names. A name may occur more than once.
     ///
     /// # Errors
-    /// Want of memory.
+    /// Out of memory.
     pub fn new(alloc: Global, names: Vec<Name>) -> Result<Index, AllocError>
         ensures { IfOk result (λ index. index ≡ names.items) }
     {
@@ -68,7 +69,7 @@ impl Index {
     {
         let mut places = IndexMap::with_capacity(alloc, names.len())?;
         let mut different = true;
-        // From the last name on, so that a first place is what stays.
+        // From the last name to the first, so that a name's first place is what remains.
         for behind in 0..names.len() {
             let place = names.len() - 1 - behind;
             let name = names[place].copy();
@@ -82,7 +83,7 @@ impl Index {
         })
     }
 
-    /// How many names the list has: fewer than half of the numbers of 64 bits.
+    /// The number of names in the list: less than 2^63.
     pub fn len(&self) -> usize
         ensures length { result ≡ length self.now }
         ensures bound { result < 2 ^ 63 }
@@ -90,7 +91,7 @@ impl Index {
         self.names.len()
     }
 
-    /// The first place of the name in the list, counted from 0, or `None` where it isn't there.
+    /// The first place of the name in the list, counted from 0, or `None` if it isn't in the list.
     pub fn place(&self, name: &Name) -> Option<usize>
         ensures { result ≡ place_from 0 self.now name.now }
     {
@@ -100,7 +101,7 @@ impl Index {
         self.place_by_map(name)
     }
 
-    // The place where there are more than a few names.
+    // The place if there are more than `FEW` names.
     #[inline(never)]
     fn place_by_map(&self, name: &Name) -> Option<usize>
         requires { 16 < length self.now }
@@ -109,14 +110,14 @@ impl Index {
         self.places.get(name).copied()
     }
 
-    /// Whether the name stands in the list.
+    /// Whether the name is in the list.
     pub fn contains(&self, name: &Name) -> bool
         ensures { result ≡ tasks.is_among self.now name.now }
     {
         self.place(name).is_some()
     }
 
-    /// Whether no name stands twice.
+    /// Whether no name occurs twice.
     pub fn all_different(&self) -> bool
         ensures { result ≡ sound.all_different self.now }
     {

@@ -1,9 +1,9 @@
 //! Task bodies: the functions that the tasks of a Giotto program compute.
 //!
 //! A body is a block of assignments, branches and counted repetitions over numbers of 64 bits that
-//! stop at the ends of their range. As a tree it is a [`bodies::Body`]; what it computes is
-//! [`evaluation::eval`], proved to be its meaning, in no more steps than its [`cost`]. With
-//! `body` for `o := i + 1;`, the input i and the output o:
+//! saturate at the ends of their range. [`bodies::Body`] is its tree. [`evaluation::eval`] runs it:
+//! it is proved to compute the body's meaning, in no more steps than the body's [`cost`]. If `body`
+//! is `o := i + 1;`, with the input i and the output o:
 //!
 //! ```text
 //! let mut inputs = Values::new();
@@ -12,9 +12,10 @@
 //! // outputs is 6, and there are no states
 //! ```
 //!
-//! What a body means is said in `specs/Meaning.antt`, over the trees of `specs/Syntax.antt` and the
-//! arithmetic of `specs/Arithmetic.antt`; `specs/Cost.antt` says what it costs and how many steps
-//! it takes, `specs/Sound.antt` which names it may use. `proofs/Examples.antt` has examples of each.
+//! `specs/Meaning.antt` defines what a body means, over the trees of `specs/Syntax.antt` and the
+//! arithmetic of `specs/Arithmetic.antt`. `specs/Cost.antt` defines its cost and how many steps it
+//! takes, and `specs/Sound.antt` which names it may use. `proofs/Examples.antt` has examples of
+//! each.
 #![tactic(auto)]
 
 pub mod bodies;

@@ -4,9 +4,8 @@ ghost use Rattle.std.specs.Prelude.{◌≡◌};
 
 use std::marker::Model;
 
-/// A list that contracts see as its elements, whatever its place and room in memory: two lists of
-/// equal elements are equal. Its calls take no memory; what allocates is the `Vec` that it is made
-/// from.
+/// A list that contracts see as its elements: two lists of equal elements are equal, whatever their
+/// address and capacity. Its calls allocate nothing; only the `Vec` that it is made from does.
 #[derive(Drop)]
 pub struct List<T> {
     items: Vec<T>,

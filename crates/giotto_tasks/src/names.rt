@@ -15,12 +15,12 @@ use std::cmp::Ordering;
 use std::hash::{Hash, Hasher};
 use std::marker::Model;
 
-/// A name of at most 32 bytes, as it stands in a program's text. It lies in the value itself and
-/// takes no memory besides. Contracts see it as the list of its bytes.
+/// A name of at most 32 bytes, as it is in a program's text. It is stored in the value itself and
+/// needs no other memory. Contracts see it as the list of its bytes.
 #[derive(Drop)]
 pub struct Name {
     text: ArrayString<32>,
-    // The text's first 8 bytes, the first one lowest, with zeros behind a shorter text.
+    // The first 8 bytes of the text, the first one lowest. A shorter text is padded with zeros.
     word: u64,
 }
 
@@ -37,8 +37,8 @@ impl Model for Name {
 }
 
 impl Name {
-    /// The name with this text, or `None` where the text is longer than 32 bytes. Which bytes a
-    /// program's names may have is for its reader to say.
+    /// The name with this text, or `None` if the text is longer than 32 bytes. Which bytes a
+    /// program's names may have is up to the parser.
     pub fn new(text: &str) -> Option<Name>
         ensures fits { IsSome result ↔ (length text.now ≤ 32) }
         ensures bytes { IfSome result (λ n. n ≡ text.now) }
@@ -61,7 +61,7 @@ impl Name {
         }
     }
 
-    /// How many bytes the name has: at most 32.
+    /// The number of bytes of the name: at most 32.
     pub fn len(&self) -> usize
         ensures value { result ≡ length self.now }
         ensures fits { length self.now ≤ 32 }
@@ -69,14 +69,14 @@ impl Name {
         self.text.len()
     }
 
-    /// Whether the name has no byte, as no name of a program.
+    /// Whether the name has no bytes. No name of a program is empty.
     pub fn is_empty(&self) -> bool
         ensures { IsTrue result ↔ (length self.now ≡ 0) }
     {
         self.text.is_empty()
     }
 
-    /// Whether the name is this one, of at most 8 bytes.
+    /// Whether the name equals this one of at most 8 bytes.
     #[inline(always)]
     pub(crate) fn is_short(&self, short: &Name) -> bool
         requires { length short.now ≤ 8 }
@@ -98,7 +98,7 @@ impl PartialEq for Name {
 
     ghost laws = { partial_equiv_from_equiv nat_list_eq_equiv };
 
-    // Names of one length of at most 8 bytes are the same where their words are.
+    // Two names of the same length, at most 8 bytes, are equal if their words are.
     #[inline(always)]
     fn eq(&self, other: &Name) -> bool {
         if self.word != other.word || self.text.len() != other.text.len() {
@@ -109,7 +109,7 @@ impl PartialEq for Name {
     }
 }
 
-// It takes copies, so that a short name that is compared needn't lie in memory.
+// Takes copies, so that comparing a short name doesn't force it into memory.
 #[inline(never)]
 fn are_same(own: Name, others: Name) -> bool
     ensures { result ≡ pointwise nat_eq own others }
@@ -166,7 +166,7 @@ impl Default for Name {
     }
 }
 
-// The word of a name of these bytes.
+// The word of a name with these bytes.
 fn first_word(bytes: &[u8]) -> u64
     ensures { to_le_bytes w64 result ≡ padded 8 bytes.now }
 {

@@ -44,8 +44,8 @@ pub enum BinaryOperator {
 }
 
 impl UnaryOperator {
-    /// The value of the operation. `-x` is exact, but `i64::MAX` for the least number, whose
-    /// negation doesn't fit; `!x` is 1 where x is 0, and 0 elsewhere.
+    /// The value of the operation. `-x` is exact, except that it is `i64::MAX` for `i64::MIN`,
+    /// whose negation doesn't fit. `!x` is 1 if x is 0, and 0 otherwise.
     #[inline]
     pub fn apply(self, x: i64) -> i64
         ensures { result ≡ unary self x }
@@ -60,10 +60,10 @@ impl UnaryOperator {
 impl BinaryOperator {
     /// The value of the operation.
     ///
-    /// Sums, differences and products are exact, or the nearest of `i64::MIN` and `i64::MAX` where
-    /// they don't fit. `x / y` is rounded towards zero, and `x % y` is what it leaves, with the sign
-    /// of x; both are 0 where y is 0, and `i64::MIN / -1` is `i64::MAX`. Comparisons, `&&` and `||`
-    /// are 1 for true and 0 for false, and any value but 0 counts as true.
+    /// Sums, differences and products are exact, or the nearest of `i64::MIN` and `i64::MAX` if
+    /// they don't fit. `x / y` is rounded towards zero, and `x % y` is the remainder, with the sign
+    /// of x. Both are 0 if y is 0, and `i64::MIN / -1` is `i64::MAX`. Comparisons, `&&` and `||`
+    /// are 1 for true and 0 for false, and any value except 0 counts as true.
     #[inline(always)]
     pub fn apply(self, x: i64, y: i64) -> i64
         ensures { result ≡ binary self x y }
@@ -86,7 +86,7 @@ impl BinaryOperator {
     }
 }
 
-// Exact in 128 bits and then cut to the range: a form of which LLVM makes its own saturating sums and
+// Exact in 128 bits, then cut to the range: LLVM turns this form into its own saturating sums and
 // differences.
 
 #[inline]
@@ -126,7 +126,7 @@ fn saturate(z: i128) -> i64
     }
 }
 
-// Only MIN / -1 doesn't fit.
+// Only `i64::MIN / -1` doesn't fit.
 fn divided(x: i64, y: i64) -> i64
     ensures { result ≡ truncated_div x y }
 {

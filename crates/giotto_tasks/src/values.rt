@@ -5,9 +5,9 @@ ghost use Rattle.std.specs.Prelude.{◌≡◌, ◌<◌, ◌≤◌, ◌↔◌, []
 use arrayvec::ArrayVec;
 use std::marker::Model;
 
-/// The values of one task's inputs, outputs or states, in the order in which these are declared:
-/// at most 16. They lie in the value itself and take no memory besides. Contracts see them as a
-/// list of numbers.
+/// The values of one task's inputs, outputs or states, in the order of declaration: at most 16.
+/// They are stored in the value itself and need no other memory. Contracts see them as a list of
+/// numbers.
 #[derive(Drop)]
 pub struct Values {
     list: ArrayVec<i64, 16>,
@@ -32,7 +32,7 @@ impl Default for Values {
 }
 
 impl Values {
-    /// No value.
+    /// An empty list of values.
     pub fn new() -> Values
         ensures { result ≡ [] }
     {
@@ -41,7 +41,7 @@ impl Values {
         }
     }
 
-    /// Adds a value behind the others, of which there are fewer than 16.
+    /// Appends a value. There must be fewer than 16.
     pub fn push(&mut self, value: i64)
         requires { length self.old < 16 }
         ensures { self.new ≡ self.old ++ value ∷ [] }
@@ -49,7 +49,7 @@ impl Values {
         self.list.push(value);
     }
 
-    /// Takes these values in place of its own: at most 16.
+    /// Replaces all values with these: at most 16.
     pub fn set(&mut self, values: &[i64])
         requires { length values.now ≤ 16 }
         ensures { self.new ≡ values.now }
@@ -72,7 +72,7 @@ impl Values {
         }
     }
 
-    /// How many values there are: at most 16.
+    /// The number of values: at most 16.
     pub fn len(&self) -> usize
         ensures value { result ≡ length self.now }
         ensures fits { length self.now ≤ 16 }
@@ -95,7 +95,7 @@ impl Values {
         self.list.as_slice()
     }
 
-    /// Equal values.
+    /// A copy of the values.
     pub fn copy(&self) -> Values
         ensures { result ≡ self.now }
     {

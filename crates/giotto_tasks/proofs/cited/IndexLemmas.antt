@@ -1,4 +1,4 @@
--- Places of names in a list, as an index keeps them.
+-- The places of names in a list, as an index keeps them.
 use Rattle.std.proofs.Common.{◌≡◌, ℕ, suc, ◌+◌, ◌<◌, Bool, true, false, not, cond, ◌&&◌, ◌||◌, List, [], ◌∷◌, length, drop, get_or, ℤ, pos, Option, Some, None, refl, sym, ap, ◌∙◌, arith}
 use Rattle.std.specs.Prelude.{is_some, unwrap_or}
 use Rattle.std.specs.List.{zip}
@@ -10,7 +10,7 @@ use Rattle.giotto_tasks.specs.Names.{same_name, is_among, value_at, value_or_zer
 use Rattle.giotto_tasks.specs.cited.Places.{place_from, HasPlaces}
 use Rattle.giotto_tasks.specs.Sound.{all_different}
 
--- a name has a place where it is among the names
+-- a name has a place exactly if it is among the names
 pub is_some-place_from : (i : ℕ) (names : List Name) (x : Name) → is_some (place_from i names x) ≡ is_among names x
 is_some-place_from i [] x = refl
 is_some-place_from i (n ∷ ns) x = at_head (same_name n x) (is_some-place_from (i + 1) ns x)
@@ -19,7 +19,7 @@ is_some-place_from i (n ∷ ns) x = at_head (same_name n x) (is_some-place_from 
     at_head true rest = refl
     at_head false rest = rest
 
--- one name more at the front
+-- one more name at the front
 pub places_before : {S : Type 0} (names : List Name) (i v : ℕ) (name : Name) (old new : IndexMap Name ℕ S) → i < length names → name ≡ get_or names i name → v ≡ i
     → HasPlaces (i + 1) (drop (i + 1) names) old → Updates same_name old new name (Some v) → HasPlaces i (drop i names) new
 places_before names i v name old new within is at has updates = λ q.
@@ -30,7 +30,7 @@ places_before names i v name old new within is at has updates = λ q.
     let front = ap (λ xs. place_from i xs q) (sym (drop_more names i name within)) in
     here ∙ (before ∙ (placed ∙ (named ∙ front)))
 
--- the names stay different where the map didn't have the one at the front
+-- the names are still different if the map didn't have the one at the front
 pub different_before : {S : Type 0} (names : List Name) (i : ℕ) (name : Name) (places : IndexMap Name ℕ S) (old : Option ℕ) (first different : Bool) → i < length names
     → name ≡ get_or names i name → HasPlaces (i + 1) (drop (i + 1) names) places → old ≡ get same_name places name → is_some old ≡ not first
     → different ≡ all_different (drop (i + 1) names) → (first && different) ≡ all_different (drop i names)

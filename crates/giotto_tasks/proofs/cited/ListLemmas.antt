@@ -1,4 +1,4 @@
--- Lists: what holds of each element, what a search finds, what a filter keeps.
+-- Lists: what holds for each element, what a search finds, what a filter keeps.
 use Rattle.std.proofs.Common.{◌≡◌, ℕ, zero, suc, ◌+◌, ◌<◌, ◌≤◌, nat_lt, Bool, true, false, not, cond, ◌||◌, List, [], ◌∷◌, ◌++◌, length, map, filter, take, drop, reverse, get_or, set, Option, Some, None, refl, sym, ap, ◌∙◌, subst, append_assoc, arith}
 use Rattle.std.specs.Prelude.{is_some, slice_get}
 use Rattle.std.specs.List.{cons_option, find, list_all, list_any, filter_map, flat_map, position, position_or_len, AllByRecursion}
@@ -75,7 +75,7 @@ all_at P [] i x lt all = absurd (omega (arith, lt))
 all_at P (y ∷ ys) zero x lt all = all.0
 all_at P (y ∷ ys) (suc i) x lt all = all_at P ys i x (omega (arith, lt)) all.1
 
--- what holds of each of a list's images holds of one
+-- what holds for each image of a list's elements holds for the image of one
 pub all_mapped_at : {X Y : Type 0} (P : Y → Type 0) (f : X → Y) (xs : List X) (i : ℕ) (d : X) → AllByRecursion P (map f xs) → i < length xs → P (f (get_or xs i d))
 all_mapped_at P f [] i d all lt = absurd (omega arith)
 all_mapped_at P f (x ∷ xs) zero d all lt = all.0
@@ -88,12 +88,12 @@ all_set P (y ∷ ys) (suc i) x p all = (all.0, all_set P ys i x p all.1)
 
 -- a test of each element
 
--- what a test that all elements pass says of each
+-- what follows for each element from a test that all elements pass
 pub all_pass : {X : Type 0} (P : X → Type 0) (test : X → Bool) → ((x : X) → test x ≡ true → P x) → (xs : List X) → list_all test xs ≡ true → AllByRecursion P xs
 all_pass P test means [] h = tt
 all_pass P test means (x ∷ xs) h = let both = and_parts (test x) (list_all test xs) h in (means x both.0, all_pass P test means xs both.1)
 
--- what two tests that all elements pass say of each
+-- what follows for each element from two tests that all elements pass
 pub both_pass : {X : Type 0} (P : X → Type 0) (one other : X → Bool) → ((x : X) → one x ≡ true → other x ≡ true → P x) → (xs : List X)
     → list_all one xs ≡ true → list_all other xs ≡ true → AllByRecursion P xs
 both_pass P one other means [] h k = tt
@@ -102,17 +102,17 @@ both_pass P one other means (x ∷ xs) h k =
     let second = and_parts (other x) (list_all other xs) k in
     (means x first.0 second.0, both_pass P one other means xs first.1 second.1)
 
--- all elements pass a test that their property tells
+-- all elements pass a test that follows from their property
 pub all_that : {X : Type 0} (test : X → Bool) (P : X → Type 0) → ((x : X) → P x → test x ≡ true) → (xs : List X) → AllByRecursion P xs → list_all test xs ≡ true
 all_that test P means [] all = refl
 all_that test P means (x ∷ xs) all = and_from (test x) (list_all test xs) (means x all.0) (all_that test P means xs all.1)
 
--- tests that agree pass the same lists
+-- two tests with the same results are passed by the same lists
 pub all_same : {X : Type 0} (p q : X → Bool) → ((x : X) → p x ≡ q x) → (xs : List X) → list_all p xs ≡ list_all q xs
 all_same p q same [] = refl
 all_same p q same (x ∷ xs) = let first = same x in let rest = all_same p q same xs in rw (first, rest) refl
 
--- what passes one test passes a wider one
+-- elements that pass one test pass a weaker one
 pub all_wider : {X : Type 0} (p q : X → Bool) → ((x : X) → p x ≡ true → q x ≡ true) → (xs : List X) → list_all p xs ≡ true → list_all q xs ≡ true
 all_wider p q wider [] h = refl
 all_wider p q wider (x ∷ xs) h = let both = and_parts (p x) (list_all p xs) h in and_from _ _ (wider x both.0) (all_wider p q wider xs both.1)
@@ -137,7 +137,7 @@ any_of_filter p q (x ∷ xs) e = kept (q x) e (any_of_filter p q xs)
     kept true e rest = either (p x) (list_any p (filter q xs)) _ e (λ h. ap (λ b. b || list_any p xs) h) (λ h. ap (λ b. p x || b) (rest h) ∙ or_true (p x))
     kept false e rest = ap (λ b. p x || b) (rest e) ∙ or_true (p x)
 
--- what follows where some element passes follows from each that passes, and the other way
+-- what follows if some element passes follows from each that passes, and the other way round
 pub all_if_any : {X : Type 0} (q : X → Bool) (C : Type 0) (xs : List X) → (list_any q xs ≡ true → C) → AllByRecursion (λ x. q x ≡ true → C) xs
 all_if_any q C [] f = tt
 all_if_any q C (x ∷ xs) f = (λ e. f (ap (λ b. b || list_any q xs) e), all_if_any q C xs (λ e. f (ap (λ b. q x || b) e ∙ or_true (q x))))
@@ -148,7 +148,7 @@ any_if_all q C (x ∷ xs) all e = either (q x) (list_any q xs) C e all.0 (any_if
 
 -- what a search finds
 
--- what holds of each holds of what is found
+-- what holds for each element holds for the one that is found
 pub found_has : {X : Type 0} (P : X → Type 0) (look : X → Bool) (xs : List X) (x : X) → AllByRecursion P xs → find look xs ≡ Some x → P x
 found_has P look [] x all e = absurd (cc)
 found_has P look (y ∷ ys) x all e = at_head (look y) e (found_has P look ys x all.1)
@@ -157,11 +157,11 @@ found_has P look (y ∷ ys) x all e = at_head (look y) e (found_has P look ys x 
     at_head true e further = let same : y ≡ x = cc in subst P same all.0
     at_head false e further = further e
 
--- what is found passes the test that all pass
+-- the element that is found passes the test that all pass
 pub found_passes : {X : Type 0} (test look : X → Bool) (xs : List X) (x : X) → list_all test xs ≡ true → find look xs ≡ Some x → test x ≡ true
 found_passes test look xs x h e = found_has (λ y. test y ≡ true) look xs x (all_pass (λ y. test y ≡ true) test (λ y k. k) xs h) e
 
--- what is found passes the test that it was looked for by
+-- the element that is found passes the test that the search used
 pub find_passes : {X : Type 0} (p : X → Bool) (xs : List X) (x : X) → find p xs ≡ Some x → p x ≡ true
 find_passes p [] x e = absurd (cc)
 find_passes p (y ∷ xs) x e = by (p y) refl e (find_passes p xs x)
@@ -170,7 +170,7 @@ find_passes p (y ∷ xs) x e = by (p y) refl e (find_passes p xs x)
     by true here e rest = let same : y ≡ x = cc in ap p (sym same) ∙ here
     by false here e rest = rest e
 
--- something is found just where some element passes
+-- a search finds something exactly if some element passes
 pub find_is_any : {X : Type 0} (p : X → Bool) (xs : List X) → is_some (find p xs) ≡ list_any p xs
 find_is_any p [] = refl
 find_is_any p (x ∷ xs) = by (p x) (find_is_any p xs)
@@ -179,7 +179,7 @@ find_is_any p (x ∷ xs) = by (p x) (find_is_any p xs)
     by true rest = refl
     by false rest = rest
 
--- what is found stands at the place that `position` tells
+-- the element that is found is at the place that `position` returns
 pub found_at : {X : Type 0} (test : X → Bool) (xs : List X) (i : ℕ) (x : X) → position test xs ≡ Some i → find test xs ≡ Some (get_or xs i x)
 found_at test xs i x e =
     let n = position_or_len test xs in
@@ -226,7 +226,7 @@ pub same_filter_map : {X Y : Type 0} (f g : X → Option Y) (xs : List X) → ((
 same_filter_map f g [] each = refl
 same_filter_map f g (x ∷ xs) each = ap (λ o. cons_option o (filter_map f xs)) (each x) ∙ ap (cons_option (g x)) (same_filter_map f g xs each)
 
--- a filter of images, by a test that tells the same of the elements
+-- a filter of images, by a test with the same results for the elements
 pub filter-map : {X Y : Type 0} (f : X → Y) (p : Y → Bool) (q : X → Bool) (xs : List X) → AllByRecursion (λ x. p (f x) ≡ q x) xs → filter p (map f xs) ≡ map f (filter q xs)
 filter-map f p q [] all = refl
 filter-map f p q (x ∷ xs) all = ap (λ b. cond b (f x ∷ filter p (map f xs)) (filter p (map f xs))) all.0 ∙ kept (q x) (filter-map f p q xs all.1)
@@ -239,7 +239,7 @@ pub filter-flat_map : {X Y : Type 0} (p : Y → Bool) (f : X → List Y) (xs : L
 filter-flat_map p f [] = refl
 filter-flat_map p f (x ∷ xs) = ap (λ l. filter p (f x) ++ l) (filter-flat_map p f xs) ∙ sym (filter-append p (f x) (flat_map f xs))
 
--- what neither test finds
+-- the elements that neither test selects
 pub filter_neither : {X : Type 0} (p q : X → Bool) (xs : List X) → filter (λ i. not (p i || q i)) xs ≡ filter (λ i. not (p i)) (filter (λ i. not (q i)) xs)
 filter_neither p q [] = refl
 filter_neither p q (x ∷ xs) = by (p x) refl (q x) (filter_neither p q xs)
@@ -259,7 +259,7 @@ filter_shorter p (x ∷ xs) = by (p x) (filter_shorter p xs)
     by true le = omega (arith, le)
     by false le = omega (arith, le)
 
--- a filter that leaves as many leaves all
+-- a filter that doesn't change the length keeps everything
 pub filter_all : {X : Type 0} (p : X → Bool) (xs : List X) → length (filter p xs) ≡ length xs → filter p xs ≡ xs
 filter_all p [] e = refl
 filter_all p (x ∷ xs) e = by (p x) refl (filter_all p xs)
@@ -268,7 +268,7 @@ filter_all p (x ∷ xs) e = by (p x) refl (filter_all p xs)
     by true is rest = let long : suc (length (filter p xs)) ≡ suc (length xs) = rw is at e in rw is (ap (λ l. x ∷ l) (rest (omega (arith, long))))
     by false is rest = let long : length (filter p xs) ≡ suc (length xs) = rw is at e in absurd (omega (arith, long, filter_shorter p xs))
 
--- a filter finds one fewer where what it finds at a place is put out
+-- a filter keeps one element fewer after one that passes is replaced by one that doesn't
 pub filter_set : {X : Type 0} (test : X → Bool) (xs : List X) (i : ℕ) (x : X) → i < length xs → test (get_or xs i x) ≡ true → test x ≡ false
     → length (filter test xs) ≡ length (filter test (set xs i x)) + 1
 filter_set test [] i x lt here not_now = absurd (omega (arith, lt))
@@ -292,13 +292,13 @@ pub none_is : {X : Type 0} (xs : List X) → None ≡ slice_get xs 0 → xs ≡ 
 none_is [] e = refl
 none_is (x ∷ xs) e = absurd (cc)
 
--- the same list, one step on
+-- the same list, one step further
 pub stepped : {X : Type 0} (new old one rest all : List X) → new ≡ old ++ one → all ≡ one ++ rest → new ++ rest ≡ old ++ all
 stepped new old one rest all e f = ap (λ xs. xs ++ rest) e ∙ append_assoc old one rest ∙ ap (λ xs. old ++ xs) (sym f)
 
 pub reverse_more : {X : Type 0} (xs : List X) (i : ℕ) (d : X) → i < length xs → reverse (take (i + 1) xs) ≡ get_or xs i d ∷ reverse (take i xs)
 reverse_more xs i d lt = ap reverse (take_more xs i d lt) ∙ reverse-append (take i xs) (get_or xs i d ∷ [])
 
--- a whole slice that is written back
+-- a slice that is written back as a whole
 pub whole_slice : {X : Type 0} (n : ℕ) (ys xs : List X) → n ≡ length ys → take n (ys ++ drop (length ys) xs) ≡ ys
 whole_slice n ys xs e = ap (λ k. take k (ys ++ drop (length ys) xs)) e ∙ take-append_seam ys (drop (length ys) xs)

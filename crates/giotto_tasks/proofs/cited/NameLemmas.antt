@@ -24,7 +24,7 @@ names_same (x ∷ xs) [] h = absurd (false≢true h)
 pub names_compared : (xs ys : List Name) → xs ≡ ys → pointwise (pointwise nat_eq) xs ys ≡ true
 names_compared xs ys e = rw e ((lists_equiv nat_list_eq_equiv).refl ys)
 
--- the test of two names tells whether they are one
+-- the comparison of two names decides whether they are equal
 pub same_name_self : (x : Name) → same_name x x ≡ true
 same_name_self x = nat_list_eq_equiv.refl x
 
@@ -47,14 +47,14 @@ among_first xs ys x h = is_among-append xs ys x ∙ or_left (is_among xs x) (is_
 pub among_second : (xs ys : List Name) (x : Name) → is_among ys x ≡ true → is_among (xs ++ ys) x ≡ true
 among_second xs ys x h = is_among-append xs ys x ∙ or_right (is_among xs x) (is_among ys x) h
 
--- a name of two lists that isn't in the first is in the second
+-- a name in two concatenated lists that isn't in the first is in the second
 pub among_other : (xs ys : List Name) (x : Name) → is_among (xs ++ ys) x ≡ true → is_among xs x ≡ false → is_among ys x ≡ true
 among_other xs ys x there none = sym (ap (λ b. b || is_among ys x) none) ∙ (sym (is_among-append xs ys x) ∙ there)
 
 pub among_turned : (xs ys : List Name) (x : Name) → is_among (xs ++ ys) x ≡ is_among (ys ++ xs) x
 among_turned xs ys x = is_among-append xs ys x ∙ or_turned (is_among xs x) (is_among ys x) ∙ sym (is_among-append ys xs x)
 
--- a name among names that all pass a test passes it
+-- a name among names that all pass a test passes it too
 pub among_passes : (test : Name → Bool) (ns : List Name) (x : Name) → list_all test ns ≡ true → is_among ns x ≡ true → test x ≡ true
 among_passes test [] x h there = absurd (false≢true there)
 among_passes test (n ∷ ns) x h there =
@@ -70,11 +70,11 @@ all_in test (n ∷ ns) means =
 pub each_among : (ns : List Name) → list_all (is_among ns) ns ≡ true
 each_among ns = all_in (is_among ns) ns (λ x h. h)
 
--- names among some are among more
+-- names that are among some names are among more names
 pub weaker_all : (ns ms : List Name) → ((x : Name) → is_among ns x ≡ true → is_among ms x ≡ true) → (xs : List Name) → list_all (is_among ns) xs ≡ true → list_all (is_among ms) xs ≡ true
 weaker_all ns ms implies xs h = all_wider (is_among ns) (is_among ms) implies xs h
 
--- a name that isn't among the declared ones is none of these
+-- a name that isn't among the declared ones is none of these declared names
 pub none_of : (declared : List Name) (x : Name) (others : List Name) → list_all (is_among declared) others ≡ true → not (is_among declared x) ≡ true → not (is_among others x) ≡ true
 none_of declared x [] k h = refl
 none_of declared x (y ∷ ys) k h =
@@ -85,7 +85,7 @@ none_of declared x (y ∷ ys) k h =
     at_head false e there rest = rest
     at_head true e there rest = let same : y ≡ x = same_name_is y x e in absurd (false≢true (ap not (sym (ap (is_among declared) (sym same) ∙ there)) ∙ h))
 
--- names of which none is among others
+-- none of these names is among the others
 pub apart_from : (declared own others : List Name) → list_all (λ y. not (is_among declared y)) own ≡ true → list_all (is_among declared) others ≡ true
     → list_all (λ x. not (is_among others x)) own ≡ true
 apart_from declared own others h k = all_wider (λ y. not (is_among declared y)) (λ x. not (is_among others x)) (λ x e. none_of declared x others k e) own h
@@ -98,7 +98,7 @@ filter_out names x xs e = ap (λ b. cond b (x ∷ filter (is_among names) xs) (f
 
 -- different names
 
--- names of two lists are different where each list's are, and the lists share none
+-- names of two lists are different if each list's names are, and the lists share none
 pub all_different-append : (xs ys : List Name) → all_different (xs ++ ys) ≡ (all_different xs && (all_different ys && list_all (λ x. not (is_among ys x)) xs))
 all_different-append [] ys = sym (and_true (all_different ys))
 all_different-append (n ∷ ns) ys =
@@ -121,7 +121,7 @@ different_joined xs ys d e h = all_different-append xs ys ∙ and_from _ _ d (an
 pub different_first : (xs ys : List Name) → all_different (xs ++ ys) ≡ true → all_different xs ≡ true
 different_first xs ys h = (and_parts _ _ (sym (all_different-append xs ys) ∙ h)).0
 
--- among different names each stands once
+-- if all names are different, a name among them is there once
 pub among_once : (ns : List Name) (x : Name) → all_different ns ≡ true → is_among ns x ≡ true → is_once_among ns x ≡ true
 among_once [] x different h = absurd (false≢true h)
 among_once (n ∷ ns) x different h =

@@ -1,9 +1,9 @@
--- Tests and what they tell. Std's `and_parts`, `and_from`, `or_left`, `or_right`, `or_parts`, `or_cases` and
--- `false_from_ne_true` stand beside these.
+-- Tests and what follows from them. Std has `and_parts`, `and_from`, `or_left`, `or_right`, `or_parts`, `or_cases` and
+-- `false_from_ne_true` in addition to these.
 use Rattle.std.proofs.Common.{◌≡◌, Bool, true, false, not, cond, ◌&&◌, ◌||◌, refl, sym}
 use Rattle.std.proofs.lemmas.Bool.{false≢true}
 
--- what follows from each side of a test follows from both
+-- what follows from either side of an `or` follows from the `or`
 pub either : (a b : Bool) (C : Type 0) → (a || b) ≡ true → (a ≡ true → C) → (b ≡ true → C) → C
 either true b C e f g = f refl
 either false b C e f g = g e
@@ -40,14 +40,14 @@ pub not_either : (a b : Bool) → not a ≡ true → not b ≡ true → not (a |
 not_either true b h k = absurd (false≢true h)
 not_either false b h k = k
 
--- tests that tell each other are one
+-- tests that follow from each other are equal
 pub same_answers : (a b : Bool) → (a ≡ true → b ≡ true) → (b ≡ true → a ≡ true) → a ≡ b
 same_answers true true f g = refl
 same_answers false false f g = refl
 same_answers true false f g = sym (f refl)
 same_answers false true f g = g refl
 
--- a test beside one that it tells
+-- an `or` with a test that follows from the other is that test
 pub absorbed : (a b : Bool) → (a ≡ true → b ≡ true) → (a || b) ≡ b
 absorbed true b f = sym (f refl)
 absorbed false b f = refl

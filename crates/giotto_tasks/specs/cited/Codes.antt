@@ -1,4 +1,4 @@
--- Codes of the trees: each tree as a list of marks in prefix order, and two trees with one list are one tree.
+-- Codes of the trees: each tree as a list of marks in prefix order. Two trees with the same list are equal.
 use Rattle.std.specs.Prelude.{◌≡◌, ℕ, ℤ, pos, List, [], ◌∷◌, slice_index_or, refl}
 use Rattle.std.proofs.Common.{ap, sym, ◌∙◌}
 use Rattle.std.specs.Coded.{Coded, code_by, coded_list, coded×, coded_ℕ, coded_ℤ}
@@ -10,7 +10,7 @@ use Rattle.giotto_tasks.specs.declared.operators.UnaryOperator.TheVariants.{Nega
 use Rattle.giotto_tasks.specs.declared.operators.BinaryOperator.{BinaryOperator}
 use Rattle.giotto_tasks.specs.declared.operators.BinaryOperator.TheVariants.{Add, Subtract, Multiply, Divide, Remainder, Equal, NotEqual, Less, AtMost, Greater, AtLeast, And, Or}
 
--- the operators of one operand in their order, and the place of each
+-- the operators of one operand, in order, and the place of each
 abbrev unary_operators : List UnaryOperator
 unary_operators = Negate ∷ Not ∷ []
 
@@ -25,7 +25,7 @@ unary_at_place Not = refl
 pub one_unary : (o p : UnaryOperator) → unary_place o ≡ unary_place p → o ≡ p
 one_unary o p e = sym (unary_at_place o) ∙ ap (λ n. slice_index_or unary_operators n Negate) e ∙ unary_at_place p
 
--- the same of the operators of two operands
+-- the same for the operators of two operands
 abbrev binary_operators : List BinaryOperator
 binary_operators = Add ∷ Subtract ∷ Multiply ∷ Divide ∷ Remainder ∷ Equal ∷ NotEqual ∷ Less ∷ AtMost ∷ Greater ∷ AtLeast ∷ And ∷ Or ∷ []
 
@@ -62,7 +62,7 @@ binary_at_place Or = refl
 pub one_binary : (o p : BinaryOperator) → binary_place o ≡ binary_place p → o ≡ p
 one_binary o p e = sym (binary_at_place o) ∙ ap (λ n. slice_index_or binary_operators n Add) e ∙ binary_at_place p
 
--- one constructor of a tree, with what it holds beside trees
+-- one constructor of a tree, with its contents other than trees
 pub data Mark : Type 0 where
   number_mark : ℤ → Mark
   port_mark : Name → Mark
@@ -74,7 +74,7 @@ pub data Mark : Type 0 where
   finished_mark : Mark
   step_mark : Mark
 
--- a mark as its place among them, a signed number, a number and a name
+-- a mark as its place among the constructors, a signed number, a number and a name
 abbrev mark_parts : Mark → ℕ × (ℤ × (ℕ × Name))
 mark_parts (number_mark z) = (0, (z, (0, [])))
 mark_parts (port_mark x) = (1, (pos 0, (0, x)))
@@ -150,7 +150,7 @@ one_expression (binary o a b) (number z) xs ys e = absurd (cc)
 one_expression (binary o a b) (port x) xs ys e = absurd (cc)
 one_expression (binary o a b) (unary p c) xs ys e = absurd (cc)
 
--- a code for the expressions
+-- a code for expressions
 abbrev pub expression_code : Coded Expression
 expression_code = coded_via marks_code (λ e. expression_marks e []) (λ a b e. (one_expression a b [] [] e).0)
 
@@ -203,11 +203,11 @@ mutual
   one_block finished (step t b) xs ys e = absurd (cc)
   one_block (step s a) finished xs ys e = absurd (cc)
 
--- a code for the blocks
+-- a code for blocks
 abbrev pub block_code : Coded Block
 block_code = coded_via marks_code (λ b. block_marks b []) (λ a b e. (one_block a b [] [] e).0)
 
--- a code for the bodies: that of their names and their block
+-- a code for bodies: that of their names and their block
 abbrev pub body_code : Coded TaskBody
 body_code =
     code_by (List Name × (List Name × (List Name × Block))) (coded× names_code (coded× names_code (coded× names_code block_code)))

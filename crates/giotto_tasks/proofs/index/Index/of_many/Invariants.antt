@@ -3,7 +3,7 @@ use Rattle.giotto_tasks.specs.Sound.{all_different}
 use Rattle.giotto_tasks.specs.cited.Places.{HasPlaces}
 use Rattle.giotto_tasks.proofs.index.Index.of_many.Given as goal
 
--- the names from the last on
+-- the names from the last one on
 abbrev pub invariant-loop-behind : goal.invariant-loop-behind
 invariant-loop-behind l =
     let place = length l.names.items - l.behind in
