@@ -30,7 +30,7 @@ use Rattle.giotto_text.proofs.CanonicalSound.{canonical_sound, canonical_shallow
 use Rattle.giotto_text.proofs.SoundTokens.{word_begins, number_begins}
 use Rattle.giotto_text.proofs.Lexing.{digits_read, tokens_from-within, token_first}
 
--- what stands behind a token of a canonical text: nothing, or a space
+-- what follows a token in a canonical text: nothing, or a space
 data Tail : List ℕ → Type 0 where
   nothing : Tail []
   space : {rest : List ℕ} → Tail (32 ∷ rest)
@@ -136,7 +136,7 @@ sound_first (tokens.Keyword k) sound t = keyword_first k t
 sound_first (tokens.Number n) sound t = number_first n (at_most n (2 ^ 63) sound) t
 sound_first (tokens.Symbol s) sound t = symbol_first s t
 
--- past a token
+-- the tokens of a text after its first token
 text_passed : (k : Token) (text tail : List ℕ) (i : ℕ) → first_token (text ++ tail) ≡ Some (k, length text) → 0 < length text
     → tokens_from 0 i (text ++ tail) ≡ after_token k i (tokens_from 0 (i + length text) tail)
 text_passed k [] tail i e some = absurd (omega arith)
@@ -163,7 +163,7 @@ some_text (tokens.Keyword k) sound = some_keyword k
 some_text (tokens.Number n) sound = let small = at_most n (2 ^ 63) sound in decimal_nonempty n (omega arith)
 some_text (tokens.Symbol s) sound = some_symbol s
 
--- the tokens of a joined text, at their places
+-- the tokens of a joined text, with their offsets
 record TokensFound (i : ℕ) (ks : List Token) : Type 0 where
   placed : List PlacedToken
   are : tokens_from 0 i (join_with_byte 32 (map text_of ks)) ≡ Ok placed
@@ -189,7 +189,7 @@ reads_back p (can_be_printed sound spelled shallow small) =
     let found = joined_found 0 (canonical_tokens p) sound in
     a_program found.placed found.are (ap nests_too_deep found.same ∙ shallow) (subst (λ ts. Spells ts p) (sym found.same) spelled) small
 
--- a program that tokens of a text spell, not nested too deep, can be printed, where its canonical tokens spell it
+-- a program can be printed if sound tokens that don't nest too deep spell it, and its canonical tokens do too
 pub printable : (ts : List Token) (p : GiottoProgram) → list_all is_sound_token ts ≡ true → nests_too_deep ts ≡ false → Spells ts p
     → Spells (canonical_tokens p) p → has_small_tasks p ≡ true → IsPrintable p
 printable ts p sound shallow s spelled small =

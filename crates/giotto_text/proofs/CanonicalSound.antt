@@ -1,4 +1,4 @@
--- The canonical tokens of what sound tokens spell are sound, and don't nest too deep where those tokens don't.
+-- If sound tokens spell a program, its canonical tokens are sound too; they don't nest too deep if those tokens don't.
 use Rattle.std.proofs.Common.{◌≡◌, ℕ, zero, suc, pos, neg_ℤ, true, false, List, [], ◌∷◌, ◌++◌, refl, ap, sym, ◌∙◌, subst}
 use Rattle.std.proofs.lemmas.List.{append-nil}
 use Rattle.std.specs.List.{flat_map, list_all}

@@ -1,4 +1,4 @@
--- The canonical tokens of a program that any tokens spell, spell it too.
+-- If any tokens spell a program, its canonical tokens spell it too.
 use Rattle.std.proofs.Common.{◌≡◌, ℕ, zero, suc, ◌^◌, ◌≤◌, pos, neg_ℤ, List, [], ◌∷◌, ◌++◌, map, Option, Some, None, refl, sym, ap, ◌∙◌, subst, lit<}
 use Rattle.std.proofs.lemmas.List.{append-nil, append_assoc}
 use Rattle.std.proofs.lemmas.List.Folds.{flat_map-map}
@@ -39,13 +39,13 @@ tokens_of (operand e) = operand_tokens e (expression_tokens e)
 tokens_of (initial z) = initial_tokens z
 tokens_of (int n) = tokens.Number n ∷ []
 
--- an expression as an operand, and an operand as an expression: what differs is the parentheses
+-- an expression as an operand, and an operand as an expression: they differ in parentheses
 abbrev turned : Part → Part
 turned (expression e) = operand e
 turned (operand e) = expression e
 turned p = p
 
--- the canonical tokens spell the part, and so they do its other form
+-- the canonical tokens spell the part, and those of its other form spell that form
 record IsCanonical (p : Part) : Type 0 where
   spelled : SpellsParts (tokens_of p) (p ∷ [])
   other : SpellsParts (tokens_of (turned p)) (turned p ∷ [])
@@ -59,12 +59,12 @@ of_token t = record { spelled = token_spelled all_spelled; other = token_spelled
 plain : {p : Part} → turned p ≡ p → SpellsParts (tokens_of p) (p ∷ []) → IsCanonical p
 plain same s = record { spelled = s; other = rw same s }
 
--- the parts of two lists
+-- the parts of two concatenated lists
 apart : (ps qs : List Part) → AllCanonical (ps ++ qs) → AllCanonical ps × AllCanonical qs
 apart [] qs all = (tt, all)
 apart (p ∷ ps) qs all = let h = apart ps qs all.1 in ((all.0, h.0), h.1)
 
--- what is spelled one behind the other
+-- two token lists, one after the other
 pub spelled_append : {ts us : List Token} {ps qs : List Part} → SpellsParts ts ps → SpellsParts us qs → SpellsParts (ts ++ us) (ps ++ qs)
 spelled_append all_spelled s = s
 spelled_append (token_spelled r) s = token_spelled (spelled_append r s)
@@ -74,7 +74,7 @@ together : (ps : List Part) → AllCanonical ps → SpellsParts (flat_map tokens
 together [] all = all_spelled
 together (p ∷ ps) all = spelled_append all.0.spelled (together ps all.1)
 
--- a grammar line, spelled whole
+-- a whole grammar line
 written : {p : Part} {line : List Part} {ts : List Token} → IsWritten p line → flat_map tokens_of line ≡ ts → AllCanonical line → SpellsParts ts (p ∷ [])
 written {line = line} w same all = line_spelled w (rw (append-nil line) (subst (λ us. SpellsParts us line) same (together line all)))
 
@@ -133,7 +133,7 @@ some_switch_tokens s d ds is =
     ∙ sym (append_assoc given (mark CloseBrace ∷ []) (mark Semicolon ∷ [])))
     ∙ sym (append_assoc front (tokens.Name s.target ∷ in_braces given) (mark Semicolon ∷ [])))
 
--- "{" "}" may be left out where there are no destinations
+-- "{" "}" may be left out if there are no destinations
 of_switch : (s : ModeSwitch) (ds : List (Name × Expression)) → s.destinations ≡ ds
     → AllCanonical ((keyword ExitFreq ∷ int s.frequency ∷ written_guard s.guard)
     ++ ((keyword Do ∷ name s.target ∷ symbol OpenBrace ∷ map destination s.destinations) ++ (symbol CloseBrace ∷ symbol Semicolon ∷ [])))
@@ -171,11 +171,11 @@ of_negative : (n : ℕ) → n ≤ 2 ^ 63 → SpellsParts (initial_tokens (neg_�
 of_negative zero le = line_spelled a_plain_initial (line_spelled (an_int (lit< tt)) (token_spelled all_spelled))
 of_negative (suc n) le = line_spelled (a_negative_initial le refl) (token_spelled (token_spelled all_spelled))
 
--- an operation: as an operand it stands in parentheses
+-- an operation: as an operand it is put in parentheses
 of_operation : (e : Expression) (ts : List Token) → SpellsParts ts (expression e ∷ []) → SpellsParts (mark OpenParenthesis ∷ ts ++ mark CloseParenthesis ∷ []) (operand e ∷ [])
 of_operation e ts s = line_spelled in_parentheses (token_spelled (spelled_append s (token_spelled all_spelled)))
 
--- a number or a port: as an expression it is that operand
+-- a number or a port: as an expression it is the same operand
 of_leaf : (e : Expression) (ts : List Token) → SpellsParts ts (operand e ∷ []) → SpellsParts ts (expression e ∷ [])
 of_leaf e ts s = line_spelled an_operand s
 

@@ -1,4 +1,5 @@
--- Each prefix goes on to a whole program: what is not read yet is replaced by what fits, and then written out.
+-- Each prefix can be completed to a whole program: numbers that can't be written are brought into range, and the parts that are
+-- left are written out.
 use Rattle.std.proofs.Common.{ℕ, suc, ℤ, pos, negsuc, List, [], ◌∷◌, ◌++◌, map, Option, Some, None, refl, subst}
 use Rattle.std.proofs.lemmas.List.{map-append, append-nil}
 use Rattle.giotto_tasks.specs.declared.names.Name.{Name}
@@ -49,7 +50,7 @@ behind_text : (k : Keyword) (ps : List Part) → CanBeSpelled (separated ps) →
 behind_text k [] s = none
 behind_text k (p ∷ ps) s = t s
 
--- values that fit
+-- values in the range that can be written
 
 int_text : (n : ℕ) → CanBeSpelled (int (fitted_int n) ∷ [])
 int_text n = whole (an_int (int_in_range n)) (t none)
@@ -168,7 +169,7 @@ parts_text : (ps : List Part) → CanBeSpelled (map fitted ps)
 parts_text [] = none
 parts_text (p ∷ ps) = joined (part_text p) (parts_text ps)
 
--- a prefix goes on
+-- a prefix and its completion
 goes_on : {ts : List Token} {ps : List Part} → BeginsParts ts ps → (us : List Token) × SpellsParts (ts ++ us) (map fitted ps)
 goes_on (none_left {ps = ps}) = let s = parts_text ps in (s.text, s.spelled)
 goes_on (token_begun b) = let h = goes_on b in (h.0, token_spelled h.1)

@@ -1,4 +1,4 @@
--- The grammar lines of sensors, actuators and outputs, each as it is parsed.
+-- The grammar lines of sensors, actuators and outputs, and their parsers.
 use Rattle.std.proofs.Common.{◌≡◌, ◌⊎◌, inl, inr, ℕ, true, false, ℤ, List, [], ◌∷◌, Option, Some, None, refl, sym, ◌∙◌, pos}
 use Rattle.std.specs.Prelude.{◌||◌}
 use Rattle.giotto_tasks.specs.declared.names.Name.{Name}

@@ -1,4 +1,4 @@
--- The grammar lines of initial values and expressions, each as it is parsed.
+-- The grammar lines of initial values and expressions, and their parsers.
 use Rattle.std.proofs.Common.{◌≡◌, ℕ, zero, suc, ◌^◌, ◌≤◌, ◌⊎◌, inl, inr, Bool, true, false, ℤ, pos, List, ◌∷◌, ◌++◌, length, Option, Some, None, refl, ap, ◌∙◌, sym, arith}
 use Rattle.std.specs.Prelude.{neg_ℤ, ◌||◌}
 use Rattle.giotto_tasks.specs.Syntax as body
@@ -199,7 +199,7 @@ expression_parses nested h =
     (bind _ (λ t. refl) binary_parses (λ o. mapped _ (operand_parses nested h) (λ v ts. refl)))
     (λ ts. refl))))
 
--- the bound on the depth is one on the number of tokens
+-- the bound on the depth is a bound on the number of tokens
 bounded_expressions : (n : ℕ) → Parses n an_expression (λ e. e) (expressions n)
 bounded_expressions zero ts lt = absurd (omega arith)
 bounded_expressions (suc n) ts lt = expression_parses (expressions n) (bounded_expressions n) ts lt

@@ -1,4 +1,5 @@
--- Any value with its numbers brought into the range of what can be written. What is written for a value is written so for the value that fits.
+-- Values with their numbers brought into the range that can be written. Whatever may be written for a value may also be written
+-- for its fitted value, with fitted parts.
 use Rattle.std.proofs.Common.{◌≡◌, ℕ, zero, suc, ◌-◌, ◌^◌, ◌<◌, ◌≤◌, min, ℤ, pos, negsuc, neg_ℤ, List, [], ◌∷◌, map, Option, Some, None, refl, sym, ap, ◌∙◌, subst, arith}
 use Rattle.std.proofs.lemmas.List.{map-append}
 use Rattle.std.proofs.lemmas.Simd.{map-map}
@@ -17,7 +18,7 @@ abbrev pub fitted_initial : ℤ → ℤ
 fitted_initial (pos n) = pos (fitted_int n)
 fitted_initial (negsuc n) = negsuc (fitted_int n)
 
--- a negative number is no operand
+-- a negative number can't be an operand
 abbrev pub fitted_expression : Expression → Expression
 fitted_expression (number (pos n)) = number (pos (fitted_int n))
 fitted_expression (number (negsuc n)) = number (pos 0)

@@ -1,4 +1,4 @@
--- Forms: how the values of a type are written, and the forms that are made of forms.
+-- Forms: how the values of a type are written, and forms that consist of other forms.
 use Rattle.std.proofs.Common.{◌≡◌, ◌⊎◌, inl, inr, Bool, true, false, List, [], ◌∷◌, ◌++◌, Option, Some, None, refl, sym, ap, ◌∙◌, subst}
 use Rattle.std.specs.Prelude.{◌||◌}
 use Rattle.std.specs.List.{flat_map}
@@ -14,10 +14,10 @@ pub record Form (V : Type 0) : Type 1 where
   pub parts : V → List Part
   -- some value
   pub some : V
-  -- the tokens with which it could still go on behind its end
+  -- the tokens with which the form could still continue after its end
   pub goes_on : Token → Bool
 
--- a form that doesn't go on
+-- for a form that doesn't continue
 abbrev pub closed : Token → Bool
 closed t = false
 
@@ -36,15 +36,15 @@ element P v test = record { parts = λ x. P x ∷ []; some = v; goes_on = test }
 abbrev pub one : {V : Type 0} → (V → Part) → V → Form V
 one P v = element P v closed
 
--- one thing and then another
+-- one form and then another
 abbrev pub both : {V W : Type 0} → Form V → Form W → Form (V × W)
 both F G = record { parts = λ p. F.parts p.0 ++ G.parts p.1; some = (F.some, G.some); goes_on = G.goes_on }
 
--- a token and then a thing
+-- a token and then a form
 abbrev pub led : {V : Type 0} → Token → Form V → Form V
 led t F = record { parts = λ v. token t ∷ F.parts v; some = F.some; goes_on = F.goes_on }
 
--- a thing and then a token
+-- a form and then a token
 abbrev pub ended : {V : Type 0} → Form V → Token → Form V
 ended F t = record { parts = λ v. F.parts v ++ token t ∷ []; some = F.some; goes_on = closed }
 
@@ -52,11 +52,11 @@ abbrev pub alternatives : {V W : Type 0} → Form V → Form W → V ⊎ W → L
 alternatives F G (inl v) = F.parts v
 alternatives F G (inr w) = G.parts w
 
--- one thing or another
+-- one form or another
 abbrev pub either : {V W : Type 0} → Form V → Form W → (Token → Bool) → Form (V ⊎ W)
 either F G test = record { parts = alternatives F G; some = inl F.some; goes_on = test }
 
--- things as long as such a token comes next
+-- a form, repeated as long as such a token comes next
 abbrev pub many : {V : Type 0} → Form V → (Token → Bool) → Form (List V)
 many F test = record { parts = flat_map F.parts; some = []; goes_on = λ t. test t || F.goes_on t }
 
@@ -64,11 +64,11 @@ abbrev pub optional_parts : {V : Type 0} → Form V → Option V → List Part
 optional_parts F None = []
 optional_parts F (Some v) = F.parts v
 
--- one thing, where such a token comes next, or nothing
+-- a form if such a token comes next, or nothing
 abbrev pub optional : {V : Type 0} → Form V → (Token → Bool) → Form (Option V)
 optional F test = record { parts = optional_parts F; some = None; goes_on = λ t. test t || F.goes_on t }
 
--- what begins with a token, and what with none
+-- parts that begin with a token, and empty ones
 
 pub first_token_is : (t u : Token) (ts : List Token) (ps : List Part) → BeginsParts (t ∷ ts) (token u ∷ ps) → t ≡ u
 first_token_is t u ts ps (token_begun b) = refl
@@ -81,7 +81,7 @@ behind_token t u ts ps (line_begun w b) = elim w [ ]
 pub nothing_begins : (t : Token) (ts : List Token) → ¬ BeginsParts (t ∷ ts) []
 nothing_begins t ts b = elim b [ ]
 
--- what is spelled is a prefix, and then a prefix, is one
+-- spelled tokens followed by a prefix are a prefix
 pub begun : {ts : List Token} {ps : List Part} → SpellsParts ts ps → BeginsParts ts ps
 begun all_spelled = none_left
 begun (token_spelled s) = token_begun (begun s)
@@ -94,11 +94,11 @@ spelled_then (line_spelled {ts = ts} {ps = ps} {line = line} w s) us qs b = line
 
 -- what comes next
 
--- no such token comes next
+-- none of these tokens comes next
 pub record Excludes (test : Token → Bool) (ps : List Part) : Type 0 where
   pub never : (t : Token) (ts : List Token) → test t ≡ true → ¬ BeginsParts (t ∷ ts) ps
 
--- the token isn't the first of these parts, before what excludes such tokens
+-- the token isn't the first one of these parts, if none of the tested tokens comes after the parts
 abbrev pub Fails : (Token → Bool) → Token → List Part → Type 0
 Fails test u parts = (us : List Token) (ps : List Part) → Excludes test ps → ¬ BeginsParts (u ∷ us) (parts ++ ps)
 
@@ -126,7 +126,7 @@ nothing_excluded ps = record { never = λ t ts e b. cc }
 pub fewer : (more less : Token → Bool) (ps : List Part) → IsWider more less → Excludes more ps → Excludes less ps
 fewer more less ps wider ex = record { never = λ t ts e. ex.never t ts (wider t e) }
 
--- the second thing never begins with a token with which the first could go on
+-- the second form never begins with a token with which the first could continue
 abbrev pub AreApart : {V W : Type 0} → Form V → Form W → Type 0
 AreApart {W = W} F G = (x : W) (ps : List Part) → Excludes G.goes_on ps → Excludes F.goes_on (G.parts x ++ ps)
 
@@ -136,7 +136,7 @@ IsClosed F = (t : Token) → F.goes_on t ≡ false
 pub apart_closed : {V W : Type 0} (F : Form V) (G : Form W) → IsClosed F → AreApart F G
 apart_closed F G is x ps ex = record { never = λ t ts e b. let no : true ≡ false = sym e ∙ is t in cc }
 
--- this token is the first of each value
+-- each value begins with this token
 abbrev pub Begins : {V : Type 0} → Form V → Token → Type 0
 Begins {V = V} F first = (t : Token) (us : List Token) (v : V) (ps : List Part) → BeginsParts (t ∷ us) (F.parts v ++ ps) → t ≡ first
 
@@ -149,7 +149,7 @@ apart_first F G first begins off x ps ex = record { never = λ t ts e b. let h :
 pub apart_mark : {V : Type 0} (F : Form V) (t : Token) → F.goes_on t ≡ false → AreApart F (mark t)
 apart_mark F t = apart_first F (mark t) t (λ u us v ps b. first_token_is u t us ps b)
 
--- Nothing, or this token is the first.
+-- Each value is empty or begins with this token.
 abbrev pub MayBegin : {V : Type 0} → Form V → Token → Type 0
 MayBegin {V = V} F first = (v : V) → (F.parts v ≡ []) ⊎ ((t : Token) (us : List Token) (ps : List Part) → BeginsParts (t ∷ us) (F.parts v ++ ps) → t ≡ first)
 
@@ -172,13 +172,13 @@ apart_many {W = W} F G test first begins off wider xs ps ex = record { never = �
     none (w ∷ ws) t ts e b =
         let h : true ≡ false = sym e ∙ ap F.goes_on (begins t ts w (flat_map G.parts ws ++ ps) (subst (λ y. BeginsParts (t ∷ ts) y) (append_assoc (G.parts w) (flat_map G.parts ws) ps) b)) ∙ off in cc
 
--- Each thing is at least a token, of these; it doesn't go on with one of them; and the end is none.
+-- Each repetition begins with one of these tokens and doesn't continue with one of them, and the end mark isn't one.
 pub record Repeats {V : Type 0} (F : Form V) (first : Token → Bool) : Type 0 where
   pub starts : (t : Token) (us : List Token) (v : V) (ps : List Part) → BeginsParts (t ∷ us) (F.parts v ++ ps) → first t ≡ true
   pub apart : (t : Token) → first t ≡ true → F.goes_on t ≡ false
   pub other : first end_mark ≡ false
 
--- One form as another: what is written for v as F has it is written for (h v) as G has it, and there is no other.
+-- One form in terms of another: what F writes for v, G writes for (h v), and G writes nothing else.
 pub record Writes {V W : Type 0} (F : Form V) (G : Form W) (h : V → W) : Type 0 where
   pub spells : (v : V) (ts : List Token) (ps : List Part) → SpellsParts ts (F.parts v ++ ps) → SpellsParts ts (G.parts (h v) ++ ps)
   pub begins : (v : V) (ts : List Token) (ps : List Part) → BeginsParts ts (F.parts v ++ ps) → BeginsParts ts (G.parts (h v) ++ ps)
@@ -201,7 +201,7 @@ spelled_from : {V W : Type 0} (F : Form V) (w : W) (h : V → W) {p : Part} {ts 
 spelled_from F w h plain from (token_spelled s) = absurd (cc)
 spelled_from F w h {ps = ps} plain from (line_spelled {ts = ts} {line = line} l s) = let k = from line l in (k.0, k.1, subst (λ x. SpellsParts ts (x ++ ps)) k.2 s)
 
--- the lines of the grammar for a part are what is written as this form
+-- what the grammar writes for a part is exactly what this form writes
 pub line_writes : {V W : Type 0} {F : Form V} {P : W → Part} {d : W} {test : Token → Bool} {h : V → W} → ((w : W) → is_token (P w) ≡ false) → ((v : V) → IsWritten (P (h v)) (F.parts v))
     → ((w : W) (line : List Part) → IsWritten (P w) line → (v : V) × (w ≡ h v) × (line ≡ F.parts v)) → IsWider test F.goes_on → Writes F (element P d test) h
 line_writes {F = F} {h = h} plain is from on =
@@ -213,7 +213,7 @@ line_writes {F = F} {h = h} plain is from on =
       on = on;
     }
 
--- the same parts, and no value without
+-- the same parts, and each value of G has one of F
 pub same_writes : {V W : Type 0} {F : Form V} {G : Form W} {h : V → W} → ((v : V) → F.parts v ≡ G.parts (h v)) → ((w : W) → (v : V) × (w ≡ h v)) → IsWider G.goes_on F.goes_on → Writes F G h
 same_writes {V = V} {W = W} {F = F} {G = G} {h = h} same from on =
     record {

@@ -1,4 +1,4 @@
--- Tokens have one grammar fault at most, and none where they spell a program.
+-- Tokens have at most one grammar fault, and none if they spell a program.
 use Rattle.std.proofs.Common.{◌≡◌, ℕ, List, [], ◌∷◌, ◌++◌, refl, sym, ◌∙◌, ap}
 use Rattle.std.proofs.lemmas.List.{map-append, append_assoc}
 use Rattle.giotto_text.specs.declared.tokens.PlacedToken.{PlacedToken}
@@ -9,7 +9,7 @@ use Rattle.giotto_text.specs.Tokens.{bare}
 use Rattle.giotto_text.proofs.Forms.{begun}
 use Rattle.giotto_text.proofs.Prefixes.{begun_front}
 
--- two places in one list: one place, or one before the other
+-- two places in the same list: equal, or one before the other
 data Places (xs ys : List PlacedToken) (t u : PlacedToken) : Type 0 where
   one_place : t ≡ u → Places xs ys t u
   first_before : (more : List PlacedToken) → ys ≡ xs ++ t ∷ more → Places xs ys t u
@@ -29,7 +29,7 @@ places (x ∷ xs) (y ∷ ys) after later t u e = longer (places xs ys after late
     longer (first_before more is) = first_before more cc
     longer (second_before more is) = second_before more cc
 
--- A token with which the tokens are no prefix stands behind no longer prefix.
+-- If some tokens are a prefix, so are the tokens up to any one of them.
 prefix_up_to : (xs more : List PlacedToken) (t : PlacedToken) → IsPrefix (bare (xs ++ t ∷ more)) → IsPrefix (bare (xs ++ t ∷ []))
 prefix_up_to xs more t b = (b.0, begun_front b.1 (bare (xs ++ t ∷ [])) (bare more) joined)
   where

@@ -1,4 +1,4 @@
--- Runs of bytes, and one more token.
+-- Runs of bytes, and adding a token.
 use Rattle.std.proofs.Common.{◌≡◌, ◌≢◌, ℕ, zero, suc, ◌+◌, ◌-◌, ◌<◌, ◌≤◌, Bool, true, false, List, [], ◌∷◌, ◌++◌, length, get_or, take, drop, ◌^◌, Some, None, Result, Ok, Err, refl, sym, ap, ◌∙◌, arith, add-one}
 use Rattle.std.proofs.Common.{drop-cons, length-drop}
 use Rattle.std.proofs.lemmas.Bool.Decides.{nat_tests}
@@ -19,7 +19,7 @@ use Rattle.giotto_text.specs.cited.Reading.{IsLexicalFault}
 use Rattle.giotto_text.specs.inner.Adding.{placed, with_found}
 use Rattle.giotto_text.specs.Tokens.{FoundToken, Tokens, first_token, after_token, tokens_from, tokens_of}
 
--- each byte of a run passes
+-- each byte of a run passes the test
 pub run_passes : (p : ℕ → Bool) (xs : List ℕ) → AllPass p (take (prefix_len p xs) xs)
 run_passes p xs = λ k d lt.
     let within : k < prefix_len p xs = omega (arith, length-prefix_len p xs) in
@@ -31,7 +31,7 @@ name_byte_is_ascii c e = grind (arith, nat_tests)
 pub digit_in_range : (c : ℕ) → is_digit c ≡ true → (48 ≤ c) × (c ≤ 57)
 digit_in_range c e = (grind (arith, nat_tests), grind (arith, nat_tests))
 
--- the tokens found before what comes
+-- these tokens, followed by what comes next
 abbrev pub behind : List PlacedToken → Tokens → Tokens
 behind [] r = r
 behind (p ∷ ps) r = after_token p.token p.offset (behind ps r)
@@ -48,7 +48,7 @@ pub behind-Err : (ps : List PlacedToken) (n : ℕ) → behind ps (Err n) ≡ Err
 behind-Err [] n = refl
 behind-Err (p ∷ ps) n = ap (after_token p.token p.offset) (behind-Err ps n)
 
--- past the bytes of a token
+-- the tokens after the remaining bytes of a token
 pub tokens_from-within : (k offset : ℕ) (cs : List ℕ) → k ≤ length cs → tokens_from k offset cs ≡ tokens_from 0 (offset + k) (drop k cs)
 tokens_from-within zero offset cs le = ap (λ n. tokens_from 0 n cs) (omega arith)
 tokens_from-within (suc k) offset [] le = absurd (omega arith)
@@ -83,11 +83,11 @@ tokens_from-token text i len t lt e is positive within =
     tokens_from-within (len - 1) (i + 1) (drop (i + 1) text) inside ∙ rw (drop-drop, end) refl in
     rw whole (token_first (get_or text i 0) (drop (i + 1) text) i len t e (rw whole at is) ∙ ap (after_token t i) past)
 
--- at the end nothing is left
+-- at the end of the text there are no more tokens
 pub tokens_from-end : (text : List ℕ) (i : ℕ) → length text ≤ i → tokens_from 0 i (drop i text) ≡ Ok []
 tokens_from-end text i le = rw (drop_of_length-le text le) refl
 
--- what is found at an offset and added
+-- the token that was found at an offset and added
 pub found_there : (ts us : List PlacedToken) (offset len : ℕ) (f : FoundToken) → with_found ts offset f ≡ Ok (us, len)
     → (t : Token) × ((f ≡ Some (t, len)) × (us ≡ ts ++ placed t offset ∷ []))
 found_there ts us offset len (Some f) e =
@@ -99,12 +99,12 @@ pub none_there : (ts : List PlacedToken) (offset n : ℕ) (f : FoundToken) → w
 none_there ts offset n (Some f) e = absurd (cc)
 none_there ts offset n None e = (refl, cc)
 
--- no other fault comes of it
+-- it gives no other fault
 not_found : (ts : List PlacedToken) (offset : ℕ) (f : FoundToken) (fault : ReadFault) → ((n : ℕ) → Syntax n ≢ fault) → with_found ts offset f ≢ Err fault
 not_found ts offset (Some f) fault other e = absurd (cc)
 not_found ts offset None fault other e = let same : Syntax offset ≡ fault = cc in other offset same
 
--- what parses a run of digits
+-- how a run of digits is parsed
 pub digits_read : IsNumeralModel (λ ds. (i : ℕ) → i < length ds → IsInRange 48 57 (get_or ds i 0)) (digits_value 10)
 digits_read = numerals_by_value _ tells_by_index
 
@@ -116,11 +116,11 @@ digits_parsed run r begun digits short h =
     let small : digits_value 10 run < 10 ^ 19 = digits_value_short digits_read run 19 in_range short in
     parse_gives digits_read 64 run r h in_range begun (omega arith)
 
--- the rest of a text, cut by its length
+-- the rest of a text, with its length
 pub rest_whole : (text : List ℕ) (i : ℕ) → take (length text - i) (drop i text) ≡ drop i text
 rest_whole text i = take_all (length text - i) (drop i text) (omega (arith, length-drop i text))
 
--- a fault where nothing is found is the text's
+-- a fault at a place where no token is found is the fault of the text
 pub lexical_fault : (text : List ℕ) (ts : List PlacedToken) (i : ℕ) (fault : ReadFault) → tokens_of text ≡ behind ts (tokens_from 0 i (drop i text)) → i < length text
     → is_blank_of_text (get_or text i 0) ≡ false → (fault ≢ Memory → with_found ts i (first_token (drop i text)) ≡ Err fault) → IsLexicalFault text fault
 lexical_fault text ts i Memory so_far lt e h = tt

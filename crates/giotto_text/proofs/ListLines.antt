@@ -1,4 +1,4 @@
--- Lists: any number of things, lists with commas, lists in parentheses and behind a keyword, each as it is parsed.
+-- Lists and their parsers: repetitions, lists with commas, lists in parentheses, and lists after a keyword.
 use Rattle.std.proofs.Common.{◌≡◌, ◌⊎◌, inl, inr, ℕ, Bool, true, false, List, [], ◌∷◌, ◌++◌, map, Option, Some, None, refl, ap, subst}
 use Rattle.std.specs.Prelude.{◌||◌}
 use Rattle.std.specs.List.{flat_map}
@@ -16,7 +16,7 @@ use Rattle.giotto_text.proofs.ParserTokens.{isnt_this, begins_not, repeats_of, t
 use Rattle.giotto_text.proofs.cited.SameToken.{is_this}
 use Rattle.giotto_text.proofs.ExpressionLines.{opening, closing}
 
--- any number of things, as long as such a token comes next
+-- a part, repeated as long as such a token comes next
 abbrev pub any : {V : Type 0} → (V → Part) → (Token → Bool) → Form (List V)
 any P test = record { parts = map P; some = []; goes_on = λ t. test t || false }
 

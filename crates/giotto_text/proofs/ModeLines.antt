@@ -1,4 +1,4 @@
--- The grammar lines of modes, each as it is parsed.
+-- The grammar lines of modes, and their parsers.
 use Rattle.std.proofs.Common.{◌≡◌, ℕ, pos, false, List, [], ◌∷◌, ◌++◌, map, Option, Some, None, refl, sym, ap, ◌∙◌, subst}
 use Rattle.std.proofs.lemmas.List.{append_assoc}
 use Rattle.giotto_tasks.specs.Syntax as body
@@ -37,7 +37,7 @@ frequency_parses k =
     (bind _ (λ t. refl) int_parses
     (λ m. ended_parses _ do_token refl refl guard_parses (λ v ts. refl)))
 
--- the same, with the parts behind it
+-- the same, with the parts after it
 frequency_parts : (k : Keyword) (n : ℕ) (g : Option Expression) (ps : List Part) → keyword k ∷ int n ∷ written_guard g ++ (keyword keywords.Do ∷ ps) ≡ (a_frequency k).parts (n, g) ++ ps
 frequency_parts k n g ps = ap (λ x. keyword k ∷ int n ∷ x) (sym (append_assoc (written_guard g) (keyword keywords.Do ∷ []) ps))
 

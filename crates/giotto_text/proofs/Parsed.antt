@@ -24,12 +24,12 @@ up_to_rest front is = ap bare (is ∙ append-nil front)
 with_next : (front : List PlacedToken) (t : PlacedToken) → bare (front ++ t ∷ []) ≡ bare front ++ t.token ∷ []
 with_next front t = map-append (λ p. p.token) front (t ∷ [])
 
--- What an outcome says of the tokens: they spell this program and no other, or their fault is here.
+-- What an outcome says about the tokens: they spell this program and no other, or this is their fault.
 data Says (ts : List PlacedToken) (end : ℕ) : Outcome GiottoProgram → Type 0 where
   one_tree : (p : GiottoProgram) → Spells (bare ts) p → ((q : GiottoProgram) → Spells (bare ts) q → q ≡ p) → Says ts end (got p [])
   a_fault : {o : Outcome GiottoProgram} (offset : ℕ) → IsGrammarFault ts end offset → reading end o ≡ Err (Syntax offset) → Says ts end o
 
--- the tokens of a program and the mark of the end
+-- the tokens of a program, followed by the end mark
 ended : (front : List PlacedToken) {ts : List PlacedToken} (q : GiottoProgram) → ts ≡ front ++ [] → Spells (bare ts) q → SpellsParts (bare front ++ end_mark ∷ []) (program q ∷ token end_mark ∷ [])
 ended front q is s = subst (λ y. SpellsParts (y ++ end_mark ∷ []) (program q ∷ token end_mark ∷ [])) (up_to_rest front is) (spelled_append s (token_spelled all_spelled))
 
@@ -54,7 +54,7 @@ says ts end _ (broke front (t ∷ rest) is breaks) =
 parser_says : (ts : List PlacedToken) (end : ℕ) → Says ts end (read_program ts)
 parser_says ts end = says ts end (read_program ts) (program_parses {n = length ts + 1} ts (omega arith))
 
--- what it says is what the tokens read as
+-- what the outcome says is what the tokens read as
 
 small_or_not : (ts : List PlacedToken) (end : ℕ) (p : GiottoProgram) → nests_too_deep (bare ts) ≡ false → Spells (bare ts) p → (b : Bool) → has_small_tasks p ≡ b → ReadsTokens (Ok ts) end (if b then Ok p else Err TooMany)
 small_or_not ts end p shallow s true e = a_program ts refl shallow s e
@@ -75,7 +75,7 @@ by_cut (Err offset) end = no_token refl
 pub parsed_reads : (text : List ℕ) → Reads text (parsed text)
 parsed_reads text = by_cut (tokens_of text) (length text)
 
--- nothing else is
+-- the tokens read as nothing else
 
 same_tree : (ts : List PlacedToken) (end : ℕ) (q : GiottoProgram) (o : Outcome GiottoProgram) → Spells (bare ts) q → Says ts end o → o ≡ got q []
 same_tree ts end q _ r (one_tree p s only) = ap (λ y. got y []) (sym (only q r))
@@ -102,7 +102,7 @@ only_parsed cut end _ (a_program ts {p = p} e shallow s small) = ap (parsed_toke
 pub reads_parsed : (text : List ℕ) (r : Result GiottoProgram ReadFault) → Reads text r → r ≡ parsed text
 reads_parsed text r h = sym (only_parsed (tokens_of text) (length text) r h)
 
--- tokens spell one program at most: the one that is parsed
+-- tokens spell at most one program: the one that is parsed
 
 placed : List Token → List PlacedToken
 placed [] = []

@@ -1,4 +1,4 @@
--- Texts and the programs that they are read as.
+-- Texts and the programs that they read as.
 use Rattle.std.proofs.Common.{◌≡◌, ℕ, ℤ, pos, negsuc, List, [], ◌∷◌, ◌++◌, Some, None, Ok, codes, refl}
 use Rattle.giotto_tasks.specs.Syntax.{Block, number, port, unary, binary, assign, branch, repeat, finished, step}
 use Rattle.giotto_tasks.specs.declared.operators.BinaryOperator.TheVariants as operators
@@ -67,7 +67,7 @@ with_block b = record {
   start = codes "m";
 }
 
--- an operand that is an operation stands in parentheses
+-- an operand that is an operation is in parentheses
 pub sum_of_sums : parsed (codes "task T() { x := (a - b) % (c / d); } start m;") ≡ Ok (with_block (step (assign (codes "x")
     (binary operators.Remainder (binary operators.Subtract (port (codes "a")) (port (codes "b"))) (binary operators.Divide (port (codes "c")) (port (codes "d"))))) finished))
 sum_of_sums = refl
@@ -83,7 +83,8 @@ pub or_not : parsed (codes "task T() { x := (a < b) || (!(c >= d)); } start m;")
     (binary operators.Or (binary operators.Less (port (codes "a")) (port (codes "b"))) (unary unary_operators.Not (binary operators.AtLeast (port (codes "c")) (port (codes "d")))))) finished))
 or_not = refl
 
--- what leaves no mark: an empty "else", the empty braces of a switch, parentheses round a whole expression or one operand, leading zeros, "- 0"
+-- what leaves no trace: an empty "else", the empty braces of a switch, parentheses round a whole expression or a single operand,
+-- leading zeros, "- 0"
 pub empty_else : parsed (codes "task T() { if a { } else { } } start m;") ≡ parsed (codes "task T() { if a { } } start m;")
 empty_else = refl
 

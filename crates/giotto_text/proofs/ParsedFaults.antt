@@ -1,23 +1,23 @@
--- Texts that are refused, each with its answer, and texts that are just not refused.
+-- Texts that are refused, each with its fault, and texts that are just within the limits.
 use Rattle.std.proofs.Common.{◌≡◌, ℕ, true, List, ◌++◌, replicate, Err, is_ok, codes, refl}
 use Rattle.giotto_text.specs.declared.faults.ReadFault.TheVariants.{Syntax, TooDeep, TooMany}
 use Rattle.giotto_text.specs.Parsing.{parsed}
 
--- the text is refused for this offset
+-- the text is refused with this offset
 abbrev FaultsAt : List ℕ → ℕ → Type 0
 FaultsAt text offset = parsed text ≡ Err (Syntax offset)
 
 abbrev IsRead : List ℕ → Type 0
 IsRead text = is_ok (parsed text) ≡ true
 
--- so many "(", and so many ")"
+-- n times "(", and n times ")"
 abbrev opened : ℕ → List ℕ
 opened n = replicate n 40
 
 abbrev closed : ℕ → List ℕ
 closed n = replicate n 41
 
--- the tokens end too early: at the length of the text, trailing blanks among it
+-- the tokens end too early: the offset is the length of the text, including trailing blanks
 pub empty_text : FaultsAt (codes "") 0
 empty_text = refl
 
@@ -39,7 +39,7 @@ token_behind_the_end = refl
 pub no_line_and_no_grant : FaultsAt (codes "sensor s := 0;") 13
 no_line_and_no_grant = refl
 
--- each kind of declaration in its place, and each kind of line in a mode
+-- each kind of declaration has its place, and so has each kind of line in a mode
 pub sensor_behind_output : FaultsAt (codes "output o := 0; sensor s := 0 line 0;") 15
 sensor_behind_output = refl
 
@@ -55,14 +55,14 @@ update_behind_switch = refl
 pub outputs_behind_states : FaultsAt (codes "task T() state s := 0 output o { } start m;") 22
 outputs_behind_states = refl
 
--- a keyword is no name
+-- a keyword can't be a name
 pub keyword_for_a_name : FaultsAt (codes "output line := 0; start m;") 7
 keyword_for_a_name = refl
 
 pub number_then_keyword : IsRead (codes "mode m period 2 { actfreq 1do a := 3; } start m;")
 number_then_keyword = refl
 
--- 9223372036854775808 only behind the "-" of an initial value
+-- 9223372036854775808 is allowed only after the "-" of an initial value
 pub least_initial : IsRead (codes "sensor s := -9223372036854775808 line 0; start m;")
 least_initial = refl
 
@@ -75,7 +75,7 @@ no_such_number = refl
 pub minus_of_an_expression : FaultsAt (codes "task T() { x := -9223372036854775808; } start m;") 17
 minus_of_an_expression = refl
 
--- one operation in an expression: a second operator is a fault
+-- an expression has one operation: a second operator is a fault
 pub name_behind_a_number : FaultsAt (codes "task T() { x := 5abc; } start m;") 17
 name_behind_a_number = refl
 
@@ -106,14 +106,14 @@ two_else = refl
 pub else_alone : FaultsAt (codes "task T() { else { } } start m;") 11
 else_alone = refl
 
--- 32 may be open at once: the kinds need not match, and what closes nothing counts for nothing
+-- 32 may be open at once; the kinds need not match, and a closing token without an opening one doesn't count
 pub nested_32_deep : FaultsAt (opened 32) 0
 nested_32_deep = refl
 
 pub nested_33_deep : parsed (opened 33) ≡ Err TooDeep
 nested_33_deep = refl
 
--- the order: no token, too deep, the grammar, too many
+-- the order of the checks: no token, too deep, the grammar, too many
 pub deep_before_grammar : parsed (codes "x " ++ opened 33) ≡ Err TooDeep
 deep_before_grammar = refl
 
@@ -138,7 +138,7 @@ sum_32_deep = refl
 pub sum_33_deep : parsed (in_parentheses 32) ≡ Err TooDeep
 sum_33_deep = refl
 
--- at most 16 inputs, 16 outputs and 16 states, after the grammar
+-- at most 16 inputs, 16 outputs and 16 states, checked after the grammar
 pub inputs_16 : IsRead (codes "task T(i0, i1, i2, i3, i4, i5, i6, i7, i8, i9, i10, i11, i12, i13, i14, i15) { } start m;")
 inputs_16 = refl
 

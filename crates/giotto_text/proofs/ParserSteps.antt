@@ -1,4 +1,4 @@
--- The steps of the parser, each as a lemma: one token, one thing and then another, one of two, any number.
+-- The steps of the parser, each as a lemma: one token, one parser after another, one of two, repetition.
 use Rattle.std.proofs.Common.{◌≡◌, ◌≢◌, ℕ, zero, suc, ◌<◌, ◌≤◌, ◌⊎◌, inl, inr, Bool, true, false, List, [], ◌∷◌, ◌++◌, length, Option, Some, None, refl, sym, ap, ◌∙◌, subst, arith, length-append}
 use Rattle.std.proofs.lemmas.List.{append_assoc, append-nil, map-append}
 use Rattle.std.specs.List.{flat_map}
@@ -10,9 +10,9 @@ use Rattle.giotto_text.specs.Spelling.{SpellsParts, all_spelled, token_spelled, 
 use Rattle.giotto_text.specs.Tokens.{bare}
 use Rattle.giotto_text.proofs.Forms.{Form, closed, one_token, both, either, many, optional, Excludes, Fails, IsWider, AreApart, IsClosed, Repeats, Writes, first_token_is, behind_token, begun, spelled_then, fewer, or_left, or_right, apart_closed}
 
--- what a form spans, before the next token
+-- the tokens that a form takes, before the next token
 
--- the tokens begin with this one, if there is any
+-- the tokens begin with this one, unless there are none
 abbrev pub Follows : List Token → Token → Type 0
 Follows [] next = Unit {0}
 Follows (u ∷ us) next = u ≡ next
@@ -21,14 +21,14 @@ abbrev pub first_or : List Token → Token → Token
 first_or [] next = next
 first_or (t ∷ ts) next = t
 
--- The tokens spell this value, and whatever is written there as the form has it ends before the next token.
+-- The tokens spell this value, and anything else the form could read here also ends before the next token.
 pub record Spans {V : Type 0} (F : Form V) (front : List Token) (v : V) (next : Token) : Type 0 where
   pub spells : (us : List Token) (ps : List Part) → SpellsParts us ps → SpellsParts (front ++ us) (F.parts v ++ ps)
   pub begins : (us : List Token) (ps : List Part) → BeginsParts us ps → BeginsParts (front ++ us) (F.parts v ++ ps)
   pub only : (us : List Token) (w : V) (ps : List Part) → Follows us next → Excludes F.goes_on ps → BeginsParts (front ++ us) (F.parts w ++ ps) → BeginsParts us ps
   pub one : (us : List Token) (w : V) (ps : List Part) → Excludes F.goes_on ps → SpellsParts (front ++ next ∷ us) (F.parts w ++ ps) → (w ≡ v) × SpellsParts (next ∷ us) ps
 
--- The tokens begin what is written for some value, and with the next token for none.
+-- The tokens begin what is written for some value, and with the next token they begin what is written for none.
 pub record Breaks {V : Type 0} (F : Form V) (front : List Token) (next : Token) : Type 0 where
   pub value : V
   pub begins : (ps : List Part) → BeginsParts front (F.parts value ++ ps)
@@ -38,7 +38,7 @@ follows_on : (front us : List Token) (next : Token) → Follows us next → Foll
 follows_on [] us next h = h
 follows_on (t ∷ front) us next h = refl
 
--- what can't begin with the first token
+-- parts that can't begin with the first token
 other_only : (front us : List Token) (next : Token) (qs ps : List Part) → Follows us next → ((xs : List Token) → ¬ BeginsParts (first_or front next ∷ xs) qs) → BeginsParts (front ++ us) qs → BeginsParts us ps
 other_only [] [] next qs ps h bad b = none_left
 other_only [] (u ∷ us) next qs ps h bad b = absurd (bad us (subst (λ x. BeginsParts (x ∷ us) qs) h b))
@@ -112,14 +112,14 @@ breaks_second F G ff gf v next apart f g =
           g.fault us x.1 ps ex (f.only (gf ++ next ∷ us) x.0 (G.parts x.1 ++ ps) (follows_on gf (next ∷ us) next refl) (apart x.1 ps ex) whole);
     }
 
--- what a parser answers
+-- the result of a parser
 
--- The outcome is right: the value is one that the tokens before the rest spell, or the first token of the rest is the fault.
+-- The outcome is right: the tokens before the rest spell the value, or the first token of the rest is the fault.
 pub data Right {V T : Type 0} (F : Form V) (f : V → T) (ts : List PlacedToken) : Outcome T → Type 0 where
   came : (front rest : List PlacedToken) (v : V) {x : T} → ts ≡ front ++ rest → x ≡ f v → Spans F (bare front) v (next_of rest) → Right F f ts (got x rest)
   broke : (front rest : List PlacedToken) → ts ≡ front ++ rest → Breaks F (bare front) (next_of rest) → Right F f ts (stopped rest)
 
--- so it is for all tokens fewer than n
+-- the outcome is right for all lists of fewer than n tokens
 abbrev pub Parses : {V T : Type 0} → ℕ → Form V → (V → T) → Parser T → Type 0
 Parses n F f p = (ts : List PlacedToken) → length ts < n → Right F f ts (p ts)
 
@@ -150,7 +150,7 @@ one_right {V = V} {T = T} {n = n} token_of d g f some none end same = at
     at [] lt = broke [] [] refl (breaks_here (one_token token_of d) end_mark (refuses end_mark end))
     at (t ∷ ts) lt = by t ts (f t.token) refl
 
--- one thing and then another
+-- one parser after another
 
 pub behind_right : {V W S T : Type 0} {F : Form V} {G : Form W} {f : V → S} {g : V × W → T} {ts : List PlacedToken} {o : Outcome S} (q : S → Parser T) → AreApart F G → Right F f ts o
     → ((v : V) (front rest : List PlacedToken) → ts ≡ front ++ rest → Spans F (bare front) v (next_of rest) → Right G (λ w. g (v, w)) rest (q (f v) rest)) → Right (both F G) g ts (behind o q)
@@ -180,7 +180,7 @@ pub bind : {V W S T : Type 0} {n : ℕ} {F : Form V} {G : Form W} {f : V → S} 
     → Parses n F f p → ((v : V) → Parses n G (λ w. g (v, w)) (q (f v))) → Parses n (both F G) g (p >>= q)
 bind {F = F} {G = G} q closed hp hq = bind_apart q (apart_closed F G closed) hp hq
 
--- another value from it
+-- the same parser with another value
 
 pub mapped : {V S T : Type 0} {n : ℕ} {F : Form V} {f : V → S} {g : V → T} {p : Parser S} (q : S → Parser T)
     → Parses n F f p → ((v : V) (ts : List PlacedToken) → q (f v) ts ≡ got (g v) ts) → Parses n F g (p >>= q)
@@ -190,7 +190,7 @@ mapped {S = S} {T = T} {F = F} {f = f} {g = g} {p = p} q hp same ts lt = by (p t
     by _ (came front rest v is value spans) = subst (Right F g ts) (sym (ap (λ x. q x rest) value ∙ same v rest)) (came front rest v is refl spans)
     by _ (broke front rest is breaks) = broke front rest is breaks
 
--- One form as another.
+-- One form in terms of another.
 pub parsed_as : {V W T : Type 0} {n : ℕ} {F : Form V} {G : Form W} {h : V → W} {f : W → T} {p : Parser T} → Writes F G h → Parses n F (λ v. f (h v)) p → Parses n G f p
 parsed_as {T = T} {F = F} {G = G} {h = h} {f = f} {p = p} w hp ts lt = by (p ts) (hp ts lt)
   where
@@ -212,9 +212,9 @@ parsed_as {T = T} {F = F} {G = G} {h = h} {f = f} {p = p} w hp ts lt = by (p ts)
           fault = λ us y ps ex b. let x = w.only y (bare front ++ next_of rest ∷ us) ps b in breaks.fault us x.0 ps (fewer G.goes_on F.goes_on ps w.on ex) x.1;
         })
 
--- one of the ways in which a form is written
+-- one of the ways to write a form
 
--- What F has is among what H has, and else nothing of it begins with this token.
+-- F's values are among H's, and none of H's other values begins with this token.
 record Includes {V X : Type 0} (F : Form V) (H : Form X) (i : V → X) (first : Token) : Type 0 where
   same : (v : V) → F.parts v ≡ H.parts (i v)
   wider : IsWider H.goes_on F.goes_on
@@ -282,7 +282,7 @@ either_parses {V = V} {W = W} {T = T} {F = F} {G = G} {on = on} {f = f} {p = p} 
     by true e = right_in (record { same = λ v. refl; wider = left_wider; other = left_or e }) (hp ts lt)
     by false e = right_in (record { same = λ v. refl; wider = right_wider; other = right_or e }) (hq ts lt)
 
--- one thing, or nothing
+-- an optional form
 
 pub optional_parses : {V T : Type 0} {n : ℕ} {F : Form V} {f : Option V → T} {p q : Parser T} {test : Token → Bool} → ((t : Token) → test t ≡ false → (v : V) → Fails (optional F test).goes_on t (F.parts v))
     → Parses n F (λ v. f (Some v)) p → ((ts : List PlacedToken) → q ts ≡ got (f None) ts) → Parses n (optional F test) f (if_next test p q)
@@ -300,9 +300,9 @@ optional_parses {V = V} {T = T} {F = F} {f = f} {p = p} {q = q} {test = test} ot
     by true e = right_in (record { same = λ v. refl; wider = λ t. or_right (test t) (F.goes_on t); other = some_or e }) (hp ts lt)
     by false e = subst (Right (optional F test) f ts) (sym (hq ts)) (right_in {i = λ u. None} (record { same = λ u. refl; wider = λ t h. absurd (cc); other = none_or e }) (nothing_right ts))
 
--- any number of things
+-- repetition
 
--- a thing is at least one token
+-- each repetition takes at least one token
 pub moves : {V : Type 0} {F : Form V} {first : Token → Bool} (front rest : List PlacedToken) {ts : List PlacedToken} {v : V} → Repeats F first → ts ≡ front ++ rest → Spans F (bare front) v (next_of rest) → length rest < length ts
 moves {F = F} [] rest {v = v} rep is f =
     let b : BeginsParts (end_mark ∷ []) (F.parts v ++ token end_mark ∷ []) =

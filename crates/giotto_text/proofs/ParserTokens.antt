@@ -1,4 +1,4 @@
--- The tokens, as the parser reads them.
+-- How the parser reads tokens.
 use Rattle.std.proofs.Common.{◌≡◌, ◌≢◌, ℕ, suc, ◌-◌, ◌^◌, ◌<◌, ◌≤◌, Bool, true, false, List, [], ◌∷◌, ◌++◌, length, Option, Some, None, refl, ap, ◌∙◌, sym, subst, arith, lit<, lit≤, length-append}
 use Rattle.std.specs.Prelude.{nat_le, is_some, if◌then◌else◌}
 use Rattle.std.proofs.lemmas.Bool.{leb-true}
@@ -50,7 +50,7 @@ passes t (u ∷ front) rest v is spans = omega (arith, ap length is, length-appe
 led_writes : {V : Type 0} (t : Token) (F : Form V) → Writes (both (mark t) F) (led t F) (λ p. p.1)
 led_writes t F = same_writes (λ v. refl) (λ w. ((tt, w), refl)) (λ u e. e)
 
--- behind a token fewer are left
+-- fewer tokens are left after a token
 pub deeper_parses : {V T : Type 0} {n : ℕ} {F : Form V} {f : V → T} {q : Parser T} (t : Token) → this t end_mark ≡ None → Parses n F f q → Parses (suc n) (led t F) f (read_token t >> q)
 deeper_parses {n = n} {F = F} {q = q} t end hq =
     parsed_as (led_writes t F)
@@ -70,7 +70,7 @@ ended_parses {n = n} {F = F} {f = f} {g = g} q t off end hp same =
     (bind_apart q (apart_mark F t off) hp
     (λ v ts lt. subst (Right (mark t) (λ _. g v) ts) (sym (same v ts)) (mapped {n = n} {F = mark t} {f = λ x. x} {g = λ _. g v} {p = read_token t} (λ _. done (g v)) (token_parses t end) (λ u us. refl) ts lt)))
 
--- what begins with this token
+-- values that begin with this token
 
 pub begins_not : {V : Type 0} (t : Token) (F : Form V) (on : Token → Bool) (u : Token) → same_token t u ≡ false → (v : V) → Fails on u ((led t F).parts v)
 begins_not t F on u e v us ps ex b = isnt_this t u e (first_token_is u t us (F.parts v ++ ps) b)
@@ -114,7 +114,7 @@ number_is most (Mark k) m e = absurd (none-some m e)
 no_number : (most m : ℕ) → m ≤ most → number_in most (Number m) ≢ None
 no_number most m le e = let over : nat_le m most ≡ false = if_none (nat_le m most) m e in grind (arith, nat_tests)
 
--- the number behind the "-" of an initial value
+-- the number after the "-" of an initial value
 abbrev pub a_size : Form ((n : ℕ) × (n ≤ 2 ^ 63))
 a_size = one_token (λ p. Number p.0) (0, lit≤ tt)
 
@@ -208,6 +208,6 @@ same_binary o p e = same_Some o p (sym (binary_again o) ∙ ap binary_in e ∙ b
 pub binary_parses : {n : ℕ} → Parses n a_binary_operator (λ o. o) (read_one binary_in)
 binary_parses = one_right (λ o. Mark (symbol_of_binary o)) operators.Add (λ o. o) binary_in binary_is (λ o e. none-some o (sym e ∙ binary_again o)) refl same_binary
 
--- no operator comes of another token
+-- other tokens aren't operators
 pub no_some : {X : Type 0} (o : Option X) (x : X) → is_some o ≡ false → o ≢ Some x
 no_some o x e f = let no : false ≡ true = sym e ∙ ap is_some f in cc

@@ -1,4 +1,4 @@
--- The canonical tokens of parts, and that each grammar line gives those of its value, but for brackets that need not be there.
+-- The canonical tokens of parts. Each grammar line has the canonical tokens of its value, except for unnecessary brackets.
 use Rattle.std.proofs.Common.{◌≡◌, ℕ, List, [], ◌∷◌, ◌++◌, map, Option, Some, None, refl, ap, sym, ◌∙◌}
 use Rattle.std.proofs.lemmas.List.{append_assoc, append-nil}
 use Rattle.std.specs.List.{flat_map}
@@ -56,7 +56,7 @@ t {k = k} b = record { are = ap (λ r. k ∷ r) b.are }
 part : (p : Part) {ps : List Part} {ts : List Token} → Become ps ts → Become (p ∷ ps) (part_tokens p ++ ts)
 part p b = record { are = ap (λ r. part_tokens p ++ r) b.are }
 
--- the same tokens, grouped otherwise
+-- the same tokens, grouped differently
 grouped : {ps : List Part} {ts us : List Token} → Become ps ts → ts ≡ us → Become ps us
 grouped b e = record { are = b.are ∙ e }
 
@@ -86,12 +86,12 @@ rows_become : (b : Block) {ps : List Part} {ts : List Token} → Become ps ts �
 rows_become finished h = h
 rows_become (step s b) {ts = ts} h = grouped (part (grammar.statement s) (rows_become b h)) (sym (append_assoc (statement_tokens s) (block_tokens b) ts))
 
--- behind a frequency, a guard and "do"
+-- tokens after a frequency, a guard and "do"
 at_frequency-behind : (k : Keyword) (w : ℕ) (guard : Option Expression) (ts : List Token)
     → at_frequency k w guard ++ ts ≡ keyword k ∷ tokens.Number w ∷ guard_tokens guard ++ keyword Do ∷ ts
 at_frequency-behind k w guard ts = ap (λ r. keyword k ∷ tokens.Number w ∷ r) (append_assoc (guard_tokens guard) (keyword Do ∷ []) ts)
 
--- The grammar lines that give just the tokens of their value.
+-- The grammar lines that have exactly the tokens of their value.
 pub program_becomes : (p : GiottoProgram)
     → Become (map grammar.sensor p.sensors ++ (map grammar.actuator p.actuators ++ (map grammar.output p.outputs ++ (map grammar.task p.tasks ++ (map grammar.mode p.modes
     ++ grammar.keyword Start ∷ grammar.name p.start ∷ grammar.symbol Semicolon ∷ []))))) (canonical_tokens p)
@@ -163,7 +163,7 @@ pub plain_switch_becomes : (s : ModeSwitch)
     (switch_with s [])
 plain_switch_becomes s = switch_becomes s [] (t none)
 
--- with braces, also round no destination
+-- with braces, even if there is no destination
 pub braced_switch_becomes : (s : ModeSwitch)
     → Become (grammar.keyword ExitFreq ∷ grammar.int s.frequency ∷ written_guard s.guard ++ (grammar.keyword Do ∷ grammar.name s.target ∷ grammar.symbol OpenBrace
     ∷ map grammar.destination s.destinations ++ (grammar.symbol CloseBrace ∷ grammar.symbol Semicolon ∷ [])))

@@ -1,4 +1,4 @@
--- The first tokens of what is spelled, and of a prefix, are a prefix.
+-- The first tokens of a spelled token list or of a prefix are a prefix.
 use Rattle.std.proofs.Common.{◌≡◌, List, [], ◌∷◌, ◌++◌, refl}
 use Rattle.giotto_text.specs.declared.tokens.Token.{Token}
 use Rattle.giotto_text.specs.Grammar.{Part}

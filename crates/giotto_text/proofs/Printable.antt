@@ -1,4 +1,4 @@
--- What a text reads as can be printed.
+-- A program that a text reads as can be printed.
 use Rattle.std.proofs.Common.{◌≡◌, ℕ, List, Ok, subst}
 use Rattle.giotto_text.specs.Parsing.{parsed}
 use Rattle.giotto_text.specs.Program.{GiottoProgram}

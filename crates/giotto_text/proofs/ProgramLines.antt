@@ -1,4 +1,4 @@
--- The grammar line of a program, as it is parsed.
+-- The grammar line of a program, and its parser.
 use Rattle.std.proofs.Common.{◌≡◌, ℕ, false, List, [], refl}
 use Rattle.giotto_tasks.specs.declared.names.Name.{Name}
 use Rattle.giotto_text.specs.declared.tokens.Keyword.TheVariants as keywords
@@ -58,7 +58,7 @@ program_comes (program_line {p = p}) = ((p.sensors, (p.actuators, (p.outputs, (p
 program_writes : Writes program_steps a_program program_from
 program_writes = line_writes (λ w. refl) (λ v. program_line) (λ w line. program_comes) (λ t e. e)
 
--- a list of things that goes on with none of the tokens with which the rest begins
+-- a list of parts that continues with none of the tokens with which the rest begins
 before_start : {V : Type 0} (F : Form V) → F.goes_on start_token ≡ false → AreApart F a_start
 before_start F off = apart_first F a_start start_token (led_begins start_token (ended a_name semicolon)) off
 

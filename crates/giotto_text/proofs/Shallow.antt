@@ -1,5 +1,5 @@
--- Where tokens don't nest too deep, the expressions that they are canonical of aren't too deep either: an operand that is an
--- operation stands in parentheses, and each expression in braces.
+-- If the canonical tokens of expressions don't nest too deep, the expressions aren't too deep either: an operand that is an
+-- operation is in parentheses, and each expression is in braces.
 use Rattle.std.specs.Prelude.{nat_le}
 use Rattle.std.proofs.Common.{◌≡◌, ℕ, suc, ◌+◌, ◌-◌, ◌≤◌, Bool, true, false, ◌&&◌, List, [], ◌∷◌, ◌++◌, length, map, ℤ, Option, Some, None, refl, ap, sym, ◌∙◌, subst, append_assoc, arith}
 use Rattle.std.proofs.Math.Nat.{max-le}
@@ -32,12 +32,12 @@ use Rattle.giotto_text.proofs.ParserSteps.{Right, came, broke}
 use Rattle.giotto_text.proofs.PartTokens.{tokens_of_parts}
 use Rattle.giotto_text.proofs.TaskLines.{a_block, blocks_parse}
 
--- what follows from tokens that stand in braces and don't nest too deep: as many are open behind them as before
+-- P follows if the tokens are in braces and don't nest too deep; as many brackets are open after the tokens as before
 pub record Within (ts : List Token) (P : Type 0) : Type 0 where
   pub same : (n : ℕ) → open_after n ts ≡ n
   pub found : (n : ℕ) → 1 ≤ n → nests_too_deep_from n ts ≡ false → P
 
--- a token that opens and closes nothing
+-- a token that opens and closes nothing, at the front
 behind_token : {P : Type 0} (t : Token) (ts : List Token) → ((n : ℕ) → open_behind n t ≡ n) → Within ts P → Within (t ∷ ts) P
 behind_token t ts none w = record {
   same = λ n. ap (λ k. open_after k ts) (none n) ∙ w.same n;
@@ -46,7 +46,7 @@ behind_token t ts none w = record {
       w.found n le (subst (λ k. nests_too_deep_from k ts ≡ false) (none n) rest);
 }
 
--- one after the other
+-- one token list after another
 both : {P Q : Type 0} (ts us : List Token) → Within ts P → Within us Q → Within (ts ++ us) (P × Q)
 both ts us v w = record {
   same = λ n. open_after-append n ts us ∙ ap (λ k. open_after k us) (v.same n) ∙ w.same n;
@@ -55,19 +55,19 @@ both ts us v w = record {
       (v.found n le each.0, w.found n le (subst (λ k. nests_too_deep_from k us ≡ false) (v.same n) each.1));
 }
 
--- nothing
+-- no tokens
 nothing : Within [] (Unit {0})
 nothing = record { same = λ n. refl; found = λ n le h. tt }
 
--- what follows from what follows
+-- a consequence of P
 weaker : {P Q : Type 0} {ts : List Token} → (P → Q) → Within ts P → Within ts Q
 weaker f w = record { same = w.same; found = λ n le h. f (w.found n le h) }
 
--- with something behind that says nothing
+-- tokens followed by others that prove nothing
 first_of : {P : Type 0} (ts us : List Token) → Within ts P → Within us (Unit {0}) → Within (ts ++ us) P
 first_of ts us v w = weaker (λ r. r.0) (both ts us v w)
 
--- in brackets
+-- tokens in brackets
 enclosed : {P : Type 0} (left right : Token) (ts : List Token) → ((n : ℕ) → open_behind n left ≡ suc n) → ((n : ℕ) → open_behind (suc n) right ≡ n)
     → Within ts P → Within (left ∷ ts ++ right ∷ []) P
 enclosed left right ts opens closes w = record {
@@ -90,7 +90,7 @@ within_braces ts w = enclosed (symbol OpenBrace) (symbol CloseBrace) ts (λ n. r
 below : (n : ℕ) → nat_le 33 n ≡ false → n ≤ 32
 below n h = grind (arith, nat_tests)
 
--- in n open brackets at most 33 - n operations of the expression stand inside one another
+-- inside n open brackets, at most 33 - n operations of the expression are nested
 abbrev IsBounded : Expression → Type 0
 IsBounded e = (n : ℕ) → n ≤ 32 → nests_too_deep_from n (expression_tokens e) ≡ false → n + depth_of e ≤ 33
 
@@ -102,7 +102,7 @@ bracketed_depth e bounded n h =
     let deep = bounded (suc n) (below (suc n) each.0) (deep_parts (suc n) ts (symbol CloseParenthesis ∷ []) each.1).0 in
     omega (arith, deep)
 
--- an operand: an operation takes parentheses
+-- an operand: an operation needs parentheses
 operand_depth : (e : Expression) → IsBounded e → (n : ℕ) → n ≤ 32 → nests_too_deep_from n (operand_tokens e (expression_tokens e)) ≡ false → n + depth_of e ≤ 32
 operand_depth (number z) bounded n le h = omega arith
 operand_depth (port x) bounded n le h = omega arith
@@ -133,7 +133,7 @@ expression_depth (binary o a b) n le h =
     let most = max-le a_fits b_fits in
     omega (arith, most)
 
--- an expression within braces
+-- an expression in braces
 expression_within : (e : Expression) → Within (expression_tokens e) (depth_of e ≤ 32)
 expression_within e = record { same = balanced.same; found = found }
   where
@@ -263,13 +263,13 @@ drivers_within m =
 
 -- programs
 
--- tokens, and what stands behind them
+-- tokens, and the tokens after them
 parts_of : (ts us : List Token) → nests_too_deep (ts ++ us) ≡ false → (nests_too_deep ts ≡ false) × (nests_too_deep us ≡ false)
 parts_of ts us h =
     let each = deep_parts 0 ts us h in
     (each.0, deep_less 0 (open_after 0 ts) us (omega arith) each.1)
 
--- in the braces behind some tokens
+-- tokens in braces, after some others
 braced : {P : Type 0} (front ts : List Token) → Within ts P → nests_too_deep (front ++ in_braces ts) ≡ false → P
 braced front ts w h =
     let inner = (parts_of front (in_braces ts) h).1 in
@@ -331,7 +331,7 @@ abbrev block_got : Outcome Block → Block
 block_got (got b rest) = b
 block_got (stopped rest) = finished
 
--- the block that tokens begin with, where they don't nest too deep
+-- the block that tokens begin with, if they don't nest too deep
 pub block_read : (ts rest : List PlacedToken) (b : Block) → nests_too_deep (bare ts) ≡ false → read_block ts ≡ got b rest → depth_of_block b ≤ 32
 block_read ts rest b h e = by (read_block ts) (blocks_parse {n = suc (length ts)} ts (omega arith)) e
   where

@@ -54,7 +54,7 @@ number_begins c cs letter digit = rw (letter, digit) refl
 mark_begins : (c : ℕ) (cs : List ℕ) → is_letter c ≡ false → is_digit c ≡ false → first_token (c ∷ cs) ≡ mark (c ∷ cs)
 mark_begins c cs letter digit = rw (letter, digit) refl
 
--- a run of name bytes that a letter begins
+-- a run of name bytes that begins with a letter
 letter_first : (c : ℕ) (cs : List ℕ) → is_letter c ≡ true → take_while is_name_byte (c ∷ cs) ≡ c ∷ take_while is_name_byte cs
 letter_first c cs letter =
     let byte : is_name_byte c ≡ true = or_left (is_letter c) (is_digit c) letter in

@@ -1,4 +1,4 @@
--- The grammar lines of statements, blocks and tasks, each as it is parsed.
+-- The grammar lines of statements, blocks and tasks, and their parsers.
 use Rattle.std.proofs.Common.{◌≡◌, ◌⊎◌, inl, inr, ℕ, zero, suc, Bool, true, false, ℤ, pos, List, [], ◌∷◌, ◌++◌, length, map, Option, Some, None, refl, sym, ap, ◌∙◌, subst, arith}
 use Rattle.std.specs.Prelude.{not}
 use Rattle.std.specs.List.{flat_map}

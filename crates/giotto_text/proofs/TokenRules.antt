@@ -1,18 +1,18 @@
--- The rules of tokens, each by an example.
+-- The rules for tokens, each shown by an example.
 use Rattle.std.proofs.Common.{◌≡◌, ◌∷◌, [], Ok, Err, codes, refl}
 use Rattle.giotto_text.specs.declared.tokens.Keyword.TheVariants.{Do, Sensor}
 use Rattle.giotto_text.specs.declared.tokens.Symbol.TheVariants.{Becomes, Semicolon, AtMost, Less, EqualEqual, Minus, Not, Slash}
 use Rattle.giotto_text.specs.Tokens.{tokens_of}
 use Rattle.giotto_text.proofs.cited.Adder.{word, named, count, mark}
 
--- a number is digits alone: no blank need stand between it and a word
+-- a number consists of digits alone: no blank is needed between it and a word
 pub number_then_keyword : tokens_of (codes "1do") ≡ Ok (count 1 0 ∷ word Do 1 ∷ [])
 number_then_keyword = refl
 
 pub number_then_name : tokens_of (codes "5abc") ≡ Ok (count 5 0 ∷ named (codes "abc") 1 ∷ [])
 number_then_name = refl
 
--- a name has at most 32 bytes, and a longer run is a fault where it begins
+-- a name has at most 32 bytes; a longer run is a fault where it begins
 pub name_of_32_bytes : tokens_of (codes " abcdefghijklmnopqrstuvwxyz_12345") ≡ Ok (named (codes "abcdefghijklmnopqrstuvwxyz_12345") 1 ∷ [])
 name_of_32_bytes = refl
 
@@ -22,7 +22,7 @@ name_of_33_bytes = refl
 pub number_then_long_name : tokens_of (codes "5abcdefghijklmnopqrstuvwxyz_123456") ≡ Err 1
 number_then_long_name = refl
 
--- a word that goes on behind a keyword is a name, and keywords are in lower case
+-- a word that continues after a keyword is a name; keywords are in lower case
 pub name_over_keyword : tokens_of (codes "sensor sensors Sensor") ≡ Ok (word Sensor 0 ∷ named (codes "sensors") 7 ∷ named (codes "Sensor") 15 ∷ [])
 name_over_keyword = refl
 
@@ -39,7 +39,7 @@ greatest_number = refl
 pub too_great_number : tokens_of (codes "9223372036854775809") ≡ Err 0
 too_great_number = refl
 
--- a mark is as long as possible, and wants no blanks round it
+-- a symbol is as long as possible, and needs no blanks around it
 pub longest_mark : tokens_of (codes "a<=b<c==-1") ≡ Ok
     (named (codes "a") 0 ∷ mark AtMost 1 ∷ named (codes "b") 3 ∷ mark Less 4 ∷ named (codes "c") 5 ∷ mark EqualEqual 6 ∷ mark Minus 8 ∷ count 1 9 ∷ [])
 longest_mark = refl
@@ -56,7 +56,7 @@ rest_of_a_mark = refl
 pub no_blanks : tokens_of (codes "a:=b;") ≡ Ok (named (codes "a") 0 ∷ mark Becomes 1 ∷ named (codes "b") 3 ∷ mark Semicolon 4 ∷ [])
 no_blanks = refl
 
--- a colon alone begins no token, nor does a byte above 127
+-- a single colon begins no token, and neither does a byte above 127
 pub colon_alone : tokens_of (codes "a : = 0") ≡ Err 2
 colon_alone = refl
 

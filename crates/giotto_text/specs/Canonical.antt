@@ -1,4 +1,4 @@
--- The canonical text of a program: its tokens, one space between each two, and no parentheses, braces or zeros that need not be there.
+-- The canonical text of a program: its tokens with one space between each two, without unnecessary parentheses, braces or zeros.
 use Rattle.std.specs.Prelude.{ℕ, suc, ℤ, pos, negsuc, List, [], ◌∷◌, ◌++◌, map, Option, Some, None}
 use Rattle.std.specs.List.{flat_map, join_with_byte}
 use Rattle.std.specs.Fmt.{decimal}
@@ -26,12 +26,12 @@ keyword k = tokens.Keyword k
 abbrev pub symbol : Symbol → Token
 symbol s = tokens.Symbol s
 
--- "-" and the size of a negative number
+-- "-" and the absolute value, for a negative number
 abbrev pub initial_tokens : ℤ → List Token
 initial_tokens (pos n) = tokens.Number n ∷ []
 initial_tokens (negsuc n) = symbol Minus ∷ tokens.Number (suc n) ∷ []
 
--- an operand that is itself an operation stands in parentheses
+-- an operand that is itself an operation is put in parentheses
 abbrev pub operand_tokens : Expression → List Token → List Token
 operand_tokens (number z) ts = ts
 operand_tokens (port x) ts = ts
@@ -50,7 +50,7 @@ with_commas [] = []
 with_commas (x ∷ []) = x
 with_commas (x ∷ y ∷ xs) = x ++ symbol Comma ∷ with_commas (y ∷ xs)
 
--- the list with commas behind a keyword, or nothing
+-- a keyword followed by the list with commas, or nothing
 abbrev pub optional_list : Keyword → List (List Token) → List Token
 optional_list k [] = []
 optional_list k (x ∷ xs) = keyword k ∷ with_commas (x ∷ xs)

@@ -1,4 +1,4 @@
--- How deep the expressions of a program are: how many of their operations stand inside one another.
+-- The depth of a program's expressions: how many of their operations are nested.
 use Rattle.std.specs.Prelude.{nat_le, Bool, true, ◌&&◌, Option, Some, None}
 use Rattle.std.specs.List.{list_all}
 use Rattle.giotto_tasks.specs.declared.names.Name.{Name}
@@ -6,7 +6,7 @@ use Rattle.giotto_tasks.specs.Depth.{depth_of, depth_of_block}
 use Rattle.giotto_tasks.specs.Syntax.{Expression}
 use Rattle.giotto_text.specs.Program.{TaskDeclaration, ActuatorUpdate, ModeSwitch, TaskInvocation, ModeDeclaration, GiottoProgram}
 
--- at most 32 operations stand inside one another
+-- at most 32 operations are nested
 abbrev pub is_shallow : Expression → Bool
 is_shallow e = nat_le (depth_of e) 32
 
@@ -35,6 +35,6 @@ is_shallow_mode m = list_all is_shallow_update m.updates && (list_all is_shallow
 abbrev pub is_shallow_task : TaskDeclaration → Bool
 is_shallow_task t = nat_le (depth_of_block t.block) 32
 
--- each expression of the program, in bodies and drivers, has at most 32 operations inside one another
+-- each expression of the program, in bodies and drivers, has at most 32 nested operations
 abbrev pub is_shallow_program : GiottoProgram → Bool
 is_shallow_program p = list_all is_shallow_task p.tasks && list_all is_shallow_mode p.modes

@@ -1,4 +1,4 @@
--- The grammar: what may be written for each value, one constructor for each grammar line.
+-- The grammar: what may be written for each value. Each constructor is a grammar line, or an alternative of one.
 use Rattle.std.specs.Prelude.{◌≡◌, ℕ, ◌^◌, ◌<◌, ◌≤◌, ℤ, pos, neg_ℤ, List, [], ◌∷◌, ◌++◌, map, Option, Some, None}
 use Rattle.giotto_tasks.specs.declared.names.Name.{Name}
 use Rattle.giotto_tasks.specs.declared.operators.UnaryOperator.{UnaryOperator}
@@ -148,7 +148,7 @@ pub data IsWritten : Part → List Part → Type 0 where
   a_number : {n : ℕ} → IsWritten (operand (body.number (pos n))) (int n ∷ [])
   a_port : {x : Name} → IsWritten (operand (body.port x)) (name x ∷ [])
   in_parentheses : {e : Expression} → IsWritten (operand e) (symbol OpenParenthesis ∷ expression e ∷ symbol CloseParenthesis ∷ [])
-  -- init = ["-"] INT, behind "-" up to 9223372036854775808
+  -- init = ["-"] INT, after "-" up to 9223372036854775808
   a_plain_initial : {n : ℕ} → IsWritten (initial (pos n)) (int n ∷ [])
   a_negative_initial : {n : ℕ} → n ≤ 2 ^ 63 → {z : ℤ} → z ≡ neg_ℤ (pos n) → IsWritten (initial z) (symbol Minus ∷ token (tokens.Number n) ∷ [])
   -- INT: at most 9223372036854775807

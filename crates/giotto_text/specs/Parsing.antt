@@ -1,4 +1,4 @@
--- The parser, as a function that computes: one definition for each grammar line.
+-- The parser, as a function that computes, with one definition for each grammar line.
 use Rattle.std.specs.Prelude.{ℕ, zero, suc, ◌+◌, ◌-◌, ◌^◌, nat_eq, nat_le, Bool, true, false, not, if◌then◌else◌, ℤ, pos, neg_ℤ, List, [], ◌∷◌, length, Option, Some, None, is_some, Result, Ok, Err}
 use Rattle.giotto_tasks.specs.Syntax as body
 use Rattle.giotto_tasks.specs.Syntax.{Expression, Statement, Block}
@@ -25,11 +25,11 @@ use Rattle.giotto_text.specs.Reading.{has_small_tasks}
 use Rattle.giotto_text.specs.Tokens.{Tokens, tokens_of, text_of_keyword, text_of_symbol, bare}
 
 infixl 20 ◌>>=◌ ◌>>◌
--- A token of no program, which stands for the end.
+-- A token that no program has; it marks the end.
 abbrev pub end_mark : Token
 end_mark = tokens.Number (2 ^ 63 + 1)
 
--- A value and the tokens behind it; or the tokens from the first that fits no grammar line on.
+-- A value and the tokens after it, or the tokens from the first one that fits no grammar line.
 pub data Outcome (V : Type 0) : Type 0 where
   got : V → List PlacedToken → Outcome V
   stopped : List PlacedToken → Outcome V
@@ -44,14 +44,14 @@ abbrev pub behind : {V W : Type 0} → Outcome V → (V → Parser W) → Outcom
 behind (got v rest) q = q v rest
 behind (stopped rest) q = stopped rest
 
--- one thing and then another
+-- one parser after another
 abbrev pub ◌>>=◌ : {V W : Type 0} → Parser V → (V → Parser W) → Parser W
 ◌>>=◌ p q ts = behind (p ts) q
 
 abbrev pub ◌>>◌ : {V W : Type 0} → Parser V → Parser W → Parser W
 ◌>>◌ p q ts = behind (p ts) (λ _. q)
 
--- the next token, or the mark of the end
+-- the next token, or the end mark
 abbrev pub next_of : List PlacedToken → Token
 next_of [] = end_mark
 next_of (t ∷ ts) = t.token
@@ -60,7 +60,7 @@ abbrev pub taken : {V : Type 0} → Option V → List PlacedToken → List Place
 taken (Some v) rest ts = got v rest
 taken None rest ts = stopped ts
 
--- one token, with what it says
+-- one token, with its content
 abbrev pub read_one : {V : Type 0} → (Token → Option V) → Parser V
 read_one f [] = stopped []
 read_one f (t ∷ ts) = taken (f t.token) ts (t ∷ ts)
@@ -69,11 +69,11 @@ abbrev pub pick : {V : Type 0} → Bool → Parser V → Parser V → Parser V
 pick true p q = p
 pick false p q = q
 
--- one of two, by the next token
+-- one of two parsers, chosen by the next token
 abbrev pub if_next : {V : Type 0} → (Token → Bool) → Parser V → Parser V → Parser V
 if_next test p q ts = pick (test (next_of ts)) p q ts
 
--- things as long as the next token begins one; each is at least a token, so that there are fewer than `bound`
+-- repeated while the next token begins another one; each takes at least one token, so there are fewer than `bound`
 abbrev pub up_to : {V : Type 0} → ℕ → (Token → Bool) → Parser V → Parser (List V)
 up_to zero test p ts = stopped ts
 up_to (suc bound) test p ts = if_next test
@@ -123,7 +123,7 @@ is_name (tokens.Keyword k) = false
 is_name (tokens.Number n) = false
 is_name (tokens.Symbol s) = false
 
--- a number of at most this size
+-- a number up to this one
 abbrev pub number_in : ℕ → Token → Option ℕ
 number_in most (tokens.Number n) = if nat_le n most then Some n else None
 number_in most (tokens.Keyword k) = None
@@ -136,7 +136,7 @@ read_name = read_one name_in
 abbrev pub read_int : Parser ℕ
 read_int = read_one (number_in (2 ^ 63 - 1))
 
--- the operator that a token is, if it is one
+-- the operator of a token, if it is one
 abbrev pub unary_in : Token → Option UnaryOperator
 unary_in (tokens.Symbol symbols.Minus) = Some unary_operators.Negate
 unary_in (tokens.Symbol symbols.Not) = Some unary_operators.Not
@@ -207,12 +207,12 @@ read_expression_of nested = if_next is_unary
             done (body.binary o a b))
           (done a))
 
--- expressions that nest less deep than this bound
+-- expressions that are nested less deep than this bound
 abbrev pub expressions : ℕ → Parser Expression
 expressions zero = stopped
 expressions (suc bound) = read_expression_of (expressions bound)
 
--- each nesting takes a token, so that they nest less deep than there are tokens
+-- each level of nesting takes a token, so expressions are nested less deep than there are tokens
 abbrev pub read_expression : Parser Expression
 read_expression ts = expressions (suc (length ts)) ts
 
@@ -367,7 +367,7 @@ read_block_of nested = do
   read_symbol CloseBrace
   done (in_order ss)
 
--- blocks that nest less deep than this bound
+-- blocks that are nested less deep than this bound
 abbrev pub blocks : ℕ → Parser Block
 blocks zero = stopped
 blocks (suc bound) = read_block_of (blocks bound)
@@ -463,14 +463,14 @@ read_program = do
   x ← read_start
   done (record { sensors = ss; actuators = as'; outputs = os; tasks = ds; modes = ms; start = x })
 
--- what an outcome says of the tokens, where `end` is the length of the text that they stand in
+-- what an outcome says about the tokens of a text; `end` is the length of the text
 abbrev pub reading : ℕ → Outcome GiottoProgram → Result GiottoProgram ReadFault
 reading end (got p []) = if has_small_tasks p then Ok p else Err TooMany
 reading end (got p (t ∷ ts)) = Err (Syntax t.offset)
 reading end (stopped []) = Err (Syntax end)
 reading end (stopped (t ∷ ts)) = Err (Syntax t.offset)
 
--- what tokens read as: those that nest too deep aren't parsed
+-- what tokens read as; tokens that nest too deep aren't parsed
 abbrev pub read_all : ℕ → List PlacedToken → Result GiottoProgram ReadFault
 read_all end ts = if nests_too_deep (bare ts) then Err TooDeep else reading end (read_program ts)
 

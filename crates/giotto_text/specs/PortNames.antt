@@ -1,13 +1,13 @@
--- Ports by name: the names of tasks' own ports, and maps from names in which several ports get values.
+-- Ports by name: the names of tasks' private ports, and maps in which several ports get values.
 use Rattle.std.specs.Prelude.{ℤ, List, [], ◌∷◌, ◌++◌, map, codes}
 use Rattle.giotto_tasks.specs.declared.names.Name.{Name}
 use Rattle.giotto_tasks.specs.Names.{Valuation, with_value}
 
--- an input or a state of a task, as it is shown: no other port has such a name, since a dot is in no name
+-- the displayed name of an input or a state of a task; no other port has this name, because no name contains a dot
 abbrev pub own_port : Name → Name → Name
 own_port task x = task ++ (codes "." ++ x)
 
--- a task's own ports of these names
+-- a task's private ports with these names
 abbrev pub own_ports : Name → List Name → List Name
 own_ports task xs = map (own_port task) xs
 

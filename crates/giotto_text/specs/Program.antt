@@ -4,7 +4,7 @@ use Rattle.giotto_tasks.specs.declared.names.Name.{Name}
 use Rattle.giotto_tasks.specs.Names.{Valuation}
 use Rattle.giotto_tasks.specs.Syntax.{Expression, Block, TaskBody}
 
--- where a sensor's readings come from: a line of the rig, or what another tenant grants
+-- where a sensor's readings come from: a line of the rig, or the values that another tenant grants
 pub data Source : Type 0 where
   from_line : ℕ → Source
   from_grant : Source
@@ -43,7 +43,7 @@ pub record ModeSwitch : Type 0 where
   pub frequency : ℕ
   pub guard : Option Expression
   pub target : Name
-  -- outputs, each with the expression that it is given
+  -- outputs, each with the expression whose value it gets
   pub destinations : List (Name × Expression)
 
 pub record TaskInvocation : Type 0 where

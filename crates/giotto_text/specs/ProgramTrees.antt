@@ -1,4 +1,4 @@
--- The trees that the program's own types stand for.
+-- The trees that values of the program's own types represent.
 use Rattle.std.specs.Prelude.{ℤ, List, map, Option, Some, None}
 use Rattle.std.specs.List.{zip}
 use Rattle.std.specs.Arc.{arc_value}

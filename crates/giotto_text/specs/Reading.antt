@@ -1,4 +1,4 @@
--- What a text and its tokens read as: a program, or why they are refused.
+-- What a text and its tokens read as: a program, or the reason why they are refused.
 use Rattle.std.specs.Prelude.{◌≡◌, ℕ, Bool, true, false, List, [], ◌∷◌, ◌++◌, length, Result, Ok, Err}
 use Rattle.std.specs.List.{list_all}
 use Rattle.giotto_tasks.specs.Sound.{is_small}
@@ -10,8 +10,8 @@ use Rattle.giotto_text.specs.Program.{GiottoProgram, body_of}
 use Rattle.giotto_text.specs.Tokens.{Tokens, tokens_of, bare}
 use Rattle.giotto_text.specs.Spelling.{Spells, IsPrefix}
 
--- The fault offset of the grammar, in a text that ends here: that of the first token with which the tokens are no prefix of
--- a program, or the end, where they end too early.
+-- The offset of a grammar fault, in a text that ends at `end`: that of the first token with which the tokens are no prefix
+-- of a program, or `end` if they end too early.
 pub data IsGrammarFault (ts : List PlacedToken) (end : ℕ) : ℕ → Type 0 where
   no_prefix : (before : List PlacedToken) (t : PlacedToken) (after : List PlacedToken) → ts ≡ before ++ t ∷ after
       → IsPrefix (bare before) → ¬ IsPrefix (bare (before ++ t ∷ [])) → IsGrammarFault ts end t.offset
@@ -21,7 +21,7 @@ pub data IsGrammarFault (ts : List PlacedToken) (end : ℕ) : ℕ → Type 0 whe
 abbrev pub has_small_tasks : GiottoProgram → Bool
 has_small_tasks p = list_all (λ t. is_small (body_of t)) p.tasks
 
--- What tokens read as, in a text that ends here. The reasons are looked for in this order.
+-- What tokens read as, in a text that ends at `end`. The reasons are checked in this order.
 pub data ReadsTokens (cut : Tokens) (end : ℕ) : Result GiottoProgram ReadFault → Type 0 where
   no_token : {offset : ℕ} → cut ≡ Err offset → ReadsTokens cut end (Err (Syntax offset))
   too_deep : (ts : List PlacedToken) → cut ≡ Ok ts → nests_too_deep (bare ts) ≡ true → ReadsTokens cut end (Err TooDeep)

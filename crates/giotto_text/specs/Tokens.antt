@@ -59,7 +59,7 @@ text_of_symbol symbols.AndAnd = codes "&&"
 text_of_symbol symbols.OrOr = codes "||"
 text_of_symbol symbols.Not = codes "!"
 
--- the longer ones first, so that the first that fits is the longest
+-- longer symbols first, so that the first one that fits is the longest
 abbrev pub all_symbols : List Symbol
 all_symbols =
     symbols.Becomes ∷ symbols.EqualEqual ∷ symbols.NotEqual ∷ symbols.AtMost ∷ symbols.AtLeast ∷ symbols.AndAnd ∷ symbols.OrOr
@@ -70,7 +70,7 @@ all_symbols =
 abbrev pub FoundToken : Type 0
 FoundToken = Option (Token × ℕ)
 
--- the keyword that is written so
+-- the keyword with this spelling
 abbrev pub keyword_of : List ℕ → Option Keyword
 keyword_of run = find (λ k. same_name (text_of_keyword k) run) all_keywords
 
@@ -97,7 +97,7 @@ mark text = by (symbol_at text)
     by (Some s) = Some (Mark s, length (text_of_symbol s))
     by None = None
 
--- the token that begins a text, as long as possible
+-- the token at the start of a text, as long as possible
 abbrev pub first_token : List ℕ → FoundToken
 first_token [] = None
 first_token (c ∷ cs) =
@@ -113,7 +113,7 @@ abbrev pub after_token : Token → ℕ → Tokens → Tokens
 after_token t offset (Ok ts) = Ok (record { token = t; offset = offset } ∷ ts)
 after_token t offset (Err fault) = Err fault
 
--- Down the text from an offset on: the next `within` bytes belong to the token before.
+-- Goes through the text from an offset on; the next `within` bytes belong to the previous token.
 abbrev pub tokens_from : ℕ → ℕ → List ℕ → Tokens
 tokens_from within offset [] = Ok []
 tokens_from (suc within) offset (c ∷ cs) = tokens_from within (offset + 1) cs
@@ -128,6 +128,6 @@ tokens_from zero offset (c ∷ cs) =
 abbrev pub tokens_of : List ℕ → Tokens
 tokens_of text = tokens_from 0 0 text
 
--- the tokens without their places
+-- the tokens without their offsets
 abbrev pub bare : List PlacedToken → List Token
 bare ts = map (λ p. p.token) ts

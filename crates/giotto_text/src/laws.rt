@@ -1,4 +1,4 @@
-//! Laws of the definitions: what holds of program texts and programs, whatever reads them.
+//! Laws of the definitions: what holds for program texts and programs, whichever code reads them.
 //!
 //! The functions do nothing: each contract is a law.
 
@@ -19,8 +19,8 @@ ghost use Rattle.giotto_text.specs.Sound.{IsPrintable};
 ghost use Rattle.giotto_text.specs.Spelling.{SpellsParts, BeginsParts, Spells, IsPrefix};
 ghost use Rattle.giotto_text.specs.Tokens.{bare};
 
-/// The first tokens of what is spelled are a prefix, and so are the first tokens of a prefix. Each prefix goes on to a
-/// whole program: so the prefixes are just what the programs' tokens begin with.
+/// The first tokens of a spelled token list are a prefix, and so are the first tokens of a prefix. Each prefix can be
+/// completed to a whole program, so the prefixes are exactly the first tokens of programs.
 pub fn prefixes()
     ensures of_spelled { (ts us : List Token) (ps : List Part) → SpellsParts (ts ++ us) ps → BeginsParts ts ps }
     ensures of_prefix { (ts us : List Token) (ps : List Part) → BeginsParts (ts ++ us) ps → BeginsParts ts ps }
@@ -32,7 +32,8 @@ pub fn one_program()
     ensures { (ts : List Token) (p q : GiottoProgram) → Spells ts p → Spells ts q → p ≡ q }
 {}
 
-/// What a text reads as, computed: the parser reads each text as the definition says, and a text reads as nothing else.
+/// The parser computes what a text reads as: it reads each text as the definition says, and a text reads as nothing
+/// else.
 pub fn parser()
     ensures reads { (text : List ℕ) → Reads text (parsed text) }
     ensures only { (text : List ℕ) (r : Result GiottoProgram ReadFault) → Reads text r → r ≡ parsed text }
@@ -43,16 +44,16 @@ pub fn printable()
     ensures { (text : List ℕ) (p : GiottoProgram) → parsed text ≡ Ok p → IsPrintable p }
 {}
 
-/// Each expression of a program that can be printed, in its bodies and drivers, has at most 32 operations inside one
-/// another: an operand that is an operation stands in parentheses. So has each block with which tokens begin that don't nest
-/// too deep.
+/// Each expression of a program that can be printed, in its bodies and drivers, has at most 32 nested operations: an
+/// operand that is an operation is in parentheses. The same holds for each block that tokens begin with, if these
+/// tokens don't nest too deep.
 pub fn shallow()
     ensures program { (p : GiottoProgram) → IsPrintable p → IsTrue (is_shallow_program p) }
     ensures block { (ts rest : List PlacedToken) (b : Block) → nests_too_deep (bare ts) ≡ false → read_block ts ≡ got b rest → depth_of_block b ≤ 32 }
 {}
 
-/// The canonical tokens of a program that is spelled at all spell it. The canonical text of one that can be printed reads as
-/// it.
+/// The canonical tokens of a program spell it, if any tokens do. The canonical text of a program that can be printed
+/// reads as that program.
 pub fn canonical()
     ensures spells { (ts : List Token) (p : GiottoProgram) → Spells ts p → Spells (canonical_tokens p) p }
     ensures reads { (p : GiottoProgram) → IsPrintable p → parsed (canonical_of p) ≡ Ok p }

@@ -16,11 +16,11 @@ use crate::tokens::{Keyword, PlacedToken, Symbol, Token};
 use giotto_tasks::names::Name;
 use std::alloc::Global;
 
-/// The tokens of a program text, each as long as possible, with their offsets in bytes, in one pass.
+/// The tokens of a program text, each as long as possible, with their offsets in bytes.
 ///
-/// Blanks (space, tab, CR, LF) separate tokens and mean nothing else. Refuses with `Syntax` and the first offset at which
-/// a token should begin and none does, or with `Memory`. A name of more than 32 bytes is no token, nor is a number of
-/// more than 19 digits or above 9223372036854775808.
+/// Makes one pass over the text. Blanks (space, tab, CR, LF) separate tokens and mean nothing else. Fails with `Syntax`
+/// and the first offset at which a token should begin but none does, or with `Memory`. A name of more than 32 bytes is
+/// not a token. A number of more than 19 digits or above 9223372036854775808 isn't one either.
 pub fn tokens(alloc: Global, text: &[u8]) -> Result<Vec<PlacedToken>, ReadFault>
     ensures ok { IfOk result (λ ts. tokens_of text.now ≡ Ok ts.items) }
     ensures fault { IfErr result (IsLexicalFault text.now) }
@@ -38,8 +38,8 @@ pub fn tokens(alloc: Global, text: &[u8]) -> Result<Vec<PlacedToken>, ReadFault>
     Ok(found)
 }
 
-// An empty list for the tokens of a text: with room for half as many as it has bytes behind its first blanks, or with
-// none where memory has no such room.
+// An empty list for the tokens of a text. Reserves space for half as many tokens as the text has bytes after its
+// leading blanks, or none if that allocation fails.
 fn list_for(alloc: Global, text: &[u8]) -> Vec<PlacedToken>
     ensures { result.items ≡ [] }
 {
@@ -50,15 +50,15 @@ fn list_for(alloc: Global, text: &[u8]) -> Vec<PlacedToken>
     }
 }
 
-// How many blanks the text begins with.
+// The number of blanks at the start of the text.
 fn blanks_len(text: &[u8]) -> usize
     ensures { result ≡ prefix_len is_blank_of_text text.now }
 {
     text.iter().take_while(|c| is_blank(**c)).count()
 }
 
-// Adds the token that begins the text, which stands at this offset, and gives its length in bytes. Each kind of token is
-// put in its place where it is found: one that is handed on would be copied.
+// Adds the token at the start of the text, which is at this offset, and returns the token's length in bytes. Each kind
+// of token is written to the list where it is found: returning it first would copy it.
 fn push_first(found: &mut Vec<PlacedToken>, text: &[u8], offset: usize) -> Result<usize, ReadFault>
     ensures added { IfOk result (λ len. with_found found.old.items offset (first_token text.now) ≡ Ok (found.new.items, len)) }
     ensures within { IfOk result (λ len. (0 < len) × (len ≤ length text.now)) }
@@ -109,7 +109,7 @@ fn push_number(found: &mut Vec<PlacedToken>, run: &[u8], offset: usize) -> Resul
     Ok(len)
 }
 
-// The longest mark that begins the text.
+// The longest symbol at the start of the text.
 fn push_mark(found: &mut Vec<PlacedToken>, text: &[u8], offset: usize) -> Result<usize, ReadFault>
     ensures added { IfOk result (λ len. with_found found.old.items offset (mark text.now) ≡ Ok (found.new.items, len)) }
     ensures within { IfOk result (λ len. (0 < len) × (len ≤ length text.now)) }
@@ -134,7 +134,7 @@ fn push(found: &mut Vec<PlacedToken>, token: Token, offset: usize) -> Result<(),
     }
 }
 
-// The keyword that is written so: only those with its first letter are compared. None has one letter.
+// The keyword with this spelling. Compares only keywords with the same first letter. No keyword has a single letter.
 fn keyword_of(run: &[u8]) -> Option<Keyword>
     ensures { result ≡ keyword_of run.now }
 {
@@ -158,7 +158,7 @@ fn keyword_of(run: &[u8]) -> Option<Keyword>
     }
 }
 
-// The first of these keywords that is written so.
+// The first of these keywords with this spelling.
 fn one_of(run: &[u8], keywords: &[Keyword]) -> Option<Keyword>
     ensures { result ≡ find (λ k. same_name (text_of_keyword k) run.now) keywords.now }
 {
@@ -203,7 +203,7 @@ fn symbol_at(text: &[u8]) -> Option<Symbol>
     }
 }
 
-// The mark of this one byte.
+// The symbol of this single byte.
 fn single(byte: u8) -> Option<Symbol>
     ensures { result ≡ symbol_at (byte ∷ []) }
 {
@@ -234,14 +234,14 @@ fn as_text(run: &[u8]) -> &str
     unsafe { std::str::from_utf8_unchecked(run) }
 }
 
-// How many name bytes the text begins with.
+// The number of name bytes at the start of the text.
 fn name_len(text: &[u8]) -> usize
     ensures { result ≡ prefix_len is_name_byte text.now }
 {
     text.iter().take_while(|c| is_name_byte(**c)).count()
 }
 
-// How many digits the text begins with.
+// The number of digits at the start of the text.
 fn digits_len(text: &[u8]) -> usize
     ensures { result ≡ prefix_len is_digit text.now }
 {
@@ -251,6 +251,6 @@ fn digits_len(text: &[u8]) -> usize
 fn is_blank(c: u8) -> bool
     ensures { result ≡ is_blank_of_text c }
 {
-    // most bytes are told by the first test
+    // the first test is enough for most bytes
     c <= b' ' && matches!(c, b' ' | b'\t' | b'\r' | b'\n')
 }

@@ -1,8 +1,8 @@
 //! Program texts in Giotto: their tokens, the grammar, and what a text reads as.
 //!
 //! Giotto is the time-triggered language of Henzinger, Horowitz and Kirsch (Proc. IEEE 91(1), 2003). A program declares
-//! sensors, actuators and outputs, tasks with their bodies, and modes; a mode invokes tasks and updates actuators at
-//! fixed fractions of its period. This is a program:
+//! sensors, actuators, outputs, tasks with their bodies, and modes. A mode invokes tasks and updates actuators at fixed
+//! fractions of its period. This is a program:
 //!
 //! ```text
 //! sensor s := 0 line 0; actuator a := 0; output o := 0;
@@ -11,12 +11,13 @@
 //! start m;
 //! ```
 //!
-//! Here are the definitions, and what stands below the reader: [`lexer::tokens`] cuts a text into [`tokens`], and
+//! This crate has the definitions and what the parser builds on: [`lexer::tokens`] cuts a text into [`tokens`], and
 //! [`programs`] has the types of a program's parts. The crate `giotto_read` reads and prints programs.
 //!
-//! The definitions stand in `specs/`: `Tokens` and `Grammar` first, then `Spelling` (what tokens spell, and what they begin
-//! to spell), `Nesting` and `Reading`; `Parsing` computes what a text reads as, and `Canonical` how a program is printed.
-//! `proofs/TokenRules.antt`, `ParsedExamples.antt`, `ParsedFaults.antt` and `CanonicalExamples.antt` show the rules by example.
+//! The definitions are in `specs/`. `Tokens` and `Grammar` come first, then `Spelling` (what tokens spell, and what
+//! they begin to spell), `Nesting` and `Reading`. `Parsing` computes what a text reads as, and `Canonical` how a
+//! program is printed. `proofs/TokenRules.antt`, `ParsedExamples.antt`, `ParsedFaults.antt` and
+//! `CanonicalExamples.antt` show the rules by example.
 #![tactic(auto)]
 
 pub mod faults;

@@ -1,4 +1,4 @@
-//! The bytes and the shape of names, in programs and wherever else a name stands.
+//! The bytes and the shape of names, in programs and elsewhere.
 
 ghost use Rattle.std.specs.Prelude.{◌≡◌};
 ghost use Rattle.std.specs.List.{list_all};
@@ -18,15 +18,15 @@ pub fn is_digit(byte: u8) -> bool
     byte.is_ascii_digit()
 }
 
-/// Whether a byte may stand in a name: a letter, `_` or a digit.
+/// Whether a byte may be in a name: a letter, `_` or a digit.
 pub fn is_name_byte(byte: u8) -> bool
     ensures { result ≡ is_name_byte byte }
 {
     is_letter(byte) || is_digit(byte)
 }
 
-/// Whether a word has the shape of a name: a letter or `_`, then letters, digits or `_`; at most 32 bytes. Keywords have
-/// it too.
+/// Whether a word has the shape of a name: a letter or `_`, then letters, digits or `_`; at most 32 bytes. Keywords
+/// have this shape too.
 #[tactic(auto, using(crate::proofs::NameBytes::name_by_parts))]
 pub fn is_name(word: &[u8]) -> bool
     ensures { result ≡ is_name word.now }

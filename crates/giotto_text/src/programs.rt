@@ -10,7 +10,7 @@ use std::alloc::Global;
 use std::marker::Model;
 use std::sync::Arc;
 
-/// A program that can be printed: its canonical text reads as it.
+/// A program that can be printed: its canonical text reads as the program.
 #[derive(Drop)]
 pub struct Program {
     parts: Parts,
@@ -35,8 +35,8 @@ impl Program {
     ghost use Rattle.giotto_text.specs.ProgramTrees.{sensor_of, actuator_of, output_of, task_of, mode_of};
     ghost use Rattle.giotto_text.specs.Sound.{IsPrintable};
 
-    /// The program of these parts, which must be such that it can be printed. The law `printable` says so of the parts of a
-    /// program that a text reads as.
+    /// The program with these parts, which must be such that it can be printed. The law `printable` proves this for the
+    /// parts of a program that a text reads as.
     pub fn new(parts: Parts) -> Program
         requires { IsPrintable parts }
         ensures { result ≡ parts }
@@ -44,7 +44,7 @@ impl Program {
         Program { parts }
     }
 
-    /// All parts of the program. It can be printed.
+    /// All parts of the program. The program can be printed.
     pub fn parts(&self) -> &Parts
         ensures tree { result.now ≡ self.now }
         ensures printable { IsPrintable self.now }
@@ -52,7 +52,7 @@ impl Program {
         &self.parts
     }
 
-    /// Opens what is known of the type, for a proof; does nothing.
+    /// Opens the invariant of the type for a proof. Does nothing at run time.
     #[inline(always)]
     pub fn known(&self)
         ensures { IsPrintable self.now }
@@ -134,7 +134,7 @@ impl Model for Parts {
 pub enum Source {
     /// A line of the rig: 0 to `i64::MAX`.
     Line(u64),
-    /// What another tenant grants.
+    /// The values that another tenant grants.
     Grant,
 }
 
@@ -186,25 +186,25 @@ pub struct Mode {
     pub invocations: List<Invocation>,
 }
 
-/// Gives an actuator a value, a number of times in a period of the mode.
+/// Gives an actuator a value, a number of times in each period of the mode.
 #[derive(Drop)]
 pub struct Update {
     /// How many times in a period: 0 to `i64::MAX`.
     pub frequency: u64,
-    /// The update is left out where this is 0. No guard is always true.
+    /// The update is skipped if this is 0. An absent guard is always true.
     pub guard: Option<Expr>,
     pub actuator: Name,
     pub value: Expr,
 }
 
-/// Leaves the mode for another.
+/// Switches to another mode.
 #[derive(Drop)]
 pub struct Switch {
-    /// How many times in a period it is looked at: 0 to `i64::MAX`.
+    /// How many times in a period the switch is checked: 0 to `i64::MAX`.
     pub frequency: u64,
-    /// The switch is taken where this is not 0. No guard is always true.
+    /// The switch is taken if this is not 0. An absent guard is always true.
     pub guard: Option<Expr>,
-    /// The mode that comes next.
+    /// The next mode.
     pub target: Name,
     pub destinations: List<Destination>,
 }
@@ -216,12 +216,12 @@ pub struct Destination {
     pub value: Expr,
 }
 
-/// Runs a task, a number of times in a period of the mode.
+/// Runs a task, a number of times in each period of the mode.
 #[derive(Drop)]
 pub struct Invocation {
     /// How many times in a period: 0 to `i64::MAX`.
     pub frequency: u64,
-    /// The task isn't run where this is 0. No guard is always true.
+    /// The task is not run if this is 0. An absent guard is always true.
     pub guard: Option<Expr>,
     pub task: Name,
     /// One for each input of the task, in their order.

@@ -5,7 +5,7 @@ ghost use Rattle.giotto_text.specs.Tokens.{text_of_keyword, text_of_symbol};
 
 use giotto_tasks::names::Name;
 
-/// A word that is no name.
+/// A word that is not a name.
 #[derive(Clone, Copy, Debug, PartialEq, Eq)]
 pub enum Keyword {
     Sensor,
@@ -54,7 +54,7 @@ impl Keyword {
     }
 }
 
-/// A mark of one or two bytes.
+/// A symbol of one or two bytes.
 #[derive(Clone, Copy, Debug, PartialEq, Eq)]
 pub enum Symbol {
     /// `:=`
@@ -102,7 +102,7 @@ pub enum Symbol {
 }
 
 impl Symbol {
-    /// The mark as it is written.
+    /// The symbol as it is written.
     pub fn as_str(self) -> &'static str
         ensures { result.now ≡ text_of_symbol self }
     {
@@ -135,13 +135,13 @@ impl Symbol {
 /// A token of a program text.
 #[derive(Drop, PartialEq, Eq)]
 pub enum Token {
-    /// A name: 1 to 32 bytes, and no keyword.
+    /// A name: 1 to 32 bytes, and not a keyword.
     Name(Name),
     /// A keyword.
     Keyword(Keyword),
     /// A number: 0 to 9223372036854775808, however many leading zeros were written.
     Number(u64),
-    /// A mark.
+    /// A symbol.
     Symbol(Symbol),
 }
 

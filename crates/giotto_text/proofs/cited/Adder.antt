@@ -1,4 +1,4 @@
--- The first example program: a task that adds 1 to a sensor's reading, and an actuator that takes the sum; and tokens at their offsets.
+-- The first example program: a task adds 1 to a sensor's reading, and an actuator gets the sum. Also tokens at their offsets.
 use Rattle.std.proofs.Common.{ℕ, pos, List, [], ◌∷◌, None, codes}
 use Rattle.giotto_tasks.specs.declared.names.Name.{Name}
 use Rattle.giotto_tasks.specs.declared.operators.BinaryOperator.TheVariants.{Add}

@@ -1,4 +1,4 @@
--- Tokens with some brackets left out: they stay sound, and don't nest too deep where they didn't before.
+-- Tokens without some of their brackets: sound tokens stay sound, and tokens that don't nest too deep still don't.
 use Rattle.std.specs.Prelude.{nat_le}
 use Rattle.std.proofs.Common.{◌≡◌, ℕ, suc, ◌-◌, ◌≤◌, pos, negsuc, true, false, ◌||◌, List, [], ◌∷◌, ◌++◌, refl, ap, sym, ◌∙◌, subst, arith}
 use Rattle.std.proofs.lemmas.Bool.{and_parts, and_from, or_parts}
@@ -19,7 +19,7 @@ use Rattle.giotto_text.specs.Grammar.{symbol_of_unary, symbol_of_binary}
 use Rattle.giotto_text.specs.Nesting.{open_behind, nests_too_deep_from}
 use Rattle.giotto_text.specs.Sound.{is_sound_token}
 
--- how many are open behind the tokens
+-- how many are open after the tokens
 abbrev pub open_after : ℕ → List Token → ℕ
 open_after n [] = n
 open_after n (t ∷ ts) = open_after (open_behind n t) ts
@@ -28,7 +28,7 @@ pub open_after-append : (n : ℕ) (ts us : List Token) → open_after n (ts ++ u
 open_after-append n [] us = refl
 open_after-append n (t ∷ ts) us = open_after-append (open_behind n t) ts us
 
--- tokens, and what stands behind them: both nest too deep nowhere, where they don't together
+-- two token lists in a row: if together they don't nest too deep, neither does
 pub deep_parts : (n : ℕ) (ts us : List Token) → nests_too_deep_from n (ts ++ us) ≡ false
     → (nests_too_deep_from n ts ≡ false) × (nests_too_deep_from (open_after n ts) us ≡ false)
 deep_parts n [] us h = (refl, h)
@@ -54,7 +54,7 @@ open_behind-le m n _ le = le
 not_above : (a b : ℕ) → a ≤ b → nat_le 33 b ≡ false → nat_le 33 a ≡ false
 not_above a b le e = grind (arith, nat_tests)
 
--- with fewer open before, tokens nest no deeper
+-- if fewer are open before, tokens nest no deeper
 pub deep_less : (m n : ℕ) (ts : List Token) → m ≤ n → nests_too_deep_from n ts ≡ false → nests_too_deep_from m ts ≡ false
 deep_less m n [] le h = refl
 deep_less m n (t ∷ ts) le h =
@@ -63,7 +63,7 @@ deep_less m n (t ∷ ts) le h =
     ap (λ b. b || nests_too_deep_from (open_behind m t) ts) (not_above (open_behind m t) (open_behind n t) less each.0)
     ∙ deep_less (open_behind m t) (open_behind n t) ts less each.1
 
--- as many are open behind as before
+-- as many are open after the tokens as before
 pub record IsBalanced (ts : List Token) : Type 0 where
   pub same : (n : ℕ) → open_after n ts ≡ n
 
@@ -103,7 +103,7 @@ balanced_expression (binary o a b) =
     (balanced_behind (symbol (symbol_of_binary o)) (operand_tokens b (expression_tokens b)) (λ n. binary_symbol_opens_none n o)
     (balanced_operand b (expression_tokens b) (balanced_expression b)))
 
--- us in the place of ts, whatever stands behind: what is sound stays sound, and what doesn't nest too deep still doesn't.
+-- us in place of ts, whatever follows: sound tokens stay sound, and tokens that don't nest too deep still don't.
 pub record Keeps (ts us : List Token) : Type 0 where
   pub sound : (rest : List Token) → list_all is_sound_token (ts ++ rest) ≡ true → list_all is_sound_token (us ++ rest) ≡ true
   pub shallow : (n : ℕ) (rest : List Token) → nests_too_deep_from n (ts ++ rest) ≡ false → nests_too_deep_from n (us ++ rest) ≡ false
@@ -160,7 +160,7 @@ parentheses_dropped ts b = record { sound = sound; shallow = shallow }
         subst (λ k. nests_too_deep_from k rest ≡ false) back (or_parts (nat_le 33 (suc n - 1)) (nests_too_deep_from (suc n - 1) rest) closing).1 in
         deep_from n ts rest (deep_less n (suc n) ts (omega arith) each.0) (subst (λ k. nests_too_deep_from k rest ≡ false) (sym (b.same n)) behind)
 
--- a pair of braces with nothing between
+-- a pair of braces with nothing between them
 pub braces_dropped : Keeps (symbol OpenBrace ∷ symbol CloseBrace ∷ []) []
 braces_dropped = record { sound = λ rest h. h; shallow = shallow }
   where

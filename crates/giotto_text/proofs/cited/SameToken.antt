@@ -1,4 +1,4 @@
--- Two tokens are the same token.
+-- When two tokens are the same.
 use Rattle.std.proofs.Common.{◌≡◌, true, Some, refl, ap, ◌∙◌, sym, arith}
 use Rattle.std.specs.Cmp.Lexicographic.{same_text, nat_list_eq_equiv}
 use Rattle.std.proofs.lemmas.Bool.Decides.{nat_tests}

@@ -1,4 +1,4 @@
--- Tasks with few enough ports.
+-- Tasks with at most 16 ports of each kind.
 use Rattle.std.proofs.Common.{◌≡◌, ◌&&◌, length, ap}
 use Rattle.std.proofs.lemmas.Slice.Zip.{firsts-zip}
 use Rattle.std.specs.Arc.{arc_value}

@@ -1,4 +1,4 @@
--- A code for the programs: that of their parts, as tuples.
+-- A code for programs: that of their parts, as tuples.
 use Rattle.std.specs.Prelude.{◌≡◌, ℕ, ℤ, List, Option, Some, None, refl}
 use Rattle.std.specs.Coded.{Coded, code_by, coded_list, coded_option, coded×, coded_ℕ, coded_ℤ}
 use Rattle.giotto_tasks.specs.cited.Codes.{expression_code, block_code}
@@ -9,7 +9,7 @@ use Rattle.giotto_text.specs.Program.{Source, from_line, from_grant, SensorDecla
 abbrev name_code : Coded Name
 name_code = coded_list coded_ℕ
 
--- a source as the line, if it is one
+-- the line of a source, if it has one
 abbrev line_of_source : Source → Option ℕ
 line_of_source (from_line k) = Some k
 line_of_source from_grant = None
@@ -85,7 +85,7 @@ mode_code =
     (λ p. record { name = p.0; period = p.1.0; updates = p.1.1.0; switches = p.1.1.1.0; invocations = p.1.1.1.1 })
     (λ _. refl)
 
--- a code for the programs
+-- a code for programs
 abbrev pub program_code : Coded GiottoProgram
 program_code =
     code_by (List SensorDeclaration × (List ActuatorDeclaration × (List OutputDeclaration × (List TaskDeclaration × (List ModeDeclaration × Name)))))

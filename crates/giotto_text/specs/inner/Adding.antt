@@ -9,7 +9,7 @@ use Rattle.giotto_text.specs.Tokens.{FoundToken}
 abbrev pub placed : Token → ℕ → PlacedToken
 placed t offset = record { token = t; offset = offset }
 
--- the list with the token that was found at this offset, and its length; or the fault where none was
+-- the list with the token that was found at this offset, and its length; or the fault if none was found
 abbrev pub with_found : List PlacedToken → ℕ → FoundToken → Result (List PlacedToken × ℕ) ReadFault
 with_found ts offset (Some f) = Ok (ts ++ placed f.0 offset ∷ [], f.1)
 with_found ts offset None = Err (Syntax offset)
