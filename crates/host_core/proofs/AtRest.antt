@@ -36,7 +36,7 @@ placed_at_rest : (xs ys : List Standing) → map at_rest ys ≡ map at_rest xs �
 placed_at_rest xs ys same placed t lt =
     ap (λ (s : Standing). s.tenancy.owner.place) (same_at_rest xs ys t no_tenant same) ∙ placed t (omega (arith, lt, same_length xs ys same))
 
--- what is known of a host is kept where its tenants are but for what they have ready
+-- what is known of a host stays true if its tenants change only in what they have ready
 pub kept_at_rest : {config : Rig} {n : ℕ} {entries : List TableEntry} (xs ys : List Standing) → map at_rest ys ≡ map at_rest xs → IsWhole config n xs entries → IsWhole config n ys entries
 kept_at_rest {n = n} {entries = entries} xs ys same whole = record {
   as_many = same_length xs ys same ∙ whole.as_many;
@@ -60,14 +60,14 @@ stands_at_rest setting host state ys same stands = record {
   results = stands.results;
 }
 
--- what a host's fields stand for, and what its view does
+-- a host's fields represent the same states as its view
 pub stands_inside : (setting : Setting) (host : HostStanding) (state : HostState) → Stands setting (record host { tenants = map at_rest host.tenants }) state → Stands setting host state
 stands_inside setting host state stands = stands_at_rest setting (record host { tenants = map at_rest host.tenants }) state host.tenants (sym (rest_twice host.tenants)) stands
 
 pub stands_outside : (setting : Setting) (host : HostStanding) (state : HostState) → Stands setting host state → Stands setting (record host { tenants = map at_rest host.tenants }) state
 stands_outside setting host state stands = stands_at_rest setting host state (map at_rest host.tenants) (rest_twice host.tenants) stands
 
--- what is gathered from rows is the same
+-- what is gathered from the tenants is the same at rest
 pub gathered_at_rest : {C : Type 0} (f : ℕ × Standing → List C) → ((k : ℕ) (s : Standing) → f (k, at_rest s) ≡ f (k, s)) → (n : ℕ) (xs : List Standing)
     → flat_map f (enumerate_from n (map at_rest xs)) ≡ flat_map f (enumerate_from n xs)
 gathered_at_rest f same n [] = refl
@@ -79,7 +79,7 @@ outstanding_at_rest entries xs = gathered_at_rest _ (λ k s. refl) 0 xs
 pub outstanding_at_rest_of : (host : HostStanding) (t : ℕ) → outstanding_of (record host { tenants = map at_rest host.tenants }) t ≡ outstanding_of host t
 outstanding_at_rest_of host t = ap (λ (s : Standing). map (job_of t) (outstanding_tasks s host.entries)) (same_at_rest host.tenants (map at_rest host.tenants) t no_tenant (rest_twice host.tenants))
 
--- a tenant's answer to a job's name is the host's
+-- the job that the host awaits under a name is the one that its tenant awaits
 pub awaited_here : (entries : List TableEntry) (xs : List Standing) (j : JobId) (x : Standing) → j.tenant < length xs → x ≡ get_or xs j.tenant x
     → option_and_then (λ s. awaited_job s entries j) (slice_get (map at_rest xs) j.tenant) ≡ awaited_job x entries j
 awaited_here entries xs j x lt here =
@@ -92,7 +92,7 @@ awaited_at_rest host j = ap (λ o. option_and_then (λ s. awaited_job s host.ent
     by None = refl
     by (Some s) = refl
 
--- a tenant's row, as the host's view has it
+-- a tenant at rest, as the host's view has it
 pub here_at_rest : (host view : HostStanding) (t : ℕ) (x : Standing) → record host { tenants = map at_rest host.tenants } ≡ view → t < length host.tenants → x ≡ get_or host.tenants t x
     → at_rest (tenant_at view.tenants t) ≡ at_rest x
 here_at_rest host view t x is lt here =

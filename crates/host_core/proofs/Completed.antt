@@ -28,7 +28,7 @@ use Rattle.instant_engine.proofs.of_laws.Places.{first_done}
 moved : (a b c : Bool) → (a || (b || c)) ≡ ((b || a) || c)
 moved a b c = or_assoc a b c ∙ ap (λ x. x || c) (or_turned a b)
 
--- what is found at one place is found in all
+-- what is found at one place is found among all
 found_at : (test : JobId → Bool) (f : ℕ → List JobId) (n : ℕ) (xs : List TenantConfig) (k : ℕ) → k < length xs → list_any test (f (n + k)) ≡ true
     → list_any test (flat_map (λ (place : ℕ × TenantConfig). f place.0) (enumerate_from n xs)) ≡ true
 found_at test f n [] k lt e = absurd (omega arith)
@@ -39,21 +39,21 @@ found_at test f n (x ∷ xs) (suc k) lt e =
     let there : n + suc k ≡ n + 1 + k = omega arith in
     list_any-append test (f n) _ ∙ ap (λ b. list_any test (f n) || b) (found_at test f (n + 1) xs k (omega arith) (subst (λ k. list_any test (f k) ≡ true) there e)) ∙ or_true (list_any test (f n))
 
--- what is found nowhere isn't found in all
+-- what is found at no place isn't found among all
 none_anywhere : (test : JobId → Bool) (f : ℕ → List JobId) (n : ℕ) (xs : List TenantConfig) → ((k : ℕ) → list_any test (f k) ≡ false)
     → list_any test (flat_map (λ (place : ℕ × TenantConfig). f place.0) (enumerate_from n xs)) ≡ false
 none_anywhere test f n [] none = refl
 none_anywhere test f n (x ∷ xs) none =
     list_any-append test (f n) _ ∙ ap (λ b. b || list_any test (flat_map (λ (place : ℕ × TenantConfig). f place.0) (enumerate_from (n + 1) xs))) (none n) ∙ none_anywhere test f (n + 1) xs none
 
--- what is counted, and one thing more
+-- whether a job is counted or active, said in two ways
 one_more : (counted active : Bool) → (counted || active) ≡ ((not counted && active) || counted)
 one_more true active = refl
 one_more false true = refl
 one_more false false = refl
 
 module _ (setting : Setting) where
-  -- the state behind the completions of these jobs, the first of them first
+  -- the state after the completions of these jobs, the first of them first
   abbrev pub after_done : List JobId → HostState → HostState
   after_done [] state = state
   after_done (j ∷ js) state = after_done js (after_event setting state (Done j))
@@ -62,7 +62,7 @@ module _ (setting : Setting) where
   host_after_done [] past = refl
   host_after_done (j ∷ js) past = ap (host_after setting) (first_done j js past) ∙ host_after_done js (Done j ∷ past)
 
-  -- they are counted, and nothing else changes
+  -- the jobs are counted, and nothing else changes
   record AreCounted (js : List JobId) (state : HostState) : Type 0 where
     pub counted : List JobId
     pub is : after_done js state ≡ record state { counted = counted }
@@ -98,7 +98,7 @@ module _ (setting : Setting) where
       all_flat _ (λ (place : ℕ × TenantConfig). jobs_at setting state place.0) (enumerate_from 0 setting.config.tenants)
       (λ place. all_filtered _ (job_of place.0) (λ j. not (is_counted state j)) (row_at state place.0).active (own_jobs_active place.0 (row_at state place.0)))
 
-  -- no job of another tenant is among them
+  -- no job of another tenant is among a tenant's jobs
   none_of_others : (state : HostState) (t : ℕ) (j : JobId) → t ≢ j.tenant → list_any (λ i. same_job i j) (jobs_at setting state t) ≡ false
   none_of_others state t j differ = by (list_any (λ i. same_job i j) (jobs_at setting state t)) refl
     where
@@ -115,7 +115,7 @@ module _ (setting : Setting) where
       any-filter_same (λ i. same_job i j) (λ i. not (is_counted state i)) (not (is_counted state j)) (λ i e. ap (λ k. not (is_counted state k)) (same_job_is i j e)) (map (job_of t) (row_at state t).active)
       ∙ ap (λ b. not (is_counted state j) && b) (any_map (λ i. same_job i j) (job_of t) (row_at state t).active)
 
-  -- and at all
+  -- which jobs are outstanding at all places
   among_all : (state : HostState) (j : JobId) → length state.rows ≡ length setting.config.tenants
       → list_any (λ i. same_job i j) (all_jobs setting state) ≡ (not (is_counted state j) && is_active (row_at state j.tenant) j)
   among_all state j all_rows = by (list_any test (jobs_at setting state j.tenant)) refl
@@ -141,7 +141,7 @@ module _ (setting : Setting) where
           ∙ sym (sym (among_at state j.tenant j) ∙ e)
 
   module _ (host : HostStanding) (state : HostState) (placed : ArePlaced host.tenants) (stands : Stands setting host state) where
-    -- the host behind the completions of these jobs, by the results that came
+    -- the host after the completions of these jobs, by the results that came
     stands_done : (js : List JobId) → AllByRecursion (λ j. is_active (row_at state j.tenant) j ≡ true) js → (entries : List TableEntry)
         → ((j : JobId) → has_result entries j ≡ (list_any (λ i. same_job i j) js || is_counted state j))
         → Stands setting (record host { entries = entries }) (after_done js state)
@@ -170,7 +170,7 @@ module _ (setting : Setting) where
         ∙ one_more (is_counted state j) (is_active (row_at state j.tenant) j)
         ∙ ap (λ b. b || is_counted state j) (sym (among_all state j stands.all_rows))))
 
-    -- one tenant's jobs alone
+    -- only one tenant's jobs
     pub stands_completed_at : (t : ℕ) → t < length setting.config.tenants → (entries : List TableEntry)
         → ((j : JobId) → has_result entries j ≡ (has_result host.entries j || has_job (tenant_at host.tenants t).tenancy.owner.place (tenant_at host.tenants t).row.active j))
         → Stands setting (record host { entries = entries }) (after_done (outstanding_of host t) state)

@@ -1,4 +1,4 @@
--- What a completion of the host's own comes to.
+-- What the completion of a host's own job does.
 use Rattle.std.proofs.Common.{◌≡◌, ◌<◌, ◌≤◌, ◌↔◌, ⊎_elim, Bool, true, false, not, cond, ◌&&◌, List, ◌∷◌, length, map, get_or, Option, Some, None, refl, sym, ap, ◌∙◌, subst, arith}
 use Rattle.std.specs.Prelude.{is_some, slice_get, IfSome}
 use Rattle.std.specs.List.{All}
@@ -40,7 +40,7 @@ awaited_parts s entries j d e = by (has_result entries j) refl e
 pub awaited_without : (s : Standing) (entries : List TableEntry) (j : JobId) → has_result entries j ≡ false → awaited_job s entries j ≡ released_job s j
 awaited_without s entries j e = ap (λ b. cond b None (released_job s j)) e
 
--- what the host awaits of its own tenant
+-- the job that the host awaits under a name is the one that the job's tenant awaits
 pub awaited_own : (host view : HostStanding) → record host { tenants = map at_rest host.tenants } ≡ view → (d : JobValue) (x : Standing) → d.id.tenant < length host.tenants
     → x ≡ get_or host.tenants d.id.tenant x → awaited_in view d.id ≡ awaited_job x host.entries d.id
 awaited_own host view is d x lt here = ap (λ (h : HostStanding). awaited_in h d.id) (sym is) ∙ awaited_here host.entries host.tenants d.id x lt here
@@ -55,7 +55,7 @@ module _ (setting : Setting) (host view : HostStanding) (state : HostState) (kno
       let row : row_at state j.tenant ≡ empty_row state.clock = get_or-eq_default state.rows (empty_row state.clock) (omega (arith, inside.all_rows, le)) in
       ap (λ (r : Row). is_active r j && not (is_counted state j)) row
 
-  -- the host awaits a job where the definitions do, whatever tenant the job names
+  -- the host awaits a job exactly if the definitions do, whatever tenant the job names
   awaits_own : (j : JobId) → is_awaited state j ≡ is_some (awaited_in view j)
   awaits_own j = ⊎_elim here past (cases_lt j.tenant (length setting.config.tenants)) ∙ ap is_some (sym (awaited_at_rest host j) ∙ ap (λ (h : HostStanding). awaited_in h j) is)
     where
@@ -67,7 +67,7 @@ module _ (setting : Setting) (host view : HostStanding) (state : HostState) (kno
           let none : slice_get host.tenants j.tenant ≡ None = slice_get_past host.tenants j.tenant (omega (arith, inside.as_many, le)) in
           past_all j le ∙ sym (ap (λ o. is_some (option_and_then (λ s. awaited_job s host.entries j) o)) none)
 
-  -- the answer, and what stands behind it
+  -- the answer, and the host after the completion
   pub record ComesTo (done : JobValue) (result : Counted) (after : HostStanding) : Type 0 where
     pub answer : result ≡ cond (is_awaited state done.id) became.Counted became.Late
     pub step : Stands setting after (after_event setting state (Done done.id))

@@ -1,4 +1,4 @@
--- The flows of a host: its tenants' binds, which lead from the sources behind an instant to those before it.
+-- The flows of a host: its tenants' binds, which lead from the sources after an instant to those before it.
 use Rattle.std.proofs.Common.{Bor, ◌≡◌, ℕ, ◌+◌, ◌<◌, ◌≤◌, ◌⊎◌, inl, inr, ⊎_elim, Bool, true, false, ◌||◌, ◌&&◌, eqb, ℤ, List, [], ◌∷◌, ◌++◌, length, take, get_or, add-one, ◌≢◌, Option, Some, None, refl, sym, ap, ◌∙◌, arith}
 use Rattle.std.specs.Prelude.{nat_lt}
 use Rattle.std.specs.List.{cons_option, list_any, filter_map}
@@ -55,11 +55,11 @@ named_end roster (x ∷ bs) b u = by (place_in roster x.tenant) (named_end roste
 abbrev no_bind : Bind
 no_bind = record { sensor = []; tenant = []; actuator = [] }
 
--- a bind that is lent
+-- a borrowed bind
 abbrev pub lent : Bor Name × ℕ × Bor Name → Name × ℕ × Name
 lent b = (b.0.now, b.1, b.2.now)
 
--- one bind more
+-- one more bind
 pub one_bind_more : (roster : List Name) (bs : List Bind) (i u : ℕ) (o : Option (Name × ℕ × Name)) → i < length bs → o ≡ bind_at roster bs i
     → is_source (named roster (take (i + 1) bs)) u ≡ (is_source (named roster (take i bs)) u || option_map_or (λ (b : Name × ℕ × Name). eqb b.1 u) o false)
 one_bind_more roster bs i u o lt is =
@@ -77,7 +77,7 @@ one_bind_more roster bs i u o lt is =
     by None = refl
     by (Some v) = refl
 
--- one flow more
+-- one more flow
 one_flow_more : (flows : List Flow) (f : Flow) (t u : ℕ) → has_flow (flows ++ f ∷ []) t u ≡ (has_flow flows t u || (eqb t f.consumer && eqb f.supplier u))
 one_flow_more flows f t u =
     list_any-append (λ (f : Flow). eqb t f.consumer && eqb f.supplier u) flows (f ∷ [])
@@ -88,7 +88,7 @@ within_both true is_it some other = refl
 within_both false true some other = refl
 within_both false false some other = refl
 
--- the flows of one tenant's first binds, and that of one bind more
+-- the flows of one tenant's first binds, and that of one more bind
 pub flow_of_bind : (flows before : List Flow) (consumer supplier : ℕ) (roster : List Name) (bs : List Bind) (i : ℕ) (o : Option (Name × ℕ × Name)) (s a : Name)
     → i < length bs → o ≡ bind_at roster bs i → o ≡ Some (s, supplier, a)
     → ((t u : ℕ) → has_flow flows t u ≡ (has_flow before t u || (eqb t consumer && is_source (named roster (take i bs)) u)))
@@ -100,7 +100,7 @@ flow_of_bind flows before consumer supplier roster bs i o s a lt is some are t u
     ∙ ap (λ b. has_flow before t u || (eqb t consumer && b))
     (ap (λ p. is_source (named roster (take i bs)) u || option_map_or (λ (b : Name × ℕ × Name). eqb b.1 u) p false) (sym some) ∙ sym (one_bind_more roster bs i u o lt is))))
 
--- a bind that names no tenant of the roster gives none
+-- a bind that names no tenant of the roster gives no flow
 pub no_flow_of_bind : (flows before : List Flow) (consumer : ℕ) (roster : List Name) (bs : List Bind) (i : ℕ) (o : Option (Name × ℕ × Name))
     → i < length bs → o ≡ bind_at roster bs i → o ≡ None
     → ((t u : ℕ) → has_flow flows t u ≡ (has_flow before t u || (eqb t consumer && is_source (named roster (take i bs)) u)))
@@ -111,7 +111,7 @@ no_flow_of_bind flows before consumer roster bs i o lt is none are t u =
     (or_turned false (is_source (named roster (take i bs)) u)
     ∙ (ap (λ p. is_source (named roster (take i bs)) u || option_map_or (λ (b : Name × ℕ × Name). eqb b.1 u) p false) (sym none) ∙ sym (one_bind_more roster bs i u o lt is)))
 
--- one tenant's flows more
+-- the flows of one more tenant
 pub one_tenant_more : (some : ℕ → Bool) (t n : ℕ) → ((nat_lt t n && some t) || (eqb t n && some n)) ≡ (nat_lt t (n + 1) && some t)
 one_tenant_more some t n = ⊎_elim
     (λ (same : t ≡ n).
@@ -164,7 +164,7 @@ any_and p b (x ∷ xs) = ap (λ c. (p x && b) || c) (any_and p b xs) ∙ both (p
     both true c false = and_false c
     both false c d = refl
 
--- a flow to one of these sources
+-- whether there is a flow to one of these sources, asked flow by flow and source by source
 turned_round : (flows : List Flow) (sources : List ℕ) (u : ℕ)
     → list_any (λ (f : Flow). is_source sources f.consumer && eqb f.supplier u) flows ≡ list_any (λ t. has_flow flows t u) sources
 turned_round [] sources u = sym (any_of_none sources)
@@ -174,7 +174,7 @@ turned_round (f ∷ flows) sources u =
     ∙ sym (any_or (λ t. eqb t f.consumer && eqb f.supplier u) (λ t. has_flow flows t u) sources))
 
 module _ (setting : Setting) where
-  -- the flows before an instant lead from the sources behind it to those before it
+  -- the flows before an instant lead from the sources after it to those before it
   lead_by_rows : (past : List Event) (frame : List ℤ) (flows : List Flow) → AreFlows setting (row_of setting past) flows → LeadBack setting (Tick frame) past flows
   lead_by_rows past frame flows are sources u =
       ap (λ b. is_source sources u || b)

@@ -1,4 +1,4 @@
--- The binds of a host's tenants: by its fields, by its value, and by the state that it stands for.
+-- The binds of a host's tenants: in its fields, in its value, and in the state that it represents.
 use Rattle.std.proofs.Common.{◌≡◌, ◌<◌, ℕ, length, map, get_or, ap, sym, subst}
 use Rattle.rig_model.specs.config.Roster.{Rig}
 use Rattle.instant_engine.specs.Tenants.{tenant_at}
@@ -14,7 +14,7 @@ pub here_binds : (host view : HostStanding) (t : ℕ) (x : Standing) → record 
     → x.row.binds ≡ (tenant_at view.tenants t).row.binds
 here_binds host view t x is lt here = sym (ap (λ (s : Standing). s.row.binds) (here_at_rest host view t x is lt here))
 
--- and the state that it stands for
+-- the same binds, as the state that the host represents has them
 pub same_binds : (setting : Setting) (host : HostStanding) (state : HostState) → Stands setting host state → (t : ℕ) → t < length host.config.tenants
     → (tenant_at host.tenants t).row.binds ≡ (row_at state t).binds
 same_binds setting host state stands t lt = ap (λ (row : Row). row.binds) (stands.each t (subst (λ (k : Rig). t < length k.tenants) stands.same_config lt))

@@ -1,4 +1,4 @@
--- What a host keeps and stands for behind an instant, whose tenants were made ready before.
+-- What a host keeps and represents after an instant, if its tenants were made ready before.
 use Rattle.std.proofs.Common.{◌≡◌, ℕ, ◌+◌, ◌-◌, ◌<◌, ◌≤◌, ◌^◌, ⊎_elim, cond, ℤ, Option, List, [], ◌∷◌, ◌++◌, length, map, take, drop, get_or, Some, None, refl, sym, ap, ◌∙◌, subst, arith}
 use Rattle.std.specs.List.{All}
 use Rattle.std.specs.Option.{option_map_or}
@@ -33,7 +33,7 @@ take_front : {X : Type 0} (xs ys : List X) → take (length xs) (xs ++ ys) ≡ x
 take_front [] ys = refl
 take_front (x ∷ xs) ys = ap (λ zs. x ∷ zs) (take_front xs ys)
 
--- a list that is written over by one of its length
+-- a list that is overwritten by one of its length
 pub written_over : {X : Type 0} (n : ℕ) (old new : List X) → length new ≡ n → take n (new ++ drop (length new) old) ≡ new
 written_over n old new e = ap (λ k. take k (new ++ drop (length new) old)) (sym e) ∙ take_front new (drop (length new) old)
 
@@ -75,7 +75,7 @@ pub record AreReadied (config : Rig) (clock places : ℕ) (old again : List Stan
   pub long : length again ≡ places
   pub same : readied ≡ before
 
--- they are written over by as many that are the same at rest
+-- they are overwritten by as many that are the same at rest
 pub are_readied : (config : Rig) (clock places : ℕ) (old slice ready : List Standing) (before readied : List TableEntry) → slice ≡ old → length slice ≡ places → map at_rest ready ≡ map at_rest slice → readied ≡ before
     → IsWhole config clock old before → AreReadied config clock places old (take places (ready ++ drop (length ready) old)) before readied
 are_readied config clock places old slice ready before readied value long rest same whole =
@@ -88,7 +88,7 @@ are_readied config clock places old slice ready before readied value long rest s
       same = same;
     })
 
--- tenants and their table behind an instant
+-- tenants and their table after an instant
 pub record IsNext (frame : List ℤ) (again : List Standing) (readied : List TableEntry) (tenants : List Standing) (entries : List TableEntry) : Type 0 where
   pub instants : AreInstants frame readied again tenants
   pub table : IsTaskTable tenants entries
@@ -104,7 +104,7 @@ module _ {config : Rig} {clock places : ℕ} {old again : List Standing} {before
   pub counts_again : clock < 2 ^ 64 - 1 → All (λ (s : Standing). s.row.next_tick < 2 ^ 64 - 1) again
   counts_again below k d lt = subst (λ n. n < 2 ^ 64 - 1) (sym (is.whole.known k d lt).0) below
 
-  -- what an instant made of them is written over the others
+  -- what an instant made of them overwrites the others
   pub written_behind : (frame : List ℤ) (after others : List Standing) → AreInstants frame readied again after → take places (after ++ drop (length after) others) ≡ after
   written_behind frame after others instants = written_over places others after (instants.moved.as_many ∙ is.long)
 

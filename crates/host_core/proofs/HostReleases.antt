@@ -1,4 +1,4 @@
--- How many jobs a host's instant releases, and how many are outstanding behind it.
+-- How many jobs a host's instant releases, and how many are outstanding after it.
 use Rattle.std.proofs.Common.{◌≡◌, ℕ, ◌+◌, ◌-◌, ◌<◌, ◌≤◌, Bool, true, false, cond, not, ℤ, List, [], ◌∷◌, length, map, filter, get_or, Option, Some, None, suc, refl, sym, zero-add, ap, ◌∙◌, subst, arith}
 use Rattle.std.specs.Prelude.{is_some}
 use Rattle.std.specs.List.{AllByRecursion, sum_by}
@@ -45,7 +45,7 @@ sums_grown f g h d (x ∷ xs) (y ∷ ys) long each =
       sums_grown f g h d xs ys (omega (arith, long)) (λ t lt. each (suc t) (omega (arith, lt))),
     )
 
--- an entered job has its result where it had it before
+-- an entered job has a result exactly if it had one before
 kept_result : (before after : List TableEntry) (j : JobId) (active : Bool) → entry_in after j ≡ cond active (Some (record { id = j; result = result_in before j })) None → is_entered after j ≡ true
     → has_result after j ≡ has_result before j
 kept_result before after j true exact entered = ap (λ (o : Option TableEntry). is_some (option_and_then (λ (e : TableEntry). e.result) o)) exact

@@ -1,4 +1,4 @@
--- What the host's code stands for behind each event.
+-- What the host's code represents after each event.
 use Rattle.std.proofs.Common.{◌≡◌, ℕ, ◌+◌, ◌<◌, ◌≤◌, ◌≢◌, ⊎_elim, Bool, true, false, cond, not, ◌&&◌, ◌||◌, ℤ, List, ◌∷◌, length, map, filter, get_or, set, Option, Some, None, refl, sym, ap, ◌∙◌, subst, length-set, zero-add, arith}
 use Rattle.std.specs.Prelude.{is_some, slice_get, Result, Ok, Err, IfOk}
 use Rattle.std.specs.List.{find, enumerate_from, All}
@@ -61,7 +61,7 @@ tenancies_set config tenants u s own tenancies t lt = ⊎_elim
     (λ (differ : u ≢ t). ap (λ (x : Standing). x.tenancy) (get_or-set_other tenants u t s no_tenant (λ e. differ (sym e))) ∙ tenancies t (omega (arith, lt, length-set tenants u s)))
     (cases_eq u t)
 
--- a job is active in the code's tenants where it is in the rows that they stand for
+-- a job is active in the code's tenants exactly if it is in the rows that they represent
 pub active_alike : (n : ℕ) (tenants : List Standing) (rows : List Row) (clock : ℕ) → length tenants ≡ n → length rows ≡ n → ArePlaced tenants
     → ((t : ℕ) → t < n → StandsFor (tenant_at tenants t) (get_or rows t (empty_row clock)))
     → (j : JobId) → is_active (get_or rows j.tenant (empty_row clock)) j ≡ is_active_among tenants j
@@ -77,18 +77,18 @@ active_alike n tenants rows clock as_many all_rows placed each j = ⊎_elim here
         ap (λ (r : Row). is_active r j) (get_or-eq_default rows (empty_row clock) (omega (arith, le, all_rows)))
         ∙ sym (ap (λ (s : Standing). has_job s.tenancy.owner.place s.row.active j) (get_or-eq_default tenants no_tenant (omega (arith, le, as_many))))
 
--- what is counted still, behind a change of rows
+-- which jobs are still counted after a change of rows
 pub counted_still : (state : HostState) (rows : List Row) (j : JobId) → is_counted (with_rows state rows) j ≡ (is_active (get_or rows j.tenant (empty_row state.clock)) j && is_counted state j)
 counted_still state rows j =
     any-filter_same (λ i. same_job i j) (λ i. is_active (get_or rows i.tenant (empty_row state.clock)) i) (is_active (get_or rows j.tenant (empty_row state.clock)) j)
     (λ i e. ap (λ (k : JobId). is_active (get_or rows k.tenant (empty_row state.clock)) k) (same_job_is i j e)) state.counted
 
--- a table that has just the results of the jobs that are active still
+-- a table that has exactly the results of the jobs that are still active
 abbrev pub AreResultsStill : List Standing → List TableEntry → List TableEntry → Type 0
 AreResultsStill tenants before after = (j : JobId) → has_result after j ≡ (is_active_among tenants j && has_result before j)
 
 module _ (setting : Setting) where
-  -- the host behind a change of rows, as each tenant stands for its new row and counts the instants up to the clock
+  -- the host after a change of rows, if each tenant represents its new row, whose next tick is the clock's
   pub stands_with_rows : (host : HostStanding) (state : HostState) (tenants : List Standing) (entries : List TableEntry) (rows : List Row) (clock : ℕ)
       → Stands setting host state
       → length tenants ≡ length setting.config.tenants → length rows ≡ length setting.config.tenants → ArePlaced tenants
@@ -219,7 +219,7 @@ module _ (setting : Setting) where
         (stands_with_rows host state after entries rows_behind (state.clock + 1) stands (instants.moved.as_many ∙ stands.as_many)
         (length-map (enumerate_from 0 state.rows) _ ∙ (length-enumerate_from 0 state.rows ∙ stands.all_rows)) placed_after tick_each tick_counts results_still)
 
-  -- a tenant's own step, for the row that its place stands for
+  -- a tenant's own step, from the row that the state has at its place
   pub own_outcome : (host : HostStanding) (state : HostState) (t : ℕ) (c : Command) (before after : Standing) (reply : Reply)
       → Stands setting host state → t < length host.config.tenants → HaveTenancies host.config host.tenants → before ≡ get_or host.tenants t before
       → ((row : Row) → StandsFor before row → reply ≢ Refused Memory → IsOutcome (commanded before.tenancy c row) reply after)
@@ -237,7 +237,7 @@ pub outstanding_are : (s : Standing) (entries : List TableEntry) (t : ℕ) (row 
     → outstanding_tasks s entries ≡ filter (λ a. not (counted (job_of t a))) row.active
 outstanding_are s entries t row counted stands place results = λ k. filter (λ a. not (results (job_of (place k) a) k)) (stands k).active
 
--- the job of a name that is released has this name
+-- a job of a name is released exactly if an active task has a job of this name
 pub released_is : (s : Standing) (j : JobId) → IsKnown s.tenancy s.row → is_some (released_job s j) ≡ has_job s.tenancy.owner.place s.row.active j
 released_is s j known = program s.row.program refl
   where
@@ -257,7 +257,7 @@ awaited_is s entries j known = by (has_result entries j)
     by false = released_is s j known ∙ sym (and_true (has_job s.tenancy.owner.place s.row.active j))
 
 module _ (setting : Setting) where
-  -- the host awaits a job exactly where the definitions do
+  -- the host awaits a job exactly if the definitions do
   pub awaits_here : (host : HostStanding) (state : HostState) (j : JobId) → j.tenant < length setting.config.tenants → Stands setting host state → ArePlaced host.tenants
       → IsKnown (tenant_at host.tenants j.tenant).tenancy (tenant_at host.tenants j.tenant).row → is_awaited state j ≡ is_some (awaited_in host j)
   awaits_here host state j lt stands placed known =
@@ -281,7 +281,7 @@ module _ (setting : Setting) where
     results = λ k. added k ∙ ap (λ b. same_job j k || b) (stands.results k);
   }
 
-  -- behind a completion, by whether it was awaited
+  -- after a completion, by whether it was awaited
   pub done_awaited : (state : HostState) (j : JobId) (host : HostStanding) → is_awaited state j ≡ true → Stands setting host (record state { counted = j ∷ state.counted })
       → Stands setting host (after_event setting state (Done j))
   done_awaited state j host e stands = subst (λ b. Stands setting host (cond b (record state { counted = j ∷ state.counted }) state)) (sym e) stands
@@ -314,12 +314,12 @@ awaited_name_in host j d e = by (slice_get host.tenants j.tenant) e
     by None f = absurd (cc)
     by (Some s) f = awaited_name s host.entries j d f
 
--- an answer that is told to be one thing is told to be what equals it
+-- if an answer is one thing, it is whatever equals that
 pub told_as : {A E : Type 0} (result : Result A E) (x y : A) → x ≡ y → IfOk result (λ a. a ≡ x) → IfOk result (λ a. a ≡ y)
 told_as (Err e) x y same is = tt
 told_as (Ok a) x y same is = is ∙ same
 
--- a tenant's answer to a job's name is the host's
+-- a tenant returns a job for a name exactly if the definitions await it
 pub job_awaits : {E : Type 0} (host : HostStanding) (j : JobId) (before : Standing) (result : Result (Option JobValue) E)
     → j.tenant < length host.tenants → before ≡ get_or host.tenants j.tenant before → All (IsAt host.clock) host.tenants → ArePlaced host.tenants
     → IfOk result (λ job. job ≡ awaited_job before host.entries j)

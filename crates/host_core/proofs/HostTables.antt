@@ -1,4 +1,4 @@
--- The table of a host's active tasks behind a command, a completion, and the completion of outstanding jobs.
+-- The table of a host's active tasks after a command, a completion, and the completion of outstanding jobs.
 use Rattle.std.proofs.Common.{◌≡◌, ◌≢◌, ◌⊎◌, ℕ, ◌+◌, ◌<◌, ◌≤◌, ⊎_elim, inl, inr, Bool, true, false, cond, not, ◌&&◌, ◌||◌, List, [], ◌∷◌, filter, length, get_or, set, length-set, take, Option, Some, None, refl, sym, ap, ◌∙◌, subst, arith}
 use Rattle.std.specs.Prelude.{is_some, IfSome}
 use Rattle.std.specs.List.{AllByRecursion, find, list_all}
@@ -29,7 +29,7 @@ use Rattle.host_core.specs.HostStanding.{outstanding_from}
 use Rattle.host_core.proofs.HostSteps.{AreResultsStill, tenancies_set, placed_set, released_is}
 use Rattle.host_core.proofs.cited.Outstanding.{another_job, counted_from, number_outstanding}
 
--- a job of a tenant's tasks is of that tenant
+-- the job of a tenant's task is of that tenant
 pub own_job : (t : ℕ) (tasks : List ActiveTask) (j : JobId) → has_job t tasks j ≡ true → t ≡ j.tenant
 own_job t tasks j e =
     any_if_all (λ (a : ActiveTask). same_job (job_of t a) j) (t ≡ j.tenant) tasks (all_of (λ a same. ap (λ (i : JobId). i.tenant) (same_job_is (job_of t a) j same)) tasks) e
@@ -37,7 +37,7 @@ own_job t tasks j e =
 pub other_job : (t : ℕ) (tasks : List ActiveTask) (j : JobId) → t ≢ j.tenant → has_job t tasks j ≡ false
 other_job t tasks j differ = false_from_ne_true (has_job t tasks j) (λ e. differ (own_job t tasks j e))
 
--- a result stands in an entry
+-- a job with a result has an entry
 pub entered_of_result : (entries : List TableEntry) (j : JobId) → has_result entries j ≡ true → is_entered entries j ≡ true
 entered_of_result entries j e = by (entry_in entries j) e
   where
@@ -45,7 +45,7 @@ entered_of_result entries j e = by (entry_in entries j) e
     by None h = absurd (false≢true h)
     by (Some entry) h = refl
 
--- where the results of a tenant's active tasks stay as they are, they stay right
+-- if the results of a tenant's active tasks stay as they are, they stay right
 pub results_moved : (s : Standing) (before after : List TableEntry) → ((a : ActiveTask) → result_in after (job_of s.tenancy.owner.place a) ≡ result_in before (job_of s.tenancy.owner.place a))
     → HasItsResults s before → HasItsResults s after
 results_moved s before after same right p has =
@@ -55,7 +55,7 @@ either_way : (a b : Bool) → (b ≡ false) ⊎ (b ≡ a) → b ≡ (a && not (a
 either_way true b which = ⊎_elim (λ e. e ∙ sym (ap (λ c. not (not c)) e)) (λ e. e ∙ sym (ap (λ c. not (not c)) e)) which
 either_way false b which = ⊎_elim (λ e. e) (λ e. e) which
 
--- a command: the tenant at place u was x, and is y behind it, whose ended tasks leave the table
+-- a command: the tenant at place u was x before it and is y after it, and the ended tasks of y leave the table
 module _ (tenants : List Standing) (before after : List TableEntry) (u : ℕ) (x y : Standing) {config : Rig} {clock : ℕ} (whole : IsWhole config clock tenants before)
     (within : u < length tenants) (here : x ≡ tenant_at tenants u) (tenancy : y.tenancy ≡ x.tenancy) (count : y.row.next_tick ≡ x.row.next_tick) (known : IsKnown y.tenancy y.row)
     (binds : length y.row.binds ≤ y.tenancy.owner.most_binds) (ended : AreEnded x y) (active : (y.row.active ≡ []) ⊎ AreTasksKept x y)
@@ -129,7 +129,7 @@ module _ (tenants : List Standing) (before after : List TableEntry) (u : ℕ) (x
           none true = refl
           none false = refl
 
-  -- none leaves where the tasks are kept
+  -- no entry leaves if the tasks are kept
   none_leaves_kept : AreTasksKept x y → (j : JobId) → leaves j ≡ false
   none_leaves_kept kept j = ended j ∙ (λ k. has_active x j && not (has_job (tenancy k).owner.place (kept.0 k) j)) ∙ never (has_active x j)
     where
@@ -181,7 +181,7 @@ module _ (tenants : List Standing) (before after : List TableEntry) (u : ℕ) (x
     };
   }
 
-  -- where the results of its active tasks stay, a tenant has as many jobs outstanding
+  -- if no entry of its active tasks leaves, a tenant has as many jobs outstanding as before
   as_many_still : (z : Standing) → ((a : ActiveTask) → leaves (job_of z.tenancy.owner.place a) ≡ false) → number_outstanding after z ≡ number_outstanding before z
   as_many_still z none = ap length (same_filter _ _ z.row.active (all_of (λ a. ap (λ r. not (is_some r)) (stays (job_of z.tenancy.owner.place a) (none a))) z.row.active))
 
@@ -204,7 +204,7 @@ module _ (tenants : List Standing) (before after : List TableEntry) (u : ℕ) (x
       ))
       (cases_eq k u)
 
-  -- no more jobs are outstanding behind it
+  -- no more jobs are outstanding after it than before
   pub outstanding_behind : length (outstanding_from after 0 tenants_behind) ≤ length (outstanding_from before 0 tenants)
   outstanding_behind =
       omega (
@@ -214,7 +214,7 @@ module _ (tenants : List Standing) (before after : List TableEntry) (u : ℕ) (x
         sums_within (number_outstanding after) (number_outstanding before) no_tenant no_tenant tenants_behind tenants long_behind (λ t lt. number_behind t (omega (arith, lt, long_behind))),
       )
 
--- a job that is released is active, and has its entry
+-- a released job is active, and has its entry
 pub active_if_released : (tenants : List Standing) (entries : List TableEntry) (d : JobValue) {config : Rig} {clock : ℕ} → IsWhole config clock tenants entries → d.id.tenant < length tenants
     → released_job (tenant_at tenants d.id.tenant) d.id ≡ Some d → is_active_among tenants d.id ≡ true
 active_if_released tenants entries d whole within released =
@@ -227,7 +227,7 @@ entered_if_released tenants entries d whole x within here released =
     ∙ active_if_released tenants entries d whole within
     (subst (λ (s : Standing). released_job s d.id ≡ Some d) (here ∙ get_or_default tenants d.id.tenant x no_tenant within) released)
 
--- of tasks whose releases differ, one alone has a job
+-- if the releases of some tasks differ, only one of them has a given job
 found_alone : (t : ℕ) (j : JobId) (xs : List ActiveTask) (a : ActiveTask) → all_different_releases xs ≡ true → find (λ b. same_job (job_of t b) j) xs ≡ Some a
     → AllByRecursion (λ b. same_job (job_of t b) j ≡ true → b ≡ a) xs
 found_alone t j [] a different found = tt
@@ -348,7 +348,7 @@ table_completed tenants before after i placed within entered right others table 
         (table.results k no_tenant lt))
         (cases_eq i k)
 
--- each of these tasks has its own job
+-- the job of each of these tasks is among theirs
 own_jobs : (t : ℕ) (tasks : List ActiveTask) → AllByRecursion (λ a. has_job t tasks (job_of t a) ≡ true) tasks
 own_jobs t [] = tt
 own_jobs t (a ∷ rest) = (
@@ -368,7 +368,7 @@ has_its_entries tenants entries i x within here placed table =
     ∙ own)
     (own_jobs (tenant_at tenants i).tenancy.owner.place (tenant_at tenants i).row.active))
 
--- whether a job is active in one tenant more
+-- whether a job is active in one more tenant
 pub active_more : (tenants : List Standing) (i : ℕ) (j : JobId) → ArePlaced tenants → i < length tenants
     → is_active_among (take (i + 1) tenants) j ≡ (is_active_among (take i tenants) j || has_active (tenant_at tenants i) j)
 active_more tenants i j placed within = ⊎_elim
@@ -396,7 +396,7 @@ active_more tenants i j placed within = ⊎_elim
         ∙ or_false (is_active_among (take i tenants) j)
         ∙ ap (λ b. is_active_among (take i tenants) j || b) (sym (other_job (tenant_at tenants i).tenancy.owner.place (tenant_at tenants i).row.active j (λ e. absurd (omega (arith, lt, sym (placed i within) ∙ e)))))
 
--- what the tenants before this one have completed is no job of its own
+-- no job of this tenant is active in a tenant before it
 pub none_before : (tenants : List Standing) (i : ℕ) (a : ActiveTask) → ArePlaced tenants → i < length tenants → is_active_among (take i tenants) (job_of (tenant_at tenants i).tenancy.owner.place a) ≡ false
 none_before tenants i a placed within =
     ap (λ (s : Standing). has_job s.tenancy.owner.place s.row.active (job_of (tenant_at tenants i).tenancy.owner.place a))

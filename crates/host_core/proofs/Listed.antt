@@ -1,4 +1,4 @@
--- A question changes nothing, nor does a command that is answered by a list.
+-- A question changes nothing. Nor does a command that is answered with a list.
 use Rattle.std.specs.Prelude.{unwrap_or}
 use Rattle.std.proofs.Common.{◌≡◌, ◌≢◌, ◌<◌, ℕ, Bool, true, false, not, ◌&&◌, ◌||◌, cond, List, [], ◌∷◌, map, length, set, Option, Some, None, Result, Ok, Err, refl, sym, ap, ◌∙◌, ◌⊎◌, ⊎_elim, inl, inr, arith, zero, suc}
 use Rattle.std.proofs.Math.ListN.{get_or}
@@ -37,7 +37,7 @@ use Rattle.instant_engine.specs.cited.Instants.{IsBetween}
 use Rattle.instant_engine.specs.state.Standing.{Standing, StandsFor, at_rest, with_last}
 use Rattle.instant_engine.specs.state.cited.Standing.{AreEnded, HoldsOfRow, IsOutcome, has_active, without_ended}
 
--- the outcome is a list only if it leaves the row
+-- the reply is a list only if the row is unchanged
 abbrev LeavesRow : Row → CommandOutcome → Type 0
 LeavesRow row o = is_list o.reply ≡ true → o.row ≡ row
 
@@ -113,7 +113,7 @@ rows_by tenancy (about.Bind s t a) row e = absurd (cc)
 rows_by tenancy (about.Unbind s) row e = absurd (cc)
 rows_by tenancy about.Rows row e = refl
 
--- a question leaves the row
+-- a question leaves the row unchanged
 asked_row : (tenancy : Tenancy) (c : Command) (row : Row) → is_question c ≡ true → (commanded tenancy c row).row ≡ row
 asked_row tenancy (Load text) row e = absurd (cc)
 asked_row tenancy (Replace text) row e = absurd (cc)
@@ -125,13 +125,13 @@ asked_row tenancy ShowAll row e = all_by row row.program
 asked_row tenancy command.Trace row e = refl
 asked_row tenancy (Grants c) row e = rows_by tenancy c row e
 
--- tasks of which none has a job of any name are none
+-- if no task of a list has a job of any name, the list is empty
 none_ended : (place : ℕ) (tasks : List ActiveTask) → ((j : JobId) → has_job place tasks j ≡ false) → tasks ≡ []
 none_ended place [] f = refl
 none_ended place (a ∷ tasks) f =
     absurd (let here : has_job place (a ∷ tasks) (job_of place a) ≡ true = ap (λ b. b || has_job place tasks (job_of place a)) (same_job_self (job_of place a)) in let not_ = f (job_of place a) in cc)
 
--- a command is refused for want of memory or not
+-- a reply is `err memory`, or it isn't
 for_memory : (r : Reply) → (r ≡ Refused Memory) ⊎ (r ≢ Refused Memory)
 for_memory Loaded = inr (λ e. absurd (cc))
 for_memory Replaced = inr (λ e. absurd (cc))
@@ -169,7 +169,7 @@ both_not : (b : Bool) → (b && not b) ≡ false
 both_not true = refl
 both_not false = refl
 
--- a command that leaves the row, or that wasn't carried out for want of memory
+-- a command that leaves the row unchanged, or that ran out of memory and changed nothing
 abbrev pub Leaves : Standing → Standing → Command → Reply → Type 0
 Leaves old new c reply = (reply ≢ Refused Memory → reply ≡ (commanded old.tenancy c old.row).reply → (commanded old.tenancy c old.row).row ≡ old.row) × (reply ≡ Refused Memory → new ≡ old)
 
@@ -206,7 +206,7 @@ module _ (old new : Standing) (c : Command) (reply : Reply) (leaves : Leaves old
   pub same_at_rest : at_rest (without_ended new) ≡ at_rest old
   same_at_rest = λ k. record { tenancy = tenancy k; row = same_row k; ready = record { ended = sym between.rest k; room = 0; shared = false } }
 
--- where one tenant is the same at rest, all are
+-- if one tenant is replaced by one that is the same at rest, all tenants are the same at rest
 pub same_set : (xs : List Standing) (i : ℕ) (s d : Standing) → i < length xs → at_rest s ≡ at_rest (get_or xs i d) → map at_rest (set xs i s) ≡ map at_rest xs
 same_set [] i s d lt e = absurd (omega (arith, lt))
 same_set (x ∷ xs) zero s d lt e = ap (λ y. y ∷ map at_rest xs) e

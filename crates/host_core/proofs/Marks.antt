@@ -10,7 +10,7 @@ use Rattle.rig_model.specs.Sources.{kept_from, kept_of, sources_before, sources_
 use Rattle.rig_model.specs.declared.events.Event.{Event}
 use Rattle.host_core.specs.inner.Trials.{marked, marks_from}
 
--- lists of one length, and two ends of one length
+-- the marked events of two lists, one after the other
 marked_append : (xs ys : List Event) (ms ns : List Bool) → length xs ≡ length ms → marked (xs ++ ys) (ms ++ ns) ≡ marked xs ms ++ marked ys ns
 marked_append [] ys [] ns e = refl
 marked_append [] ys (m ∷ ms) ns e = absurd (omega (arith, e))
@@ -22,11 +22,11 @@ marked_append (x ∷ xs) ys (m ∷ ms) ns e = by m (marked_append xs ys ms ns (o
     by true same = ap (λ zs. x ∷ zs) same
     by false same = same
 
--- one event and its mark more
+-- one more event, and its mark
 pub one_more_marked : (xs : List Event) (x : Event) (ms : List Bool) (m : Bool) → length xs ≡ length ms → marked (xs ++ x ∷ []) (ms ++ m ∷ []) ≡ marked xs ms ++ cond m (x ∷ []) []
 one_more_marked xs x ms m e = marked_append xs (x ∷ []) ms (m ∷ []) e
 
--- one event more, from a longer list
+-- one more event of a longer list
 pub kept_more : (events : List Event) (marks : List Bool) (i : ℕ) (e : Event) (m d : Bool) → i < length events → length marks ≡ length events → e ≡ get_or events i e → get_or marks i d ≡ m
     → marked (take (i + 1) events) (take (i + 1) marks) ≡ marked (take i events) (take i marks) ++ cond m (e ∷ []) []
 kept_more events marks i e m d lt as_many is mark_is =
@@ -81,7 +81,7 @@ module _ (setting : Setting) where
       ∙ (marked_reverse (reverse events) (marks_from setting (t ∷ []) (reverse events)) (sym (as_many_marks (reverse events) (t ∷ [])))
       ∙ marked_is_kept (reverse events) (t ∷ [])))
 
-  -- a mark tells whether its event stays
+  -- a mark says whether its event stays
   pub mark_at : (later past : List Event) (e : Event) (sources : List ℕ)
       → slice_get (reverse (marks_from setting sources (later ++ e ∷ past))) (length past) ≡ Some (stays (sources_from setting sources later (e ∷ past)) e)
   mark_at [] past e sources =
@@ -98,13 +98,13 @@ module _ (setting : Setting) where
   legal_before [] past legal = legal
   legal_before (e ∷ later) past legal = legal_before later past (and_parts (may_follow setting (later ++ past) e) (is_legal setting (later ++ past)) legal).1
 
-  -- the first events of a legal list are one
+  -- the first events of a legal list are a legal list
   legal_first : (events : List Event) (k : ℕ) → is_legal setting (reverse events) ≡ true → is_legal setting (reverse (take k events)) ≡ true
   legal_first events k legal =
       legal_before (reverse (drop k events)) (reverse (take k events))
       (ap (is_legal setting) (sym (reverse-append (take k events) (drop k events)) ∙ ap reverse (take-append-drop k events)) ∙ legal)
 
-  -- and where those aren't legal, the list isn't
+  -- if the first events aren't legal, the list isn't
   pub illegal_if_first : (events : List Event) (k : ℕ) → is_legal setting (reverse (take k events)) ≡ false → is_legal setting (reverse events) ≡ false
   illegal_if_first events k illegal = by (is_legal setting (reverse events)) refl
     where

@@ -1,4 +1,4 @@
--- A new host stands for the empty row of each tenant.
+-- A new host represents the empty row of each tenant.
 use Rattle.std.proofs.Common.{◌≡◌, ℕ, ◌<◌, List, [], length, map, get_or, zero-add, refl, sym, ap, ◌∙◌, subst, arith}
 use Rattle.std.specs.List.{enumerate_from}
 use Rattle.std.proofs.lemmas.List.{length-map, get_or-map, take_all}

@@ -29,7 +29,7 @@ module _ (n : ℕ) (config : Rig) where
   new_at : (t : ℕ) (d : Standing) → t < length roster → get_or new_tenants t d ≡ begun config n (t, get_or roster t nobody)
   new_at t d lt = at_place (begun config n) roster t d lt
 
-  -- one tenant more
+  -- one more tenant
   pub new_more : (i : ℕ) (tenants more : List Standing) (s : Standing) → i < length roster → tenants ≡ take i new_tenants → more ≡ tenants ++ s ∷ [] → s ≡ begun config n (i, get_or roster i nobody)
       → more ≡ take (i + 1) new_tenants
   new_more i tenants more s lt before added is =

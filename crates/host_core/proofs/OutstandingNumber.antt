@@ -30,7 +30,7 @@ module _ (n : ℕ) (tenants : List Standing) (known : All (IsAt n) tenants) (pla
   abbrev number : List TableEntry → ℕ
   number entries = length (outstanding_from entries 0 tenants)
 
-  -- none is, where each active task has its result
+  -- no job is outstanding if each active task has its result
   none_left : (entries : List TableEntry) → ((j : JobId) → has_result entries j ≡ is_active_among tenants j) → number entries ≡ 0
   none_left entries all = sym (counted_from entries 0 tenants) ∙ all_zero (number_outstanding entries) tenants none_of
     where
@@ -45,7 +45,7 @@ module _ (n : ℕ) (tenants : List Standing) (known : All (IsAt n) tenants) (pla
           ap length (ap (λ k. filter (λ a. not (has_result entries (job_of k a))) (tenant_at tenants t).row.active) (placed t lt)
           ∙ none_passes (λ a. not (has_result entries (job_of t a))) (tenant_at tenants t).row.active (came t lt))
 
-  -- an active task is one of a tenant's
+  -- an active job's tenant is one of the list
   within : (j : JobId) → is_active_among tenants j ≡ true → j.tenant < length tenants
   within j active = ⊎_elim (λ lt. lt) beyond (cases_lt j.tenant (length tenants))
     where

@@ -1,4 +1,4 @@
--- One event more that is played: the texts, and the names of the jobs that were released.
+-- One more event is played: the texts, and the names of the released jobs.
 use Rattle.std.proofs.Common.{◌≡◌, ℕ, zero, suc, ◌+◌, ◌<◌, ◌≤◌, ◌≢◌, ◌⊎◌, inl, inr, ⊎_elim, Bool, true, false, cond, ◌&&◌, ◌||◌, eqb, ℤ, List, [], ◌∷◌, ◌++◌, length, take, reverse, map, filter, get_or, set, Option, Some, None, Result, Err, refl, sym, ap, ◌∙◌, subst, length-set, zero-add, arith}
 use Rattle.std.specs.Prelude.{nat_lt, ◌-◌, ◌^◌}
 use Rattle.std.specs.List.{list_any, All}
@@ -46,7 +46,7 @@ module _ (j : JobId) where
   abbrev is_it : JobValue → Bool
   is_it k = same_job k.id j
 
-  -- a tenant's
+  -- the jobs of one tenant
   sound_along : (t n : ℕ) (p : GiottoProgram) (xs : List ActiveTask) → list_any is_it (map (job_in p t) (filter (λ (a : ActiveTask). eqb a.release n) xs)) ≡ true
       → (t ≡ j.tenant) × (list_any (λ (a : ActiveTask). same_job (job_of j.tenant a) j) xs ≡ true)
   sound_along t n p [] e = absurd (cc)
@@ -113,7 +113,7 @@ module _ (j : JobId) where
           absurd (cc)
       by (Some p) is = complete_along n p row.active tick e
 
-  -- all tenants', from a place on
+  -- the jobs of all tenants, from a place on
   found_from : (C : Type 0) (n from : ℕ) (xs : List Standing) → ((k : ℕ) → k < length xs → list_any is_it (released_at (from + k) n (get_or xs k no_tenant).row) ≡ true → C)
       → list_any is_it (released_from n from xs) ≡ true → C
   found_from C n from [] each e = absurd (cc)
@@ -183,7 +183,7 @@ module _ (setting : Setting) (base : IsBase setting.config setting.base) where
           (λ h. ap (λ b. b || among) h)
           (active_behind setting base past frame j e)
 
-  -- one event more
+  -- one more event
   pub step_done : (past : List Event) (i : JobId) (host host_new : HostStanding) (texts : List (List ℕ)) (released : List JobId) → may_follow setting past (Done i) ≡ true
       → Stands setting host_new (host_after setting (Done i ∷ past)) → IsPlayed setting past host texts released → IsPlayed setting (Done i ∷ past) host_new texts released
   step_done past i host host_new texts released may stands played = record {

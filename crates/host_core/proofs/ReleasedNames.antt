@@ -27,7 +27,7 @@ and_grouped false b c = refl
 same_job_turned : (i j : JobId) → same_job i j ≡ true → same_job j i ≡ true
 same_job_turned i j e = subst (λ k. same_job k i ≡ true) (same_job_is i j e) (same_job_self i)
 
--- names are equal in the order where they are one
+-- names are equal in the order exactly if they are the same
 pub found_by : (i j : JobId) → is_eq (job_cmp i j) ≡ same_job i j
 found_by i j =
     eq_then (nat_cmp i.tenant j.tenant) _
@@ -35,7 +35,7 @@ found_by i j =
     ∙ (and_grouped (is_eq (nat_cmp i.tenant j.tenant)) (is_eq (nat_cmp i.tick j.tick)) (is_eq (slice_cmp nat_cmp i.task j.task))
     ∙ (λ k. (sym (unsigned_ties i.tenant j.tenant) k && sym (unsigned_ties i.tick j.tick) k) && sym (texts_ties i.task j.task) k)))
 
--- the set has a name
+-- whether the set has a name
 pub found_in : (j : JobId) (names : List JobId) → list_any (λ r. is_eq (job_cmp j r)) names ≡ list_any (λ r. same_job r j) names
 found_in j names = λ k. list_any (λ r. (found_by j r ∙ same_answers (same_job j r) (same_job r j) (same_job_turned j r) (same_job_turned r j)) k) names
 
@@ -43,7 +43,7 @@ at_or_before : (b c : Bool) → cond b true c ≡ (b || c)
 at_or_before true c = refl
 at_or_before false c = refl
 
--- a name more, of the next job
+-- one more name, of the next job
 pub one_named : (j : JobId) (names more : List JobId) (job : JobValue) (jobs rest : List JobValue) (name : JobId) → name ≡ job.id → jobs ≡ job ∷ rest
     → list_any (λ r. is_eq (job_cmp j r)) more ≡ cond (is_eq (job_cmp name j)) true (list_any (λ r. is_eq (job_cmp j r)) names)
     → (list_any (λ r. same_job r j) more || list_any (λ (k : JobValue). same_job k.id j) rest) ≡ (list_any (λ r. same_job r j) names || list_any (λ (k : JobValue). same_job k.id j) jobs)

@@ -1,5 +1,5 @@
--- An instant of one tenant, by the definitions: what is active behind it was active before, or is released by it, which is no more than
--- `most_released` tells.
+-- An instant of one tenant, by the definitions. What is active after it was active before, or is released by it. It releases no more than
+-- `most_released` says.
 use Rattle.std.proofs.Common.{◌≡◌, ℕ, ◌+◌, ◌<◌, ◌≤◌, Bool, true, false, cond, List, [], ◌∷◌, ◌++◌, length, map, filter, Option, Some, None, max, refl, sym, ap, ◌∙◌, subst, append-nil, length-append, arith}
 use Rattle.std.specs.Prelude.{◌==◌, ◌&&◌, option_to_list}
 use Rattle.std.specs.List.{AllByRecursion, find, fold}
@@ -39,7 +39,7 @@ filtered_twice {X = X} test kept (x ∷ xs) = first (kept x) (test x) refl (filt
     first false true e le = omega (arith, le)
     first false false e le = omega (arith, le)
 
--- the tasks that are active behind an instant of this number: some of those before, and what it released, which is no more than this
+-- the tasks that are active after an instant of this number: some of those before, and those that it released, at most `most`
 pub record AreParted (n most : ℕ) (before after : List ActiveTask) : Type 0 where
   pub older : List ActiveTask
   pub newer : List ActiveTask
@@ -48,7 +48,7 @@ pub record AreParted (n most : ℕ) (before after : List ActiveTask) : Type 0 wh
   pub fresh : AllByRecursion (λ (a : ActiveTask). a.release ≡ n) newer
   pub few : length newer ≤ most
 
--- a step that releases nothing: of its row's tasks some are active still, and no more can be released
+-- a step that releases nothing: some of its row's tasks are still active, and no more tasks can be released than before
 record IsLess (row after : Row) : Type 0 where
   number : after.next_tick ≡ row.next_tick
   most : most_released after ≤ most_released row
@@ -60,7 +60,7 @@ same_row row = record { number = refl; most = omega arith; fewer = λ test. omeg
 none_released : (n most : ℕ) (active : List ActiveTask) → AreParted n most active active
 none_released n most active = record { older = active; newer = []; are = sym (append-nil active); fewer = λ test. omega arith; fresh = tt; few = omega arith }
 
--- what can be released goes by the program, the mode, its time and what waits
+-- what can be released depends on the program, the mode, its time and the waiting program
 most_as_before : (row : Row) (active : List ActiveTask) (ports : Valuation) (records : List Record)
     → most_released (record row { active = active; ports = ports; records = records }) ≡ most_released row
 most_as_before row active ports records = ap (λ n. cond (is_running row) n 0) (by (row.mode_time == 0) row.waiting row.program)
@@ -109,7 +109,7 @@ first_half_less unfinished row = by _
     by [] = ends (is_running row)
     by (x ∷ xs) = stopped_less (overrun x) row
 
--- what a mode's invocations release is no more than what is due
+-- a mode's invocations release no more tasks than are due
 few_due : (p : GiottoProgram) (m : ModeDeclaration) (time n : ℕ) (is : List TaskInvocation) (ports : Valuation)
     → length (all_released p m time n is ports) ≤ length (filter (λ (i : TaskInvocation). is_due_at time m i.frequency) is)
 few_due p m time n [] ports = omega arith
@@ -124,7 +124,7 @@ few_due p m time n (i ∷ is) ports =
     first true true None later others le = omega (arith, le)
     first true true (Some t) later others le = omega (arith, le)
 
--- the first that passes two tests is no more than the greatest of what passes one
+-- the first element that passes two tests is no more than the greatest of those that pass one
 start_within : (a : ℕ) (ns : List ℕ) → a ≤ fold max a ns
 start_within a [] = omega arith
 start_within a (n ∷ ns) = omega (arith, start_within (max a n) ns)
@@ -147,7 +147,7 @@ in_its_mode : (step : GiottoProgram → ModeDeclaration → Row → Row) (row : 
     → in_mode step row ≡ step p m row
 in_its_mode step row p m e f = ap (λ o. where_some (λ p. where_some (step p) (mode_named p row.mode)) o row) e ∙ ap (λ o. where_some (step p) o row) f
 
--- behind an installation
+-- after an installation
 record IsInstalled (row after : Row) : Type 0 where
   number : after.next_tick ≡ row.next_tick
   fewer : (test : ActiveTask → Bool) → length (filter test after.active) ≤ length (filter test row.active)
@@ -161,7 +161,7 @@ replaced_less row = by (row.mode_time == 0) row.waiting row.program
     by true (Some new) None = record { number = refl; fewer = λ test. omega arith }
     by true (Some new) (Some old) = record { number = refl; fewer = λ test. omega arith }
 
--- what was parted before fewer steps
+-- tasks are parted in the same way before some of them ended
 parted_before : {n m most least : ℕ} {before middle after : List ActiveTask} → n ≡ m → least ≤ most → ((test : ActiveTask → Bool) → length (filter test middle) ≤ length (filter test before))
     → AreParted n least middle after → AreParted m most before after
 parted_before same le fewer parts = record {
@@ -174,7 +174,7 @@ parted_before same le fewer parts = record {
 }
 
 module _ (readings : Readings) (granted : Valuation) where
-  -- the steps of a running tenant behind an installation
+  -- the steps of a running tenant after an installation
   abbrev switching : Row → Row
   switching row = in_mode (λ p m row. switched p m (sensed readings granted p row)) row
 
@@ -194,7 +194,7 @@ module _ (readings : Readings) (granted : Valuation) where
     few = few_due p m row.mode_time row.next_tick m.invocations row.ports;
   }
 
-  -- a row that has had its sensors' readings, in mode m of program p
+  -- a row whose sensors were read, in mode m of program p
   switch_parts : (row : Row) (p : GiottoProgram) (m : ModeDeclaration) → row.program ≡ Some p → mode_named p row.mode ≡ Some m
       → AreParted row.next_tick (most_at p m row.mode_time) row.active (invoking (switched p m row)).active
   switch_parts row p m e f = taken (switch_taken m row.mode_time row.ports) refl
@@ -259,7 +259,7 @@ parts_of_instant i row =
     let less = first_half_less i.unfinished row in
     parted_before less.number less.most less.fewer (second_half_parts i.readings i.granted (first_half_of i.unfinished row))
 
--- how many those of this number are
+-- how many tasks have this number
 none_of_number : (n : ℕ) (tasks : List ActiveTask) → AllByRecursion (λ (a : ActiveTask). a.release < n) tasks → length (filter (λ (a : ActiveTask). a.release == n) tasks) ≡ 0
 none_of_number n [] early = refl
 none_of_number n (a ∷ tasks) early =
@@ -276,7 +276,7 @@ module _ {n most : ℕ} {before after : List ActiveTask} (parts : AreParted n mo
   counted : (test : ActiveTask → Bool) → length (filter test after) ≡ length (filter test parts.older) + length (filter test parts.newer)
   counted test = ap (λ tasks. length (filter test tasks)) parts.are ∙ ap length (filter-append test parts.older parts.newer) ∙ length-append (filter test parts.older) (filter test parts.newer)
 
-  -- those of its number are no more than can be released
+  -- no more tasks have its number than can be released
   pub few_of_number : AllByRecursion (λ (a : ActiveTask). a.release < n) before → length (filter (λ (a : ActiveTask). a.release == n) after) ≤ most
   few_of_number early =
       omega (
@@ -288,7 +288,7 @@ module _ {n most : ℕ} {before after : List ActiveTask} (parts : AreParted n mo
         parts.few,
       )
 
-  -- what passes a test grows by no more than those
+  -- the number of tasks that pass a test grows by no more than those
   pub grown_by_number : (test : ActiveTask → Bool) → length (filter test after) ≤ length (filter test before) + length (filter (λ (a : ActiveTask). a.release == n) after)
   grown_by_number test =
       omega (
@@ -300,7 +300,7 @@ module _ {n most : ℕ} {before after : List ActiveTask} (parts : AreParted n mo
         counted (λ (a : ActiveTask). a.release == n),
       )
 
--- the jobs that an instant released are as many, where there is a program
+-- an instant released as many jobs, if there is a program
 pub jobs_of_number : (t n : ℕ) (row : Row) → length (released_at t n row) ≤ length (filter (λ (a : ActiveTask). a.release == n) row.active)
 jobs_of_number t n row = by row.program
   where

@@ -1,4 +1,4 @@
--- The marks go by the members of the sources alone.
+-- The marks depend only on the members of the sources.
 use Rattle.std.proofs.Common.{◌≡◌, ℕ, List, [], ◌∷◌, refl, ap, ◌∙◌}
 use Rattle.rig_model.specs.Base.{Setting}
 use Rattle.rig_model.specs.Sources.{sources_before, stays}

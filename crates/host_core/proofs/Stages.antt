@@ -1,4 +1,4 @@
--- Two stages, and what is told of them.
+-- The two stages of a trial, and what is known of them.
 use Rattle.std.proofs.Common.{◌≡◌, ℕ, ◌+◌, ◌<◌, Bool, true, List, [], ◌∷◌, ◌++◌, length, take, reverse, get_or, refl, sym, ap, subst, ◌∙◌, append_assoc, length-append, ◌≤◌, arith}
 use Rattle.std.specs.Prelude.{slice_get}
 use Rattle.std.proofs.lemmas.List.{length-reverse, reverse-append}
@@ -48,7 +48,7 @@ marked_back setting events noted left e flows sources before marks all lt lt_not
           ∙ (ap (λ es. marks ++ marks_from setting sources es) (sym events_are) ∙ so_far)),
     )
 
--- one event backwards, from where this many are left
+-- one event backwards, if this many events are left
 pub one_back : (setting : Setting) (events : List Event) (noted : List (List Flow)) (now left : ℕ) (e : Event) (flows : List Flow) (sources before : List ℕ) (marks more all : List Bool)
     → now ≡ left + 1 → now ≤ length events → length noted ≡ length events → e ≡ get_or events left e → flows ≡ get_or noted left flows
     → AllLeadBack setting (reverse (take now events)) (reverse (take now noted)) × (marks ++ marks_from setting sources (reverse (take now events)) ≡ all)
@@ -61,7 +61,7 @@ one_back setting events noted now left e flows sources before marks more all is_
     (ap (λ n. marks ++ marks_from setting sources (reverse (take n events))) (sym is_now) ∙ so_far.1) in
     (back.0, ap (λ ms. ms ++ marks_from setting before (reverse (take left events))) one_more ∙ back.1)
 
--- one note more
+-- one more note
 pub noted_more : (e : Event) (stage : Stage) (host : HostStanding) (before after : List (List Flow)) (flows : List Flow) → host ≡ stage.host → AreFlowsBefore e host flows
     → after ≡ before ++ flows ∷ [] → IsNoted e stage before after
 noted_more e stage host before after flows same are all = record {
@@ -71,7 +71,7 @@ noted_more e stage host before after flows same are all = record {
       (lead_back setting past e stage.host stage.texts.items stage.released.keys flows played (subst (λ h. AreFlowsBefore e h flows) same are), lead);
 }
 
--- what is kept of a legal list is legal
+-- the kept list of a legal list is legal
 pub kept_plays : (setting : Setting) (events : List Event) (t : ℕ) (marks : List Bool) (host : HostStanding) (texts : List (List ℕ)) (released : List JobId)
     → IsPlayed setting (reverse events) host texts released → marks ≡ reverse (marks_from setting (t ∷ []) (reverse events)) → is_legal setting (reverse (marked events marks)) ≡ true
 kept_plays setting events t marks host texts released played are =
@@ -86,7 +86,7 @@ are_both setting events t whole kept marks read of_whole are same of_kept = reco
   are_marks = are;
 }
 
--- what a trial tells
+-- what a trial returns
 pub is_trial : (setting : Setting) (events : List Event) (t : ℕ) (whole kept : Stage) (marks : List Bool) (of_whole of_kept : List ℕ) → AreBoth setting events t whole kept marks
     → t < length setting.config.tenants → of_whole ≡ get_or whole.texts.items t [] → of_kept ≡ get_or kept.texts.items t [] → IsTrial setting events t of_whole of_kept marks
 is_trial setting events t whole kept marks of_whole of_kept both lt whole_is kept_is = record {

@@ -1,4 +1,4 @@
--- What the host's code stands for.
+-- What the host's code represents.
 use Rattle.std.specs.Prelude.{◌≡◌, ◌<◌, ℕ, ℤ, List, [], map, length, slice_get, Option, IfSome}
 use Rattle.std.specs.List.{flat_map, enumerate_from}
 use Rattle.std.specs.Option.{option_and_then}
@@ -42,7 +42,7 @@ new_host config first_tick = record {
   clock = first_tick;
 }
 
--- The host stands for a row for each tenant, and has the results of the jobs that were completed and are still active.
+-- The host represents a state: a row for each tenant, and the results of the jobs that were completed and are still active.
 pub record Stands (setting : Setting) (host : HostStanding) (state : HostState) : Type 0 where
   pub same_config : host.config ≡ setting.config
   pub same_clock : host.clock ≡ state.clock
@@ -53,28 +53,28 @@ pub record Stands (setting : Setting) (host : HostStanding) (state : HostState) 
   pub counts : (t : ℕ) → t < length setting.config.tenants → (row_at state t).next_tick ≡ state.clock
   pub results : (j : JobId) → has_result host.entries j ≡ is_counted state j
 
--- `Holds` in each setting of each state that the host stands for there
+-- `Holds` is true in each setting, of each state that the host represents there
 abbrev pub ForEachState : HostStanding → (Setting → HostState → Type 0) → Type 0
 ForEachState host Holds = (setting : Setting) (state : HostState) → Stands setting host state → Holds setting state
 
--- a host takes this event: whatever state it stood for, it stands for the state behind the event
+-- a host takes this event: if it represented a state before, it represents the state after the event
 abbrev pub TakesEvent : Event → HostStanding → HostStanding → Type 0
 TakesEvent e before after = ForEachState before (λ setting state. Stands setting after (after_event setting state e))
 
--- a host takes the completions of these jobs: whatever events it stood behind, it stands behind those and the completions
+-- a host takes the completions of these jobs: if it was in the state after some events, it is in the state after those and the completions
 abbrev pub TakesCompletions : List JobId → HostStanding → HostStanding → Type 0
 TakesCompletions jobs before after = (setting : Setting) (past : List Event) → Stands setting before (host_after setting past)
     → Stands setting after (host_after setting (with_completions jobs past))
 
--- the value of line k, by what the host stands for
+-- the value of line k, from the rows that the host has
 abbrev pub line_of : HostStanding → ℕ → ℤ
 line_of host k = value_of_line host.config (λ t. (tenant_at host.tenants t).row) k
 
--- the job of this name, if its completion is awaited: its task is active with its release, and its result didn't come
+-- the job of this name, if its completion is awaited: its task is active with its release, and it has no result yet
 abbrev pub awaited_in : HostStanding → JobId → Option JobValue
 awaited_in host j = option_and_then (λ s. awaited_job s host.entries j) (slice_get host.tenants j.tenant)
 
--- a completion of the host's own: where a job of its name is awaited, it is of that job, with its body, inputs and states
+-- a completion of the host's own job: if a job of its name is awaited, it is the completion of that job, with the same body, inputs and states
 abbrev pub IsOwn : HostStanding → JobValue → Type 0
 IsOwn host done = IfSome (awaited_in host done.id) (λ job. job ≡ done)
 
@@ -82,14 +82,14 @@ IsOwn host done = IfSome (awaited_in host done.id) (λ job. job ≡ done)
 abbrev pub outstanding_from : List TableEntry → ℕ → List Standing → List JobId
 outstanding_from entries from tenants = flat_map (λ (place : ℕ × Standing). map (job_of place.0) (outstanding_tasks place.1 entries)) (enumerate_from from tenants)
 
--- those of the whole host
+-- the names of all outstanding jobs of the host
 abbrev pub outstanding_jobs : HostStanding → List JobId
 outstanding_jobs host = outstanding_from host.entries 0 host.tenants
 
--- how many they are
+-- how many jobs are outstanding
 abbrev pub outstanding_count : HostStanding → ℕ
 outstanding_count host = length (outstanding_jobs host)
 
--- those of the tenant at place t
+-- the names of the outstanding jobs of the tenant at place t
 abbrev pub outstanding_of : HostStanding → ℕ → List JobId
 outstanding_of host t = map (job_of t) (outstanding_tasks (tenant_at host.tenants t) host.entries)

@@ -12,7 +12,7 @@ use Rattle.rig_model.specs.declared.lines.replies.Reply.TheVariants.{Port, Refus
 use Rattle.rig_model.specs.Commands.{commanded}
 use Rattle.instant_engine.specs.state.Standing.{Standing}
 
--- a command about grants asks for the rows
+-- whether a command about grants asks for the rows
 abbrev pub asks_for_rows : GrantCommand → Bool
 asks_for_rows (about.Offer a t bounds) = false
 asks_for_rows (about.Unoffer a t) = false
@@ -20,7 +20,7 @@ asks_for_rows (about.Bind s t a) = false
 asks_for_rows (about.Unbind s) = false
 asks_for_rows about.Rows = true
 
--- a command asks and changes nothing: "show mode", "show port", "show all", "trace" or "rows"
+-- whether a command asks and changes nothing: "show mode", "show port", "show all", "trace" or "rows"
 abbrev pub is_question : Command → Bool
 is_question (Load text) = false
 is_question (Replace text) = false
@@ -32,11 +32,11 @@ is_question ShowAll = true
 is_question command.Trace = true
 is_question (Grants c) = asks_for_rows c
 
--- behind this command the tenant's row is as it was: it is a question, or it is refused
+-- this command leaves the tenant's row as it was: it is a question, or it is refused
 abbrev pub LeavesRow : Standing → Command → Type 0
 LeavesRow tenant c = (commanded tenant.tenancy c tenant.row).row ≡ tenant.row
 
--- the reply to "show port", by the port's value, or why there is none
+-- the reply to "show port", from the port's value or the reason why there is none
 abbrev pub reply_of_port : PortName → Result ℤ Refusal → Reply
 reply_of_port port (Ok z) = Port (record { port = port; value = z })
 reply_of_port port (Err r) = Refused r

@@ -46,13 +46,13 @@ use thiserror::Error;
 /// Why an instant is refused.
 #[derive(Clone, Copy, Debug, PartialEq, Eq, Error)]
 pub enum TickFault {
-    /// The frame has not one value for each line.
+    /// The frame doesn't have one value for each line.
     #[error("the frame has not one value for each line")]
     BadFrame,
     /// The number of the next instant would be `u64::MAX`.
     #[error("the clock has ended: there is no number for another instant")]
     ClockEnded,
-    /// Want of memory.
+    /// Out of memory.
     #[error("no memory for the jobs of the instant")]
     Memory,
 }
@@ -83,7 +83,7 @@ pub struct Host {
     alloc: Global,
     config: Config,
     tenants: Vec<Tenant>,
-    /// What is granted through each bind at an instant, so that none takes memory for it.
+    /// Space for what is granted through each bind at an instant, so that no instant allocates it.
     granted: Vec<Granted>,
     finished: Finished,
     clock: u64,
@@ -107,10 +107,10 @@ impl Model for Host {
 }
 
 impl Host {
-    /// The host of a configuration, in which no tenant has a program, and whose first instant has this number.
+    /// A new host of this configuration. No tenant has a program, and the first instant has this number.
     ///
     /// # Errors
-    /// Want of memory.
+    /// Out of memory.
     pub fn new(alloc: Global, config: &Config, first_tick: u64) -> Result<Host, AllocError>
         ensures host { IfOk result (λ host. host ≡ new_host config.now first_tick) }
         ensures base { IfOk result (λ host. (setting : Setting) → setting.config ≡ config.now → Stands setting host (new_base config.now first_tick)) }
@@ -152,7 +152,7 @@ impl Host {
         })
     }
 
-    /// Carries out a tenant's command, as `carry_out`. Its text, if it has one, is read first.
+    /// Carries out a tenant's command, as `carry_out` does. Reads the command's text first, if it has one.
     pub fn command(&mut self, tenant: TenantId, command: Command) -> Reply
         requires { tenant < length self.old.config.tenants }
         ensures memory { result ≡ Reply.Refused Refusal.Memory → self.new ≡ self.old }
@@ -171,9 +171,14 @@ impl Host {
         self.carry_out(tenant, prepared, &mut left)
     }
 
-    /// Carries out a tenant's command that is prepared. The program whose place is taken, or which isn't taken itself, is left in `left`. A refusal changes nothing, want of memory included, and no command changes another
-    /// tenant, nor makes more jobs outstanding; one that leaves its tenant's row changes nothing, as a question and what is answered by a list do. Only `load`, `replace`, `show all` of a program with a port, `trace` where there is a record, `offer` and `bind` where the row may be
-    /// made, and `rows` where there is one, are ever refused for want of memory.
+    /// Carries out a tenant's prepared command. Leaves in `left` the program that it replaces, or the new one if that is refused.
+    ///
+    /// A refusal changes nothing, `Refusal::Memory` included. No command changes another tenant, or makes more jobs outstanding. A
+    /// command that leaves its tenant's row unchanged changes nothing. Nor does a question, or a command that is answered with a
+    /// list.
+    ///
+    /// Only these can run out of memory: `load`, `replace`, `show all` of a program with a port, `trace` if there is a record, `offer`
+    /// and `bind` if the row may be made, and `rows` if there is a row.
     pub fn carry_out(
         &mut self,
         tenant: TenantId,
@@ -199,11 +204,11 @@ impl Host {
         reply
     }
 
-    /// The value of a port of a tenant's program, as `show port` shows it: of an input or a state of a task, if one is named, and else of a
-    /// sensor, an actuator or an output. Takes no memory.
+    /// Returns the value of a port of a tenant's program, as `show port` shows it. If `port` names a task, it is an input or a
+    /// state of that task, else a sensor, an actuator or an output. Takes no memory.
     ///
     /// # Errors
-    /// `NotLoaded` where the tenant has no program, else `NoPort` where the program has no such port.
+    /// `NotLoaded` if the tenant has no program, else `NoPort` if the program has no such port.
     #[inline(always)]
     pub fn port_value(&self, tenant: TenantId, port: &PortName) -> Result<i64, Refusal>
         requires { tenant < length self.now.config.tenants }
@@ -214,11 +219,11 @@ impl Host {
         self.tenants[tenant].port_value(port)
     }
 
-    /// Makes all that the next instant needs, before anything changes: places for the tasks that it can release, shares of their bodies, and
-    /// room for their results. How many jobs it can release at most.
+    /// Makes all that the next instant needs, before anything changes: places for the tasks that it can release, shares of their
+    /// bodies, and space for their results. Returns how many jobs it can release at most.
     ///
     /// # Errors
-    /// Want of memory, or a share of a task's body is refused, but never where the instant can release no task.
+    /// Out of memory, or a share of a task's body is refused. Never fails if the instant can release no task.
     pub fn ready(&mut self) -> Result<usize, AllocError>
         ensures most { IfOk result (λ n. n ≡ most_of self.old.tenants) }
         ensures same { self.new ≡ self.old }
@@ -227,13 +232,13 @@ impl Host {
         all_ready(self.tenants.as_mut_slice(), &mut self.finished).ok_or(AllocError)
     }
 
-    /// An instant of all tenants: the first half of each, then all granted values at once, then the second half of each. `frame` has the input value of each line.
-    /// The jobs of the tasks that are released, tenant by tenant in the order of the roster. They are no more than `ready` tells, and no
-    /// others become outstanding.
+    /// Runs an instant of all tenants: the first half of each, then all granted values at once, then the second half of each.
+    /// `frame` has the input value of each line. Returns the jobs of the released tasks, tenant by tenant in the order of the
+    /// roster. There are no more of them than `ready` returns, and no other jobs become outstanding.
     ///
     /// # Errors
-    /// `BadFrame` where the frame has not one value for each line, else `ClockEnded` where the instant's number would be `u64::MAX`, else
-    /// `Memory`, but never where the instant can release no task. Nothing has changed then.
+    /// `BadFrame` if the frame doesn't have one value for each line, else `ClockEnded` if the instant's number would be `u64::MAX`,
+    /// else `Memory`, but never if the instant can release no task. Nothing has changed then.
     pub fn tick(&mut self, frame: &[i64]) -> Result<Jobs, TickFault>
         ensures step { OnOk result (TakesEvent (Event.Tick frame.now) self.old self.new) }
         ensures jobs { IfOk result (λ jobs. jobs.jobs ≡ released_from self.old.clock 0 self.new.tenants) }
@@ -248,7 +253,7 @@ impl Host {
         self.next_instant(frame, true)
     }
 
-    /// An instant of all tenants, as `tick`, where nobody takes its jobs.
+    /// Runs an instant of all tenants, as `tick` does, without returning its jobs.
     ///
     /// # Errors
     /// As `tick`. Nothing has changed then.
@@ -263,7 +268,7 @@ impl Host {
         Ok(())
     }
 
-    // An instant of all tenants, with its jobs where they are taken, else none.
+    // Runs an instant of all tenants. Returns its jobs if `takes_jobs`, else none.
     #[inline(always)]
     fn next_instant(&mut self, frame: &[i64], takes_jobs: bool) -> Result<Jobs, TickFault>
         ensures step { OnOk result (TakesEvent (Event.Tick frame.now) self.old self.new) }
@@ -307,8 +312,8 @@ impl Host {
         Ok(())
     }
 
-    /// Takes a completion: it counts where its job is awaited, by its name, its body, and the inputs and states of the release. One that
-    /// is late changes nothing. Takes no memory.
+    /// Takes a completion. It counts if its job is awaited, with this name and body, and the inputs and states of the release. A late
+    /// completion changes nothing. Takes no memory.
     pub fn done(&mut self, done: Done) -> Counted
         ensures counted { result ≡ Counted.Counted ↔ awaited_in self.old done.id ≡ Some done }
         ensures late { result ≡ Counted.Late → self.new ≡ self.old }
@@ -328,7 +333,7 @@ impl Host {
         Counted::Counted
     }
 
-    /// Computes and counts all outstanding jobs, in the order of the roster, and says how many they were. Takes no memory.
+    /// Computes and counts all outstanding jobs, in the order of the roster. Returns how many there were. Takes no memory.
     pub fn complete_all(&mut self) -> u128
         ensures number { result ≡ outstanding_count self.old }
         ensures step { TakesCompletions (outstanding_jobs self.old) self.old self.new }
@@ -336,7 +341,7 @@ impl Host {
         complete_each(self.tenants.as_slice(), &mut self.finished)
     }
 
-    /// Computes and counts one tenant's outstanding jobs, and says how many they were. Takes no memory.
+    /// Computes and counts one tenant's outstanding jobs. Returns how many there were. Takes no memory.
     pub fn complete_tenant(&mut self, tenant: TenantId) -> usize
         requires { tenant < length self.old.config.tenants }
         ensures number { result ≡ length (outstanding_of self.old tenant) }
@@ -345,10 +350,10 @@ impl Host {
         self.tenants[tenant].complete_all(&mut self.finished)
     }
 
-    /// The job of this name, where its completion is awaited.
+    /// Returns the job of this name if its completion is awaited, else `None`.
     ///
     /// # Errors
-    /// A share of the task's body is refused, which is asked for only where the completion is awaited.
+    /// A share of the task's body is refused. Never fails if the completion isn't awaited.
     pub fn job(&self, id: &JobId) -> Result<Option<Job>, AllocError>
         ensures job { IfOk result (λ job. job ≡ awaited_in self.now id.now) }
         ensures awaited { IfOk result (λ job. ForEachState self.now (λ setting state. is_some job ≡ is_awaited state id.now)) }
@@ -374,8 +379,8 @@ impl Host {
         self.clock
     }
 
-    /// The value of a line of the rig: that of the actuator with this line in the program of the tenant that may drive it; 0 where no
-    /// tenant may, or its program has no such actuator. Takes no memory.
+    /// The value of a line of the rig: that of the actuator with this line in the program of the tenant that may drive it. It is 0
+    /// if no tenant may drive it, or its program has no such actuator. Takes no memory.
     pub fn line_value(&self, line: usize) -> i64
         ensures value { result ≡ line_of self.now line }
         ensures rows { ForEachState self.now (λ setting state. result ≡ value_of_line setting.config (row_at state) line) }
@@ -395,8 +400,8 @@ impl Host {
         self.tenants[tenant].bind_count()
     }
 
-    /// A bind of the tenant at this place, by its place among the tenant's binds, from 0: its sensor, the place of the tenant that it is
-    /// bound to, and that tenant's actuator. None where the tenant has fewer binds. Takes no memory.
+    /// Returns bind `i`, counted from 0, of the tenant at this place: its sensor, the place of the tenant that it is bound to, and that
+    /// tenant's actuator. `None` if the tenant has fewer binds. Takes no memory.
     pub fn bind_at(&self, tenant: TenantId, i: usize) -> Option<(&Name, TenantId, &Name)>
         requires { tenant < length self.now.config.tenants }
         ensures bind { option_map (λ b. (b.0.now, b.1, b.2.now)) result ≡ bind_at (roster_of self.now.config) (tenant_at self.now.tenants tenant).row.binds i }
@@ -409,7 +414,7 @@ impl Host {
     /// The names of the outstanding jobs, tenant by tenant in the order of the roster.
     ///
     /// # Errors
-    /// Want of memory, only where a job is outstanding.
+    /// Out of memory, only if a job is outstanding.
     pub fn outstanding_jobs(&self) -> Result<Vec<JobId>, AllocError>
         ensures names { IfOk result (λ names. names.items ≡ outstanding_jobs self.now) }
         ensures memory { IsErr result → 0 < outstanding_count self.now }
@@ -424,7 +429,7 @@ impl Host {
     /// The names of one tenant's outstanding jobs.
     ///
     /// # Errors
-    /// Want of memory, only where a job of it is outstanding.
+    /// Out of memory, only if a job of this tenant is outstanding.
     pub fn outstanding_jobs_of(&self, tenant: TenantId) -> Result<Vec<JobId>, AllocError>
         requires { tenant < length self.now.config.tenants }
         ensures names { IfOk result (λ names. names.items ≡ outstanding_of self.now tenant) }
@@ -435,7 +440,8 @@ impl Host {
         Ok(names)
     }
 
-    /// How many jobs are outstanding: their tasks are active, and not completed. Takes no memory, and the same time however many they are.
+    /// How many jobs are outstanding: their tasks are active, and not completed. Takes no memory, and the same time for any number
+    /// of jobs.
     pub fn outstanding(&self) -> usize
         ensures { result ≡ outstanding_count self.now }
     {
@@ -445,10 +451,10 @@ impl Host {
     }
 }
 
-/// Computes the job of this name and takes its result, where its completion is awaited; else the completion is late and changes nothing.
+/// Computes the job of this name and takes its result, if its completion is awaited. Else the completion is late and changes nothing.
 ///
 /// # Errors
-/// A share of the task's body is refused, which is asked for only where the completion is awaited. Nothing has changed then.
+/// A share of the task's body is refused. Nothing has changed then. Never fails if the completion isn't awaited.
 pub fn complete(host: &mut Host, id: &JobId) -> Result<Counted, AllocError>
     ensures counted { IfOk result (λ c. c ≡ Counted.Counted ↔ awaited_in host.old id.now ≢ None) }
     ensures step { OnOk result (TakesEvent (Event.Done id.now) host.old host.new) }
@@ -473,8 +479,8 @@ fn writer(config: &Config, line: usize) -> Option<TenantId>
         .position(|tenant| tenant.budgets.writes.as_slice().contains(&line))
 }
 
-// Makes what the next instant needs: the tenants ready, and room in the table for all that it can release. How many jobs that are at
-// most, if that is a number of this size. Takes no memory where it can release none.
+// Makes the tenants ready for the next instant, and reserves space in the table for all that they can release. Returns how many
+// jobs that is at most. `None` if this fails, or the number is too large for its type. Takes no memory if no job can be released.
 fn all_ready(tenants: &mut [Tenant], finished: &mut Finished) -> Option<usize>
     ensures rest { map at_rest tenants.new ≡ map at_rest tenants.old }
     ensures ready { OnSome result (All IsReady tenants.new) }
@@ -489,7 +495,7 @@ fn all_ready(tenants: &mut [Tenant], finished: &mut Finished) -> Option<usize>
     Some(most)
 }
 
-// Computes and counts each tenant's outstanding jobs. How many they were.
+// Computes and counts each tenant's outstanding jobs. Returns how many there were.
 fn complete_each(tenants: &[Tenant], finished: &mut Finished) -> u128
     requires placed { ArePlaced tenants.now }
     requires table { IsTaskTable tenants.now finished.old.entries }

@@ -15,10 +15,11 @@ use rig_model::grants::grants::Grants;
 use std::alloc::{AllocError, Global};
 use tenant_state::tenants::Tenant;
 
-/// The tenant of a configuration at this place, without a program and without rows. Its first instant has this number.
+/// Makes the tenant at this place of a configuration, without a program and without rows. `first_tick` is the number of its first
+/// instant.
 ///
 /// # Errors
-/// Want of memory.
+/// Out of memory.
 pub(crate) fn new_tenant(
     alloc: Global,
     config: &Config,
@@ -35,7 +36,7 @@ pub(crate) fn new_tenant(
     Tenant::new(alloc, budgets, grants.with_own_bounds(bounds), first_tick)
 }
 
-// The names of all tenants, by their places.
+// The names of all tenants, in the order of their places.
 fn roster(config: &Config) -> ArrayVec<Name, 16>
     ensures { result.items ≡ roster_of config.now }
 {
@@ -46,10 +47,10 @@ fn roster(config: &Config) -> ArrayVec<Name, 16>
     names
 }
 
-/// A place for each bind that all tenants may have.
+/// Makes a place for each bind that the tenants may have.
 ///
 /// # Errors
-/// Want of memory.
+/// Out of memory.
 pub(crate) fn places(alloc: Global, config: &Config) -> Result<Vec<Granted>, AllocError>
     ensures { IfOk result (λ places. length places.items ≡ most_binds config.now) }
 {

@@ -1,4 +1,4 @@
-//! Playing a list of events on a new host.
+//! Plays a list of events on a new host.
 
 ghost use Rattle.std.specs.Prelude.{◌≡◌, ◌≢◌, ◌<◌, ◌++◌, ◌∷◌, ◌||◌, ℕ, false, List, [], length, reverse, slice_index_or, IfOk, OnOk, IsOk, IsTrue, Err, None};
 ghost use Rattle.std.specs.List.{All, list_any};
@@ -33,10 +33,10 @@ pub enum PlayFault {
     /// No tenant has this place.
     #[error("no tenant has this place")]
     NoTenant,
-    /// The event at this place, counted from 0, can't come there. It is the first such.
+    /// The event at this place, counted from 0, can't come there. It is the first such event.
     #[error("the event at place {0}, counted from 0, can't come there")]
     Illegal(usize),
-    /// Want of memory.
+    /// Out of memory.
     #[error("no memory for the answers")]
     Memory,
 }
@@ -60,12 +60,12 @@ pub(crate) struct Stage {
     released: BTreeSet<JobId>,
 }
 
-/// Plays a list of events, the oldest first, on a new host from instant 0. Each tenant's printed replies, each followed by LF, by
-/// the tenants' places.
+/// Plays a list of events, the oldest first, on a new host from instant 0. Returns a text for each tenant, in the order of their
+/// places: its printed replies, each followed by LF.
 ///
 /// # Errors
-/// `Illegal` at the first event that can't come: its tenant isn't in the roster, its frame has not one value for each line, its
-/// instant's number would be `u64::MAX`, or its job was never released. `Memory` on want of memory.
+/// `Illegal` with the place of the first event that can't come: its tenant isn't in the roster, its frame doesn't have one value for
+/// each line, its instant's number would be `u64::MAX`, or its job was never released. `Memory` if an allocation fails.
 pub fn play(alloc: Global, config: &Config, events: &[Event]) -> Result<Vec<Text>, PlayFault>
     ensures answers { (setting : Setting) → IsSettingOf config.now setting → IfOk result (λ texts. AreAnswers setting events.now texts.items) }
     ensures illegal { (setting : Setting) → IsSettingOf config.now setting → (i : ℕ) → result ≡ Err (PlayFault.Illegal i) → IsLeastIllegal setting events.now i }
@@ -82,7 +82,7 @@ pub fn play(alloc: Global, config: &Config, events: &[Event]) -> Result<Vec<Text
 }
 
 impl Stage {
-    // Before any event.
+    // The stage before any event.
     pub(crate) fn new(alloc: Global, config: &Config) -> Result<Stage, AllocError>
         ensures { IfOk result (λ stage. (setting : Setting) → IsSettingOf config.now setting → IsStage setting [] stage) }
     {
@@ -94,7 +94,7 @@ impl Stage {
         })
     }
 
-    // Plays these events, the oldest first, where none was played before.
+    // Plays these events, the oldest first, on a stage on which none was played.
     pub(crate) fn play_all(&mut self, alloc: Global, events: &[Event]) -> Result<(), PlayFault>
         ensures played { OnOk result ((setting : Setting) → IsStage setting [] self.old → IsStage setting (reverse events.now) self.new) }
         ensures illegal { (setting : Setting) → IsStage setting [] self.old → (i : ℕ) → result ≡ Err (PlayFault.Illegal i) → IsLeastIllegal setting events.now i }
@@ -107,7 +107,7 @@ impl Stage {
         Ok(())
     }
 
-    // Plays one event more, which stands at this place of the list, where it may come.
+    // Plays the next event, which is at this place of the list. `Illegal` if it can't come.
     pub(crate) fn play_next(
         &mut self,
         alloc: Global,
@@ -158,7 +158,7 @@ impl Stage {
         }
     }
 
-    // Plays one event more. A late completion is never refused for want of memory.
+    // Plays one more event. Never fails if it is a late completion.
     fn play(&mut self, alloc: Global, event: &Event) -> Result<(), AllocError>
         requires { HasPlace event.now self.old.host.config self.old.texts.items }
         ensures played { OnOk result (IsPlayedOn event.now self.old self.new) }
@@ -171,7 +171,7 @@ impl Stage {
         }
     }
 
-    // A command, and its reply behind the tenant's text.
+    // Carries out a command, and adds its reply at the end of the tenant's text.
     fn own(&mut self, alloc: Global, tenant: TenantId, command: &Command) -> Result<(), AllocError>
         requires host { tenant < length self.old.host.config.tenants }
         requires text { tenant < length self.old.texts.items }
@@ -181,7 +181,7 @@ impl Stage {
         add_answer(alloc, &mut self.texts[tenant], &reply)
     }
 
-    // An instant, and the names of its jobs among those of the others.
+    // Runs an instant, and adds the names of its jobs to those of the earlier ones.
     fn tick(&mut self, frame: &[i64]) -> Result<(), AllocError>
         ensures { OnOk result (IsPlayedOn (Event.Tick frame.now) self.old self.new) }
     {
@@ -192,7 +192,7 @@ impl Stage {
         Ok(())
     }
 
-    // A completion, of the named job with its result.
+    // Computes the named job and takes its completion, if that is awaited.
     fn done(&mut self, id: &JobId) -> Result<(), AllocError>
         ensures played { OnOk result (IsPlayedOn (Event.Done id.now) self.old self.new) }
         ensures never_refused { awaited_in self.old.host id.now ≡ None → IsOk result }
@@ -202,7 +202,7 @@ impl Stage {
     }
 }
 
-// No text of this many tenants.
+// An empty text for each of this many tenants.
 fn blank_texts(alloc: Global, number: usize) -> Result<Vec<Text>, AllocError>
     ensures many { IfOk result (λ texts. length texts.items ≡ number) }
     ensures blank { IfOk result (λ texts. All (λ (text : List ℕ). text ≡ []) texts.items) }
@@ -214,7 +214,7 @@ fn blank_texts(alloc: Global, number: usize) -> Result<Vec<Text>, AllocError>
     Ok(texts)
 }
 
-// Adds the printed reply, and LF, where it isn't want of memory.
+// Adds the printed reply, and LF. Fails if the reply itself is `err memory`.
 fn add_answer(alloc: Global, text: &mut Text, reply: &Reply) -> Result<(), AllocError>
     ensures { OnOk result ((reply.now ≢ Reply.Refused Refusal.Memory) × (text.new ≡ text.old ++ (text_of_reply reply.now ++ 10 ∷ []))) }
 {

@@ -1,4 +1,4 @@
-//! The trial of a tenant: a list of events, and what is kept of it for the tenant, are both played.
+//! The trial of a tenant: plays a list of events, and the part of it that is kept for the tenant.
 
 ghost use Rattle.std.specs.Prelude.{◌≡◌, ◌≢◌, ◌≤◌, ◌<◌, ◌↔◌, ◌&&◌, ◌||◌, ◌==◌, ℕ, Bool, List, [], ◌∷◌, false, length, reverse, IfOk, OnOk, Err};
 ghost use Rattle.host_core.specs.HostStanding.{ForEachState};
@@ -20,12 +20,12 @@ use rig_model::config::{Config, TenantId};
 use rig_model::lines::texts::Text;
 use std::alloc::{AllocError, Global};
 
-/// What a tenant is answered over a list of events and over what is kept of it for the tenant, and what is kept.
+/// What a tenant is answered over a list of events and over its kept list, and which events are kept.
 #[derive(Drop)]
 pub struct TrialOutcome {
     /// Its printed replies over the whole list, each followed by LF.
     pub whole: Text,
-    /// Those over what is kept. The two are equal.
+    /// Its printed replies over the kept list, each followed by LF. Equal to `whole`.
     pub kept: Text,
     /// For each event of the list, whether it is kept.
     pub stays: Vec<bool>,
@@ -38,7 +38,7 @@ struct Flow {
     supplier: TenantId,
 }
 
-// The stages on which a whole list and what is kept of it were played, and which events are kept.
+// The stages on which a whole list and its kept list were played, and which events are kept.
 #[derive(Drop)]
 struct Both {
     whole: Stage,
@@ -46,7 +46,7 @@ struct Both {
     stays: Vec<bool>,
 }
 
-/// The tenant's answers over a list of events, and over what is kept of it for the tenant: those of [`trial_outcome`].
+/// The tenant's answers over a list of events and over its kept list, as in [`trial_outcome`].
 ///
 /// # Errors
 /// As [`trial_outcome`].
@@ -65,11 +65,11 @@ pub fn trial(
     Ok((outcome.whole, outcome.kept))
 }
 
-/// Plays a list of events, the oldest first, on a new host from instant 0, and what is kept of it for a tenant on another: all
+/// Plays a list of events, the oldest first, on a new host from instant 0, and the tenant's kept list on another. The kept list has all
 /// instants, and the commands and completions of those tenants on which the tenant's later answers can depend.
 ///
 /// # Errors
-/// `NoTenant` where the roster has no tenant at this place, whatever the list. `Illegal` and `Memory` as for `play`.
+/// `NoTenant` if the roster has no tenant at this place, whatever the list. `Illegal` and `Memory` as for `play`.
 pub fn trial_outcome(
     alloc: Global,
     config: &Config,
@@ -93,7 +93,7 @@ pub fn trial_outcome(
     })
 }
 
-// Plays the whole list and what is kept of it.
+// Plays the whole list and the kept list.
 fn play_both(
     alloc: Global,
     config: &Config,
@@ -127,7 +127,7 @@ fn play_whole(
     Ok((stage, flows))
 }
 
-// Plays these events, where none was played before, and notes the flows before each.
+// Plays these events on a stage on which none was played, and notes the flows before each.
 fn play_noting(
     alloc: Global,
     stage: &mut Stage,
@@ -161,7 +161,7 @@ fn note_flows(
     Ok(())
 }
 
-// The flows before an event: all binds before an instant, else none.
+// The flows before an event: all binds if it is an instant, else none.
 fn flows_before(alloc: Global, host: &Host, event: &Event) -> Result<List<Flow>, AllocError>
     ensures { IfOk result (λ flows. AreFlowsBefore event.now host.now flows) }
 {
@@ -171,7 +171,7 @@ fn flows_before(alloc: Global, host: &Host, event: &Event) -> Result<List<Flow>,
     }))
 }
 
-// The flows of a host: all binds of its tenants, whether anything is offered or not.
+// The flows of a host: all binds of its tenants, whether or not anything is offered.
 fn flows(alloc: Global, host: &Host) -> Result<Vec<Flow>, AllocError>
     ensures { IfOk result (λ flows. ForEachState host.now (λ setting state. AreFlows setting (row_at state) flows.items)) }
 {
@@ -196,7 +196,7 @@ fn add_flows(flows: &mut Vec<Flow>, host: &Host, consumer: TenantId) -> Result<(
     Ok(())
 }
 
-// For each event, the oldest first, whether it is kept for the tenant, where these are the flows before each.
+// For each event, the oldest first, whether it is kept for the tenant. `noted` has the flows before each event.
 fn marks(
     alloc: Global,
     events: &[Event],
@@ -222,7 +222,7 @@ fn marks(
     Ok(marks)
 }
 
-// Whether an event stays where these are the sources behind it.
+// Whether an event is kept, if these are the sources after it.
 fn stays(sources: &[TenantId], event: &Event) -> bool
     ensures { result ≡ stays sources.now event.now }
 {
@@ -233,7 +233,7 @@ fn stays(sources: &[TenantId], event: &Event) -> bool
     }
 }
 
-// Adds the suppliers of these sources, by these flows.
+// Adds the suppliers of these sources, according to the flows.
 fn add_suppliers(sources: &mut Vec<TenantId>, flows: &[Flow]) -> Result<(), AllocError>
     ensures { OnOk result ((u : ℕ) → is_source sources.new.items u ≡ is_reached sources.old.items flows.now u) }
 {

@@ -26,7 +26,7 @@ same_values config f g same k = by (writer_of config k) refl
     by None is = refl
     by (Some t) is = ap (λ row. unwrap_or (line_value row k) (pos 0)) (same t (writer_within config k t is))
 
--- the value that the host's code gives a line is that of the rows for which it stands
+-- the value of a line in the host's code is its value in the rows that the code represents
 pub line_of_rows : (setting : Setting) (host : HostStanding) (state : HostState) → Stands setting host state → (k : ℕ) → line_of host k ≡ value_of_line setting.config (row_at state) k
 line_of_rows setting host state stands k =
     ap (λ (c : Rig). value_of_line c (λ t. (tenant_at host.tenants t).row) k) stands.same_config

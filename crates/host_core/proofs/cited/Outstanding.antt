@@ -1,4 +1,4 @@
--- The outstanding jobs, how many they are, and which they are in the definitions.
+-- The outstanding jobs: how many there are, and which they are in the definitions.
 use Rattle.std.proofs.Common.{◌≡◌, ◌≢◌, ℕ, zero, suc, ◌+◌, ◌<◌, Bool, true, false, cond, not, ◌||◌, List, [], ◌∷◌, ◌++◌, map, filter, length, take, get_or, refl, sym, ap, ◌∙◌, subst, arith, zero-add, append-nil, append_assoc, length-append}
 use Rattle.std.specs.List.{AllByRecursion, list_all, list_any, sum_by, flat_map, enumerate_from}
 use Rattle.std.specs.Prelude.{sum}
@@ -23,7 +23,7 @@ use Rattle.giotto_tasks.proofs.cited.ListLemmas.{all_map, all_of, all_pass, filt
 use Rattle.host_core.proofs.HostSteps.{outstanding_are}
 use Rattle.instant_engine.proofs.of_laws.Places.{nobody}
 
--- how many a tenant has, by this table
+-- how many outstanding jobs a tenant has, by this table
 abbrev pub number_outstanding : List TableEntry → Standing → ℕ
 number_outstanding entries s = length (outstanding_tasks s entries)
 
@@ -34,11 +34,11 @@ counted_from entries n (x ∷ xs) =
     ∙ ap (λ k. k + length (outstanding_from entries (n + 1) xs)) (sym (length-map (outstanding_tasks x entries) (job_of n)))
     ∙ sym (length-append (map (job_of n) (outstanding_tasks x entries)) (outstanding_from entries (n + 1) xs))
 
--- the tenants' numbers make up that of all
+-- the tenants' numbers add up to that of all
 pub counted_in_all : (entries : List TableEntry) (xs : List Standing) → sum (map (number_outstanding entries) xs) ≡ length (outstanding_from entries 0 xs)
 counted_in_all entries xs = sum-map (number_outstanding entries) xs ∙ counted_from entries 0 xs
 
--- those of one tenant more
+-- the outstanding jobs of one more tenant
 named_behind : (entries : List TableEntry) (n : ℕ) (xs : List Standing) (y : Standing)
     → outstanding_from entries n (xs ++ y ∷ []) ≡ outstanding_from entries n xs ++ map (job_of (n + length xs)) (outstanding_tasks y entries)
 named_behind entries n [] y =
@@ -57,7 +57,7 @@ named_more entries xs i x placed lt is =
     ∙ ap (λ (s : Standing). outstanding_from entries 0 (take i xs) ++ map (job_of (0 + length (take i xs))) (outstanding_tasks s entries)) (sym is)
     ∙ ap (λ k. outstanding_from entries 0 (take i xs) ++ map (job_of k) (outstanding_tasks x entries)) at
 
--- where a tenant has one, there is one
+-- if a tenant has an outstanding job, there is one among all
 pub some_of_all : (entries : List TableEntry) (n : ℕ) (xs : List Standing) (i : ℕ) (d : Standing) → i < length xs → 0 < length (outstanding_tasks (get_or xs i d) entries) → 0 < length (outstanding_from entries n xs)
 some_of_all entries n [] i d lt some = absurd (omega (arith, lt))
 some_of_all entries n (x ∷ xs) zero d lt some =
@@ -76,7 +76,7 @@ another_job t a b other same =
     let alike = and_from _ _ (subst (λ x. same_name a.task x ≡ true) task (same_name_self a.task)) (eq-eqb a.release b.release (ap (λ (j : JobId). j.tick) same)) in
     false≢true (ap not (sym alike) ∙ other)
 
--- one result more leaves one task fewer outstanding, where just one task of a list has the job
+-- one more result leaves one task fewer outstanding, if exactly one task of a list has the job
 module _ (t : ℕ) (j : JobId) (before after : List TableEntry) (added : (k : JobId) → has_result after k ≡ (same_job j k || has_result before k)) where
   abbrev open_in : List TableEntry → List ActiveTask → List ActiveTask
   open_in entries xs = filter (λ (a : ActiveTask). not (has_result entries (job_of t a))) xs
@@ -125,7 +125,7 @@ module _ (t : ℕ) (j : JobId) (before after : List TableEntry) (added : (k : Jo
           let same : not (has_result after (job_of t a)) ≡ not (has_result before (job_of t a)) = ap not (untouched a elsewhere) in
           along (not (has_result before (job_of t a))) (fewer later) ∙ ap (λ b. length (cond b (a ∷ open_in after rest) (open_in after rest)) + 1) (sym same)
 
--- the tenants that the job isn't of
+-- the tenants that the job doesn't belong to
 same_numbers : (f g : Standing → ℕ) (xs : List Standing) → ((k : ℕ) (d : Standing) → k < length xs → f (get_or xs k d) ≡ g (get_or xs k d)) → sum_by f xs ≡ sum_by g xs
 same_numbers f g [] same = refl
 same_numbers f g (x ∷ xs) same =
@@ -159,7 +159,7 @@ one_fewer_in xs j before after lt placed added none active different =
         (sym (ap length (same_open (tenant_at xs k).tenancy.owner.place j before after added (tenant_at xs k).row.active
         (all_of (λ a. false_from_ne_true _ (λ e. differ (sym (placed k below) ∙ sym (ap (λ (i : JobId). i.tenant) (same_job_is j (job_of (tenant_at xs k).tenancy.owner.place a) e))))) (tenant_at xs k).row.active))))
 
--- what is found at the same places of two lists of one length
+-- what is gathered from the same places of two lists of one length
 places : {A B C : Type 0} (f : ℕ × A → List C) (g : ℕ × B → List C) (a : A) (b : B) (n : ℕ) (xs : List A) (ys : List B) → length xs ≡ length ys
     → ((i : ℕ) → i < length ys → f (n + i, get_or xs i a) ≡ g (n + i, get_or ys i b)) → flat_map f (enumerate_from n xs) ≡ flat_map g (enumerate_from n ys)
 places f g a b n [] [] long same = refl
@@ -185,13 +185,13 @@ module _ (setting : Setting) where
   abbrev pub all_jobs : HostState → List JobId
   all_jobs state = flat_map (λ (place : ℕ × TenantConfig). jobs_at state place.0) (enumerate_from 0 setting.config.tenants)
 
-  -- what a tenant has outstanding is what its row lacks
+  -- a tenant's outstanding jobs are the jobs of its row that aren't counted
   pub awaited_at : (s : Standing) (entries : List TableEntry) (t : ℕ) (row : Row) (c : JobId → Bool) → StandsFor s row → s.tenancy.owner.place ≡ t → ((j : JobId) → has_result entries j ≡ c j)
       → map (job_of t) (outstanding_tasks s entries) ≡ filter (λ j. not (c j)) (map (job_of t) row.active)
   awaited_at s entries t row c h place results =
       ap (map (job_of t)) (outstanding_are s entries t row c h place results) ∙ sym (filter-map (job_of t) (λ j. not (c j)) (λ a. not (c (job_of t a))) row.active (all_of (λ a. refl) row.active))
 
-  -- what the code awaits is what its state's active tasks lack
+  -- the code's outstanding jobs are the jobs of its state's active tasks that aren't counted
   pub code_awaits : (host : HostStanding) (state : HostState) → Stands setting host state → ArePlaced host.tenants → outstanding_jobs host ≡ all_jobs state
   code_awaits host state h placed =
       places_from_start (λ (place : ℕ × Standing). map (job_of place.0) (outstanding_tasks place.1 host.entries)) (λ (place : ℕ × TenantConfig). jobs_at state place.0)

@@ -14,12 +14,12 @@ use Rattle.instant_engine.specs.state.Standing.{Standing}
 abbrev pub IsAt : ℕ → Standing → Type 0
 IsAt n s = (s.row.next_tick ≡ n) × IsBetween s
 
--- each tenant is given what is due to its place in the roster
+-- each tenant has the tenancy of its place in the roster
 abbrev pub HaveTenancies : Rig → List Standing → Type 0
 HaveTenancies config tenants = (t : ℕ) → t < length tenants → (tenant_at tenants t).tenancy ≡ tenancy_at config t
 
--- what is known of all: they are those of the roster, each is at the next instant's number and has what is due to its place, and the table
--- is that of their active tasks
+-- what is known of all tenants: they are those of the roster, each has the number of the next instant and the tenancy of its place, and the
+-- table is that of their active tasks
 pub record IsWhole (config : Rig) (clock : ℕ) (tenants : List Standing) (entries : List TableEntry) : Type 0 where
   pub as_many : length tenants ≡ length config.tenants
   pub known : All (IsAt clock) tenants
@@ -31,7 +31,7 @@ pub record IsWhole (config : Rig) (clock : ℕ) (tenants : List Standing) (entri
 abbrev pub most_binds : Rig → ℕ
 most_binds config = sum_by (λ (tenant : TenantConfig). tenant.budgets.binds) config.tenants
 
--- what is known of a host: this, and there is a place for each bind that its tenants may have
+-- what is known of a host: what is known of all its tenants, and that there is a place for each bind that they may have
 pub record IsHost (config : Rig) (clock : ℕ) (tenants : List Standing) (entries : List TableEntry) (granted : List (Option ℤ)) : Type 0 where
   pub whole : IsWhole config clock tenants entries
   pub places : most_binds config ≤ length granted

@@ -1,4 +1,4 @@
--- What playing a list of events has come to.
+-- What is known after a list of events was played.
 use Rattle.std.specs.Prelude.{◌≡◌, ◌<◌, ⊤, ℕ, true, List, [], ◌∷◌, length, slice_index_or, None}
 use Rattle.std.specs.List.{list_any}
 use Rattle.rig_model.specs.declared.events.Event.{Event}
@@ -13,7 +13,7 @@ use Rattle.rig_model.specs.Legal.{may_follow, was_released, is_legal}
 use Rattle.rig_model.specs.Jobs.{same_job}
 use Rattle.rig_model.specs.config.Roster.{Rig}
 
--- The host, each tenant's text and the names of the released jobs are those behind these events, the newest first.
+-- The host, each tenant's text and the names of the released jobs are those after these events, which have the newest first.
 pub record IsPlayed (setting : Setting) (past : List Event) (host : HostStanding) (texts : List (List ℕ)) (released : List JobId) : Type 0 where
   pub base : IsBase setting.config setting.base
   pub legal : is_legal setting past ≡ true
@@ -26,7 +26,7 @@ pub record IsPlayed (setting : Setting) (past : List Event) (host : HostStanding
 abbrev pub IsStage : Setting → List Event → Stage → Type 0
 IsStage setting past stage = IsPlayed setting past stage.host stage.texts.items stage.released.keys
 
--- one event more is played, where it may come
+-- one more event is played, if it may come
 abbrev pub IsPlayedOn : Event → Stage → Stage → Type 0
 IsPlayedOn e before after = (setting : Setting) (past : List Event) → may_follow setting past e ≡ true → IsStage setting past before → IsStage setting (e ∷ past) after
 

@@ -1,4 +1,4 @@
--- What a trial has come to. Lists of events, and what is noted for each of them, have the newest first where a place is named `past`.
+-- What is known after a trial. A list of events that is named `past` has the newest first, and so have the notes of its events.
 use Rattle.std.specs.Prelude.{◌≡◌, ◌+◌, ⊤, ℕ, Bool, ◌==◌, ◌&&◌, ◌||◌, if◌then◌else◌, List, [], ◌∷◌, length, reverse}
 use Rattle.std.specs.List.{list_any}
 use Rattle.host_core.specs.HostStanding.{HostStanding, ForEachState}
@@ -30,23 +30,23 @@ AreFlowsBefore (Done j) host flows = flows ≡ []
 abbrev pub is_reached : List ℕ → List Flow → ℕ → Bool
 is_reached sources flows u = is_source sources u || list_any (λ (f : Flow). is_source sources f.consumer && f.supplier == u) flows
 
--- these flows lead from the sources behind an event to those before it
+-- these flows lead from the sources after an event to those before it
 abbrev pub LeadBack : Setting → Event → List Event → List Flow → Type 0
 LeadBack setting e past flows = (sources : List ℕ) (u : ℕ) → is_reached sources flows u ≡ is_source (sources_before setting e past sources) u
 
--- and so for each event of a list
+-- the same for each event of a list
 abbrev pub AllLeadBack : Setting → List Event → List (List Flow) → Type 0
 AllLeadBack setting [] noted = ⊤
 AllLeadBack setting (e ∷ past) [] = ⊥
 AllLeadBack setting (e ∷ past) (flows ∷ noted) = LeadBack setting e past flows × AllLeadBack setting past noted
 
--- one event more is noted, which comes next on a stage; the notes have the oldest first
+-- one more event is noted, which comes next on a stage; the notes have the oldest first
 pub record IsNoted (e : Event) (stage : Stage) (before after : List (List Flow)) : Type 0 where
   pub as_many : length after ≡ length before + 1
   pub lead_back : (setting : Setting) (past : List Event) → IsStage setting past stage → AllLeadBack setting past (reverse before) → AllLeadBack setting (e ∷ past) (reverse after)
 
 module _ (setting : Setting) where
-  -- for each event, whether it stays, where these are the sources at the end
+  -- for each event, whether it stays, if these are the sources at the end
   abbrev pub marks_from : List ℕ → List Event → List Bool
   marks_from sources [] = []
   marks_from sources (e ∷ past) = stays sources e ∷ marks_from (sources_before setting e past sources) past
@@ -57,7 +57,7 @@ marked [] marks = []
 marked (e ∷ es) [] = []
 marked (e ∷ es) (m ∷ marks) = if m then e ∷ marked es marks else marked es marks
 
--- the stages on which a list, the oldest first, was played whole and by what is kept of it, and the marks of its events
+-- the stages on which a list, the oldest first, and its kept list were played, and the marks of the list's events
 pub record AreBoth (setting : Setting) (events : List Event) (t : ℕ) (whole kept : Stage) (marks : List Bool) : Type 0 where
   pub of_whole : IsStage setting (reverse events) whole
   pub of_kept : IsStage setting (kept_of setting (reverse events) t) kept

@@ -11,7 +11,7 @@ use Rattle.host_core.proofs.Played.{passed_on}
 use Rattle.host_core.proofs.Stages.{are_both, is_setting_of, kept_plays, setting_of}
 use Rattle.host_core.proofs.trials.play_both.Goals as goal
 
--- marks that were made by a slice of the notes
+-- marks that were made from a slice of the notes
 by_notes : (setting : Setting) (events : List Event) (t : ℕ) (noted slice : List (List Flow)) (marks : List Bool) → slice ≡ noted → AllLeadBack setting (reverse events) (reverse noted)
     → (AllLeadBack setting (reverse events) (reverse slice) → marks ≡ reverse (marks_from setting (t ∷ []) (reverse events))) → marks ≡ reverse (marks_from setting (t ∷ []) (reverse events))
 by_notes setting events t noted slice marks same lead are = are (subst (λ notes. AllLeadBack setting (reverse events) (reverse notes)) (sym same) lead)

@@ -37,7 +37,7 @@ module _ (c : After-self-1) where
   abbrev new_of : Standing
   new_of = c.carry_out-reply.new.self
 
-  -- a command that leaves its tenant's row leaves the host
+  -- a command that leaves its tenant's row unchanged leaves the host unchanged
   same_behind : Leaves old_of new_of c.args.prepared c.carry_out-reply.result
       → record (standing c.self.inside) { tenants = map at_rest (set c.self.inside.tenants.items c.args.tenant c.leave.new.self); entries = c.leave.new.finished.entries } ≡ c.args.self.now
   same_behind leaves =

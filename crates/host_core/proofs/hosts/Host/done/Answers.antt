@@ -32,7 +32,7 @@ returns-then-place-len-clause-answer c = λ own setting state stands. (beyond c 
 pub returns-then-place-len-clause-step : goal.returns-then-place-len-clause-step
 returns-then-place-len-clause-step c = λ own setting state stands. (beyond c setting state stands).step
 
--- one that isn't awaited, or has its result
+-- a completion that isn't awaited, or has its result
 pub returns-then-not-awaits-clause-counted : goal.returns-then-not-awaits-clause-counted
 returns-then-not-awaits-clause-counted c =
     let host : HostStanding = standing c.self.inside in
@@ -60,7 +60,7 @@ returns-then-not-awaits-clause-answer c = λ own setting state stands. (late c s
 pub returns-then-not-awaits-clause-step : goal.returns-then-not-awaits-clause-step
 returns-then-not-awaits-clause-step c = λ own setting state stands. (late c setting state stands own).step
 
--- one that counts
+-- a completion that counts
 pub add-requires-clause-entered : goal.add-requires-clause-entered
 add-requires-clause-entered c =
     let host : HostStanding = standing c.self.inside in

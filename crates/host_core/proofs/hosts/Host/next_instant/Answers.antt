@@ -43,7 +43,7 @@ module _ (c : After-as_mut_slice-granted) where
   all_below : All (λ (s : Standing). s.row.next_tick < 2 ^ 64 - 1) c.as_mut_slice-tenants.result.now
   all_below = counts_again readied (subst (λ n. n < 2 ^ 64 - 1) (ap (λ (h : HostStanding). h.clock) (sym c.self.view_is)) c.in_ok-check.ensures.next)
 
-  -- what either way through the instant leaves
+  -- what the instant leaves, whether or not its jobs are taken
   abbrev Leaves : Inside → Type 0
   Leaves now = IsNext c.args.frame.now c.as_mut_slice-tenants.result.now c.all_ready.new.finished.entries now.tenants.items now.finished.entries
       × (now.config ≡ c.self.inside.config) × (now.clock ≡ c.self.inside.clock) × (length now.granted.items ≡ length c.self.inside.granted.items)

@@ -29,12 +29,12 @@ use Rattle.host_core.proofs.HostSteps.{AreResultsStill, own_outcome, stands_afte
 use Rattle.host_core.proofs.hosts.Host.port_value.Goals as goal
 use Rattle.host_core.proofs.hosts.Host.port_value.Goals.{After-port_value}
 
--- no answer is want of memory
+-- no reply is `err memory`
 not_memory : (port : PortName) (r : Result ℤ Refusal) → r ≢ Err Memory → reply_of_port port r ≢ Refused Memory
 not_memory port (Ok z) other e = absurd (cc)
 not_memory port (Err why) other e = other (let same : why ≡ Memory = cc in ap (λ w. Err w) same)
 
--- the results of active tasks are all that there are
+-- only active tasks have results
 all_still : (tenants : List Standing) (entries : List TableEntry) → ((j : JobId) → is_entered entries j ≡ is_active_among tenants j) → AreResultsStill tenants entries entries
 all_still tenants entries entered j = by (has_result entries j) refl
   where
@@ -46,7 +46,7 @@ all_still tenants entries entered j = by (has_result entries j) refl
     by true e = rw (sym (entered j) ∙ entered_of_result entries j e) refl
     by false e = e ∙ sym (ap (λ b. is_active_among tenants j && b) e ∙ none (is_active_among tenants j))
 
--- what was found is the command's answer, and leaves what the tenant stands for
+-- what was found is the command's answer, and the tenant represents what it did before
 answered : (s : Standing) (port : PortName) (r : Result ℤ Refusal)
     → IfErr r (λ why. IsRefused s (λ row. show_port port row row.program) why)
     → IfOk r (λ z. (row : Row) → StandsFor s row → show_port port row row.program ≡ record { row = row; reply = Port (record { port = port; value = z }) })
