@@ -201,7 +201,7 @@ module _ {before : List Standing} {entries : List TableEntry} (placed : ArePlace
         sym at ∙ ap (λ (s : Standing). s.row.next_tick) (ap (tenant_at (map without_ended middle)) (sym own) ∙ at_kept middle j.tenant) ∙ (first.each j.tenant within).next_tick in
         ap is_some (stays j) ∙ ap (λ b. is_some (cond b (entry_in entries j) None)) (not_left j within here)
 
-    -- all have one roster still
+    -- all still have one roster
     roster_kept : (t : ℕ) → t < length before → (tenant_at (map without_ended middle) t).tenancy.owner.roster ≡ (tenant_at before t).tenancy.owner.roster
     roster_kept t lt = ap (λ (s : Standing). s.tenancy.owner.roster) (at_kept middle t) ∙ ap (λ (y : Tenancy). y.owner.roster) (first.each t lt).tenancy
 
@@ -218,7 +218,7 @@ module _ {before : List Standing} {entries : List TableEntry} (placed : ArePlace
       whole = omega (arith, ap length same_roster, shared.whole, length-map middle without_ended, first.as_many);
     }
 
-    -- behind the second halves
+    -- after the second halves
     module _ (frame : List ℤ) (granted : List (Option ℤ)) {after : List Standing} (shared : HaveRoster before) (passed : AreGranted (map without_ended middle) granted)
         (second : AreSecondHalves frame granted (map without_ended middle) after) where
       as_many : length after ≡ length before
@@ -228,7 +228,7 @@ module _ {before : List Standing} {entries : List TableEntry} (placed : ArePlace
       its_half t lt =
           subst (λ s. IsSecondHalfAndKnown frame (granted_at (map without_ended middle) t granted) s (tenant_at after t)) (at_kept middle t) (second.each t (omega (arith, lt, length-map middle without_ended, first.as_many)))
 
-      -- the rows that the tenants stand for
+      -- the rows that the tenants represent
       module _ (rows : ℕ → Row) (stand : StandForRows before rows) where
         abbrev halves : ℕ → Row
         halves u = first_half_of (unfinished_tasks (λ a. has_result entries (job_of u a)) (rows u)) (rows u)
@@ -329,7 +329,7 @@ module _ {before : List Standing} {entries : List TableEntry} (placed : ArePlace
               let released : AreReleased kept.row a.row = (second.each t (omega (arith, lt, length-map middle without_ended, first.as_many))).released in
               not_active j lt (holds_of_job (λ i. i.tick ≡ kept.row.next_tick) a.tenancy.owner.place (drop (length kept.row.active) a.row.active) j released.newer holds ∙ count)
 
-      -- the jobs of what was released, which are no more than can be released, and the tenants can give them
+      -- the jobs of what was released: they are no more than can be released, and the tenants can give them
       its_last : (t : ℕ) → t < length (map without_ended middle)
           → last_jobs (tenant_at after t) ≡ released_at (tenant_at (map without_ended middle) t).tenancy.owner.place (tenant_at (map without_ended middle) t).row.next_tick (tenant_at after t).row
       its_last t lt =

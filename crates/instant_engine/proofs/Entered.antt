@@ -17,7 +17,7 @@ use Rattle.instant_engine.specs.cited.Halves.{is_released_among}
 use Rattle.giotto_tasks.proofs.cited.ListLemmas.{all_map}
 use Rattle.instant_engine.proofs.Named.{other_tenant}
 
--- what an instant made active stands behind what was
+-- what an instant made active comes after what was active before
 pub older_and_newer : (before after : Row) → AreReleased before after → after.active ≡ before.active ++ drop (length before.active) after.active
 older_and_newer before after released = sym (take-append-drop (length before.active) after.active) ∙ ap (λ xs. xs ++ drop (length before.active) after.active) released.older
 

@@ -30,7 +30,7 @@ bound_within roster bs i u sensor actuator = by (slice_get bs i)
     by None e = absurd (cc)
     by (Some b) e = placed b (place_in roster b.tenant) refl e
 
--- the name of a tenant is the one that stands at its place
+-- the name of a tenant is the one at its place in the roster
 pub name_there : (roster : List Name) (place : ℕ) (d : Name) → place < length roster → get_or roster place d ≡ name_of_place roster place
 name_there roster place d lt = ap (λ o. unwrap_or o []) (sym (slice_get-get_or roster place d lt))
 
@@ -61,7 +61,7 @@ granted_there tenants place i u sensor actuator tenant x s shared lt own supplie
     ∙ ap (option_and_then (λ (y : Name × ℕ × Name). granted_from (roster_among tenants) (rows_of tenants) (rows_of tenants) place y.2 y.1)) at
     ∙ (λ k. option_and_then (λ (o : Offer). option_map (granted_value o) (actuator_value (sym supplier k).row actuator)) (offer_of (sym supplier k).row.offers actuator (name k)))
 
--- what stands before the places that are written
+-- what is before the written places stays as it was
 pub written_others : (old new : List (Option ℤ)) (first n from : ℕ) → from + n ≤ first → take first new ≡ take first old → take n (drop from new) ≡ take n (drop from old)
 written_others old new first n from le same =
     let rest : (xs : List (Option ℤ)) → take n (drop from xs) ≡ take n (drop from (take first xs)) = λ xs.
@@ -72,7 +72,7 @@ written_others old new first n from le same =
 abbrev pub no_bind : Bind
 no_bind = record { sensor = []; tenant = []; actuator = [] }
 
--- one place more is written
+-- one more place is written
 module _ (granted : List (Option ℤ)) (first i : ℕ) (v : Option ℤ) where
   pub others_before : take first (set granted (first + i) v) ≡ take first granted
   others_before = take-set-le first granted (first + i) v (omega arith)

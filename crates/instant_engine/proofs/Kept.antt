@@ -15,7 +15,7 @@ use Rattle.instant_engine.specs.cited.Tenants.{is_active_among}
 use Rattle.instant_engine.specs.cited.Halves.{AreToldEnded, is_ended_among}
 use Rattle.instant_engine.proofs.Named.{other_tenant}
 
--- the entries of what ended in the first `i` tenants left the table
+-- the entries of what ended in the first `i` tenants have left the table
 pub record AreLeftTo (i : ℕ) (tenants : List Standing) (before now : List TableEntry) : Type 0 where
   pub left : (j : JobId) → j.tenant < i → entry_in now j ≡ cond (is_ended_among tenants j) None (entry_in before j)
   pub others : (j : JobId) → i ≤ j.tenant → entry_in now j ≡ entry_in before j
@@ -39,7 +39,7 @@ left_more i tenants x before now next here own leaves so_far = record {
     other : (j : JobId) → j.tenant ≢ i → entry_in next j ≡ entry_in now j
     other j differ = leaves j ∙ ap (λ b. cond b None (entry_in now j)) (other_tenant x.tenancy.owner.place x.ready.ended j (λ e. differ (sym (sym own ∙ e))))
 
--- where the tasks that ended are those with an entry that are active no longer, the entries of the active ones are left
+-- if the ended tasks are those with an entry that are no longer active, the entries of the active ones are left
 remaining : (active : Bool) (o : Option TableEntry) → cond (is_some o && not active) None o ≡ cond active o None
 remaining true None = refl
 remaining true (Some e) = refl
@@ -56,7 +56,7 @@ left_all i tenants before now past told done j =
     none_outside : i ≤ j.tenant → is_ended_among tenants j ≡ false
     none_outside le = ap (λ (s : Standing). has_job s.tenancy.owner.place s.ready.ended j) (lists.get_or-eq_default tenants no_tenant (omega (arith, le, past)))
 
--- behind this each tenant is without what ended
+-- after this each tenant is without what ended
 pub without_each : (before after : List Standing) → AreStepped (λ t x y. y ≡ without_ended x) before after → after ≡ map without_ended before
 without_each before after steps =
     ext_get_or no_tenant after (map without_ended before) (steps.as_many ∙ sym (length-map before without_ended))

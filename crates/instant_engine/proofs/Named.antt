@@ -9,7 +9,7 @@ use Rattle.rig_model.specs.Row.{ActiveTask}
 use Rattle.giotto_tasks.proofs.cited.ListLemmas.{all_map, any_if_all}
 use Rattle.rig_model.proofs.cited.JobNames.{same_job_is}
 
--- none has the job of another tenant
+-- no task has the job of another tenant
 pub other_tenant : (t : ℕ) (xs : List ActiveTask) (j : JobId) → t ≢ j.tenant → has_job t xs j ≡ false
 other_tenant t [] j differ = refl
 other_tenant t (x ∷ xs) j differ = ap (λ b. ((b && eqb x.release j.tick) && same_name x.task j.task) || has_job t xs j) (ne_eqb t j.tenant differ) ∙ other_tenant t xs j differ

@@ -14,9 +14,9 @@ use rig_model::config::intervals::clamped;
 use rig_model::grants::granted::{Granted, Hints};
 use tenant_state::tenants::Tenant;
 
-/// Writes what is granted through each bind, tenant by tenant, where all tenants are behind the first half of an instant: the value of
-/// the actuator that it is bound to, within the bounds of the offer, where the other tenant offers it to this one and its program has it.
-/// Takes no memory.
+/// Writes what is granted through each bind, tenant by tenant, after the first half of an instant of all tenants. This is the value of
+/// the actuator that the bind names, within the bounds of the offer. Nothing is granted if the other tenant doesn't offer that actuator
+/// to this one, or its program doesn't have it. Takes no memory.
 pub fn grant(tenants: &[Tenant], granted: &mut [Granted])
     requires rosters { HaveRoster tenants.now }
     requires places { binds_of tenants.now ≤ length granted.old }
@@ -28,7 +28,7 @@ pub fn grant(tenants: &[Tenant], granted: &mut [Granted])
     }
 }
 
-// Writes what is granted through each bind of the tenant at this place, from the place `first` on. The place behind them.
+// Writes what is granted through each bind of the tenant at this place, from the place `first` on. Returns the place after them.
 fn grant_to(tenants: &[Tenant], place: TenantId, first: usize, granted: &mut [Granted]) -> usize
     requires rosters { HaveRoster tenants.now }
     requires tenant { place < length tenants.now }
@@ -47,7 +47,7 @@ fn grant_to(tenants: &[Tenant], place: TenantId, first: usize, granted: &mut [Gr
     first + binds
 }
 
-// What is granted through the bind at place `i` of those of the tenant at this place.
+// What is granted through bind `i` of the tenant at this place.
 #[inline(always)]
 fn granted_by(tenants: &[Tenant], place: TenantId, i: usize, hints: &mut Hints) -> Option<i64>
     requires rosters { HaveRoster tenants.now }
@@ -59,8 +59,8 @@ fn granted_by(tenants: &[Tenant], place: TenantId, i: usize, hints: &mut Hints) 
     granted_from(&tenants[supplier], actuator, &tenant.roster()[place], hints)
 }
 
-// What a supplier grants of this actuator to the tenant of this name: its value, within the bounds of the supplier's offer. The hints are
-// left at the places where both were found.
+// What a supplier grants of this actuator to the tenant of this name: the actuator's value, within the bounds of the supplier's offer.
+// Sets the hints to the places where the offer and the actuator were found.
 #[inline(always)]
 fn granted_from(supplier: &Tenant, actuator: &Name, tenant: &Name, hints: &mut Hints) -> Option<i64>
     ensures { result ≡ option_and_then (λ o. option_map (granted_value o) (actuator_value supplier.now.row actuator.now)) (offer_of supplier.now.row.offers actuator.now tenant.now) }

@@ -21,8 +21,8 @@ use tenant_jobs::finished::Finished;
 use tenant_jobs::jobs::Jobs;
 use tenant_state::tenants::Tenant;
 
-/// Makes what each tenant's next instant needs. How many jobs all of them can release at most, if that is a number of this size. Takes no
-/// memory where they can release none.
+/// Makes what each tenant's next instant needs. Returns how many jobs all of them can release at most. `None` if this fails, or the
+/// number is too large for its type. Takes no memory if they can release none.
 pub fn ready(tenants: &mut [Tenant]) -> Option<usize>
     ensures rest { map at_rest tenants.new ≡ map at_rest tenants.old }
     ensures ready { OnSome result (All IsReady tenants.new) }
@@ -39,8 +39,8 @@ pub fn ready(tenants: &mut [Tenant]) -> Option<usize>
     Some(most)
 }
 
-/// An instant of all tenants, as `instant_with`, without places for what is granted: at most 16 tenants with 64 binds each. Takes no
-/// memory.
+/// Runs an instant of all tenants, as `instant_with` does, without places for what is granted. The tenants have at most 1,024 binds in
+/// all: 16 tenants with 64 binds each. Takes no memory.
 pub fn instant(tenants: &mut [Tenant], frame: &[i64], finished: &mut Finished, jobs: &mut Jobs)
     requires placed { ArePlaced tenants.old }
     requires between { All IsBetween tenants.old }
@@ -62,8 +62,8 @@ pub fn instant(tenants: &mut [Tenant], frame: &[i64], finished: &mut Finished, j
     instant_with(tenants, frame, places.as_mut_slice(), finished, jobs);
 }
 
-/// An instant of all tenants, as `advance`, with its jobs: those of the tasks that it releases, tenant by tenant. There are no jobs before,
-/// and space for all that can be released. Takes no memory.
+/// Runs an instant of all tenants, as `advance` does, and adds its jobs: those of the tasks that it releases, tenant by tenant. `jobs` is
+/// empty before, and has space for all that can be released. Takes no memory.
 pub fn instant_with(
     tenants: &mut [Tenant],
     frame: &[i64],
@@ -91,10 +91,12 @@ pub fn instant_with(
     add_jobs(tenants, jobs);
 }
 
-/// An instant of all tenants, whose numbers are below the greatest: the first half of each, then all granted values at once, and then the
-/// second half of each. `frame` has the input value of each line, and `granted` a place for each bind, whatever stands there. The tenants
-/// are ready, and the table, which is that of their active tasks, has room for all that they can release. Behind it the tenants can give
-/// the jobs of what was released, which are no more than they can release. Takes no memory.
+/// Runs an instant of all tenants: the first half of each, then all granted values at once, and then the second half of each. `frame` has
+/// the input value of each line, and `granted` a place for each bind, with any content.
+///
+/// The tenants are ready, and the numbers of their next instants are below the greatest. `finished` is the table of their active tasks,
+/// and has space for all that they can release. After the instant the tenants can give the jobs of the released tasks, which are no more
+/// than they could release. Takes no memory.
 pub fn advance(
     tenants: &mut [Tenant],
     frame: &[i64],
@@ -137,7 +139,7 @@ fn add_jobs(tenants: &mut [Tenant], jobs: &mut Jobs)
     }
 }
 
-/// Takes the entries of the tasks that are active no longer out of the table; the tenants tell which they are. Takes no memory.
+/// Removes from the table the entries of the tasks that are no longer active. The tenants report which these are. Takes no memory.
 pub fn keep(tenants: &mut [Tenant], finished: &mut Finished)
     requires placed { ArePlaced tenants.old }
     requires told { AreToldEnded tenants.old finished.old.entries }
@@ -150,7 +152,7 @@ pub fn keep(tenants: &mut [Tenant], finished: &mut Finished)
     }
 }
 
-// The first half of each tenant.
+// Runs the first half of each tenant.
 fn first_halves(tenants: &mut [Tenant], finished: &Finished)
     requires between { All IsBetween tenants.old }
     requires entries { All (λ (s : Standing). HasItsEntries s finished.now.entries) tenants.old }
@@ -165,7 +167,7 @@ fn first_halves(tenants: &mut [Tenant], finished: &Finished)
     }
 }
 
-// The second half of each tenant, with what is granted through its binds. What is released is entered.
+// Runs the second half of each tenant, with what is granted through its binds. Enters the released tasks in the table.
 fn second_halves(
     tenants: &mut [Tenant],
     frame: &[i64],

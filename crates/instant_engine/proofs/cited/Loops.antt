@@ -1,4 +1,4 @@
--- One tenant more has gone through its step, in the loops over all tenants.
+-- One more tenant has taken its step, in the loops over all tenants.
 use Rattle.std.proofs.Common.{◌≡◌, ℕ, suc, ◌+◌, ◌-◌, ◌<◌, ◌≤◌, ◌≢◌, ⊎_elim, List, [], ◌∷◌, ◌++◌, Option, ℤ, length, get_or, map, set, take, drop, refl, sym, ap, ◌∙◌, subst, length-set, arith}
 use Rattle.std.specs.List.{flat_map, sum_by}
 use Rattle.std.proofs.lemmas.Bool.{cases_eq}
@@ -47,7 +47,6 @@ stepped_more R i before now d s lt steps one = record {
   others = λ t le. get_or-set_other now i t s no_tenant (λ e. absurd (omega arith)) ∙ steps.others t (omega arith);
 }
 
--- how many jobs the tenants left can release
 -- the binds of the tenants before the next
 pub binds_more : (R : ℕ → Standing → Standing → Type 0) (i : ℕ) (before now : List Standing) (d : Standing) → i < length before → AreSteppedTo R i before now
     → binds_of (take (i + 1) before) ≡ binds_of (take i before) + length (get_or now i d).row.binds
@@ -55,17 +54,17 @@ binds_more R i before now d lt steps =
     ap binds_of (take_more before i no_tenant lt) ∙ sum_by-append (λ (s : Standing). length s.row.binds) (take i before) (tenant_at before i ∷ [])
     ∙ omega (arith, ap (λ (s : Standing). length s.row.binds) (unstepped R i before now d lt steps))
 
--- those of the tenants before the next, where none has taken a step
+-- the binds of the tenants before the next, if none has taken a step
 pub binds_next : (i : ℕ) (tenants : List Standing) → i < length tenants → binds_of (take (i + 1) tenants) ≡ binds_of (take i tenants) + length (tenant_at tenants i).row.binds
 binds_next i tenants lt = binds_more (λ t x y. x ≡ y) i tenants tenants no_tenant lt (record { as_many = refl; stepped = λ t below. refl; others = λ t le. refl })
 
--- they are among all
+-- they are among the binds of all
 pub binds_within : (i : ℕ) (before : List Standing) → binds_of (take i before) ≤ binds_of before
 binds_within i before =
     let binds : Standing → ℕ = λ s. length s.row.binds in
     omega (arith, ap binds_of (sym (take-append-drop i before)) ∙ sum_by-append binds (take i before) (drop i before))
 
--- those of the tenants before one are among those before a later one
+-- the binds of the tenants up to one are among those before a later one
 pub binds_upto : (t i : ℕ) (tenants : List Standing) → t < i → i < length tenants → binds_of (take t tenants) + length (tenant_at tenants t).row.binds ≤ binds_of (take i tenants)
 binds_upto t i tenants lt below =
     omega (
@@ -87,7 +86,7 @@ jobs_more i tenants lt =
     ap (flat_map last_jobs) (take_more tenants i no_tenant lt) ∙ flat_map-append last_jobs (take i tenants) (tenant_at tenants i ∷ [])
     ∙ ap (λ js. flat_map last_jobs (take i tenants) ++ js) (append-nil (last_jobs (tenant_at tenants i)))
 
--- the last jobs of all are those of one instant, where it is the last of each
+-- the last jobs of all are those of one instant, if it is the last of each
 pub jobs_of_instant : (n from : ℕ) (tenants : List Standing) → ((t : ℕ) → t < length tenants → (tenant_at tenants t).tenancy.owner.place ≡ from + t)
     → ((t : ℕ) → t < length tenants → (tenant_at tenants t).row.next_tick ≡ n + 1) → flat_map last_jobs tenants ≡ released_from n from tenants
 jobs_of_instant n from [] placed counts = refl
@@ -98,7 +97,7 @@ jobs_of_instant n from (x ∷ xs) placed counts =
     ∙ ap (λ js. released_at from n x.row ++ js)
     (jobs_of_instant n (from + 1) xs (λ t lt. omega (arith, placed (suc t) (omega (arith, lt)))) (λ t lt. counts (suc t) (omega (arith, lt))))
 
--- sums over tenants before and behind a step, tenant by tenant
+-- sums over tenants before and after a step, tenant by tenant
 pub sums_within : {A B : Type 0} (f : A → ℕ) (g : B → ℕ) (d : A) (e : B) (xs : List A) (ys : List B) → length xs ≡ length ys → ((t : ℕ) → t < length xs → f (get_or xs t d) ≤ g (get_or ys t e)) → sum_by f xs ≤ sum_by g ys
 sums_within f g d e [] ys long each = omega arith
 sums_within f g d e (x ∷ xs) [] long each = absurd (omega (arith, long))
@@ -111,13 +110,13 @@ most_more xs i s lt =
     let most : Standing → ℕ = λ s. most_released s.row in
     ap most_of (take_more_set xs i s lt) ∙ omega (arith, sum_by-append most (take i xs) (s ∷ []), sum_by-cons most s [])
 
--- where all together can release nothing, neither can one
+-- if all together can release nothing, neither can one
 pub none_of_one : (before now : List Standing) (i : ℕ) (d : Standing) → map at_rest now ≡ map at_rest before → i < length now → most_of before ≡ 0 → most_released (get_or now i d).row ≡ 0
 none_of_one before now i d same lt none =
     let most : Standing → ℕ = λ s. most_released s.row in
     omega (arith, same_most before now same, none, get_or-le-sum_by most now i d lt)
 
--- behind a step of all tenants
+-- after a step of all tenants
 pub placed_behind : (R : ℕ → Standing → Standing → Type 0) → ((t : ℕ) (s x : Standing) → R t s x → x.tenancy.owner.place ≡ s.tenancy.owner.place) → (before after : List Standing)
     → AreStepped R before after → ArePlaced before → ArePlaced after
 placed_behind R keeps before after steps placed t lt =

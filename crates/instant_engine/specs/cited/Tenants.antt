@@ -12,7 +12,7 @@ use Rattle.instant_engine.specs.Tenants.{tenant_at}
 abbrev pub is_active_among : List Standing → JobId → Bool
 is_active_among tenants j = has_job (tenant_at tenants j.tenant).tenancy.owner.place (tenant_at tenants j.tenant).row.active j
 
--- the rows that their code keeps
+-- the rows that the tenants' code keeps
 abbrev pub rows_of : List Standing → ℕ → Row
 rows_of tenants t = (tenant_at tenants t).row
 
@@ -29,6 +29,6 @@ pub record HaveRoster (tenants : List Standing) : Type 0 where
 abbrev pub binds_of : List Standing → ℕ
 binds_of tenants = sum_by (λ (s : Standing). length s.row.binds) tenants
 
--- what is granted through the binds of the tenant at place t, where this list has what is granted through all binds, tenant by tenant
+-- what is granted through the binds of the tenant at place t, if this list has what is granted through all binds, tenant by tenant
 abbrev pub granted_at : {A : Type 0} → List Standing → ℕ → List A → List A
 granted_at tenants t granted = take (length (rows_of tenants t).binds) (drop (binds_of (take t tenants)) granted)
