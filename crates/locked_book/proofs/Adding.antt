@@ -15,7 +15,7 @@ shown log = []
 abbrev pub moved : List Logged → List Logged → ℕ → Type 0
 moved xs ys n = Unit {0}
 
--- how the step goes on where the history is this one, by whether it is as long as what was seen
+-- how the step goes on if the history is this one, by whether it is as long as what was seen
 pub goes_on : (log seen : List Logged) (e : Logged) (old : ℕ) → length seen ≡ old → IsPrefix seen log → (b : Bool) → (length log == old) ≡ b
     → Goes IsKept shown moved 0 (seen, (no_nib, None)) (λ n. either (n == old) (old + 1) n) (Adds (step 0 old (old + 1) e) (seen, (no_nib, None))) ((length log, true) ∷ (0, true) ∷ []) log
 goes_on log seen e old len begins true is =
@@ -28,7 +28,7 @@ goes_on log seen e old len begins false is =
     let word : either (length log == old) (old + 1) (length log) ≡ length (log ++ []) = rw is (ap length (sym same)) in
     (keeps, [], None, tt, ap (λ (n : ℕ). (n, true) ∷ (0, true) ∷ []) word, inl (refl, refl), rw is (ap length same))
 
--- so it does whatever the history is
+-- how the step goes on, whatever the history is
 pub adds : (seen : List Logged) (e : Logged) (old : ℕ) → length seen ≡ old
     → Moves IsKept shown moved 0 (seen, (no_nib, None)) (λ n. either (n == old) (old + 1) n) (Adds (step 0 old (old + 1) e) (seen, (no_nib, None)))
 adds seen e old len cells log kept begins away =

@@ -10,7 +10,7 @@ use Rattle.locked_book.specs.Books.{PassValue, has_seat, pass_at}
 abbrev pub no_pass : PassValue
 no_pass = record { seat = 0; calls = []; seen = 0 }
 
--- a mark more: the seat of the next pass
+-- one more mark: the seat of the next pass
 pub marked_on : (marks : List Bool) (passes : List PassValue) (i seat : ℕ) → ((s : ℕ) → get_or marks s false ≡ has_seat (take i passes) s)
     → i < length passes → seat ≡ (pass_at passes i).seat → seat < length marks
     → (s : ℕ) → get_or (set marks seat true) s false ≡ has_seat (take (i + 1) passes) s

@@ -1,4 +1,4 @@
--- What an instant of a book says where nothing is known of what stood before.
+-- What an instant of a book says if nothing is known of the entries before it.
 use Rattle.std.proofs.Common.{◌≡◌, ℕ, ℤ, List, [], ◌∷◌, ◌++◌, length, reverse, ap, ◌∙◌, subst, arith}
 use Rattle.std.proofs.lemmas.List.{length-reverse}
 use Rattle.rig_model.specs.config.Roster.{Rig}

@@ -7,7 +7,7 @@ use Rattle.std.proofs.lemmas.List.{get_or-set_same, get_or-set_other}
 use Rattle.std.proofs.lemmas.Nat.Bits.{bit_at_set_same, bit_at_set_other}
 use Rattle.locked_book.specs.inner.Places.{mark_of}
 
--- the bit of a place that is so far behind the start
+-- the bit of the place at this distance from the start
 abbrev bit_of : List ℕ → ℕ → ℕ
 bit_of marks at = bit_at (get_or marks (at / 64) 0) (at % 64)
 

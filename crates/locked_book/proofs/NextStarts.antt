@@ -15,7 +15,7 @@ abbrev pub IsBefore : Option ℕ → ℕ → Type 0
 IsBefore None place = Unit {0}
 IsBefore (Some start) place = place < start
 
--- the start, if there is one, comes from this place on
+-- the start, if there is one, isn't before this place
 abbrev pub IsFrom : ℕ → Option ℕ → Type 0
 IsFrom from None = Unit {0}
 IsFrom from (Some start) = from ≤ start
@@ -60,7 +60,7 @@ least_from : (from : ℕ) (start : Option ℕ) (place : ℕ) → IsFrom from sta
 least_from from None place is le = le
 least_from from (Some other) place is le = omega (arith, is, le)
 
--- one entry more, whose place comes behind one as high
+-- one more entry, whose place comes after one at least as high
 pub rises_on_late : (entries : List (ℕ × Logged)) (from n highest : ℕ) (start : Option ℕ) → RisesUpTo entries from n highest start
     → place_in entries n < 2 ^ 128 → from ≤ place_in entries n → RisesUpTo entries from (n + 1) (max highest (place_in entries n)) (Some (least_with start (place_in entries n)))
 rises_on_late entries from n highest start is fits behind_ = record {
@@ -73,7 +73,7 @@ rises_on_late entries from n highest start is fits behind_ = record {
       (cases_lt j n);
 }
 
--- one entry more, whose place doesn't
+-- one more entry, whose place doesn't
 pub rises_on : (entries : List (ℕ × Logged)) (from n highest : ℕ) (start : Option ℕ) → RisesUpTo entries from n highest start
     → place_in entries n < 2 ^ 128 → (from ≤ place_in entries n → highest < place_in entries n) → RisesUpTo entries from (n + 1) (max highest (place_in entries n)) start
 rises_on entries from n highest start is fits new = record {
@@ -97,14 +97,14 @@ pub next_start : (entries : List (ℕ × Logged)) (from n highest : ℕ) (start 
 next_start entries from n highest None is le = λ to i j lt in_ behind before same. (let rises = is.rising i j lt (omega (arith, in_, le)) behind tt in omega (arith, rises, same))
 next_start entries from n highest (Some start) is le = (is.from_on, λ i j lt in_ behind before same. (let rises = is.rising i j lt (omega (arith, in_, le)) behind before in omega (arith, rises, same)))
 
--- what is apart up to a place and from there on
+-- what is apart up to a place, and from there on, is apart in all
 pub joined : (entries : List (ℕ × Logged)) (from middle to : ℕ) → ApartWithin entries from middle → ApartWithin entries middle to → ApartWithin entries from to
 joined entries from middle to first second i j lt in_ behind before = ⊎_elim
     (λ (less : place_in entries j < middle). first i j lt in_ behind less)
     (λ (le : middle ≤ place_in entries j). second i j lt in_ le before)
     (cases_lt (place_in entries j) middle)
 
--- where no place is there twice in all
+-- if no place at all is there twice
 pub whole : (entries : List (ℕ × Logged)) → ((j : ℕ) → j < length entries → place_in entries j < 2 ^ 128) → ApartWithin entries 0 (2 ^ 128)
     → IsTrue true ↔ AreApart (map (λ (e : ℕ × Logged). e.0) entries)
 whole entries fit apart = (
@@ -112,7 +112,7 @@ whole entries fit apart = (
   (λ f. refl),
 )
 
--- behind a window that reaches the end
+-- after a window that reaches the end
 pub whole_to : (entries : List (ℕ × Logged)) (to : ℕ) → ((j : ℕ) → j < length entries → place_in entries j < 2 ^ 128) → ApartWithin entries 0 to → 2 ^ 128 ≤ to
     → IsTrue true ↔ AreApart (map (λ (e : ℕ × Logged). e.0) entries)
 whole_to entries to fit apart le = whole entries fit (λ i j lt in_ behind before. apart i j lt in_ behind (omega (arith, before, le)))

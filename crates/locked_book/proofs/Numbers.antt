@@ -13,12 +13,12 @@ use Rattle.locked_book.specs.inner.Books.{HasFirstCalls, IsBook, seat_at}
 use Rattle.locked_book.proofs.Places.{calls_append, calls_on}
 use Rattle.locked_book.proofs.Steps.{as_many_calls, none_before}
 
--- a pass with the calls of its seat in a beginning of the log has its first calls
+-- a pass with the calls of its seat in a beginning of the log has the first calls of its seat
 pub first_calls : (book : BookValue) (pass : PassValue) (front : List Logged) → pass.calls ≡ calls_of_seat pass.seat front → IsPrefix front book.log → HasFirstCalls book pass
 first_calls book pass front calls p =
     (calls_of_seat pass.seat p.0, ap (calls_of_seat pass.seat) (sym p.1) ∙ calls_append pass.seat front p.0 ∙ ap (λ cs. cs ++ calls_of_seat pass.seat p.0) (sym calls))
 
--- so has a pass with all of them a front that is the log
+-- if a pass has all calls of its seat in the log, it has those in a front that is the log
 pub front_of_log : (front kept : Option (List Logged)) (log : List Logged) (calls : List Call) (seat : ℕ) → front ≡ kept → IfSome kept (λ f. f ≡ log) → calls ≡ calls_of_seat seat log
     → IfSome front (λ f. calls ≡ calls_of_seat seat f)
 front_of_log front kept log calls seat same is all = subst (λ o. IfSome o (λ f. calls ≡ calls_of_seat seat f)) (sym same) (by kept is)
@@ -35,7 +35,7 @@ module _ (rig : Rig) (first : ℕ) (book : BookValue) (seats : List SeatValue) (
   none_earlier : calls_before book.base pass.seat ≡ 0
   none_earlier = none_before book.base pass.seat (ap (λ (b : BaseValue). b.calls) is.base)
 
-  -- a pass that is known has the calls of its seat, and those behind one call more
+  -- a known pass has the calls of its seat, also after one more call
   pub all_calls : Knows book pass → pass.calls ≡ calls_of_seat pass.seat book.log
   all_calls k = sym (ap (λ n. drop n pass.calls) none_earlier) ∙ k.calls
 
@@ -44,7 +44,7 @@ module _ (rig : Rig) (first : ℕ) (book : BookValue) (seats : List SeatValue) (
       ap (λ cs. cs ++ c ∷ []) (all_calls k)
       ∙ sym (calls_on pass.seat book.log (logged.Call pass.seat c) ∙ ap (λ (b : Bool). calls_of_seat pass.seat book.log ++ cond b (c ∷ []) []) (eq-eqb pass.seat pass.seat refl))
 
-  -- it is known just where its seat was given, has as many calls, and it has seen no longer log
+  -- a pass is known exactly if its seat was given, the seat has as many calls, and the pass hasn't seen a longer log
   pub known_by_number : HasFirstCalls book pass → pass.seat < book.seats → (seat_at seats pass.seat).calls ≡ length pass.calls → pass.seen ≤ length_of book → Knows book pass
   known_by_number front given number seen = record {
     given = given;

@@ -71,7 +71,7 @@ as_many seat i (e ∷ log) =
     one_each seat i (logged.Tick frame) = refl
     one_each seat i (logged.Done j) = refl
 
--- the calls at the places of a seat, where some entries stand in front
+-- the calls at the places of a seat, if some entries come before
 at_end : (front log : List Logged) (s : ℕ) (c : Call) → call_at (front ++ logged.Call s c ∷ log) (length front) ≡ Some c
 at_end [] log s c = refl
 at_end (x ∷ front) log s c = at_end front log s c
@@ -125,7 +125,7 @@ within seat i (e ∷ log) =
     (below_in seat i e (places_from seat (i + 1) log) (i + suc (length log)) (omega arith)
     (λ k lt. let w = within seat (i + 1) log k lt in omega (arith, w)))
 
--- a seat has no call exactly where it has no place
+-- a seat has no call exactly if it has no place
 pub no_calls : (seat : ℕ) (log : List Logged) → places_from seat 0 log ≡ [] → calls_of_seat seat log ≡ []
 no_calls seat log e = by (calls_of_seat seat log) refl
   where

@@ -2,7 +2,7 @@
 use Rattle.std.proofs.Common.{◌≡◌, ◌≤◌, List, [], ◌∷◌, length, refl, arith}
 use mathlib.Core.List.{IsPrefix}
 
--- the shorter one begins the longer one
+-- the longer one begins with the shorter one
 pub shorter_begins : {A : Type 0} (xs ys all : List A) → IsPrefix xs all → IsPrefix ys all → length xs ≤ length ys → IsPrefix xs ys
 shorter_begins [] ys all p q le = (ys, refl)
 shorter_begins (x ∷ xs) [] all p q le = absurd (omega arith)

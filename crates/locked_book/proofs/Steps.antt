@@ -70,7 +70,7 @@ clock_fits setting state (logged.Tick frame) g k = let below = g.1 in omega (ari
 clock_fits setting state (logged.Done j) g k = omega (arith, k)
 
 module _ (rig : Rig) (first : ℕ) (book : BookValue) (seats : List SeatValue) (is : IsBook rig first book seats) where
-  -- the state behind the log, for which the host stands
+  -- the state after the log, which the host represents
   abbrev now : HostState
   now = host_after (new_setting rig first) (events_of (reverse book.log))
 
@@ -96,7 +96,7 @@ module _ (rig : Rig) (first : ℕ) (book : BookValue) (seats : List SeatValue) (
         let c = clock_on in
         omega (arith, same, f, c)
 
--- behind an entry
+-- the book after an entry
 abbrev pub with_entry : BookValue → HostStanding → Logged → BookValue
 with_entry book host e = record { base = book.base; host = host; log = book.log ++ e ∷ []; seats = book.seats }
 
@@ -287,7 +287,7 @@ at_one log (p ∷ ps) [] k d a b e = absurd (omega (arith, b))
 at_one log (p ∷ ps) (x ∷ cs) zero d a b e = cc
 at_one log (p ∷ ps) (x ∷ cs) (suc k) d a b e = at_one log ps cs k d (omega (arith, a)) (omega (arith, b)) cc
 
--- a pass stays known behind its own call
+-- a pass stays known after its own call
 pub knows_on : (book next : BookValue) (pass : PassValue) (c : Call) (seen : ℕ) → Knows book pass → next.base ≡ book.base → next.seats ≡ book.seats → next.log ≡ book.log ++ logged.Call pass.seat c ∷ []
     → seen ≡ length_of book + 1 → Knows next (record { seat = pass.seat; calls = pass.calls ++ c ∷ []; seen = seen })
 knows_on book next pass c seen k base seats log at = record {
@@ -309,7 +309,7 @@ knows_on book next pass c seen k base seats log at = record {
     drop_front (suc n) [] c le = absurd (omega (arith, le))
     drop_front (suc n) (x ∷ xs) c le = drop_front n xs c (omega (arith, le))
 
--- a pass that the log knows has as many calls as its seat
+-- a pass that the book knows has as many calls as its seat
 pub as_many_calls : (rig : Rig) (first : ℕ) (book : BookValue) (seats : List SeatValue) (pass : PassValue) → IsBook rig first book seats → Knows book pass → (seat_at seats pass.seat).calls ≡ length pass.calls
 as_many_calls rig first book seats pass is k =
     let n = is.counts pass.seat in
@@ -322,7 +322,7 @@ as_many_calls rig first book seats pass is k =
 pub own_counted : (host : HostStanding) (done : JobValue) → awaited_in host done.id ≡ Some done → IsOwn host done
 own_counted host done e = subst (λ found. IfSome found (λ job. job ≡ done)) (sym e) refl
 
--- and awaited
+-- a completion that counts is awaited
 pub given_counted : (awaited : Bool) (answer : Counted) → answer ≡ cond awaited counted.Counted Late → answer ≡ counted.Counted → awaited ≡ true
 given_counted true answer e is = refl
 given_counted false answer e is = absurd (cc)

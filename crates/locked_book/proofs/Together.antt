@@ -1,4 +1,4 @@
--- Calls that were made on a book, one behind the other.
+-- Calls that were made on a book, one after the other.
 use Rattle.std.proofs.Common.{◌≡◌, ◌≢◌, ℕ, ◌+◌, List, [], ◌∷◌, ◌++◌, length, map, take, drop, reverse, Ok, refl, sym, ap, ◌∙◌, subst, append_assoc, append-nil, arith}
 use Rattle.std.proofs.lemmas.List.{append_cancel_left, length-append, length-map, map-append, take_all}
 use Rattle.rig_model.specs.Base.{Setting}
@@ -17,7 +17,7 @@ whole xs = take_all (length xs) xs (omega arith)
 abbrev pub called_none : (t : ℕ) (old : PassValue) → AreCalled t [] (Ok tt) old old
 called_none t old = record { made = []; calls = sym (append-nil old.calls); asked = refl; all = refl; fewer = tt }
 
--- all of these were called, and one behind them
+-- all of these were called, and one more after them
 abbrev pub called_more : (t : ℕ) (commands : List Command) (c : Command) (old mid new : PassValue) (call : Call) → AreCalled t commands (Ok tt) old mid → asked_by call ≡ asking t c → new.calls ≡ mid.calls ++ call ∷ []
     → AreCalled t (commands ++ c ∷ []) (Ok tt) old new
 called_more t commands c old mid new call so_far asked added =
@@ -48,7 +48,7 @@ some_more : {A : Type 0} (xs : List A) (x : A) → xs ++ x ∷ [] ≡ [] → ⊥
 some_more [] x is = cc
 some_more (y ∷ ys) x is = cc
 
--- one call more
+-- one more call
 pub made_more : (made : List Call) (old mid new : BookValue) (before between after : PassValue) (call : Call) → AreMade made old mid before between → IsAnswered mid new between after call → Knows new after
     → AreMade (made ++ call ∷ []) old new before after
 made_more made old mid new before between after call so_far answered knows =
@@ -63,12 +63,12 @@ made_more made old mid new before between after call so_far answered knows =
       known = λ some. (ap (λ (p : PassValue). p.seen) answered.pass, knows);
     }
 
--- the calls of a pass are told by what it has
+-- the calls that were made are determined by the calls of the pass
 pub made_same : (made others : List Call) (old new : BookValue) (before after : PassValue) → AreMade made old new before after → after.calls ≡ before.calls ++ others → AreMade others old new before after
 made_same made others old new before after so_far is =
     subst (λ m. AreMade m old new before after) (append_cancel_left before.calls made others (sym so_far.calls ∙ is)) so_far
 
--- they end a legal log
+-- the calls that were made end a legal log
 pub made_ends : (setting : Setting) (rig : Rig) (first : ℕ) (made : List Call) (old new : BookValue) (before after : PassValue) → AreMade made old new before after → made ≢ [] → new.base ≡ beginning rig first → IsLegalLog setting (reverse new.log)
     → EndLegalLog setting after made
 made_ends setting rig first made old new before after so_far some base legal =

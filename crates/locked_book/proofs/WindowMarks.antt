@@ -14,7 +14,7 @@ pub record AreMarked (entries : List (ℕ × Logged)) (start n : ℕ) (marks : L
   pub no_other : (p : ℕ) → ((j : ℕ) → j < n → place_in entries j ≢ p) → mark_of marks start p ≡ false
   pub apart : (i j : ℕ) → i < j → j < n → InWindow start (place_in entries j) → place_in entries i ≢ place_in entries j
 
--- one entry more, whose place had no mark
+-- one more entry, whose place had no mark
 pub marked_on : (entries : List (ℕ × Logged)) (start n : ℕ) (old new : List ℕ) → AreMarked entries start n old
     → mark_of old start (place_in entries n) ≡ false
     → (InWindow start (place_in entries n) → mark_of new start (place_in entries n) ≡ true)

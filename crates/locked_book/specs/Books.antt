@@ -1,4 +1,4 @@
--- Books: a host with its log from a base on, and the passes of those who call it. The logs here have the oldest entry first.
+-- Books: a host with its log from a base on, and the passes of its callers. The logs here have the oldest entry first.
 use Rattle.std.specs.Prelude.{◌≡◌, ◌≢◌, ℕ, ◌+◌, ◌-◌, ◌<◌, ◌≤◌, nat_lt, Bool, true, false, ◌==◌, if◌then◌else◌, List, [], ◌∷◌, ◌++◌, length, map, reverse, drop, take, slice_get, slice_index_or, Option, Some, None, Result, OnOk, OnErr}
 use Rattle.std.specs.List.{All, list_any}
 use Rattle.rig_model.specs.config.Roster.{Rig}
@@ -29,7 +29,7 @@ pub record BaseValue : Type 0 where
 abbrev pub calls_before : BaseValue → ℕ → ℕ
 calls_before base seat = slice_index_or base.calls seat 0
 
--- that of a new host
+-- what the log of a new host begins with
 abbrev pub beginning : Rig → ℕ → BaseValue
 beginning rig first_tick = record { host = new_host rig first_tick; entries_before = 0; calls = [] }
 
@@ -45,11 +45,11 @@ pub record BookValue : Type 0 where
   pub log : List Logged
   pub seats : ℕ
 
--- how many entries there are, those before the base too
+-- how many entries there are, including those before the base
 abbrev pub length_of : BookValue → ℕ
 length_of book = book.base.entries_before + length book.log
 
--- the entry of a log at a place, counted from the host's beginning, where there were so many entries before the log
+-- the entry of a log at a place, counted from the host's beginning, if there were `before` entries before the log
 abbrev pub entry_behind : ℕ → List Logged → ℕ → Option Logged
 entry_behind before log place = if nat_lt place before then None else slice_get log (place - before)
 
@@ -57,7 +57,7 @@ entry_behind before log place = if nat_lt place before then None else slice_get 
 abbrev pub entry_at : BookValue → ℕ → Option Logged
 entry_at book place = entry_behind book.base.entries_before book.log place
 
--- no two of these places are one
+-- no two of these places are equal
 abbrev pub AreApart : List ℕ → Type 0
 AreApart places = (i j : ℕ) → i < j → j < length places → slice_index_or places i 0 ≢ slice_index_or places j 0
 
@@ -66,13 +66,13 @@ pub record AllStand (book : BookValue) (entries : List (ℕ × Logged)) : Type 0
   pub each : All (λ (e : ℕ × Logged). entry_at book e.0 ≡ Some e.1) entries
   pub apart : AreApart (map (λ (e : ℕ × Logged). e.0) entries)
 
--- a pass: its seat, its calls, and the longest log that it has seen
+-- a pass: its seat, its calls, and the length of the longest log that it has seen
 pub record PassValue : Type 0 where
   pub seat : ℕ
   pub calls : List Call
   pub seen : ℕ
 
--- The book knows a pass: its seat was given, its calls behind the base are the log's of this seat, and it has seen no longer log.
+-- The book knows a pass: its seat was given, its calls after the base are those of this seat in the log, and it hasn't seen a longer log.
 pub record Knows (book : BookValue) (pass : PassValue) : Type 0 where
   pub given : pass.seat < book.seats
   pub before : calls_before book.base pass.seat ≤ length pass.calls
@@ -85,8 +85,8 @@ abbrev pub IsStrange : BookValue → PassValue → ℕ → ℕ → Type 0
 IsStrange book pass tenant n =
     (length pass.calls < MOST_CALLS) × (n ≡ length_of book) × (¬ ((tenant < length book.host.config.tenants) × Knows book pass))
 
--- A call was answered: it is the last entry of the log and the last call of the pass, which has seen the log now; the host has taken its
--- command, with this reply; and nothing else has changed.
+-- A call was answered. It is the last entry of the log and the last call of the pass, which has now seen the log. The host has taken its
+-- command, with this reply. Nothing else has changed.
 pub record IsAnswered (old new : BookValue) (before after : PassValue) (call : Call) : Type 0 where
   pub log : new.log ≡ old.log ++ logged.Call before.seat call ∷ []
   pub pass : after ≡ record { seat = before.seat; calls = before.calls ++ call ∷ []; seen = length_of new }
@@ -95,7 +95,7 @@ pub record IsAnswered (old new : BookValue) (before after : PassValue) (call : C
   pub base : new.base ≡ old.base
   pub seats : new.seats ≡ old.seats
 
--- who asked for a call, and for what
+-- the tenant and the command of a call
 abbrev pub asked_by : Call → ℕ × Command
 asked_by call = (call.tenant, call.command)
 
@@ -103,7 +103,7 @@ asked_by call = (call.tenant, call.command)
 abbrev pub asking : ℕ → Command → ℕ × Command
 asking tenant command = (tenant, command)
 
--- The first of these commands of a tenant were called on a pass, one behind the other: all of them, unless one was refused.
+-- The first of these commands of a tenant were called on a pass, one after the other: all of them, unless one was refused.
 pub record AreCalled (tenant : ℕ) (commands : List Command) (result : Result Unit DeskFault) (old new : PassValue) : Type 0 where
   pub made : List Call
   pub calls : new.calls ≡ old.calls ++ made
@@ -111,21 +111,22 @@ pub record AreCalled (tenant : ℕ) (commands : List Command) (result : Result U
   pub all : OnOk result (length made ≡ length commands)
   pub fewer : OnErr result (length made < length commands)
 
--- these calls of a pass end a legal log, one behind the other, in which the calls of its seat are those of the pass, and whose length it has seen
+-- These calls of a pass end a legal log, one after the other. The log's calls of this seat are those of the pass, which has seen the log's
+-- length.
 pub record EndLegalLog (setting : Setting) (pass : PassValue) (made : List Call) : Type 0 where
   pub before : List Logged
   pub legal : IsLegalLog setting (reverse (before ++ map (logged.Call pass.seat) made))
   pub calls : calls_of_seat pass.seat (before ++ map (logged.Call pass.seat) made) ≡ pass.calls
   pub seen : pass.seen ≡ length before + length made
 
--- one of these passes has the seat
+-- whether one of these passes has the seat
 abbrev pub has_seat : List PassValue → ℕ → Bool
 has_seat passes seat = list_any (λ (p : PassValue). p.seat == seat) passes
 
 abbrev pub pass_at : List PassValue → ℕ → PassValue
 pass_at passes i = slice_index_or passes i (record { seat = 0; calls = []; seen = 0 })
 
--- the pass at this place of a list is known, and its seat stands in none before it
+-- the pass at this place of a list is known, and no pass before it has its seat
 pub record Matches (book : BookValue) (passes : List PassValue) (i : ℕ) : Type 0 where
   pub known : Knows book (pass_at passes i)
   pub once : has_seat (take i passes) (pass_at passes i).seat ≡ false

@@ -32,10 +32,10 @@ impl Model for Base {
 }
 
 impl Base {
-    /// That of a new host.
+    /// The base of a new host.
     ///
     /// # Errors
-    /// Want of memory.
+    /// Out of memory.
     pub(crate) fn new(alloc: Global, config: &Config, first_tick: u64) -> Result<Base, AllocError>
         ensures base { IfOk result (λ b. b ≡ beginning config.now first_tick) }
         ensures begins { IfOk result (λ b. (setting : Setting) → setting.config ≡ config.now → Stands setting b.host (new_base config.now first_tick)) }

@@ -103,7 +103,7 @@ impl<N: Naming> Book<N> {
         Book::begin(alloc, config, first_tick, None)
     }
 
-    /// As `new`, with a history: the book knows the passes that it gave their calls without comparing these.
+    /// As `new`, with a history: the book then knows passes that have their calls from it, without comparing these calls.
     ///
     /// # Errors
     /// Out of memory.
@@ -166,7 +166,7 @@ impl<N: Naming> Book<N> {
         self.log.as_slice()
     }
 
-    /// Opens what is known of the log, for a proof; does nothing.
+    /// Makes what is known of the log available to a proof. Does nothing.
     #[inline(always)]
     pub fn known(&self)
         ensures legal { IsLegalLog (new_setting N.config N.first_tick) (reverse self.now.log) }
@@ -191,10 +191,10 @@ impl<N: Naming> Book<N> {
         self.host.outstanding()
     }
 
-    /// A seat that was not given before: its pass, without calls.
+    /// Gives a seat that was not given before. Returns its pass, which has no calls.
     ///
     /// # Errors
-    /// `SeatsEnded` where 65,536 seats were given, else `Memory`. Nothing has changed then.
+    /// `SeatsEnded` if 65,536 seats were given, else `Memory`. Nothing has changed then.
     pub fn seat(&mut self) -> Result<Pass<N>, PassFault>
         ensures ok { IfOk result (λ p. p ≡ record { seat = self.old.seats; calls = []; seen = 0 }) }
         ensures fits { IfOk result (λ p. p.seat < MOST_SEATS) }
@@ -217,11 +217,11 @@ impl<N: Naming> Book<N> {
         Ok(Pass::new(self.alloc, seat))
     }
 
-    /// An instant of all tenants, with the place of its entry. `frame` has the input value of each line. Makes room for the
-    /// completions of its jobs.
+    /// Runs an instant of all tenants, and returns its jobs and the place of its entry. `frame` has the input value of each line.
+    /// Reserves space for the completions of the jobs.
     ///
     /// # Errors
-    /// `BadFrame` where the frame has not one value for each line, else `ClockEnded` where the instant's number would be `u64::MAX`,
+    /// `BadFrame` if the frame doesn't have one value for each line, else `ClockEnded` if the instant's number would be `u64::MAX`,
     /// else `Memory`. Nothing has changed then.
     pub fn tick(&mut self, frame: &[i64]) -> Result<(Jobs, u128), TickFault>
         ensures ok { IfOk result (λ r. (self.new.log ≡ self.old.log ++ Logged.Tick frame.now ∷ []) × (r.1 ≡ length_of self.old)) }
@@ -248,8 +248,8 @@ impl<N: Naming> Book<N> {
         Ok((jobs, place))
     }
 
-    /// Takes a completion, and says at which place its entry stands: it counts where its job is awaited. One that is late changes
-    /// nothing, is not logged, and gives 0. Takes no memory.
+    /// Takes a completion. It counts if its job is awaited, and the place of its entry is returned. A late completion changes nothing,
+    /// is not logged, and returns 0. Takes no memory.
     pub fn done(&mut self, done: Done) -> (Counted, u128)
         ensures answer { result.0 ≡ Counted.Counted ↔ awaited_in self.old.host done.id ≡ Some done }
         ensures counted { result.0 ≡ Counted.Counted → (self.new.log ≡ self.old.log ++ Logged.Done done.id ∷ []) × (result.1 ≡ length_of self.old) }
@@ -271,7 +271,7 @@ impl<N: Naming> Book<N> {
     /// The value of each line of the rig.
     ///
     /// # Errors
-    /// Want of memory.
+    /// Out of memory.
     pub fn lines(&self) -> Result<Vec<i64>, AllocError>
         ensures { ForEachState self.now.host (λ setting state. IfOk result (λ values. values.items ≡ map (value_of_line setting.config (row_at state)) (range_with_len 0 setting.config.lines))) }
     {
@@ -284,8 +284,8 @@ impl<N: Naming> Book<N> {
     }
 
     /// Whether no place is in the list twice, and the log has each entry at its place, counted from the host's beginning. Takes no
-    /// memory, and a turn over the list for each of the two; where the places aren't in order, two more turns for each 524,288
-    /// entries of the log at the most.
+    /// memory. Goes over the list once for each of the two. If the places aren't in order, it goes over the list at most twice more for
+    /// each 524,288 entries of the log.
     pub fn stands(&self, entries: &[(u128, Logged)]) -> bool
         ensures { IsTrue result ↔ AllStand self.now entries.now }
     {
@@ -296,9 +296,9 @@ impl<N: Naming> Book<N> {
         all_apart(entries)
     }
 
-    /// Why the book can't be closed with these passes: `Mismatch` with the seat of the first pass that it doesn't know or whose seat
-    /// stands in one before it, else `Missing` with the least seat that has a call in the log and no pass. None where each call in the
-    /// log stands on its pass. Takes no memory.
+    /// Returns why the book can't be closed with these passes: `Mismatch` with the seat of the first pass that it doesn't know or whose
+    /// seat an earlier pass has, else `Missing` with the least seat that has a call in the log and no pass. `None` if each call in the
+    /// log is on its pass. Takes no memory.
     pub fn compare(&mut self, passes: &[Pass<N>]) -> Option<CloseFault>
         ensures same { self.new ≡ self.old }
         ensures mismatch { (seat : ℕ) → result ≡ Some (CloseFault.Mismatch seat) → IsMismatch self.old passes.now seat }
@@ -314,7 +314,7 @@ impl<N: Naming> Book<N> {
         )
     }
 
-    // Whether this book knows the pass: by the number of its calls, where it gave them, else call by call.
+    // Whether this book knows the pass. Compares the number of its calls if the book gave them, else call by call.
     fn knows(&self, pass: &Pass<N>) -> bool
         ensures { IsTrue result ↔ Knows self.now pass.now }
     {
@@ -324,7 +324,7 @@ impl<N: Naming> Book<N> {
         is_known(&self.base, self.log.as_slice(), &self.seats, pass)
     }
 
-    // Whether it is known that the pass has its calls from this book: they are the first of its seat in the log.
+    // Whether it is known that the pass has its calls from this book. They are then the first calls of its seat in the log.
     fn gave_calls(&self, pass: &Pass<N>) -> bool
         ensures { IsTrue result → HasFirstCalls self.now pass.now }
     {
@@ -345,13 +345,13 @@ impl<N: Naming> Book<N> {
         }
     }
 
-    /// A call of a pass: a tenant's command, and its reply. Costs as much as the pass has calls, and nothing for these where the book has
-    /// a history and gave them.
+    /// Makes a call of a pass: carries out a tenant's command, and returns the reply. The cost is proportional to the pass's calls,
+    /// unless the book has a history and gave these calls.
     ///
     /// # Errors
-    /// `PassFull` where the pass has 4,096 calls, else `Strange` with the log's length where the tenant isn't in the roster, the seat
-    /// was not given here, the log's calls of the seat aren't those of the pass, or the pass has seen a longer log, else `Memory`.
-    /// Neither book nor pass has changed then.
+    /// `PassFull` if the pass has 4,096 calls, else `Strange` with the log's length if the tenant isn't in the roster, the seat was not
+    /// given here, the log's calls of the seat aren't those of the pass, or the pass has seen a longer log, else `Memory`. Neither the
+    /// book nor the pass has changed then.
     pub fn call(
         &mut self,
         pass: &mut Pass<N>,
@@ -371,8 +371,8 @@ impl<N: Naming> Book<N> {
         self.carry_out(pass, tenant, prepared, &mut left)
     }
 
-    /// As `call`, of a command that was prepared, so that its text needn't be read now. The caller gets a copy of the reply, or nothing:
-    /// the reply is that of the pass's last call. A program that is replaced, or refused, is left in `left`.
+    /// As `call`, of a prepared command, whose text has been read already. The caller gets a copy of the reply, or nothing: the reply is
+    /// that of the pass's last call. A program that is replaced, or refused, is left in `left`.
     ///
     /// # Errors
     /// As `call`.
@@ -408,7 +408,7 @@ impl<N: Naming> Book<N> {
         Ok(got)
     }
 
-    // As `carry_out`, of a pass that the book knows. What the pass has seen stays.
+    // As `carry_out`, of a pass that the book knows. What the pass has seen doesn't change.
     fn answer_known<T: FromReply>(
         &mut self,
         pass: &mut Pass<N>,
@@ -444,7 +444,8 @@ impl<N: Naming> Book<N> {
     }
 }
 
-// The entry of an instant, with space in the log for it, and for the completions of all outstanding jobs and of all that it can release.
+// Makes the entry of an instant. Reserves space in the log for it, and for the completions of all outstanding jobs and of all that it can
+// release.
 fn room_for_instant<N: Naming>(
     alloc: Global,
     host: &mut Host,
@@ -467,7 +468,8 @@ fn room_for_instant<N: Naming>(
     Ok(entry)
 }
 
-// Makes space for a call: in the log, where so many completions are to come, in the pass, and among the seat's places.
+// Reserves space for a call in the log, in the pass, and among the seat's places. The log keeps space for this many outstanding
+// completions too.
 fn make_room<N: Naming>(
     log: &mut Log<N>,
     outstanding: usize,

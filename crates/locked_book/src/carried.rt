@@ -1,8 +1,8 @@
 //! Commands that are carried out, as the log and the pass keep them.
 //!
-//! Memory has to be had before the host changes. A question changes nothing, so its call is made behind it, and is kept once for both; one
-//! that a pass asks again, and that is answered the same, is kept where it stands already. The calls of other commands are made before, each
-//! in a place of its own, and get their replies behind it.
+//! Memory has to be allocated before the host changes. A question changes nothing, so its call is made afterwards, and is kept once for
+//! the log and the pass. If a pass asks it again and the reply is the same, the call is kept in its earlier place. The calls of other
+//! commands are made before, in two separate places, and get their replies afterwards.
 
 ghost use Rattle.std.specs.Box.{box_value};
 ghost use Rattle.std.specs.Prelude.{◌≡◌, ◌<◌, ◌≤◌, ◌↔◌, length, IfOk, IfSome, IsTrue, OnErr};
@@ -34,7 +34,7 @@ pub(crate) struct Carried {
 /// Carries out a tenant's command. `before` are the calls of its pass so far.
 ///
 /// # Errors
-/// Want of memory. The host stays as it was then.
+/// Out of memory. The host stays as it was then.
 pub(crate) fn carry_out(
     alloc: Global,
     host: &mut Host,
@@ -57,7 +57,7 @@ pub(crate) fn carry_out(
     }
 }
 
-// The last call by which the tenant gave this command, if it is one of the last few.
+// The last call of this command by this tenant, if it is one of the last few calls.
 fn asked_before<'a>(
     calls: &'a [KeptCall],
     tenant: TenantId,
@@ -117,7 +117,7 @@ fn asks_the_same(call: &Call, tenant: TenantId, command: &Command) -> bool
     call.command.is_same(command)
 }
 
-// Carries out the question of a call once more.
+// Carries out the question of a call again.
 fn ask_again(
     alloc: Global,
     host: &mut Host,
@@ -135,7 +135,7 @@ fn ask_again(
     keep_again(alloc, asked, reply)
 }
 
-// Keeps the call of a question that was asked once more, with this reply: where it stands already if the reply is the same.
+// Keeps the call of a question that was asked again, with this reply: in its earlier place if the reply is the same.
 fn keep_again(alloc: Global, asked: &KeptCall, reply: Reply) -> Result<Carried, AllocError>
     ensures logged { IfOk result (λ c. c.logged ≡ call_with asked.now.tenant asked.now.command reply) }
     ensures noted { IfOk result (λ c. c.noted ≡ c.logged) }
@@ -168,7 +168,7 @@ fn keep_twice(alloc: Global, call: Call) -> Result<Carried, AllocError>
     Ok(Carried { logged, noted })
 }
 
-// Carries out a command that isn't a question. Behind it no memory is taken.
+// Carries out a command that isn't a question. Once the host has changed, no memory is taken.
 fn carry_out_change(
     alloc: Global,
     host: &mut Host,
@@ -192,7 +192,7 @@ fn carry_out_change(
     })
 }
 
-// The reply of the host to a tenant's command, but for want of memory.
+// The host's reply to a tenant's command. Fails if that is `err memory`.
 #[inline(always)]
 fn reply_of(
     host: &mut Host,
@@ -213,7 +213,7 @@ fn reply_of(
     Ok(reply)
 }
 
-// A place of its own for a call of this command, whose reply is to come.
+// A separate place for a call of this command, whose reply is to come.
 fn place_for(alloc: Global, tenant: TenantId, command: &Command) -> Result<Box<Call>, AllocError>
     ensures tenant { IfOk result (λ c. (box_value c).tenant ≡ tenant) }
     ensures command { IfOk result (λ c. (box_value c).command ≡ command.now) }

@@ -14,8 +14,8 @@ use crate::passes::Pass;
 use crate::seats::Seat;
 use rig_model::logged::{Logged, SeatId};
 
-/// Why a book of these can't be closed with these passes. There is a mark for each seat. Takes no memory. Costs as much as the log,
-/// the passes and the seats are long.
+/// Returns why a book of these can't be closed with these passes. There is a mark for each seat. Takes no memory. The cost is
+/// proportional to the lengths of the log, the passes and the seats.
 pub(crate) fn compare<N: Naming>(
     base: &Base,
     log: &[Logged],
@@ -52,8 +52,8 @@ fn clear(marks: &mut [bool])
     marks.fill(false);
 }
 
-// The place of the first pass that the book doesn't know or whose seat stands in one before it, if there is one. There is a mark for
-// each seat, none of which is set; where all match, those of their seats are set. Takes no memory.
+// The place of the first pass that the book doesn't know or whose seat an earlier pass has, if there is one. There is a mark for each
+// seat, and none of them is set. If all passes match, the marks of their seats are set afterwards. Takes no memory.
 fn first_mismatch<N: Naming>(
     base: &Base,
     log: &[Logged],

@@ -35,11 +35,11 @@ use std::sync::{Condvar, Mutex, MutexGuard, Wait};
 use tenant_jobs::jobs::{Done, Jobs};
 use tenant_programs::prepared::prepare;
 
-// How often the lock is asked for before a thread sleeps until it is free: for about as long as it takes to fall asleep and to be woken. What
-// a session calls together holds it for less.
+// How often a thread tries the lock before it sleeps until the lock is free. The tries take about as long as falling asleep and being
+// woken. Calls that a session makes together hold the lock for less.
 const TRIES: u32 = 1000;
 
-/// A book under a lock. What waits takes the runtime; nothing else does.
+/// A book under a lock. Only functions that wait take the runtime.
 #[derive(Drop)]
 pub struct Desk<N: Naming> {
     alloc: Global,
@@ -59,7 +59,7 @@ impl<N: Naming> Desk<N> {
         Ok(Desk::over(alloc, Book::new(alloc, config, first_tick)?))
     }
 
-    /// As `new`, with a history: the desk knows the passes that it gave their calls without comparing these.
+    /// As `new`, with a history: the desk then knows passes that have their calls from it, without comparing these calls.
     ///
     /// # Errors
     /// Out of memory.
@@ -88,24 +88,25 @@ impl<N: Naming> Desk<N> {
         }
     }
 
-    /// The pass of a seat that was not given before, without calls.
+    /// Gives a seat that was not given before. Returns its pass, which has no calls.
     ///
     /// # Errors
-    /// `SeatsEnded` where 65,536 seats were given, else `Memory`.
+    /// `SeatsEnded` if 65,536 seats were given, else `Memory`.
     pub fn pass(&self, rt: &impl Wait) -> Result<Pass<N>, PassFault>
         ensures { IfOk result (λ p. (p.calls ≡ []) × (p.seen ≡ 0) × (p.seat < MOST_SEATS)) }
     {
         self.enter(rt).seat()
     }
 
-    /// A call of a pass: a tenant's command, and its reply. The text of a `load` or a `replace` is read before the lock is taken,
-    /// and the program that it puts out of its place is dropped behind it. It is the last entry of a legal log, in which the seat's calls are exactly
-    /// those of the pass, and which is longer than any that the pass had seen.
+    /// Makes a call of a pass: carries out a tenant's command, and returns the reply. The call is the last entry of a legal log, in which
+    /// the seat's calls are exactly those of the pass. The log is longer than any that the pass had seen.
+    ///
+    /// Reads the text of `load` and `replace` before taking the lock, and drops the replaced program after releasing it.
     ///
     /// # Errors
-    /// `PassFull` where the pass has 4,096 calls, else `Strange` with the log's length where the tenant isn't in the roster, the seat
-    /// was not given here, the log's calls of the seat aren't those of the pass, or the pass has seen a longer log, else `Memory`.
-    /// The pass is as before then.
+    /// `PassFull` if the pass has 4,096 calls, else `Strange` with the log's length if the tenant isn't in the roster, the seat was not
+    /// given here, the log's calls of the seat aren't those of the pass, or the pass has seen a longer log, else `Memory`. The pass is
+    /// as before then.
     pub fn call(
         &self,
         rt: &impl Wait,
@@ -124,7 +125,7 @@ impl<N: Naming> Desk<N> {
         ensures refused { OnErr result (pass.new ≡ pass.old) }
     {
         let prepared = prepare(self.alloc, command);
-        // Dropped behind the lock.
+        // Dropped after the lock is released.
         let mut left = None;
         let mut book = self.enter(rt);
         let reply: Reply = book.carry_out(pass, tenant, prepared, &mut left)?;
@@ -132,12 +133,12 @@ impl<N: Naming> Desk<N> {
         Ok(reply)
     }
 
-    /// Calls of a pass, one behind the other under one lock: these commands of a tenant, down to the first that is refused. They end a
-    /// legal log, in which the seat's calls are exactly those of the pass. Meant for short commands: the text of a `load` or a `replace`
-    /// is copied and read while the lock is held.
+    /// Makes calls of a pass, one after the other under one lock: these commands of a tenant, until one is refused. They end a legal log,
+    /// in which the seat's calls are exactly those of the pass. Meant for short commands: the text of a `load` or a `replace` is copied
+    /// and read while the lock is held.
     ///
     /// # Errors
-    /// As `call`, of the first command that is refused. Those before it are made.
+    /// As `call`, of the first command that is refused. The calls before it are made.
     pub fn call_all(
         &self,
         rt: &impl Wait,
@@ -157,10 +158,11 @@ impl<N: Naming> Desk<N> {
         answer
     }
 
-    /// An instant of all tenants. It is the last entry of a legal log, at the place that it tells; the jobs are those that it released.
+    /// Runs an instant of all tenants, and returns the jobs that it released and its place. It is the last entry of a legal log, at this
+    /// place.
     ///
     /// # Errors
-    /// `BadFrame` where the frame has not one value for each line, else `ClockEnded` where the instant's number would be `u64::MAX`,
+    /// `BadFrame` if the frame doesn't have one value for each line, else `ClockEnded` if the instant's number would be `u64::MAX`,
     /// else `Memory`.
     pub fn tick(&self, rt: &impl Wait, frame: &[i64]) -> Result<(Jobs, u128), TickFault>
         ensures ok { IfOk result (λ r. (log : List Logged) × (host : HostStanding)
@@ -176,8 +178,8 @@ impl<N: Naming> Desk<N> {
         Ok(answer)
     }
 
-    /// Takes a completion. One that counts is the last entry of a legal log, at the place that it tells; one that is late is not
-    /// logged, and gives 0. Takes no memory.
+    /// Takes a completion. One that counts is the last entry of a legal log, at the returned place. A late one is not logged, and
+    /// returns 0. Takes no memory.
     pub fn done(&self, rt: &impl Wait, done: Done) -> (Counted, u128)
         ensures counted { result.0 ≡ Counted.Counted → (log : List Logged)
             × IsLegalLog (new_setting N.config N.first_tick) (Logged.Done done.id ∷ log) × (result.1 ≡ length log) }
@@ -192,7 +194,7 @@ impl<N: Naming> Desk<N> {
     /// The value of each line of the rig, after a legal log.
     ///
     /// # Errors
-    /// Want of memory.
+    /// Out of memory.
     pub fn lines(&self, rt: &impl Wait) -> Result<Vec<i64>, AllocError>
         ensures { (log : List Logged) × IsLegalLog (new_setting N.config N.first_tick) log
             × IfOk result (λ values. values.items ≡ map (value_of_line N.config (row_at (host_after (new_setting N.config N.first_tick) (events_of log)))) (range_with_len 0 N.config.lines)) }
@@ -209,7 +211,7 @@ impl<N: Naming> Desk<N> {
             .wait_while(rt, self.book.lock(rt), |book| book.outstanding() != 0);
     }
 
-    // Takes the lock: after a few tries the thread sleeps until it is free.
+    // Takes the lock. After some tries the thread sleeps until the lock is free.
     fn enter(&self, rt: &impl Wait) -> MutexGuard<'_, Book<N>> {
         for _try in 0..TRIES {
             if let Some(book) = self.book.try_lock() {
@@ -220,8 +222,8 @@ impl<N: Naming> Desk<N> {
         self.book.lock(rt)
     }
 
-    // What each call does before it releases the lock: it opens what is known of the log, for the proof, and wakes those who wait until no
-    // job is outstanding.
+    // What each call does before it releases the lock. It makes what is known of the log available to the proof. If no job is
+    // outstanding, it wakes the threads that wait for that.
     fn leave(&self, book: &Book<N>)
         ensures legal { IsLegalLog (new_setting N.config N.first_tick) (reverse book.now.log) }
         ensures host { Stands (new_setting N.config N.first_tick) book.now.host (host_after (new_setting N.config N.first_tick) (events_of (reverse book.now.log))) }
@@ -233,14 +235,15 @@ impl<N: Naming> Desk<N> {
         }
     }
 
-    /// The book, closed with all passes: each pass is the log's of its seat, no seat is there twice, none has seen a longer log, and
-    /// each call in the log is of one of their seats. So all that was answered stands in this one legal log, in which each tenant was
-    /// answered what it is by the model over what is kept for it. Takes no memory, and doesn't wait.
+    /// Closes the desk with all its passes, and returns the book. The calls of each pass are those of its seat in the log, no seat
+    /// is there twice, no pass has seen a longer log, and each call in the log is of one of their seats. So all that was answered
+    /// is in this one legal log. In it, each tenant was answered what the model answers it over its kept list. Takes no memory, and
+    /// doesn't wait.
     ///
     /// # Errors
-    /// `Mismatch` with the seat of the first pass whose calls aren't the log's of its seat, whose seat was never given, that has seen a
-    /// longer log, or whose seat stands in one before it; else `Missing` with the least seat that has a call in the log and no pass.
-    /// Desk and passes are handed back.
+    /// `Mismatch` with the seat of the first pass whose calls aren't those of its seat in the log, whose seat was never given, that has
+    /// seen a longer log, or whose seat an earlier pass has, else `Missing` with the least seat that has a call in the log and no pass.
+    /// The desk and the passes are returned.
     pub fn close(self, passes: Vec<Pass<N>>) -> Result<Book<N>, (CloseFault, Desk<N>, Vec<Pass<N>>)>
         ensures base { IfOk result (λ book. book.base ≡ beginning N.config N.first_tick) }
         ensures legal { IfOk result (λ book. IsLegalLog (new_setting N.config N.first_tick) (reverse book.log)) }
@@ -275,7 +278,7 @@ impl<N: Naming> Desk<N> {
     }
 }
 
-// Makes these calls of a pass, one behind the other, down to the first that is refused.
+// Makes these calls of a pass, one after the other, until one is refused.
 fn make_all<N: Naming>(
     alloc: Global,
     book: &mut Book<N>,

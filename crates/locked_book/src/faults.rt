@@ -9,7 +9,7 @@ pub enum PassFault {
     /// 65,536 seats were given.
     #[error("all seats were given")]
     SeatsEnded,
-    /// Want of memory.
+    /// Out of memory.
     #[error("no memory for another seat")]
     Memory,
 }
@@ -20,10 +20,10 @@ pub enum DeskFault {
     /// The pass has 4,096 calls.
     #[error("the pass is full")]
     PassFull,
-    /// The desk doesn't know the pass, or has no such tenant. With how many entries its log has.
+    /// The desk doesn't know the pass, or has no such tenant. With the number of entries in its log.
     #[error("the desk, with {0} entries, does not know the pass or the tenant")]
     Strange(u128),
-    /// Want of memory.
+    /// Out of memory.
     #[error("no memory for the call")]
     Memory,
 }
@@ -31,7 +31,7 @@ pub enum DeskFault {
 /// Why a desk doesn't close.
 #[derive(Clone, Copy, Debug, PartialEq, Eq, Error)]
 pub enum CloseFault {
-    /// The first pass that the log doesn't bear out, or whose seat stood before it, has this seat.
+    /// The seat of the first pass that the log doesn't confirm, or whose seat an earlier pass has.
     #[error("the pass of seat {0} is not the log's")]
     Mismatch(SeatId),
     /// The least seat that has a call in the log and no pass.

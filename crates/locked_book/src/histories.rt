@@ -8,10 +8,10 @@ use logbook::{Gain, Offer, Plain, Play, Rule, Seen, Start, Word};
 use rig_model::logged::Logged;
 use std::marker::{Model, PhantomData};
 
-// The number of entries that a history has at most: no word counts more.
+// The most entries that a history has: a word counts no further.
 const MOST_ENTRIES: u64 = 1 << 62;
 
-/// The rule of all histories: their word is their length.
+/// The rule of all histories: the word of a history is its length.
 pub struct Law;
 
 impl Rule<Logged, u64> for Law {
@@ -32,7 +32,7 @@ impl Rule<Logged, u64> for Law {
     ghost moves = { λ ask before after answer. Unit {0} };
 }
 
-/// Who adds an entry trades nothing for it.
+/// The gain of adding an entry: nothing.
 pub struct Nothing;
 
 impl Gain<Logged, u64> for Nothing {
@@ -58,7 +58,7 @@ impl Plain<Logged, Logged, u64> for Add {
     ghost state = { λ entry. None };
 }
 
-/// An empty history of no desk yet. Contracts see it as its name.
+/// An empty history that has no desk yet. Contracts see it as its name.
 #[derive(Drop)]
 pub struct NewHistory {
     head: Word<Logged, u64, Law>,
@@ -80,7 +80,7 @@ impl Model for NewHistory {
 }
 
 impl NewHistory {
-    /// A new one. Takes no memory.
+    /// A new history. Takes no memory.
     pub fn new() -> NewHistory {
         let (seen, mut first, _second) = Seen::open(Start::alone(), 0, 0);
         NewHistory {
@@ -89,7 +89,7 @@ impl NewHistory {
         }
     }
 
-    /// The history of the desk that is named by it.
+    /// Makes it the history of the desk `N`, whose name has it.
     pub fn named<N: Naming>(self) -> History<N>
         requires { self ≡ N.history }
         ensures { result ≡ [] }
@@ -158,7 +158,7 @@ impl<N: Naming> Model for History<N> {
 }
 
 impl<N: Naming> History<N> {
-    /// What stands in it now, as seen. Takes no memory.
+    /// All its entries so far, as a front. Takes no memory.
     pub fn front(&self) -> Front<N>
         ensures { result ≡ self.now }
     {
@@ -169,8 +169,8 @@ impl<N: Naming> History<N> {
         }
     }
 
-    /// Whether it begins with what was seen. It always does; where that isn't known, the answer is no. Takes no memory, and costs the same
-    /// whatever was seen.
+    /// Whether it is known to begin with what was seen. A history always begins with that, but it isn't always known. Takes no memory, and
+    /// costs the same whatever was seen.
     pub fn begins_with(&self, front: &Front<N>) -> bool
         ensures { IsTrue result → IsPrefix front.now self.now }
     {
@@ -179,7 +179,7 @@ impl<N: Naming> History<N> {
         front.entries <= self.entries
     }
 
-    /// Adds an entry, and says whether it is known to stand at the end. It isn't where there are 2^62. Takes no memory.
+    /// Adds an entry, and returns whether it is known to be at the end. It isn't if there are 2^62 entries already. Takes no memory.
     pub fn add(&mut self, entry: &Logged) -> bool
         ensures { IsTrue result → (self.new ≡ self.old ++ entry.now ∷ []) }
     {

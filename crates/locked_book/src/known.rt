@@ -12,8 +12,8 @@ use crate::same::Same;
 use crate::seats::Seat;
 use rig_model::logged::{KeptCall, Logged};
 
-/// Whether the pass is known to the book of these: its seat was given, its calls behind the base are the log's of this seat, and it
-/// has seen no longer log. Costs as much as the pass has calls behind the base.
+/// Whether the book of these knows the pass: its seat was given, its calls after the base are those of this seat in the log, and it
+/// hasn't seen a longer log. The cost is proportional to the pass's calls after the base.
 pub(crate) fn is_known<N: Naming>(
     base: &Base,
     log: &[Logged],

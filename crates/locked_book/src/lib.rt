@@ -1,11 +1,11 @@
 //! The locked book: one host under one lock, with the history of all that was done to it.
 //!
-//! Several threads call one [`desks::Desk`]. Each has a [`passes::Pass`], with a seat of its own, on which its calls stand with their
-//! replies. The desk's [`books::Book`] has the host and its log: each call, instant and counted completion is an entry, in the order in
-//! which the lock was taken. A reply that a call answers ends a legal log, in which the seat's calls are those of the pass; and a desk
-//! that closes with all its passes hands out the one log in which all of them stand.
+//! Several threads call one [`desks::Desk`]. Each has a separate seat with its [`passes::Pass`], which lists the calls of the seat and
+//! their replies. The desk's [`books::Book`] has the host and its log. Each call, instant and counted completion is an entry of the log,
+//! in the order in which the lock was taken. An answered call is the last entry of a legal log, in which the seat's calls are those of
+//! the pass. A desk that closes with all its passes returns the one log that has all their calls.
 //!
-//! What a legal log is stands in the model, what a book and a pass are in `specs/Books.antt`.
+//! The model defines what a legal log is, and `specs/Books.antt` what a book and a pass are.
 #![tactic(auto)]
 
 mod bases;

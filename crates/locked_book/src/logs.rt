@@ -10,7 +10,7 @@ use rig_model::logged::Logged;
 use std::alloc::{AllocError, Global};
 use std::marker::Model;
 
-/// The entries of a log, the oldest first, and the history in which they stand for good, where one is kept.
+/// The entries of a log, the oldest first, and the history that has them for good, if one is kept.
 #[derive(Drop)]
 pub(crate) struct Log<N: Naming> {
     entries: Vec<Logged>,
@@ -58,17 +58,17 @@ impl<N: Naming> Log<N> {
         self.entries.len()
     }
 
-    /// Opens what its type knows: its room fits 64 bits.
+    /// Makes it known to a proof that the capacity is below 2^63.
     pub(crate) fn known(&self)
         ensures { self.now.capacity < 2 ^ 63 }
     {
         let _ = self.entries.capacity();
     }
 
-    /// Makes room for so many more.
+    /// Reserves space for this many more entries.
     ///
     /// # Errors
-    /// Want of memory. The log stays as it was then.
+    /// Out of memory. The log stays as it was then.
     pub(crate) fn reserve(&mut self, more: usize) -> Result<(), AllocError>
         ensures items { self.new.items ≡ self.old.items }
         ensures room { OnOk result (length self.old.items + more ≤ self.new.capacity) }
@@ -94,7 +94,7 @@ impl<N: Naming> Log<N> {
         self.entries.push_reserved(entry);
     }
 
-    /// What stands in it now, as seen, where a history is kept. Takes no memory.
+    /// All entries so far, as a front, if a history is kept. Takes no memory.
     pub(crate) fn front(&self) -> Option<Front<N>>
         ensures { IfSome result (λ front. front ≡ self.now.items) }
     {

@@ -1,8 +1,8 @@
-//! Which desk it is.
+//! The names of desks.
 
 use std::marker::Brand;
 
-/// What a desk was made from, as one name: contracts alone see its members.
+/// The name of a desk: what the desk was made from. Only contracts see its members.
 pub trait Naming {
     ghost use Rattle.std.specs.Prelude.{ℕ};
     ghost use Rattle.logbook.specs.Pages.{Book};
@@ -14,11 +14,11 @@ pub trait Naming {
     // The number of the host's first instant.
     ghost first_tick: { ℕ };
 
-    // The history of the desk that has one.
+    // The history of the desk, if it has one.
     ghost history: { Book };
 }
 
-// The name that a caller picks where it makes a desk.
+// The name that a caller picks when it makes a desk.
 impl Naming for Brand {
     ghost use Rattle.std.specs.Prelude.{[]};
 

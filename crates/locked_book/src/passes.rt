@@ -1,4 +1,4 @@
-//! Passes: what the holder of a seat has of its calls.
+//! Passes: the calls of a seat, as its holder keeps them.
 
 ghost use Rattle.std.specs.Prelude.{◌≡◌, ◌<◌, ◌↔◌, ◌≤◌, [], ◌∷◌, ◌++◌, length, IsTrue, OnOk, OnErr};
 ghost use Rattle.locked_book.specs.declared.passes.TheConstants.{MOST_CALLS};
@@ -15,13 +15,13 @@ use std::marker::Model;
 /// How many calls a pass has at most.
 pub const MOST_CALLS: usize = 4096;
 
-/// A seat's own calls with their replies, in their order, and the longest log that it has seen.
+/// The calls of one seat with their replies, in their order, and the length of the longest log that it has seen.
 #[derive(Drop)]
 pub struct Pass<N: Naming> {
     pub(crate) seat: SeatId,
     pub(crate) calls: Vec<KeptCall>,
     pub(crate) seen: u128,
-    // What the desk's history was behind its last call, where all its calls stand there.
+    // The desk's history after the pass's last call, if that history has all calls of the pass.
     pub(crate) front: Option<Front<N>>,
 }
 
@@ -71,10 +71,10 @@ impl<N: Naming> Pass<N> {
         self.calls.len() >= MOST_CALLS
     }
 
-    /// Adds a call with its reply to a pass of fewer than 4,096, for those who call something else than a desk.
+    /// Adds a call with its reply to a pass of fewer than 4,096. It is for callers of something other than a desk.
     ///
     /// # Errors
-    /// Want of memory. The pass stays as it was then.
+    /// Out of memory. The pass stays as it was then.
     pub fn note(
         &mut self,
         tenant: TenantId,

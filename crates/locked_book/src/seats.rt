@@ -5,7 +5,7 @@ ghost use Rattle.std.specs.Prelude.{◌≡◌, []};
 use std::alloc::Global;
 use std::marker::Model;
 
-/// Where a seat's calls stand in the log, and how many calls it has in all.
+/// The places of a seat's calls in the log, and how many calls it has in all.
 #[derive(Drop)]
 pub(crate) struct Seat {
     pub(crate) places: Vec<usize>,

@@ -1,4 +1,4 @@
-//! Whether entries stand in a log, at their places.
+//! Whether a log has given entries at their places.
 
 ghost use Rattle.std.specs.Prelude.{◌≡◌, ◌↔◌, ℕ, IsTrue, Some, map};
 ghost use Rattle.std.specs.List.{All};
@@ -9,7 +9,7 @@ use crate::same::Same;
 use crate::windows::{WINDOW, is_apart_within, next_window};
 use rig_model::logged::Logged;
 
-/// Whether the log, before which there were so many entries, has each of these entries at its place.
+/// Whether the log has each of these entries at its place, if there were `before` entries before the log.
 pub(crate) fn all_there(before: u128, log: &[Logged], entries: &[(u128, Logged)]) -> bool
     ensures { IsTrue result ↔ All (λ (e : ℕ × Logged). entry_behind before log.now e.0 ≡ Some e.1) entries.now }
 {
@@ -34,8 +34,9 @@ fn is_there(before: u128, log: &[Logged], entry: &(u128, Logged)) -> bool
     log[at as usize].is_same(&entry.1)
 }
 
-/// Whether no two of these places are one. Goes over the list once if each place is higher than all before it. Else it goes over it twice
-/// more for each window of 524,288 places in which one comes behind one as high: at most twice for each 524,288 entries of the log.
+/// Whether no two of these places are equal. Goes over the list once if each place is higher than all before it. Else it goes over
+/// it twice more for each window of 524,288 places that has a place after one at least as high: at most twice for each 524,288
+/// entries of the log.
 pub(crate) fn all_apart(entries: &[(u128, Logged)]) -> bool
     ensures { IsTrue result ↔ AreApart (map (λ (e : ℕ × Logged). e.0) entries.now) }
 {

@@ -1,4 +1,4 @@
-//! Windows of places: which of a list lie in one, and whether one of them is there twice.
+//! Windows of places: which places of a list lie in one, and whether one of them is there twice.
 
 ghost use Rattle.std.specs.Prelude.{◌≡◌, ◌≢◌, ◌↔◌, ◌<◌, ◌+◌, ◌^◌, ℕ, IsTrue, length};
 ghost use Rattle.locked_book.specs.inner.Places.{ApartWithin, InWindow, IsNextStart, least_with, mark_of, place_in};
@@ -9,11 +9,11 @@ use rig_model::logged::Logged;
 /// How many places a window has.
 pub(crate) const WINDOW: u128 = 524288;
 
-// How many words have a bit for each of them.
+// How many words it takes to have a bit for each of these places.
 const WORDS: usize = 8192;
 
-/// Where the next window begins: the least place from this one on that comes behind one as high. None if each is higher than all
-/// before it: then none of them is there twice.
+/// Where the next window begins: at the least place from `from` on that comes after one at least as high. `None` if each is higher than
+/// all before it: then none of them is there twice.
 pub(crate) fn next_window(entries: &[(u128, Logged)], from: u128) -> Option<u128>
     ensures next { IsNextStart entries.now from result }
     ensures fit { (j : ℕ) → j < length entries.now → place_in entries.now j < 2 ^ 128 }
@@ -53,7 +53,7 @@ pub(crate) fn is_apart_within(entries: &[(u128, Logged)], start: u128) -> bool
     true
 }
 
-// Marks a place of the window by its bit, and says whether it was marked before. A place outside has no mark.
+// Marks a place of the window by its bit, and returns whether it was marked before. A place outside has no mark.
 fn mark(marks: &mut [u64; WORDS], start: u128, place: u128) -> bool
     ensures before { result ≡ mark_of marks.old start place }
     ensures within { IsTrue result → InWindow start place }

@@ -1,5 +1,5 @@
--- A desk may be lent to threads, and passes, jobs and completions may move between them: so may all that they hold. Each step is one search,
--- since one for a whole desk is too long.
+-- Threads may borrow a desk, and passes, jobs and completions may move between threads. So may all that they hold. Each step is one search,
+-- since one search for a whole desk takes too long.
 use denote.RattleType.{RattleType}
 use denote.Param.Send.{IsSend, IsSync, sendable}
 use Rattle.std.proofs.Crossing.{crosses}

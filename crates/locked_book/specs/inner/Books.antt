@@ -13,7 +13,7 @@ use Rattle.locked_book.specs.declared.passes.TheConstants.{MOST_CALLS}
 use Rattle.rig_model.specs.declared.logged.Logged.{Logged}
 use Rattle.rig_model.specs.declared.logged.Logged.TheVariants as logged
 
--- Whatever a base stands for, the host stands for what the log makes of that, and each entry is what the host gave.
+-- Whatever state the base represents, the host represents the state after the log from there on, and each entry is what the host gave.
 abbrev pub IsKept : HostStanding → HostStanding → List Logged → Type 0
 IsKept base host log = (setting : Setting) → Stands setting base setting.base
     → Stands setting host (host_after setting (events_of (reverse log))) × IsReplay setting (reverse log)
@@ -21,7 +21,7 @@ IsKept base host log = (setting : Setting) → Stands setting base setting.base
 abbrev pub seat_at : List SeatValue → ℕ → SeatValue
 seat_at seats seat = slice_index_or seats seat (record { places = []; calls = 0 })
 
--- the places of a seat's calls, where the first entry has place i
+-- the places of a seat's calls, if the first entry has place i
 abbrev pub places_from : ℕ → ℕ → List Logged → List ℕ
 places_from seat i [] = []
 places_from seat i (logged.Call s call ∷ log) = if s == seat then i ∷ places_from seat (i + 1) log else places_from seat (i + 1) log
@@ -41,12 +41,12 @@ call_of (logged.Done j) = None
 abbrev pub call_at : List Logged → ℕ → Option Call
 call_at log i = call_of (slice_index_or log i (logged.Tick []))
 
--- the calls of a pass are the first of its seat in the log
+-- the calls of a pass are the first calls of its seat in the log
 abbrev pub HasFirstCalls : BookValue → PassValue → Type 0
 HasFirstCalls book pass = (others : List Call) × (calls_of_seat pass.seat book.log ≡ pass.calls ++ others)
 
 -- What is known of a book of this rig, whose host began with this tick. `bound` says that its lengths fit 128 bits: each entry is a call of
--- a seat, or belongs to one of the instants, each of which has fewer jobs than 64 bits count.
+-- a seat, or belongs to one of the instants, each of which has fewer than 2^64 jobs.
 pub record IsBook (rig : Rig) (first_tick : ℕ) (book : BookValue) (seats : List SeatValue) : Type 0 where
   pub base : book.base ≡ beginning rig first_tick
   pub begins : Stands (new_setting rig first_tick) book.base.host (new_base rig first_tick)
@@ -59,8 +59,8 @@ pub record IsBook (rig : Rig) (first_tick : ℕ) (book : BookValue) (seats : Lis
   pub clock : book.host.clock < 2 ^ 64
   pub bound : book.base.entries_before + length book.log + outstanding_count book.host ≤ sum_by (λ (s : SeatValue). s.calls) seats + 2 ^ 64 * (book.host.clock - first_tick)
 
--- Calls were made on a book, one behind the other: they are the last entries of its log and the last calls of the pass, which has seen the
--- log now. Where none was made the pass hasn't changed.
+-- Calls were made on a book, one after the other: they are the last entries of its log and the last calls of the pass, which has now seen
+-- the log. If none was made, the pass hasn't changed.
 pub record AreMade (made : List Call) (old new : BookValue) (before after : PassValue) : Type 0 where
   pub log : new.log ≡ old.log ++ map (logged.Call before.seat) made
   pub calls : after.calls ≡ before.calls ++ made

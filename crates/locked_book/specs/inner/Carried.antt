@@ -13,11 +13,11 @@ use Rattle.rig_model.specs.declared.lines.replies.Reply.{Reply}
 use Rattle.rig_model.specs.declared.lines.replies.Reply.TheVariants.{Refused}
 use Rattle.locked_book.specs.Books.{BookValue, PassValue}
 
--- the call of this command
+-- a call of this command, with this reply
 abbrev pub call_with : ℕ → Command → Reply → Call
 call_with tenant command reply = record { tenant = tenant; command = command; reply = reply }
 
--- the host took the command, and this is the reply of the model; where it is a list, the host stays as it was
+-- the host took the command, and this is the reply of the model; if it is a list, the host stays as it was
 pub record IsTaken (old new : HostStanding) (tenant : ℕ) (command : Command) (reply : Reply) : Type 0 where
   pub other : reply ≢ Refused Memory
   pub right : ForEachState old (λ setting state. reply ≡ (after_command setting tenant command (row_at state tenant)).reply)
@@ -31,7 +31,7 @@ pub record IsCarriedOut (old new : HostStanding) (tenant : ℕ) (command : Comma
   pub taken : IsTaken old new tenant command for_log.reply
 
 -- A call with the reply is the last entry of the log and the last call of the pass, the host has taken its command, and `Got` holds of the
--- reply. What the pass has seen stays.
+-- reply. What the pass has seen doesn't change.
 pub record IsNoted (old new : BookValue) (before after : PassValue) (tenant : ℕ) (command : Command) (Got : Reply → Type 0) : Type 0 where
   pub reply : Reply
   pub log : new.log ≡ old.log ++ logged.Call before.seat (call_with tenant command reply) ∷ []

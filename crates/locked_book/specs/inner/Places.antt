@@ -7,11 +7,11 @@ use Rattle.rig_model.specs.declared.logged.Logged.{Logged}
 abbrev pub place_in : List (ℕ × Logged) → ℕ → ℕ
 place_in entries i = slice_index_or (map (λ (e : ℕ × Logged). e.0) entries) i 0
 
--- no place from one on, and before another, is there twice
+-- no place from `from` on, and before `to`, is there twice
 abbrev pub ApartWithin : List (ℕ × Logged) → ℕ → ℕ → Type 0
 ApartWithin entries from to = (i j : ℕ) → i < j → j < length entries → from ≤ place_in entries j → place_in entries j < to → place_in entries i ≢ place_in entries j
 
--- a window begins behind places that aren't there twice, or none is there twice from this one on
+-- no place from `from` on is there twice before the start of the next window, or at all if there is none
 abbrev pub IsNextStart : List (ℕ × Logged) → ℕ → Option ℕ → Type 0
 IsNextStart entries from None = (to : ℕ) → ApartWithin entries from to
 IsNextStart entries from (Some start) = (from ≤ start) × ApartWithin entries from start
