@@ -1,4 +1,4 @@
--- Numbers as they are told.
+-- Examples of numbers as text.
 use Rattle.std.proofs.Common.{◌≡◌, [], ◌∷◌, codes, refl}
 use Rattle.std.specs.Fmt.{digits}
 use Rattle.program_checks.specs.Numbers.{text_of_numbers}

@@ -1,4 +1,4 @@
--- What is told of a budget, one finding more.
+-- The findings about a budget, with one more.
 use Rattle.std.proofs.Common.{◌≡◌, ◌+◌, ◌<◌, ℕ, List, [], ◌∷◌, ◌++◌, length, map, take, get_or, Option, Some, None, refl, sym, ap, subst, ◌∙◌, append_assoc, append-nil, nat_le, false, arith}
 use Rattle.std.specs.List.{flat_map}
 use Rattle.std.proofs.lemmas.Bool.Decides.{nat_tests}
@@ -61,7 +61,7 @@ module _ (budget : Budget) where
   pub both_told : (xs ys : List (List ℕ)) (before between after : List Finding) → AreTold budget xs before between → AreTold budget ys between after → AreTold budget (xs ++ ys) before after
   both_told xs ys before between after first second words over = second (words ++ xs) (first words over) ∙ ap (errors_over budget) (append_assoc words xs ys)
 
-  -- a loop over a list, one element on
+  -- a loop over a list, one element further
   pub told_further : {X : Type 0} (words_of : X → List (List ℕ)) (xs : List X) (i : ℕ) (x : X) (first before after : List Finding) → AreTold budget (flat_map words_of (take i xs)) first before
       → i < length xs → x ≡ get_or xs i x → AreTold budget (words_of x) before after → AreTold budget (flat_map words_of (take (i + 1) xs)) first after
   told_further words_of xs i x first before after so_far within item here =
@@ -69,7 +69,7 @@ module _ (budget : Budget) where
       let more : flat_map words_of (take i xs) ++ words_of x ≡ flat_map words_of (take (i + 1) xs) = flat_map_more words_of [] (take i xs) x ∙ ap (flat_map words_of) taken in
       subst (λ (ws : List (List ℕ)). AreTold budget ws first after) more (both_told (flat_map words_of (take i xs)) (words_of x) first before after so_far here)
 
--- of a part that costs more than the budget
+-- the words about a part that costs more than the budget
 pub costly : (tenant : TenantConfig) (part : ProgramPart) (cost : ℕ) (words : List ℕ) → cost ≡ steps_of_part part → tenant.budgets.steps < cost → words ≡ words_of_cost tenant part → words ∷ [] ≡ words_of_part tenant part
 costly tenant part cost words is above said =
     let no : nat_le (steps_of_part part) tenant.budgets.steps ≡ false = grind (arith, nat_tests, is, above) in
@@ -107,7 +107,7 @@ module _ {M : Type 0} (words : ProgramPart → List M) where
 grown : (x f y g z : List ℕ) → y ≡ x ++ f → z ≡ y ++ g → z ≡ x ++ (f ++ g)
 grown x f y g z first second = second ∙ (ap (λ (l : List ℕ). l ++ g) first ∙ append_assoc x f g)
 
--- a text to which one after the other was added
+-- a text to which others were added one after another
 pub joined : (a b c d e f g t u v w x y z : List ℕ) → t ≡ a → u ≡ t ++ b → v ≡ u ++ c → w ≡ v ++ d → x ≡ w ++ e → y ≡ x ++ f → z ≡ y ++ g → z ≡ a ++ (b ++ (c ++ (d ++ (e ++ (f ++ g)))))
 joined a b c d e f g t u v w x y z first second third fourth fifth sixth last =
     let from_x = grown x f y g z sixth last in

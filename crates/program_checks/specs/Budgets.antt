@@ -1,4 +1,4 @@
--- How a program is told beside the budgets of a tenant.
+-- How a program's numbers are reported next to the budgets of a tenant.
 use Rattle.std.specs.Prelude.{ℕ, List, [], ◌∷◌, ◌++◌, length, codes}
 use Rattle.std.specs.Fmt.{decimal}
 use Rattle.rig_model.specs.rules.Ports.{ports_of}
@@ -20,7 +20,8 @@ row_of_lines budgets = codes "  lines: may read " ++ (text_of_numbers budgets.re
 abbrev pub heading_of : TenantConfig → List ℕ
 heading_of tenant = codes "held against the budgets of " ++ (tenant.name ++ codes ":\n")
 
--- each number of a program whose text has so many bytes, beside the budget of the tenant, and last the lines that the tenant may use
+-- each number of a program whose text has this many bytes, next to the budget of the tenant, and at the end the lines that the
+-- tenant may use
 abbrev pub text_of_budgets : TenantConfig → ℕ → GiottoProgram → List ℕ
 text_of_budgets tenant bytes p =
     heading_of tenant ++ (row_of (codes "bytes") bytes budgets.bytes ++ (row_of (codes "ports") (length (ports_of p)) budgets.ports

@@ -1,4 +1,4 @@
--- What is told of a program that is over a budget of a tenant.
+-- What is reported about a program that exceeds a budget of a tenant.
 use Rattle.std.specs.Prelude.{◌≡◌, ℕ, nat_le, if◌then◌else◌, List, [], ◌∷◌, ◌++◌, length, map, option_map, Option, Some, None, codes, string_bytes}
 use Rattle.std.specs.Fmt.{decimal}
 use Rattle.std.specs.List.{flat_map}
@@ -23,7 +23,7 @@ module _ (tenant : TenantConfig) where
   abbrev pub words_of_cost : ProgramPart → List ℕ
   words_of_cost part = text_of_part part ++ (codes " costs " ++ (decimal (steps_of_part part) ++ (codes " steps, and one of `" ++ (tenant.name ++ (codes "` may cost " ++ decimal tenant.budgets.steps)))))
 
-  -- the same of a part that costs more
+  -- the same, if the part costs more than the budget
   abbrev pub words_of_part : ProgramPart → List (List ℕ)
   words_of_part part = if nat_le (steps_of_part part) tenant.budgets.steps then [] else words_of_cost part ∷ []
 
@@ -31,7 +31,7 @@ module _ (tenant : TenantConfig) where
   abbrev pub words_of_line : List ℕ → ℕ → List ℕ → List ℕ
   words_of_line what line act = what ++ (codes " line " ++ (decimal line ++ (codes ", which `" ++ (tenant.name ++ (codes "` may not " ++ act)))))
 
-  -- "the sensor `SENSOR` reads line LINE, which `TENANT` may not read", of a sensor that does
+  -- "the sensor `SENSOR` reads line LINE, which `TENANT` may not read", for a sensor that reads such a line
   abbrev pub words_of_sensor : SensorDeclaration → List (List ℕ)
   words_of_sensor s = by s.source
     where
@@ -39,7 +39,7 @@ module _ (tenant : TenantConfig) where
       by from_grant = []
       by (from_line line) = if may_use tenant.budgets.reads line then [] else words_of_line (codes "the sensor `" ++ (s.name ++ codes "` reads")) line (codes "read") ∷ []
 
-  -- "the actuator `ACTUATOR` drives line LINE, which `TENANT` may not drive", of an actuator that does
+  -- "the actuator `ACTUATOR` drives line LINE, which `TENANT` may not drive", for an actuator that drives such a line
   abbrev pub words_of_actuator : ActuatorDeclaration → List (List ℕ)
   words_of_actuator a = by a.line
     where
@@ -47,8 +47,8 @@ module _ (tenant : TenantConfig) where
       by None = []
       by (Some line) = if may_use tenant.budgets.writes line then [] else words_of_line (codes "the actuator `" ++ (a.name ++ codes "` drives")) line (codes "drive") ∷ []
 
-  -- what is said of a program whose text has so many bytes and that is over this budget: its own number, or each part that costs more, or
-  -- each line that isn't the tenant's
+  -- what is reported about a program whose text has this many bytes and that exceeds this budget: its number, or each part that
+  -- costs more, or each line that the tenant may not use
   abbrev pub words_over : ℕ → GiottoProgram → Budget → List (List ℕ)
   words_over bytes p Bytes = words_of_number (codes "bytes") bytes tenant.budgets.bytes ∷ []
   words_over bytes p Ports = words_of_number (codes "ports") (length (ports_of p)) tenant.budgets.ports ∷ []
@@ -63,7 +63,7 @@ module _ (tenant : TenantConfig) where
 abbrev pub rule_of_budget : Budget → List ℕ
 rule_of_budget budget = codes "budget " ++ (word_of_budget budget ++ (codes ": the host answers `err budget " ++ (word_of_budget budget ++ codes "`")))
 
--- how grave a finding is, its words and its rule
+-- the severity of a finding, its words and its rule
 abbrev pub told_of : Finding → Severity × (List ℕ × Option (List ℕ))
 told_of f = (f.severity, (string_bytes f.message, option_map string_bytes f.rule))
 
@@ -72,6 +72,6 @@ abbrev pub errors_over : Budget → List (List ℕ) → List (Severity × (List 
 errors_over budget [] = []
 errors_over budget (words ∷ others) = (Error, (words, Some (rule_of_budget budget))) ∷ map (λ (more : List ℕ). (Error, (more, None))) others
 
--- just these words are told of a budget
+-- the findings report exactly these words about a budget
 abbrev pub AreOver : Budget → List (List ℕ) → List Finding → Type 0
 AreOver budget words findings = map told_of findings ≡ errors_over budget words

@@ -1,4 +1,4 @@
-//! The budget of a tenant that a program is over, and where.
+//! The budget of a tenant that a program exceeds, and where.
 
 ghost use Rattle.std.specs.Prelude.{◌≡◌, ◌++◌, ◌∷◌, [], IfOk, IfSome, OnOk, codes, length, option_map, string_bytes};
 ghost use Rattle.std.specs.List.{flat_map};
@@ -30,28 +30,28 @@ use rig_model::text::tokens::Keyword;
 use std::alloc::{AllocError, Global};
 use tenant_programs::budgets::broken_budget;
 
-/// A budget that a program is over, and what is told of it.
+/// A budget that a program exceeds, with the findings that report it.
 #[derive(Drop)]
 pub struct OverBudget {
-    /// The first budget that it is over.
+    /// The first budget that the program exceeds.
     pub budget: Budget,
     /// In text order.
     pub findings: Vec<Finding>,
 }
 
-/// A program that is held against the budgets of a tenant.
+/// A program that is compared with the budgets of a tenant.
 #[derive(Clone, Copy)]
 pub struct Held<'a> {
     pub tenant: &'a TenantConfig,
     pub checked: &'a Checked,
-    /// How long its text is, in bytes, as the host would get it.
+    /// The length of its text in bytes, as the host would receive it.
     pub bytes: usize,
 }
 
-/// The first budget of the tenant that a program is over, where this is its text; `None` where it keeps all.
+/// The first budget of the tenant that a program exceeds. `None` if it exceeds none. `text` is the program's text.
 ///
 /// # Errors
-/// Want of memory.
+/// Out of memory.
 pub fn over_budget(alloc: Global, held: &Held, text: &str) -> Result<Option<OverBudget>, AllocError>
     ensures budget { IfOk result (λ over. option_map (λ (o : AnyOverBudget). o.budget) over ≡ broken_budget held.now.tenant.now.budgets held.now.bytes held.now.checked.now) }
     ensures findings { IfOk result (λ over. IfSome over (λ o. AreOver o.budget (words_over held.now.tenant.now held.now.bytes held.now.checked.now o.budget) o.findings.items)) }
@@ -65,10 +65,10 @@ pub fn over_budget(alloc: Global, held: &Held, text: &str) -> Result<Option<Over
     }
 }
 
-/// Each number of the program beside the tenant's budget, a line for each.
+/// Each number of the program next to the tenant's budget, on one line each.
 ///
 /// # Errors
-/// Want of memory.
+/// Out of memory.
 pub fn text_of_budgets(alloc: Global, held: &Held) -> Result<String, AllocError>
     ensures { IfOk result (λ text. string_bytes text ≡ text_of_budgets held.now.tenant.now held.now.bytes held.now.checked.now) }
 {
@@ -84,7 +84,7 @@ pub fn text_of_budgets(alloc: Global, held: &Held) -> Result<String, AllocError>
     Ok(text)
 }
 
-// Whose budgets they are.
+// Says whose budgets they are.
 fn heading(alloc: Global, tenant: &TenantConfig) -> Result<String, AllocError>
     ensures { IfOk result (λ text. string_bytes text ≡ heading_of tenant.now) }
 {
@@ -99,14 +99,14 @@ fn tasks_of(checked: &Checked) -> usize
     checked.program().tasks().len()
 }
 
-// How many modes.
+// How many modes it has.
 fn modes_of(checked: &Checked) -> usize
     ensures { result ≡ length checked.now.modes }
 {
     checked.program().modes().len()
 }
 
-// Adds a number beside its budget.
+// Adds a number next to its budget.
 fn add_row(
     alloc: Global,
     text: &mut String,
@@ -120,7 +120,7 @@ fn add_row(
     text.push_str(row.as_str())
 }
 
-// Adds the steps beside their budget.
+// Adds the steps next to their budget.
 fn add_steps(alloc: Global, text: &mut String, has: u64, may: u64) -> Result<(), AllocError>
     ensures { OnOk result (string_bytes text.new ≡ string_bytes text.old ++ row_of (codes "steps") has may) }
 {
@@ -148,7 +148,7 @@ fn row_of_lines(alloc: Global, budgets: &Budgets) -> Result<String, AllocError>
     )
 }
 
-// What is told of a program that is over this budget.
+// The findings about a program that exceeds this budget.
 fn findings_of(
     alloc: Global,
     held: &Held,
@@ -168,7 +168,7 @@ fn findings_of(
     Ok(findings)
 }
 
-// A budget that a program is over.
+// A budget that a program exceeds.
 #[derive(Clone, Copy)]
 struct Over<'a> {
     alloc: Global,
@@ -177,7 +177,7 @@ struct Over<'a> {
 }
 
 impl Over<'_> {
-    // Adds a finding. The budget is told with the first one alone.
+    // Adds a finding. Only the first one names the budget.
     fn add(
         &self,
         findings: &mut Vec<Finding>,
@@ -203,7 +203,7 @@ impl Over<'_> {
         Ok(())
     }
 
-    // What is said of the budget.
+    // The words about the budget.
     fn rule(&self) -> Result<String, AllocError>
         ensures { IfOk result (λ rule. string_bytes rule ≡ rule_of_budget self.now.budget) }
     {
@@ -211,7 +211,7 @@ impl Over<'_> {
         format!(in self.alloc; "budget {word}: the host answers `err budget {word}`")
     }
 
-    // What is told of the budget.
+    // Adds the findings about the budget.
     fn tell(&self, findings: &mut Vec<Finding>, spots: &Spots) -> Result<(), AllocError>
         ensures { OnOk result (AreTold self.now.budget (words_over self.now.held.tenant.now self.now.held.bytes self.now.held.checked.now self.now.budget) findings.old.items findings.new.items) }
     {
@@ -249,7 +249,7 @@ impl Over<'_> {
         }
     }
 
-    // A number that is above its budget.
+    // Adds a finding for a number that is above its budget.
     fn number(
         &self,
         findings: &mut Vec<Finding>,
@@ -267,7 +267,7 @@ impl Over<'_> {
         self.add(findings, spot, message, None)
     }
 
-    // Each part that costs more than the budget.
+    // Adds a finding for each part that costs more than the budget.
     fn costly_parts(
         &self,
         findings: &mut Vec<Finding>,
@@ -281,7 +281,7 @@ impl Over<'_> {
         Ok(())
     }
 
-    // Each body that does.
+    // Adds those for bodies.
     fn costly_bodies(
         &self,
         findings: &mut Vec<Finding>,
@@ -296,7 +296,7 @@ impl Over<'_> {
         Ok(())
     }
 
-    // Each driver that does.
+    // Adds those for drivers.
     fn costly_modes(
         &self,
         findings: &mut Vec<Finding>,
@@ -377,7 +377,7 @@ impl Over<'_> {
         Ok(())
     }
 
-    // A part, if it costs more than the budget.
+    // Adds a finding for a part, if it costs more than the budget.
     fn costly_part(
         &self,
         findings: &mut Vec<Finding>,
@@ -395,7 +395,7 @@ impl Over<'_> {
         Ok(())
     }
 
-    // What is said of a part that costs more.
+    // The message about a part that costs more.
     fn words_of_cost(&self, part: &Part) -> Result<String, AllocError>
         ensures { IfOk result (λ words. string_bytes words ≡ words_of_cost self.now.held.tenant.now (part_of part.now)) }
     {
@@ -404,7 +404,7 @@ impl Over<'_> {
         format!(in self.alloc; "{part} costs {cost} steps, and one of `{tenant}` may cost {may}")
     }
 
-    // How costs are counted, with the first finding alone.
+    // The help on how costs are counted. Only the first finding has it.
     fn help_on_costs(&self, is_first: bool) -> Result<Option<String>, AllocError> {
         if !is_first {
             return Ok(None);
@@ -415,7 +415,7 @@ impl Over<'_> {
         )?))
     }
 
-    // Each line that isn't the tenant's.
+    // Adds a finding for each line that the tenant may not use.
     fn foreign_lines(
         &self,
         findings: &mut Vec<Finding>,
@@ -430,7 +430,7 @@ impl Over<'_> {
         Ok(())
     }
 
-    // Each line that a sensor reads and that the tenant may not read.
+    // Adds a finding for each line that a sensor reads and that the tenant may not read.
     fn foreign_sensors(
         &self,
         findings: &mut Vec<Finding>,
@@ -465,7 +465,7 @@ impl Over<'_> {
         self.foreign_line(findings, what.as_str(), line, ("read", reads), spot)
     }
 
-    // Each line that an actuator drives and that the tenant may not drive.
+    // Adds a finding for each line that an actuator drives and that the tenant may not drive.
     fn foreign_actuators(
         &self,
         findings: &mut Vec<Finding>,
@@ -500,7 +500,7 @@ impl Over<'_> {
         self.foreign_line(findings, what.as_str(), line, ("drive", writes), spot)
     }
 
-    // `may` has the word of the use, and the lines that the tenant may use so.
+    // `may` has the word for the use, and the lines that the tenant may use in this way.
     fn foreign_line(
         &self,
         findings: &mut Vec<Finding>,

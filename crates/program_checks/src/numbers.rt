@@ -1,14 +1,14 @@
-//! Numbers, as they are told.
+//! Numbers as text.
 
 ghost use Rattle.std.specs.Prelude.{◌≡◌, IfOk, string_bytes};
 ghost use Rattle.program_checks.specs.Numbers.{text_of_numbers};
 
 use std::alloc::{AllocError, Global};
 
-/// Numbers, as `0, 2`, and `none` where there is none.
+/// Numbers as text, as in `0, 2`. The text is `none` if there are no numbers.
 ///
 /// # Errors
-/// Want of memory.
+/// Out of memory.
 pub fn text_of_numbers(alloc: Global, numbers: &[usize]) -> Result<String, AllocError>
     ensures { IfOk result (λ text. string_bytes text ≡ text_of_numbers numbers.now) }
 {

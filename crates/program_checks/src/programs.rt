@@ -1,4 +1,4 @@
-//! What is told of a program that is held against a tenant's budgets.
+//! Reports on a program that is checked against a tenant's budgets.
 
 ghost use Rattle.std.specs.Prelude.{◌≡◌, IfOk, Ok, length, string_bytes};
 ghost use Rattle.giotto_reports.specs.Comments.{one_line};
@@ -24,11 +24,13 @@ struct File<'a> {
     text: &'a str,
 }
 
-/// What is told of a program's file with this name and this text, which a tenant is to load. Where the line of a script or the canonical
-/// text is wanted, the program has the bytes of that text; else those of the file, which are sent where the file itself is.
+/// The report on a program's file with this name and this text, which a tenant is to load.
+///
+/// If the wish is the line of a script or the canonical text, the program's bytes are those of the canonical text. Otherwise they
+/// are those of the file, because these are sent if the file itself is sent.
 ///
 /// # Errors
-/// Want of memory.
+/// Out of memory.
 pub fn check_program(
     alloc: Global,
     file: &str,
@@ -55,7 +57,7 @@ pub fn check_program(
     }
 }
 
-// What is told of a well-formed program, the one of this file.
+// The report on a well-formed program, the one of this file.
 fn hold(
     alloc: Global,
     file: &File,
@@ -84,7 +86,7 @@ fn hold(
     }
 }
 
-// How long the text is that the host would get.
+// The length in bytes of the text that the host would receive.
 fn bytes_wanted(
     alloc: Global,
     checked: &Checked,
@@ -99,7 +101,7 @@ fn bytes_wanted(
     }
 }
 
-// What was wanted of a program that keeps all budgets; behind a summary they stand beside its numbers.
+// The wished text about a program that exceeds no budget. After a summary, the budgets are listed next to the program's numbers.
 fn written_of(alloc: Global, held: &Held, wish: Wish) -> Result<String, AllocError>
     ensures { IfOk result (λ text. IsWrittenFor held.now.tenant.now held.now.bytes wish.entry held.now.checked.now (string_bytes text)) }
 {

@@ -1,11 +1,11 @@
-//! Where the parts of a program stand in its text.
+//! Where the parts of a program are in its text.
 
 use giotto_read::ReadFault;
 use rig_model::text::lexer;
 use rig_model::text::tokens::{Keyword, PlacedToken, Token};
 use std::alloc::{AllocError, Global};
 
-/// A stretch of a text: its offset and its length, in bytes.
+/// A range of a text: its offset and its length, in bytes.
 #[derive(Clone, Copy, Debug, PartialEq, Eq)]
 pub(crate) struct Spot {
     pub(crate) offset: usize,
@@ -13,7 +13,7 @@ pub(crate) struct Spot {
 }
 
 impl Spot {
-    /// The front of a text.
+    /// The start of a text.
     pub(crate) fn front() -> Spot {
         Spot { offset: 0, len: 0 }
     }
@@ -26,10 +26,10 @@ pub(crate) struct Spots {
 }
 
 impl Spots {
-    /// Those of a text. There are none where it spells no program.
+    /// The tokens of a text. There are none if the text doesn't split into tokens.
     ///
     /// # Errors
-    /// Want of memory.
+    /// Out of memory.
     pub(crate) fn of(alloc: Global, text: &str) -> Result<Spots, AllocError> {
         match lexer::tokens(alloc, text.as_bytes()) {
             Ok(tokens) => Ok(Spots { tokens }),
@@ -50,20 +50,20 @@ impl Spots {
         self.spot(self.find(0, Keyword::Mode, place).saturating_add(1))
     }
 
-    /// The word with which the driver at a place of the mode at a place begins, of those with this word.
+    /// The word that begins a driver: the one at this place among the drivers of the mode that begin with this word.
     pub(crate) fn driver(&self, mode: usize, word: Keyword, place: usize) -> Spot {
         let begin = self.find(0, Keyword::Mode, mode);
         self.spot(self.find(begin, word, place))
     }
 
-    /// The number of the line of the sensor or actuator, by this word, at a place.
+    /// The line number of the sensor or actuator at this place. `word` says which of the two.
     pub(crate) fn line(&self, word: Keyword, place: usize) -> Spot {
         let begin = self.find(0, word, place);
         let line = self.find(begin, Keyword::Line, 0);
         self.spot(line.saturating_add(1))
     }
 
-    // The place among the tokens of this word, from a place on, with so many of it before.
+    // The place of this word among the tokens, from `begin` on, after `before` other occurrences of it.
     fn find(&self, begin: usize, word: Keyword, before: usize) -> usize {
         let mut left = before;
         for (place, placed) in self.tokens.iter().enumerate() {
@@ -77,7 +77,7 @@ impl Spots {
         self.tokens.len()
     }
 
-    // Where the token at this place stands; the front of the text where there is none.
+    // Where the token at this place is. It is the start of the text if there is no such token.
     fn spot(&self, place: usize) -> Spot {
         match self.tokens.get(place) {
             Some(placed) => Spot {
@@ -93,7 +93,7 @@ fn is_keyword(placed: &PlacedToken, word: Keyword) -> bool {
     matches!(&placed.token, Token::Keyword(found) if *found == word)
 }
 
-// How long a token is. Of a number it is the first digit.
+// The length of a token. For a number, it is that of the first digit.
 fn len_of(token: &Token) -> usize {
     match token {
         Token::Keyword(keyword) => keyword.as_str().len(),

@@ -1,4 +1,4 @@
--- A text was found to be what the host reads it as.
+-- What a text was found to be agrees with how the host reads it.
 use Rattle.std.proofs.Common.{◌≡◌, ℕ, List, Option, Some, None, Result, Ok, Err, refl}
 use Rattle.rig_model.specs.rules.Rules.{first_broken_rule}
 use Rattle.rig_model.specs.text.Parsing.{parsed}
@@ -8,11 +8,11 @@ use Rattle.giotto_reports.specs.Reports.{IsWellFormed}
 use Rattle.rig_model.specs.Admission.{program_of, refusal_of_text}
 use Rattle.rig_model.specs.declared.lines.replies.Refusal.TheVariants.{Rule}
 
--- a well-formed program of a text is let in
+-- the host accepts a text's program if it is well-formed
 pub program_of_text : (text : List ℕ) (p : GiottoProgram) → parsed text ≡ Ok p → first_broken_rule p ≡ None → program_of text ≡ Ok p
 program_of_text text p is none = rw (is, none) refl
 
--- a text of which a program is let in is well-formed
+-- a text whose program the host accepts is well-formed
 pub text_of_program : (text : List ℕ) (p : GiottoProgram) → program_of text ≡ Ok p → IsWellFormed text
 text_of_program text p e = by (parsed text) refl
   where

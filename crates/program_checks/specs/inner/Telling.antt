@@ -1,4 +1,4 @@
--- Findings about a budget, and some more.
+-- Findings about a budget, to which more are added.
 use Rattle.std.specs.Prelude.{ℕ, List, ◌++◌}
 use Rattle.giotto_faults.specs.declared.findings.Finding.{Finding}
 use Rattle.giotto_reports.specs.Parts.{ProgramPart, invocation, switch, update}
@@ -10,7 +10,7 @@ use Rattle.rig_model.specs.declared.text.programs.Update.{Update}
 use Rattle.program_checks.specs.Excess.{AreOver}
 use Rattle.rig_model.specs.declared.lines.replies.Budget.{Budget}
 
--- behind findings with whatever words about a budget there are now others with these words more
+-- if the findings before report any words about a budget, those after report the same words followed by these
 abbrev pub AreTold : Budget → List (List ℕ) → List Finding → List Finding → Type 0
 AreTold budget more before after = (words : List (List ℕ)) → AreOver budget words before → AreOver budget (words ++ more) after
 
