@@ -20,17 +20,17 @@ pub(crate) struct Argument {
 pub(crate) enum Form {
     /// The flag `--ID`.
     Flag,
-    /// The option `--ID VALUE`, by the name of its values.
+    /// The option `--ID VALUE`, with the name of its values.
     Option(&'static str, Values),
-    /// The option `--ID VALUE`, also with this letter in place of the id, which is required.
+    /// The option `--ID VALUE`, which is required. It may also be given with this letter instead of the id.
     Required(char, &'static str),
     /// A positional argument, which is required.
     Positional(&'static str, Values),
-    /// All positional arguments, of which there is one at least.
+    /// All positional arguments, at least one.
     Files(&'static str),
 }
 
-/// Which values an argument takes.
+/// The values that an argument takes.
 #[derive(Clone, Copy)]
 pub(crate) enum Values {
     Text,
@@ -45,10 +45,10 @@ pub(crate) enum Values {
 }
 
 impl Argument {
-    /// The argument, with its help.
+    /// Returns the argument, with its help.
     ///
     /// # Errors
-    /// Memory ran out.
+    /// Out of memory.
     pub(crate) fn arg<'a>(&self, alloc: Global) -> Result<Arg<'a>, AllocError> {
         let mut arg = self.form.arg(alloc, self.id).help(self.help);
         for other in self.conflicts {
@@ -64,7 +64,7 @@ impl Argument {
 }
 
 impl Form {
-    // The argument of this id.
+    // The argument with this id.
     fn arg<'a>(&self, alloc: Global, id: &'static str) -> Arg<'a> {
         let arg = Arg::new(alloc, id);
         match self {
@@ -84,7 +84,7 @@ impl Form {
     }
 }
 
-// An argument with one value of this name.
+// An argument with one value, which has this name.
 fn named<'a>(arg: Arg<'a>, name: &'static str) -> Arg<'a> {
     arg.value_name(name).action(ArgAction::Set)
 }

@@ -1,4 +1,4 @@
-//! What the arguments of the program ask for: the words that it takes, with their help, and the requests that they make.
+//! The arguments of the program: which it takes, with their help, and the requests that they make.
 #![tactic(auto)]
 
 mod arguments;
@@ -11,15 +11,15 @@ use requests::{Request, request_of};
 use std::alloc::{AllocError, Global};
 use subcommands::Subcommand;
 
-// The version of the program, and the logic in which it is proved, which `rt version` prints after the name of the kit.
+// The version of the program, and the logic in which it is proved. `rt version` prints the logic after the name of the kit.
 const VERSION: &str = "0.1.0 (logic dac8208d650f15bf)";
 
 /// Why there is no request.
 #[derive(Drop)]
 pub enum ArgumentFault {
-    /// The arguments are wrong, in the way that the text says.
+    /// The arguments are wrong; the text says how.
     Wrong(Error),
-    /// Memory ran out.
+    /// Out of memory.
     Memory,
 }
 
@@ -34,10 +34,10 @@ impl From<AllocError> for ArgumentFault {
     }
 }
 
-/// What the words of the arguments ask for, the program's own name first.
+/// Returns the request that these arguments make. The first is the program's own name.
 ///
 /// # Errors
-/// `Wrong` where the program takes no such arguments, and `Memory`.
+/// `Wrong` if the program takes no such arguments, and `Memory`.
 pub fn read_arguments<'a>(
     alloc: Global,
     words: &'a [String],
@@ -48,15 +48,15 @@ pub fn read_arguments<'a>(
     }
 }
 
-/// What is said of arguments that can't be read as text.
+/// Returns the message for arguments that aren't UTF-8.
 ///
 /// # Errors
-/// Memory ran out.
+/// Out of memory.
 pub fn unreadable(alloc: Global) -> Result<Error, AllocError> {
     program(alloc)?.error(ErrorKind::ValueValidation, "an argument isn't UTF-8")
 }
 
-// The words of the program.
+// The command line of the program, with all subcommands.
 fn program<'a>(alloc: Global) -> Result<Command<'a>, AllocError> {
     let mut program = Command::new(alloc, "rig_host")
         .about(
@@ -71,7 +71,7 @@ fn program<'a>(alloc: Global) -> Result<Command<'a>, AllocError> {
     Ok(program)
 }
 
-// What arguments without matches ask for, or how they are wrong.
+// The request that arguments without matches make, or how they are wrong.
 fn without_matches<'a>(error: Error) -> Result<Request<'a>, ArgumentFault> {
     match error.kind() {
         ErrorKind::DisplayHelp | ErrorKind::DisplayVersion => Ok(Request::Text(error)),

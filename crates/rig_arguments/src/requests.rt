@@ -1,14 +1,14 @@
-//! What is requested of the program, by its subcommands.
+//! The requests to the program, by its subcommands.
 
 use clap::{ArgMatches, Error};
 use std::alloc::{AllocError, Global};
 
-/// What the arguments ask for.
+/// What the arguments request.
 #[derive(Drop)]
 pub enum Request<'a> {
     /// A text for standard output, as of `--help`.
     Text(Error),
-    /// What is wrong with files.
+    /// A check of files.
     Check(CheckRequest<'a>),
     /// A script, on standard input or of a run.
     Script(ScriptRequest<'a>),
@@ -18,24 +18,24 @@ pub enum Request<'a> {
     Connect(ConnectRequest<'a>),
     /// The timeline of one tenant in a script of a file.
     Timeline(TimelineRequest<'a>),
-    /// Whose change calls for whose retest in the script on standard input.
+    /// The table of retests of the script on standard input.
     Retest(RetestRequest<'a>),
     /// The trial of one tenant in the script on standard input.
     Trial(TrialRequest<'a>),
 }
 
-/// What is checked, and what is wanted of it.
+/// Which files are checked, and what is printed of them.
 #[derive(Drop)]
 pub struct CheckRequest<'a> {
     /// The path of the configuration; `None` for the built-in one.
     pub config: Option<&'a str>,
-    /// The name of the tenant against whose budgets programs are held; `None` where they aren't.
+    /// The name of the tenant whose budgets programs are checked against; `None` if they aren't.
     pub tenant: Option<&'a str>,
-    /// The name of the tenant by which a program is loaded, where the line of a script that does so is wanted.
+    /// The name of the tenant that loads a program, if the line of a script that does so is requested.
     pub load: Option<&'a str>,
-    /// Whether a program's canonical text is wanted.
+    /// Whether a program's canonical text is requested.
     pub print: bool,
-    /// Whether a program laid out over many lines is wanted.
+    /// Whether a program laid out over many lines is requested.
     pub pretty: bool,
     /// The paths of the files.
     pub files: Vec<&'a str>,
@@ -44,7 +44,7 @@ pub struct CheckRequest<'a> {
 /// Which script is answered, and how.
 #[derive(Clone, Copy)]
 pub struct ScriptRequest<'a> {
-    /// The path of the configuration; `None` for the built-in one, or that which a run names.
+    /// The path of the configuration; `None` for the built-in one, or the one that a run names.
     pub config: Option<&'a str>,
     pub way: Way<'a>,
 }
@@ -52,11 +52,11 @@ pub struct ScriptRequest<'a> {
 /// How a script is answered.
 #[derive(Clone, Copy)]
 pub enum Way<'a> {
-    /// With nothing beside it.
+    /// With nothing in addition.
     Plain,
     /// With a report of what went wrong in it.
     Strict,
-    /// With a value change dump in the file of this path.
+    /// With a value change dump in the file at this path.
     Dump(&'a str),
     /// The lines of a run, whose replies are compared.
     Expect(ExpectRequest<'a>),
@@ -67,7 +67,7 @@ pub enum Way<'a> {
 pub struct ExpectRequest<'a> {
     /// The path of the run.
     pub run: &'a str,
-    /// The path of the suite, where one is wanted.
+    /// The path of the suite, if one is requested.
     pub suite: Option<&'a str>,
 }
 
@@ -78,9 +78,9 @@ pub struct ServeRequest<'a> {
     pub config: Option<&'a str>,
     /// The port; 0 for one that the system chooses.
     pub port: u16,
-    /// How many workers run jobs, 1 to 64.
+    /// The number of workers that run jobs, 1 to 64.
     pub workers: u8,
-    /// How many seconds a session may be silent, if there is a bound.
+    /// How many seconds a session may be idle, if there is a bound.
     pub idle: Option<u32>,
 }
 
@@ -91,7 +91,7 @@ pub struct ConnectRequest<'a> {
     pub port: u16,
     /// The name of the tenant.
     pub name: &'a str,
-    /// The path of the file with the key; `None` for that of the environment, or of the question.
+    /// The path of the file with the key; `None` for the key of the environment, or the answer at the terminal.
     pub key_file: Option<&'a str>,
 }
 
@@ -113,7 +113,7 @@ pub struct TimelineRequest<'a> {
 pub struct RetestRequest<'a> {
     /// The path of the configuration; `None` for the built-in one.
     pub config: Option<&'a str>,
-    /// The path of the graph, where one is wanted.
+    /// The path of the graph, if one is requested.
     pub graph: Option<&'a str>,
 }
 
@@ -124,14 +124,14 @@ pub struct TrialRequest<'a> {
     pub config: Option<&'a str>,
     /// The name of the tenant.
     pub tenant: &'a str,
-    /// Whether a summary is printed in place of the lines.
+    /// Whether a summary is printed instead of the lines.
     pub is_summary: bool,
 }
 
-/// The request that the matches of the arguments make.
+/// Returns the request that the matches of the arguments make.
 ///
 /// # Errors
-/// Memory ran out.
+/// Out of memory.
 pub(crate) fn request_of<'a>(
     alloc: Global,
     matches: &ArgMatches<'a>,
@@ -148,7 +148,7 @@ pub(crate) fn request_of<'a>(
     Ok(Request::Script(script_of(matches)))
 }
 
-// Which server, or which session of one, is asked for, if either is.
+// The requested server, or the requested session of one, if either is requested.
 fn session_of<'a>(matches: &ArgMatches<'a>) -> Option<Request<'a>> {
     if let Some(words) = matches.subcommand_matches("serve") {
         return Some(Request::Serve(server_of(words)));
@@ -157,7 +157,7 @@ fn session_of<'a>(matches: &ArgMatches<'a>) -> Option<Request<'a>> {
     Some(Request::Connect(client_of(words)?))
 }
 
-// Which picture or table of a script is asked for, if one is.
+// The requested picture or table of a script, if one is requested.
 fn report_of<'a>(matches: &ArgMatches<'a>) -> Option<Request<'a>> {
     if let Some(words) = matches.subcommand_matches("timeline") {
         return Some(Request::Timeline(timeline_of(words)?));

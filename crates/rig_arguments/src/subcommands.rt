@@ -263,10 +263,10 @@ impl Subcommand {
         Subcommand::Trial,
     ];
 
-    /// Its command, with its arguments and their help.
+    /// Returns its command, with its arguments and their help.
     ///
     /// # Errors
-    /// Memory ran out.
+    /// Out of memory.
     pub(crate) fn command<'a>(self, alloc: Global) -> Result<Command<'a>, AllocError> {
         let command = Command::new(alloc, self.name())
             .about(self.about())
@@ -282,15 +282,15 @@ impl Subcommand {
         }
     }
 
-    /// What is said of its words where they are wrong in the way that the text says.
+    /// Returns the message for wrong arguments of this subcommand; the text says what is wrong.
     ///
     /// # Errors
-    /// Memory ran out.
+    /// Out of memory.
     pub fn error(self, alloc: Global, text: &str) -> Result<Error, AllocError> {
         self.command(alloc)?.error(ErrorKind::ValueValidation, text)
     }
 
-    // What it is called.
+    // Its name.
     fn name<'a>(self) -> &'a str {
         match self {
             Subcommand::Check => "check",
@@ -303,7 +303,7 @@ impl Subcommand {
         }
     }
 
-    // What it does.
+    // The sentence of the help that says what it does.
     fn about<'a>(self) -> &'a str {
         match self {
             Subcommand::Check =>
@@ -323,7 +323,7 @@ impl Subcommand {
         }
     }
 
-    // What is printed below its help.
+    // The text below its help.
     fn examples<'a>(self) -> &'a str {
         match self {
             Subcommand::Check => CHECK_EXAMPLES,
