@@ -1,4 +1,4 @@
--- Where nothing is written.
+-- An output to which nothing is written.
 use Rattle.std.proofs.Common.{ℕ, sym, ◌∙◌, List, [], Option, None, Some}
 use Rattle.std.proofs.lemmas.List.{append-nil}
 use Rattle.std.specs.Io.KnownBytes.{Appends, Keeps}

@@ -1,4 +1,4 @@
--- A word that begins with "<" may be cut behind it.
+-- A word that begins with "<" may be cut after it.
 use Rattle.std.proofs.Common.{◌≡◌, ℕ, ◌<◌, true, List, [], ◌∷◌, length, get_or, nat_eq, codes, IsUtf8, arith}
 use Rattle.std.proofs.lemmas.Bool.Decides.{nat_tests}
 use Rattle.std.proofs.lemmas.Str.{IsCharBoundary-after_ascii}

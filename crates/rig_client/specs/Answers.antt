@@ -1,10 +1,10 @@
--- What a server's answer is, besides text for the user.
+-- What a server's answer means for the session.
 use Rattle.std.specs.Prelude.{ℕ, nat_eq, if◌then◌else◌, List, codes}
 use Rattle.std.specs.List.{starts_with}
 use Rattle.giotto_tasks.specs.Names.{same_name}
 use Rattle.rig_client.specs.declared.answers.AnswerKind.{AnswerKind}
 use Rattle.rig_client.specs.declared.answers.AnswerKind.TheVariants.{GoesOn, Bye, Ended}
 
--- by its text with the LF: a last line begins with "bye"
+-- what an answer means, by its text with the LF: a last line begins with "bye"
 abbrev pub kind_of_answer : List ℕ → AnswerKind
 kind_of_answer text = if same_name text (codes "bye\n") then Bye else (if starts_with nat_eq text (codes "bye ") then Ended else GoesOn)

@@ -12,6 +12,6 @@ word_of_command Replace = codes "replace"
 abbrev pub line_of_file : FileCommand → List ℕ → List ℕ
 line_of_file command text = word_of_command command ++ (codes " " ++ one_line text)
 
--- the greeting of a tenant of this name, with this key
+-- the greeting of a tenant with this name and this key
 abbrev pub greeting : List ℕ → List ℕ → List ℕ
 greeting name key = codes "hello " ++ (name ++ (codes " " ++ key))

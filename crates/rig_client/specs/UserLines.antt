@@ -19,22 +19,22 @@ pub data LineKind : Type 0 where
   -- is sent as it is
   request : LineKind
 
--- the word of a text that has no other
+-- the word of a text, if it has exactly one
 abbrev pub sole_word_of : List ℕ → Option (List ℕ)
 sole_word_of text =
     if not (length (first_word_of text) == 0) && length (first_word_of (behind_first_word text)) == 0 then Some (first_word_of text) else None
 
--- the path behind `load` or `replace`, in "< PATH" or "<PATH"
+-- the path after `load` or `replace`, in "< PATH" or "<PATH", if there is exactly one
 abbrev pub path_of : List ℕ → Option (List ℕ)
 path_of rest =
     if length (first_word_of rest) == 1 then sole_word_of (behind_first_word rest)
     else (if length (first_word_of (behind_first_word rest)) == 0 then Some (drop 1 (first_word_of rest)) else None)
 
--- `load` or `replace`, with this behind it: of a file where its next word begins with "<"
+-- `load` or `replace`, with this rest after it: the text is that of a file if the next word begins with "<"
 abbrev pub command_line_of : FileCommand → List ℕ → LineKind
 command_line_of command rest = if starts_with nat_eq (first_word_of rest) (codes "<") then of_file command (path_of rest) else request
 
--- by the first word of a line
+-- what a line is, by its first word
 abbrev pub user_line_of : List ℕ → LineKind
 user_line_of line = by (first_word_of line) (behind_first_word line)
   where
@@ -48,7 +48,7 @@ user_line_of line = by (first_word_of line) (behind_first_word line)
         else (if same_name word (codes "load") then command_line_of Load rest
         else (if same_name word (codes "replace") then command_line_of Replace rest else request)))
 
--- what the code tells of a line
+-- the kind of a line, as the code has it
 abbrev pub kind_of : UserLine → LineKind
 kind_of lines.Blank = blank
 kind_of lines.Help = help

@@ -11,12 +11,12 @@ use crate::faults::ClientFault;
 use std::alloc::Global;
 use std::io::{BufRead, ErrorKind, Write};
 
-/// What an answer is, besides text for the user.
+/// What an answer means for the session.
 #[derive(Clone, Copy, Debug, PartialEq, Eq)]
 pub enum AnswerKind {
     /// The session goes on.
     GoesOn,
-    /// `bye`, to a `quit`: it has ended.
+    /// `bye`, the answer to `quit`: the session has ended.
     Bye,
     /// Another last line, as `bye pass-full`.
     Ended,
@@ -30,7 +30,7 @@ pub struct Server<R, W> {
 }
 
 impl<R: BufRead, W: Write> Server<R, W> {
-    /// The session whose answers come from this reader, and whose lines go to this writer.
+    /// Creates the session whose answers come from this reader, and whose lines go to this writer.
     pub fn new(reader: R, writer: W) -> Server<R, W>
         ensures answers { to_come R.remaining result ≡ R.remaining reader }
         ensures lines { sent_to W.contents result ≡ W.contents writer }
@@ -54,7 +54,7 @@ impl<R: BufRead, W: Write> Server<R, W> {
 /// Writes a line and its LF.
 ///
 /// # Errors
-/// `Lost` where a write fails.
+/// `Lost` if a write fails.
 pub fn send<W: Write>(writer: &mut W, line: &str) -> Result<(), ClientFault>
     ensures sent { OnOk result (Appends (W.contents writer.old) (W.contents writer.new) (line.now ++ codes "\n")) }
     ensures fault { IfErr result (λ fault. fault ≡ ClientFault.Lost) }
@@ -71,10 +71,10 @@ pub fn send<W: Write>(writer: &mut W, line: &str) -> Result<(), ClientFault>
     }
 }
 
-/// Reads up to the next LF and with it.
+/// Reads up to and including the next LF.
 ///
 /// # Errors
-/// `Lost` where the bytes end before, or a read fails, and `Memory`.
+/// `Lost` if the bytes end before an LF, or a read fails, and `Memory`.
 pub fn receive<R: BufRead>(alloc: Global, reader: &mut R) -> Result<Vec<u8>, ClientFault>
     ensures answer { IfOk result (λ answer. IfSome (R.remaining reader.old) (λ bytes. answer.items ≡ take_through 10 bytes)) }
     ensures rest { OnOk result (DropsThrough (R.remaining reader.old) (R.remaining reader.new) 10) }
@@ -91,7 +91,7 @@ pub fn receive<R: BufRead>(alloc: Global, reader: &mut R) -> Result<Vec<u8>, Cli
     }
 }
 
-// Why nothing was read.
+// The fault of a read that failed.
 fn unread(kind: ErrorKind) -> ClientFault
     ensures memory { kind ≡ OutOfMemory → result ≡ ClientFault.Memory }
     ensures lost { kind ≢ OutOfMemory → result ≡ ClientFault.Lost }
@@ -103,7 +103,7 @@ fn unread(kind: ErrorKind) -> ClientFault
     }
 }
 
-/// What an answer is, by its text with its LF.
+/// Returns what an answer means for the session, by its text with its LF.
 pub fn kind_of_answer(answer: &[u8]) -> AnswerKind
     ensures { result ≡ kind_of_answer answer.now }
 {

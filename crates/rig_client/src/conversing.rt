@@ -20,10 +20,10 @@ use std::alloc::{AllocError, Global};
 use std::io::{BufRead, Read, Write};
 use text_lines::lines::Line;
 
-/// Greets as the tenant of this name.
+/// Greets the server as the tenant with this name.
 ///
 /// # Errors
-/// `Greeting` where another answer than `ok hello` came, which the user is then told; as `Server::ask`, and `Write`.
+/// `Greeting` if the answer isn't `ok hello`: the answer was written for the user then. Else as `Server::ask`, and `Write`.
 pub fn greet<I: Read, O: Write, E: Write, R: BufRead, W: Write>(
     alloc: Global,
     user: &mut User<I, O, E>,
@@ -47,23 +47,24 @@ pub fn greet<I: Read, O: Write, E: Write, R: BufRead, W: Write>(
     Err(ClientFault::Greeting)
 }
 
-/// The line that greets.
+/// Returns the line of the greeting.
 ///
 /// # Errors
-/// Want of memory.
+/// Out of memory.
 pub fn greeting(alloc: Global, name: &str, key: &str) -> Result<String, AllocError>
     ensures { IfOk result (λ line. string_bytes line ≡ greeting name.now key.now) }
 {
     format!(in alloc; "hello {name} {key}")
 }
 
-/// Sends the lines of a user, each behind the answer to the one before, and says the answers, up to the one with which the server ends
-/// the session. Blank lines aren't sent, `help` is answered here, and `load < FILE` and `replace < FILE` are sent with the text of the
-/// file. A line that is too long or no text, and a file that can't be sent, is told, and the next line is read. Behind the last line
-/// `quit` is sent.
+/// Sends the lines of a user, each after the answer to the one before, and writes the answers, until the server ends the session.
+///
+/// Blank lines aren't sent, and `help` is answered here. `load < FILE` and `replace < FILE` are sent with the text of the file. A line that
+/// is too long or not UTF-8 is reported, and so is a file that can't be sent; then the next line is read. After the last line `quit` is
+/// sent.
 ///
 /// # Errors
-/// `Ended` where the server's last line isn't `bye`, and all others but `Connect`, `KeyFile`, `KeyRange` and `Greeting`.
+/// `Ended` if the server's last line isn't `bye`, and all others but `Connect`, `KeyFile`, `KeyRange` and `Greeting`.
 pub fn converse<I: Read, O: Write, E: Write, R: BufRead, W: Write, F: ProgramFiles>(
     alloc: Global,
     user: &mut User<I, O, E>,
@@ -91,7 +92,7 @@ pub fn converse<I: Read, O: Write, E: Write, R: BufRead, W: Write, F: ProgramFil
     Err(ClientFault::Turns)
 }
 
-// After the last line.
+// Ends the session after the last line.
 fn leave<I: Read, O: Write, E: Write, R: BufRead, W: Write>(
     alloc: Global,
     user: &mut User<I, O, E>,
@@ -132,7 +133,7 @@ fn answer<I: Read, O: Write, E: Write, R: BufRead, W: Write, F: ProgramFiles>(
     Ok(AnswerKind::GoesOn)
 }
 
-// The line that sends the file of this path.
+// The line that sends the file at this path.
 fn text_of_file<F: ProgramFiles>(
     alloc: Global,
     files: &F,
@@ -145,7 +146,7 @@ fn text_of_file<F: ProgramFiles>(
     line_of_file(alloc, command, bytes)
 }
 
-// Sends a line, and says its answer.
+// Sends a line, and writes its answer.
 fn request<I: Read, O: Write, E: Write, R: BufRead, W: Write>(
     alloc: Global,
     user: &mut User<I, O, E>,

@@ -1,4 +1,4 @@
-//! Why a client ends otherwise than by `bye`.
+//! Why a client ended, if not by `bye`.
 
 ghost use Rattle.std.specs.Prelude.{◌≡◌};
 ghost use Rattle.rig_client.specs.inner.Faults.{text_of_fault};
@@ -7,7 +7,7 @@ use std::alloc::AllocError;
 use text_lines::faults::LinesFault;
 use thiserror::Error;
 
-/// Why a client ended otherwise than by `bye`.
+/// Why a client ended, if not by `bye`.
 #[derive(Clone, Copy, Debug, PartialEq, Eq, Error)]
 pub enum ClientFault {
     /// There is no connection to the port.
@@ -19,16 +19,16 @@ pub enum ClientFault {
     /// The key isn't 1 to 64 bytes from 0x21 to 0x7E.
     #[error("the key isn't 1 to 64 bytes from 0x21 to 0x7E")]
     KeyRange,
-    /// The server answered the greeting with something else than `ok hello`.
+    /// The server's answer to the greeting isn't `ok hello`.
     #[error("the server refused the greeting")]
     Greeting,
-    /// The server ended the session, with another line than `bye`.
+    /// The server ended the session, with a line other than `bye`.
     #[error("the server ended the session")]
     Ended,
     /// The connection ended, or broke, without a last line.
     #[error("the connection was lost")]
     Lost,
-    /// A read of the user's lines failed, or there was want of memory for one.
+    /// A read of the user's lines failed, or memory ran out for one.
     #[error("reading the lines failed")]
     Read,
     /// A write to the user failed.
@@ -37,7 +37,7 @@ pub enum ClientFault {
     /// The user's input had not ended after 1,048,576 reads.
     #[error("the input had not ended after 1048576 reads")]
     Turns,
-    /// Want of memory.
+    /// Out of memory.
     #[error("no memory for the session")]
     Memory,
 }

@@ -1,6 +1,6 @@
 //! The table of all commands.
 
-/// The text of `help`: a row for each command that a session answers, and for what the client adds.
+/// The text of `help`: a row for each command that a session answers, and for those that the client adds.
 pub const HELP: &str = "\
 load TEXT                          reads a program, which `start` then runs
 load < FILE                        the same with the text of FILE, which may have lines and // comments

@@ -1,4 +1,4 @@
-//! The program of a file, as the line by which it is sent.
+//! The program of a file, as the line that sends it.
 
 ghost use Rattle.std.specs.Prelude.{◌≡◌, ◌≢◌, ◌↔◌, ◌+◌, ◌<◌, IfOk, IfErr, Err, length, string_bytes};
 ghost use Rattle.std.specs.Str.{IsUtf8};
@@ -11,7 +11,7 @@ use rig_model::limits::MAX_LINE;
 use std::alloc::{AllocError, Global};
 use thiserror::Error;
 
-/// Why the text of a file isn't sent. Its text stands behind the path.
+/// Why the text of a file isn't sent. Its text is printed after the path.
 #[derive(Clone, Copy, Debug, PartialEq, Eq, Error)]
 pub enum FileFault {
     /// The file isn't there, can't be read or is a folder.
@@ -23,13 +23,13 @@ pub enum FileFault {
     /// The file's bytes aren't UTF-8.
     #[error("isn't UTF-8")]
     NotText,
-    /// Want of memory.
+    /// Out of memory.
     #[error("finds no memory")]
     Memory,
 }
 
 impl FileFault {
-    /// What stands behind the path where it is told.
+    /// The text after the path in the report to the user.
     pub fn as_str(self) -> &'static str {
         match self {
             FileFault::Unreadable => "can't be read",
@@ -51,19 +51,21 @@ impl From<AllocError> for FileFault {
     }
 }
 
-/// Where the files of programs are.
+/// A place with files of programs.
 pub trait ProgramFiles {
-    /// The bytes of the file of this path, or, where it has more than `most`, some of them, more than `most`.
+    /// Returns the bytes of the file at this path. If it has more than `most`, returns some of them, but more than `most`.
     ///
     /// # Errors
     /// `Unreadable` and `Memory`.
     fn bytes(&self, path: &str, most: usize) -> Result<Vec<u8>, FileFault>;
 }
 
-/// The line that sends the text of a file with this command: in one line, without comments, each byte of the program in its place.
+/// Returns the line that sends the text of a file with this command.
+///
+/// The text is in one line, without comments, and each byte of the program is in its place.
 ///
 /// # Errors
-/// `TooLong` where the line had more than 16,384 bytes, else `NotText` where the bytes aren't UTF-8, and `Memory`.
+/// `TooLong` if the line would have more than 16,384 bytes, else `NotText` if the bytes aren't UTF-8, and `Memory`.
 pub fn line_of_file(
     alloc: Global,
     command: FileCommand,

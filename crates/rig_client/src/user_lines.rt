@@ -1,4 +1,4 @@
-//! The lines of a user: what the client answers by itself, what it makes of a file, and what it sends.
+//! The lines of a user: those that the client answers itself, those that it makes of a file, and those that it sends.
 
 ghost use Rattle.std.specs.Prelude.{◌≡◌, ◌==◌, if◌then◌else◌, codes, length, nat_eq, true};
 ghost use Rattle.std.specs.List.{starts_with};
@@ -33,17 +33,17 @@ impl FileCommand {
 /// What a line of a user is.
 #[derive(Clone, Copy, Debug)]
 pub enum UserLine<'a> {
-    /// Blanks alone: it has no answer.
+    /// Only blanks: it has no answer.
     Blank,
     /// `help`, which the client answers.
     Help,
-    /// `load < FILE` or `replace < FILE`, and the path, where just one stands there.
+    /// `load < FILE` or `replace < FILE`, and the path, if there is exactly one.
     OfFile(FileCommand, Option<&'a str>),
     /// Everything else, which the server answers.
     Request,
 }
 
-/// What a line of a user is.
+/// Returns what a line of a user is.
 pub fn user_line(line: &str) -> UserLine<'_>
     ensures { kind_of result ≡ user_line_of line.now }
 {
@@ -57,7 +57,7 @@ pub fn user_line(line: &str) -> UserLine<'_>
     }
 }
 
-// `help`, with this behind it.
+// The line `help`, with this rest after the word.
 fn help(rest: &str) -> UserLine<'_>
     ensures { kind_of result ≡ (if (length (first_word_of rest.now) == 0) then help_line else request) }
 {
@@ -68,7 +68,7 @@ fn help(rest: &str) -> UserLine<'_>
     }
 }
 
-// `load` or `replace`, with this behind it.
+// The line `load` or `replace`, with this rest after the word.
 fn command_line(command: FileCommand, rest: &str) -> UserLine<'_>
     ensures { kind_of result ≡ command_line_of command rest.now }
 {
@@ -79,7 +79,7 @@ fn command_line(command: FileCommand, rest: &str) -> UserLine<'_>
     }
 }
 
-// The path in `< PATH` or `<PATH`, where there is just one.
+// The path in `< PATH` or `<PATH`, if there is exactly one.
 fn path(rest: &str) -> Option<&str>
     requires { starts_with nat_eq (first_word_of rest.now) (codes "<") ≡ true }
     ensures { option_map (λ p. p.now) result ≡ path_of rest.now }
@@ -96,7 +96,7 @@ fn path(rest: &str) -> Option<&str>
     }
 }
 
-// The word of a text that has no other.
+// The word of a text, if it has exactly one.
 fn sole_word(text: &str) -> Option<&str>
     ensures { option_map (λ p. p.now) result ≡ sole_word_of text.now }
 {

@@ -1,4 +1,4 @@
-//! The user of a client: where the lines come from, and where what is said goes.
+//! The user of a client: where the lines come from, and where the answers go.
 
 ghost use Rattle.std.specs.Prelude.{◌≡◌, IfErr, OnOk};
 ghost use Rattle.std.specs.Io.KnownBytes.{Appends, Keeps};
@@ -9,7 +9,7 @@ use std::alloc::Global;
 use std::io::{Read, Write};
 use text_lines::lines::{Line, Lines};
 
-/// A user: lines, what is answered to them, and what the client itself has to tell.
+/// A user: the input lines, the output for answers, and the output for the client's own messages.
 #[derive(Drop)]
 pub struct User<I, O, E> {
     lines: Lines,
@@ -20,7 +20,7 @@ pub struct User<I, O, E> {
 }
 
 impl<I: Read, O: Write, E: Write> User<I, O, E> {
-    /// A user at this input. Before each line the prompt is written, if there is one, as at a terminal.
+    /// Creates a user at this input. The prompt, if there is one, is written before each line, as at a terminal.
     pub fn new(
         alloc: Global,
         input: I,
@@ -44,10 +44,10 @@ impl<I: Read, O: Write, E: Write> User<I, O, E> {
         self.prompt.is_some()
     }
 
-    /// The next line, behind the prompt.
+    /// Writes the prompt, and returns the next line.
     ///
     /// # Errors
-    /// As `Lines::next_line`, and `Read` where a line found no memory.
+    /// As `Lines::next_line`, and `Read` if an allocation for a line fails.
     pub fn next_line(&mut self) -> Result<Line, ClientFault> {
         if let Some(prompt) = &self.prompt {
             say(&mut self.output, prompt.as_str().as_bytes())?;
@@ -55,10 +55,10 @@ impl<I: Read, O: Write, E: Write> User<I, O, E> {
         Ok(self.lines.next_line(&mut self.input, &mut self.output)?)
     }
 
-    /// What is answered to a question, or nothing where the input has ended.
+    /// Asks a question, and returns the answer. `None` if the input has ended.
     ///
     /// # Errors
-    /// As `next_line`, and `KeyRange` where the line is too long or no text.
+    /// As `next_line`, and `KeyRange` if the line is too long or not UTF-8.
     pub fn answer_to(&mut self, question: &str) -> Result<Option<String>, ClientFault> {
         say(&mut self.output, question.as_bytes())?;
         match self.lines.next_line(&mut self.input, &mut self.output)? {
@@ -68,7 +68,7 @@ impl<I: Read, O: Write, E: Write> User<I, O, E> {
         }
     }
 
-    /// Writes what is for the user.
+    /// Writes bytes for the user.
     ///
     /// # Errors
     /// `Write`.
@@ -79,7 +79,7 @@ impl<I: Read, O: Write, E: Write> User<I, O, E> {
         say(&mut self.output, bytes)
     }
 
-    /// Writes what was said so far.
+    /// Flushes what was written so far.
     ///
     /// # Errors
     /// `Write`.
@@ -93,10 +93,12 @@ impl<I: Read, O: Write, E: Write> User<I, O, E> {
         }
     }
 
-    /// Tells why something isn't sent, in a line of its own behind what was said so far. Where that can't be written, it isn't told.
+    /// Reports why something isn't sent, in a separate line after what was written so far.
+    ///
+    /// If the report itself can't be written, it is dropped.
     ///
     /// # Errors
-    /// `Write` where what was said before can't be written.
+    /// `Write` if what was said before can't be written.
     pub fn tell(&mut self, subject: &str, reason: &str) -> Result<(), ClientFault>
         ensures kept { Keeps (said_to O.contents self.old) (said_to O.contents self.new) }
         ensures fault { IfErr result (λ fault. fault ≡ ClientFault.Write) }

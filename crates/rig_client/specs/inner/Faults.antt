@@ -17,7 +17,7 @@ text_of_fault Write = codes "io: write"
 text_of_fault Turns = codes "io: turns"
 text_of_fault Memory = codes "io: memory"
 
--- a line that finds no memory isn't read
+-- if an allocation for a line fails, the line isn't read
 abbrev pub fault_of_lines : LinesFault → ClientFault
 fault_of_lines lines.Read = Read
 fault_of_lines lines.Write = Write

@@ -6,7 +6,7 @@ use Rattle.rig_client.specs.UserLines.{LineKind, blank, help, of_file, request}
 use Rattle.rig_client.specs.declared.answers.AnswerKind.{AnswerKind}
 use Rattle.rig_client.specs.declared.answers.AnswerKind.TheVariants.{GoesOn}
 
--- a line was sent, and its answer was written for the user; how the session goes on
+-- a line was sent, its answer was written for the user, and `kind` says how the session goes on
 abbrev pub IsRequested : (List ℕ → List ℕ → Type 0) → (List ℕ → Type 0) → List ℕ → AnswerKind → Type 0
 IsRequested Asks Says line kind = (answer : List ℕ) × Asks line answer × Says answer × (kind ≡ kind_of_answer answer)
 
@@ -15,7 +15,7 @@ module _ (Asks : List ℕ → List ℕ → Type 0) (Silent : Type 0) (Says : Lis
   abbrev pub IsAnsweredHere : List ℕ → AnswerKind → Type 0
   IsAnsweredHere text kind = Silent × Says text × (kind ≡ GoesOn)
 
-  -- What was done for a line, by what it is. Where a file can't be sent, the output has no word of it.
+  -- What was done for a line, by its kind. If a file can't be sent, the output has nothing of it.
   abbrev pub IsLineAnswered : List ℕ → List ℕ → LineKind → AnswerKind → Type 0
   IsLineAnswered table line blank kind = IsAnsweredHere [] kind
   IsLineAnswered table line help kind = IsAnsweredHere table kind
