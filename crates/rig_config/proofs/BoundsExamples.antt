@@ -1,4 +1,4 @@
--- Bounds: what a configuration tells of them, and what they make of a value.
+-- Bounds: how a configuration gives them, and how they clamp a value.
 use Rattle.std.proofs.Common.{◌≡◌, ℕ, List, codes, pos, negsuc, true, Some, None, Ok, Err, refl}
 use Rattle.toml.specs.Data.{Data, Members, no_members, member, integer, boolean}
 use Rattle.rig_config.specs.Fields.{tenant_field}
@@ -50,7 +50,7 @@ out_of_order : bounds_of 2 0 (low_and_high (integer (pos 5)) (integer (pos 4))) 
 unfolding low_and_high
 out_of_order = refl
 
--- the least value is looked at before the greatest
+-- the least value is checked before the greatest
 low_first : bounds_of 2 0 no_members ≡ Err (Missing (tenant_field 0 field.Low))
 low_first = refl
 

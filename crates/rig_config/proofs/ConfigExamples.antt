@@ -1,4 +1,4 @@
--- Configurations, read.
+-- Examples of texts, read as configurations.
 use Rattle.std.proofs.Common.{◌≡◌, refl}
 use Rattle.std.specs.Prelude.{codes, Ok, Err}
 use Rattle.toml.proofs.OnLiterals.{toml_on_literals}
@@ -20,12 +20,12 @@ no_lines : config_of (codes "version = 1") ≡ Err (Missing (rig_field field.Lin
 unfolding toml_on_literals rig_of
 no_lines = refl
 
--- the range of `lines` is looked at before the missing `tenant`
+-- the range of `lines` is checked before the missing `tenant`
 lines_of_none : config_of (codes "version = 1\nlines = 0") ≡ Err (Range (rig_field field.Lines))
 unfolding toml_on_literals rig_of
 lines_of_none = refl
 
--- all fields of the first tenant are looked at before those of the second
+-- all fields of the first tenant are checked before those of the second
 keyless : config_of (codes "version = 1\nlines = 1\ntenant = [{name = \"a\"}, {name = \"A\"}]") ≡ Err (Missing (tenant_field 0 field.Key))
 unfolding toml_on_literals rig_of tenant_of
 keyless = refl
@@ -35,7 +35,7 @@ sixteen : config_of (codes "version = 1\nlines = 1\ntenant = [{}, {}, {}, {}, {}
 unfolding toml_on_literals rig_of tenant_of
 sixteen = refl
 
--- a third version there isn't
+-- there is no version 3
 third_version : config_of (codes "version = 3\nlines = 0") ≡ Err (Range (rig_field field.Version))
 unfolding toml_on_literals rig_of
 third_version = refl

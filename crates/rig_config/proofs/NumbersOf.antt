@@ -18,7 +18,7 @@ under : {A B : Type 0} (m : Result A ConfigFault) (f g : A → Result B ConfigFa
 under (Ok x) f g same = same x
 under (Err fault) f g same = refl
 
--- one reading more in front
+-- one more reading in front
 before : {A B C : Type 0} (m : Result A ConfigFault) (f : A → Result B ConfigFault) (g : B → Result C ConfigFault) (h : A → Result C ConfigFault)
     → ((x : A) → f x >>= g ≡ h x) → (m >>= f) >>= g ≡ m >>= h
 before m f g h same = bind_again m f g ∙ under m (λ x. f x >>= g) h same

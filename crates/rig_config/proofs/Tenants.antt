@@ -8,7 +8,7 @@ use Rattle.rig_config.specs.Reading.{◌>>=◌, tenant_of, tenants_from}
 use Rattle.rig_config.specs.declared.TenantConfig.{TenantConfig}
 use Rattle.rig_config.specs.declared.faults.ConfigFault.{ConfigFault}
 
--- what is read, behind tenants that were read before
+-- what is read, after tenants that were read before
 abbrev pub behind : List TenantConfig → Result (List TenantConfig) ConfigFault → Result (List TenantConfig) ConfigFault
 behind before (Ok others) = Ok (before ++ others)
 behind before (Err fault) = Err fault
@@ -18,7 +18,7 @@ behind_one : (before : List TenantConfig) (x : TenantConfig) (others : Result (L
 behind_one before x (Ok xs) = ap Ok (append_assoc before (x ∷ []) xs)
 behind_one before x (Err fault) = refl
 
--- the values from a place on: the one there, and those behind it
+-- the values from a place on: the one there, and those after it
 items_at : (vs : List Value) (i : ℕ) (d : Value) → i < length vs → items_view (drop i vs) ≡ item (view (get_or vs i d)) (items_view (drop (i + 1) vs))
 items_at vs i d lt = rw (add-one, drop-cons vs i d)
 
@@ -28,7 +28,7 @@ tenants_of_item : (version lines t : ℕ) (before : List TenantConfig) (value : 
 tenants_of_item version lines t before value others fields x is_table is_tenant =
     behind_one before x (tenants_from version lines (t + 1) others) ∙ rw (is_table, is_tenant)
 
--- one tenant more
+-- one more tenant
 pub next_tenant : (version lines t : ℕ) (before : List TenantConfig) (vs : List Value) (value : Value) (fields : Members) (x : TenantConfig)
     → t < length vs → value ≡ get_or vs t value → as_table (view value) ≡ Some fields → tenant_of version lines t fields ≡ Ok x
     → behind (before ++ x ∷ []) (tenants_from version lines (t + 1) (items_view (drop (t + 1) vs))) ≡ behind before (tenants_from version lines t (items_view (drop t vs)))

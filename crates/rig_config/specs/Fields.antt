@@ -1,4 +1,4 @@
--- The fields of a configuration: their words, their ranges, and what is told of a fault.
+-- The fields of a configuration: their words, their ranges, and what is reported about a fault.
 use Rattle.std.specs.Prelude.{ℕ, Bool, true, ◌&&◌, nat_le, List, codes, Option, Some, None}
 use Rattle.rig_config.specs.declared.faults.Field.{Field}
 use Rattle.rig_config.specs.declared.faults.Field.TheVariants as field
@@ -29,7 +29,7 @@ word_of field.High = codes "high"
 abbrev pub from_to : ℕ → ℕ → ℕ → Bool
 from_to least greatest n = nat_le least n && nat_le n greatest
 
--- The range of a field: of its number, of how many tenants there are, or of how many bytes a name or a key has.
+-- The range of a field: of its number, of the number of tenants, or of the length of a name or a key in bytes.
 abbrev pub is_in_range : Field → ℕ → Bool
 is_in_range field.Version n = from_to 1 2 n
 is_in_range field.Lines n = from_to 1 64 n
@@ -57,7 +57,7 @@ rig_field f = record { tenant = None; field = f }
 abbrev pub tenant_field : ℕ → Field → FieldPlace
 tenant_field t f = record { tenant = Some t; field = f }
 
--- what is wrong, in a word or two
+-- what is wrong, in one or two words
 abbrev pub reason_of : ConfigFault → List ℕ
 reason_of NotToml = codes "not toml"
 reason_of (Missing at) = codes "missing"
@@ -65,7 +65,7 @@ reason_of (Range at) = codes "range"
 reason_of (Twice f) = codes "twice"
 reason_of Memory = codes "memory"
 
--- the field with which something is wrong
+-- the field that is wrong, if the fault is in a field
 abbrev pub field_of_fault : ConfigFault → Option Field
 field_of_fault NotToml = None
 field_of_fault (Missing at) = Some at.field

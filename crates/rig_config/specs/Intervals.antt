@@ -17,14 +17,14 @@ is_whole i = int_le i.low whole.low && int_le whole.high i.high
 abbrev pub is_in_order : Interval → Bool
 is_in_order i = int_le i.low i.high
 
--- from the one value to the other, where the first isn't above the second
+-- from the one value to the other, if the first isn't above the second
 abbrev pub from_to : ℤ → ℤ → Option Interval
 from_to low high = then_some (int_le low high) (record { low = low; high = high })
 
--- the value lies in it
+-- the value is in it
 abbrev pub is_within : Interval → ℤ → Bool
 is_within i z = int_le i.low z && int_le z i.high
 
--- the value itself, or the least where it is below that, or the greatest where it is above that
+-- the value itself, or the least if it is below that, or the greatest if it is above that
 abbrev pub clamped : Interval → ℤ → ℤ
 clamped i z = if int_lt z i.low then i.low else if int_lt i.high z then i.high else z

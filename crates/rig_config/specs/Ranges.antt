@@ -1,4 +1,4 @@
--- What a configuration keeps: the ranges of its fields, different names, and lines that one tenant may drive.
+-- What always holds of a configuration: the ranges of its fields, different names, and lines that at most one tenant may drive.
 use Rattle.std.specs.Prelude.{ℕ, Bool, true, false, not, ◌&&◌, ◌||◌, ◌==◌, nat_lt, List, [], ◌∷◌, length, map, codes, IsTrue}
 use Rattle.std.specs.List.{list_all, list_any}
 use Rattle.giotto_tasks.specs.Names.{same_name}
@@ -17,7 +17,7 @@ is_lower c = from_to 97 122 c
 abbrev pub is_byte_of_tenant_name : ℕ → Bool
 is_byte_of_tenant_name c = is_lower c || from_to 48 57 c || c == 95
 
--- the words that begin an operator's line and the host's own replies
+-- the words that begin an operator's lines and the host's replies
 abbrev pub is_kept_word : List ℕ → Bool
 is_kept_word x = same_name x (codes "op") || same_name x (codes "host")
 
@@ -53,7 +53,8 @@ abbrev pub all_drive_apart : List TenantConfig → Bool
 all_drive_apart [] = true
 all_drive_apart (t ∷ ts) = list_all (drive_apart t) ts && all_drive_apart ts
 
--- What a configuration keeps: each field is within its range, names are different, and no two tenants may drive one line.
+-- What always holds of a configuration: each field is within its range, names are different, and no two tenants may drive the same
+-- line.
 pub record IsConfig (rig : Rig) : Type 0 where
   pub lines : IsTrue (is_in_range field.Lines rig.lines)
   pub roster : IsTrue (is_in_range field.Tenant (length rig.tenants))

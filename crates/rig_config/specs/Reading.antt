@@ -1,4 +1,4 @@
--- From a text to a configuration, or to the first fault.
+-- How a text is read as a configuration, or as its first fault.
 use Rattle.std.specs.Prelude.{ℕ, suc, ◌+◌, pos, Bool, true, not, ◌&&◌, ◌==◌, if◌then◌else◌, nat_lt, List, [], ◌∷◌, map, Option, Some, None, option_map, is_some, Result, Ok, Err}
 use Rattle.std.specs.Bool.{then_some}
 use Rattle.std.specs.Option.{option_and_then, ok_or, option_map_or}
@@ -22,16 +22,16 @@ abbrev pub ◌>>=◌ : {A B : Type 0} → Result A ConfigFault → (A → Result
 (Ok x) >>= f = f x
 (Err fault) >>= f = Err fault
 
--- the value, where it passes the test
+-- the value, if it passes the test
 abbrev pub only : {A : Type 0} → (A → Bool) → Option A → Option A
 only test found = option_and_then (λ x. then_some (test x) x) found
 
--- the whole number that a value is
+-- a value as a whole number
 abbrev pub whole_in : Data → Option ℕ
 whole_in (integer (pos n)) = Some n
 whole_in _ = None
 
--- the number, name or key that a value is, within its range
+-- a value as a number, a name or a key, within its range
 abbrev pub number_in : Field → Data → Option ℕ
 number_in f value = only (is_in_range f) (whole_in value)
 
@@ -41,11 +41,11 @@ tenant_name_in value = only is_tenant_name (as_str value)
 abbrev pub key_in : Data → Option (List ℕ)
 key_in value = only is_key (as_str value)
 
--- the number of a line that a value is, in a rig of so many lines
+-- a value as the number of a line, in a rig with this many lines
 abbrev pub line_in : ℕ → Data → Option ℕ
 line_in lines value = only (λ k. nat_lt k lines) (whole_in value)
 
--- the numbers of lines that stand in an array
+-- the numbers of lines in an array
 abbrev pub line_numbers : ℕ → Items → Option (List ℕ)
 line_numbers lines no_items = Some []
 line_numbers lines (item value others) =
@@ -70,7 +70,7 @@ tables_in value = only (λ tables. is_in_range field.Tenant (count_of tables) &&
 abbrev pub value_of : FieldPlace → Members → Result Data ConfigFault
 value_of at fields = ok_or (get_member (word_of at.field) fields) (Missing at)
 
--- What a field is read as: it is missing, or its value isn't accepted, or what the value is accepted as.
+-- What a field is read as: what its value is accepted as, or a fault if the field is missing or its value isn't accepted.
 abbrev pub read : {A : Type 0} → (Data → Option A) → FieldPlace → Members → Result A ConfigFault
 read accepts at fields = do
   value ← value_of at fields
@@ -87,11 +87,11 @@ bounds_read t fields = do
   high ← read as_integer (tenant_field t field.High) fields
   ok_or (from_to low high) (Range (tenant_field t field.High))
 
--- In version 1 no tenant has bounds of its own: they are all values.
+-- The bounds of the tenant at a place, in this version of the format. In version 1, all values are within them.
 abbrev pub bounds_of : ℕ → ℕ → Members → Result Interval ConfigFault
 bounds_of version t fields = if version == 1 then Ok whole else bounds_read t fields
 
--- the budgets of the tenant at a place of a rig with so many lines, in this version of the format: their fields in their order
+-- the budgets of the tenant at a place of a rig with this many lines, in this version of the format: their fields in their order
 unfoldable pub budgets_of : ℕ → ℕ → ℕ → Members → Result Budgets ConfigFault
 budgets_of version lines t fields = do
   reads ← read (lines_in lines) (tenant_field t field.Reads) fields
@@ -119,7 +119,7 @@ budgets_of version lines t fields = do
     bounds = bounds;
   })
 
--- the tenant at a place of a rig with so many lines: its name, its key, its budgets
+-- the tenant at a place of a rig with this many lines: its name, its key, its budgets
 unfoldable pub tenant_of : ℕ → ℕ → ℕ → Members → Result TenantConfig ConfigFault
 tenant_of version lines t fields = do
   name ← read tenant_name_in (tenant_field t field.Name) fields
@@ -140,7 +140,7 @@ tenants_from version lines t (item value others) = do
   tenants ← tenants_from version lines (t + 1) others
   Ok (tenant ∷ tenants)
 
--- a rig of these tenants: their names are different, and no line may be driven by two
+-- a rig of these tenants, if their names are different and no line may be driven by two of them
 abbrev pub rig_with : ℕ → List TenantConfig → Result Config ConfigFault
 rig_with lines tenants =
     if not (all_different (map (λ (t : TenantConfig). t.name) tenants)) then Err (Twice field.Name)

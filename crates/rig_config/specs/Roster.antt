@@ -8,7 +8,7 @@ use Rattle.rig_config.specs.Intervals.{whole}
 use Rattle.rig_config.specs.declared.Budgets.{Budgets}
 use Rattle.rig_config.specs.declared.TenantConfig.{TenantConfig}
 
--- a rig: how many lines it has, and its tenants
+-- a rig: its number of lines, and its tenants
 pub record Rig : Type 0 where
   pub lines : ℕ
   pub tenants : List TenantConfig
@@ -20,7 +20,7 @@ is_tenant rig t = nat_lt t (length rig.tenants)
 abbrev pub place_of : Rig → Name → Option ℕ
 place_of rig x = position (λ (t : TenantConfig). same_name t.name x) rig.tenants
 
--- the name and the key are the tenant's own
+-- these are the tenant's name and key
 abbrev pub has : TenantConfig → List ℕ → List ℕ → Bool
 has tenant name key = same_name tenant.name name && same_name tenant.key key
 
@@ -28,15 +28,15 @@ has tenant name key = same_name tenant.name name && same_name tenant.key key
 abbrev pub greeted : Rig → List ℕ → List ℕ → Option ℕ
 greeted rig name key = position (λ tenant. has tenant name key) rig.tenants
 
--- the name of the tenant at a place; no name where the roster has no such place
+-- the name of the tenant at a place; empty if the roster has no such place
 abbrev pub name_at : Rig → ℕ → Name
 name_at rig t = option_map_or (λ (tenant : TenantConfig). tenant.name) (slice_get rig.tenants t) []
 
--- no room for anything
+-- budgets that allow nothing
 abbrev pub no_budgets : Budgets
 no_budgets = record { reads = []; writes = []; bytes = 0; ports = 0; tasks = 0; modes = 0; steps = 0; trace = 0; offers = 0; binds = 0; bounds = whole }
 
--- the budgets of the tenant at a place; no room where the roster has no such place
+-- the budgets of the tenant at a place; they allow nothing if the roster has no such place
 abbrev pub budgets_at : Rig → ℕ → Budgets
 budgets_at rig t = option_map_or (λ (tenant : TenantConfig). tenant.budgets) (slice_get rig.tenants t) no_budgets
 

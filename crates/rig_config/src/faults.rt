@@ -1,4 +1,4 @@
-//! The fields of a configuration, and why a text gives none.
+//! The fields of a configuration, and why a text gives no configuration.
 
 ghost use Rattle.std.specs.Prelude.{◌≡◌, None, Some};
 ghost use Rattle.rig_config.specs.Fields.{field_of_fault, is_in_range, reason_of, rig_field, tenant_field, word_of};
@@ -143,10 +143,10 @@ impl fmt::Display for FieldPlace {
 /// Why a text gives no configuration: the first fault in the order of the checks.
 #[derive(Clone, Copy, Debug, PartialEq, Eq, Error)]
 pub enum ConfigFault {
-    /// The text is no TOML document.
+    /// The text isn't a TOML document.
     #[error("the text is no TOML document")]
     NotToml,
-    /// The field isn't there.
+    /// The field is missing.
     #[error("{0} is missing")]
     Missing(FieldPlace),
     /// The field's value is of another kind, or out of its range.
@@ -155,13 +155,13 @@ pub enum ConfigFault {
     /// Two tenants have the same name, or may drive the same line.
     #[error("two tenants share a value of `{}`", .0.word())]
     Twice(Field),
-    /// Want of memory.
+    /// Out of memory.
     #[error("no memory for the configuration")]
     Memory,
 }
 
 impl ConfigFault {
-    /// What is wrong, in a word or two, as the program tells it behind `config: `.
+    /// What is wrong, in one or two words, as the program prints it after `config: `.
     pub fn reason(self) -> &'static str
         ensures { result.now ≡ reason_of self }
     {
@@ -174,7 +174,7 @@ impl ConfigFault {
         }
     }
 
-    /// The field with which something is wrong.
+    /// The field that is wrong, if the fault is in a field.
     pub fn field(self) -> Option<Field>
         ensures { result ≡ field_of_fault self }
     {

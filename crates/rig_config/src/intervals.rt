@@ -5,8 +5,7 @@ ghost use Rattle.rig_config.specs.Intervals.{clamped, from_to, is_in_order, is_w
 
 use std::marker::Model;
 
-/// How far the values of an offer may go: from a least to a greatest one, both included, of which the least isn't above the greatest,
-/// whoever made it.
+/// The bounds of an offer's values: a least and a greatest value, both included. The least is never above the greatest.
 #[derive(Drop)]
 pub struct Bounds {
     low: i64,
@@ -25,7 +24,7 @@ impl Model for Bounds {
 }
 
 impl Bounds {
-    /// From `low` to `high`, or `None` where `low` is above `high`. Takes no memory, as no call of this type.
+    /// From `low` to `high`, or `None` if `low` is above `high`. Takes no memory, like all calls of this type.
     pub fn new(low: i64, high: i64) -> Option<Bounds>
         ensures { result ≡ from_to low high }
     {
@@ -61,7 +60,7 @@ impl Bounds {
         self.high
     }
 
-    /// Whether these are all values.
+    /// Whether all values are within these bounds.
     pub fn is_whole(&self) -> bool
         ensures { result ≡ is_whole self.now }
     {
@@ -79,7 +78,7 @@ impl Bounds {
     }
 }
 
-/// The value itself, or `low` where it is below that, or `high` where it is above that. Takes no memory.
+/// The value itself, or `low` if it is below `low`, or `high` if it is above `high`. Takes no memory.
 pub fn clamped(value: i64, low: i64, high: i64) -> i64
     ensures { result ≡ clamped (record { low = low; high = high }) value }
 {

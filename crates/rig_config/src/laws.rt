@@ -6,7 +6,7 @@ ghost use Rattle.rig_config.specs.Ranges.{IsConfig};
 ghost use Rattle.rig_config.specs.Reading.{config_of};
 ghost use Rattle.rig_config.specs.Roster.{Rig, budgets_at, may_use};
 
-/// The built-in configuration is what its text is read as.
+/// The text of the built-in configuration is read as the built-in configuration.
 pub fn built_in_is_read()
     ensures { config_of built_in_text ≡ Ok built_in_config }
 {}

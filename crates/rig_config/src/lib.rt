@@ -1,8 +1,10 @@
 //! The configuration of a rig: its lines, and its tenants with their budgets.
 //!
-//! [`read_config`] reads a configuration from a text in TOML, or tells the first fault in it; [`built_in`] is the one without a
-//! text. What a text means is said in `specs/Reading.antt`, one line for each field; `specs/Fields.antt` has the ranges, and
-//! `specs/Ranges.antt` what every [`Config`] keeps. `proofs/ConfigExamples.antt` has texts, read.
+//! [`read_config`] reads a configuration from a TOML text, or returns the first fault in it. [`built_in`] is the configuration
+//! without a text.
+//!
+//! `specs/Reading.antt` says what a text means, with one line for each field. `specs/Fields.antt` has the ranges, and
+//! `specs/Ranges.antt` what always holds of a [`Config`]. `proofs/ConfigExamples.antt` has examples of texts.
 #![tactic(auto)]
 
 ghost use Rattle.std.specs.Prelude.{◌≡◌, IfOk};
@@ -49,7 +51,7 @@ pub struct Budgets {
     pub offers: usize,
     /// The greatest number of binds: 1 to 64.
     pub binds: usize,
-    /// How far the values of an offer may go that names no bounds of its own.
+    /// The bounds of an offer that names none.
     pub bounds: Bounds,
 }
 
@@ -57,7 +59,7 @@ impl Budgets {
     /// Equal budgets.
     ///
     /// # Errors
-    /// Want of memory.
+    /// Out of memory.
     pub fn copy(&self, alloc: Global) -> Result<Budgets, AllocError>
         ensures { IfOk result (λ budgets. budgets ≡ self.now) }
     {
@@ -89,7 +91,7 @@ pub struct TenantConfig {
 }
 
 impl TenantConfig {
-    // Whether the name and the key are the tenant's own.
+    // Whether these are the tenant's name and key.
     fn has(&self, name: &str, key: &str) -> bool
         ensures { result ≡ has self.now name.now key.now }
     {
@@ -109,7 +111,7 @@ impl TenantConfig {
 }
 
 /// The configuration of a rig: 1 to 64 lines, and 1 to 16 tenants of different names, of which no two may drive the same line.
-/// Each field is within its range, whoever made it. Contracts see it as the number of lines and the list of tenants.
+/// Each field is always within its range. Contracts see it as the number of lines and the list of tenants.
 #[derive(Drop)]
 pub struct Config {
     lines: usize,
@@ -147,7 +149,7 @@ impl Config {
     /// An equal configuration.
     ///
     /// # Errors
-    /// Want of memory.
+    /// Out of memory.
     pub fn copy(&self, alloc: Global) -> Result<Config, AllocError>
         ensures { IfOk result (λ config. config ≡ self.now) }
     {
@@ -161,7 +163,7 @@ impl Config {
         })
     }
 
-    /// The place of the tenant with this name, or `None` where the roster has no such tenant.
+    /// The place of the tenant with this name, or `None` if the roster has no such tenant.
     pub fn place_of(&self, name: &str) -> Option<TenantId>
         ensures { result ≡ place_of self.now name.now }
     {
@@ -171,7 +173,7 @@ impl Config {
             .position(|tenant| tenant.name.as_str() == name)
     }
 
-    /// The place of the tenant whose name and key these are, or `None` where there is none.
+    /// The place of the tenant with this name and this key, or `None` if there is none.
     pub fn greet(&self, name: &str, key: &str) -> Option<TenantId>
         ensures { result ≡ greeted self.now name.now key.now }
     {
@@ -185,7 +187,7 @@ impl Config {
 /// The configuration without a file: one line, and the tenants alpha, which may drive the line, and beta.
 ///
 /// # Errors
-/// Want of memory.
+/// Out of memory.
 pub fn built_in(alloc: Global) -> Result<Config, AllocError>
     ensures { IfOk result (λ config. config ≡ built_in_config) }
 {

@@ -1,4 +1,4 @@
-//! From a text to a configuration.
+//! Reads a configuration from a text.
 
 ghost use Rattle.std.specs.Prelude.{◌≡◌, ◌≢◌, Ok, Err, IfOk, IfErr, IsTrue, length, map};
 ghost use Rattle.std.specs.List.{list_all, list_any};
@@ -67,7 +67,7 @@ fn key(alloc: Global, fields: &Table, tenant: TenantId) -> Result<List<u8>, Conf
     Ok(List::from_vec(Vec::from_slice(alloc, key.as_bytes())?))
 }
 
-// The lines of `reads` or `writes`, in a rig of so many lines.
+// The lines of `reads` or `writes`, in a rig with this many lines.
 fn line_set(
     alloc: Global,
     fields: &Table,
@@ -119,7 +119,7 @@ fn port_value(fields: &Table, at: FieldPlace) -> Result<i64, ConfigFault>
     value.as_integer().ok_or(ConfigFault::Range(at))
 }
 
-// The bounds that the fields of the tenant at a place tell.
+// The bounds in the fields of the tenant at a place.
 fn bounds_read(fields: &Table, tenant: TenantId) -> Result<Bounds, ConfigFault>
     ensures { result ≡ bounds_read tenant (table_view fields.now) }
 {
@@ -139,12 +139,12 @@ fn bounds_of(fields: &Table, version: usize, tenant: TenantId) -> Result<Bounds,
     } else {
         bounds_read(fields, tenant)?
     };
-    // Its least value isn't above its greatest.
+    // For the proof: the least value isn't above the greatest.
     let _ = bounds.low();
     Ok(bounds)
 }
 
-// The budgets of the tenant at a place of a rig with so many lines, in this version of the format.
+// The budgets of the tenant at a place of a rig with this many lines, in this version of the format.
 #[tactic(auto, using(crate::proofs::NumbersOf::budgets_by_parts))]
 fn budgets_of(
     alloc: Global,
@@ -185,7 +185,7 @@ fn budgets_of(
     })
 }
 
-// The tenant at a place of a rig with so many lines, in this version of the format.
+// The tenant at a place of a rig with this many lines, in this version of the format.
 #[tactic(auto, unfolding(crate::specs::Reading::tenant_of))]
 fn tenant(
     alloc: Global,
@@ -285,7 +285,7 @@ fn all_drive_apart(tenants: &[TenantConfig]) -> bool
     }
 }
 
-// The configuration of these tenants, where their names are different and no line may be driven by two.
+// The configuration of these tenants, if their names are different and no line may be driven by two of them.
 fn configured(lines: usize, tenants: List<TenantConfig>) -> Result<Config, ConfigFault>
     requires lines { IsTrue (is_in_range field.Lines lines) }
     requires roster { IsTrue (is_in_range field.Tenant (length tenants)) }
@@ -324,13 +324,14 @@ fn rig(alloc: Global, fields: &Table) -> Result<Config, ConfigFault>
     configured(lines, tenants)
 }
 
-/// The configuration that a text describes, in TOML: `version`, which is 1 or 2, `lines`, and an array `tenant` of tables, each with the
-/// fields of [`Field`]; version 1 has no `low` and `high`, and all values are within the bounds of its tenants. Fields of other names
-/// mean nothing.
+/// The configuration that a TOML text describes.
+///
+/// The text has `version`, which is 1 or 2, `lines`, and an array `tenant` of tables, each with the fields of [`Field`]. Version 1 has
+/// no `low` and `high`: all values are within the bounds of its tenants. Fields with other names are ignored.
 ///
 /// # Errors
-/// The first fault in this order: `NotToml`; the rig's fields, then each tenant's, in the order of [`Field`], `Missing` before `Range`;
-/// `Twice(Name)`; `Twice(Writes)`. And `Memory` where there is want of memory.
+/// The first fault in this order: `NotToml`; faults of the rig's fields, then of each tenant's, in the order of [`Field`], `Missing`
+/// before `Range`; `Twice(Name)`; `Twice(Writes)`. Or `Memory`, if memory runs out.
 pub fn read_config(alloc: Global, text: &str) -> Result<Config, ConfigFault>
     ensures { result ≢ Err ConfigFault.Memory → result ≡ config_of text.now }
 {

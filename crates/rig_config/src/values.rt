@@ -16,14 +16,14 @@ use std::alloc::{AllocError, Global};
 use toml::Value;
 use toml::value::Array;
 
-// The whole number that a value is.
+// A value as a whole number.
 fn whole_in(value: &Value) -> Option<usize>
     ensures { result ≡ whole_in (view value.now) }
 {
     usize::try_from(value.as_integer()?).ok()
 }
 
-// The number that a field's value is, within the field's range.
+// A field's value as a number within the field's range.
 pub(crate) fn number_in(field: Field, value: &Value) -> Option<usize>
     ensures value { result ≡ number_in field (view value.now) }
     ensures range { IfSome result (λ n. IsTrue (is_in_range field n)) }
@@ -36,7 +36,7 @@ pub(crate) fn number_in(field: Field, value: &Value) -> Option<usize>
     }
 }
 
-// The tenant's name that a value is.
+// A value as a tenant's name.
 pub(crate) fn name_in(value: &Value) -> Option<Name>
     ensures value { result ≡ tenant_name_in (view value.now) }
     ensures range { IfSome result (λ name. IsTrue (is_tenant_name name)) }
@@ -74,7 +74,7 @@ fn are_name_bytes(bytes: &[u8]) -> bool
     bytes.iter().all(|&byte| is_lower(byte) || (b'0' <= byte && byte <= b'9') || byte == b'_')
 }
 
-// The key that a value is.
+// A value as a key.
 pub(crate) fn key_in(value: &Value) -> Option<&str>
     ensures value { option_copied result ≡ key_in (view value.now) }
     ensures range { IfSome result (λ key. IsTrue (is_key key.now)) }
@@ -93,7 +93,7 @@ fn are_key_bytes(bytes: &[u8]) -> bool
     bytes.iter().all(|&byte| 0x21 <= byte && byte <= 0x7e)
 }
 
-// The number of a line that a value is, in a rig of so many lines.
+// A value as the number of a line, in a rig with this many lines.
 fn line_in(value: &Value, lines: usize) -> Option<usize>
     ensures { result ≡ line_in lines (view value.now) }
 {
@@ -101,7 +101,7 @@ fn line_in(value: &Value, lines: usize) -> Option<usize>
     if line < lines { Some(line) } else { None }
 }
 
-// The numbers of lines that a value is, in a rig of so many lines.
+// A value as an array of numbers of lines, in a rig with this many lines.
 pub(crate) fn lines_in(
     alloc: Global,
     value: &Value,
@@ -123,7 +123,7 @@ pub(crate) fn lines_in(
     Ok(Some(List::from_vec(numbers)))
 }
 
-// The tenants' tables that a value is.
+// A value as the array of the tenants' tables.
 #[tactic(auto, using(crate::proofs::ArrayValues::count_of_values))]
 pub(crate) fn tables_in(value: &Value) -> Option<&Array>
     ensures value { option_map (λ tables. array_view tables.now) result ≡ tables_in (view value.now) }

@@ -1,9 +1,9 @@
--- What a reader answers, beside what reading gives.
+-- What the code that reads returns, compared with what reading gives.
 use Rattle.std.specs.Prelude.{◌≡◌, Result, Ok, Err}
 use Rattle.rig_config.specs.declared.faults.ConfigFault.{ConfigFault}
 use Rattle.rig_config.specs.declared.faults.ConfigFault.TheVariants.{NotToml, Missing, Range, Twice, Memory}
 
--- this fault is what reading gives, unless it is want of memory
+-- this fault is what reading gives, unless it is `Memory`
 abbrev pub Fails : {A : Type 0} → ConfigFault → Result A ConfigFault → Type 0
 Fails Memory reading = Unit {0}
 Fails NotToml reading = reading ≡ Err NotToml
@@ -11,7 +11,7 @@ Fails (Missing at) reading = reading ≡ Err (Missing at)
 Fails (Range at) reading = reading ≡ Err (Range at)
 Fails (Twice f) reading = reading ≡ Err (Twice f)
 
--- this answer is what reading gives, unless there was want of memory
+-- this result is what reading gives, unless memory ran out
 abbrev pub Gives : {A : Type 0} → Result A ConfigFault → Result A ConfigFault → Type 0
 Gives (Ok x) reading = reading ≡ Ok x
 Gives (Err fault) reading = Fails fault reading
