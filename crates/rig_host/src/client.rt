@@ -16,7 +16,7 @@ use std::io::{BufReader, BufWriter, IsTerminal, Read, Write};
 use std::net::TcpStream;
 use std::{env, fs, io};
 
-// The environment variable of the key.
+// The environment variable with the key.
 const KEY: &str = "RIG_HOST_KEY";
 
 // The files of this machine.
@@ -42,10 +42,10 @@ impl<'a> ProgramFiles for Disk<'a> {
     }
 }
 
-/// Greets the server as a tenant, and sends the lines of standard input, each behind the answer to the one before.
+/// Greets the server as a tenant, and sends the lines of standard input, each after the answer to the one before.
 ///
 /// # Errors
-/// The arguments, where the name isn't one or there is no key, and the faults of the session.
+/// Faults of arguments, if the name isn't a tenant's name or there is no key, and the faults of the session.
 pub fn run_client(rt: &HostRuntime, request: &ConnectRequest<'_>) -> Result<(), Failure> {
     let alloc = rt.alloc();
     if !is_name(request.name.as_bytes()) {
@@ -59,7 +59,7 @@ pub fn run_client(rt: &HostRuntime, request: &ConnectRequest<'_>) -> Result<(), 
     run_for(rt, request, &mut user)
 }
 
-// Asks for the key, and holds the session of this user.
+// Gets the key, and holds the session of this user.
 fn run_for<I: Read, O: Write, E: Write>(
     rt: &HostRuntime,
     request: &ConnectRequest<'_>,
@@ -84,7 +84,7 @@ fn connected(rt: &HostRuntime, port: u16) -> Result<TcpStream, ClientFault> {
     }
 }
 
-// Greets, and has the user's lines answered.
+// Greets the server, and has the user's lines answered.
 fn hold_session<I: Read, O: Write, E: Write>(
     rt: &HostRuntime,
     request: &ConnectRequest<'_>,
@@ -104,7 +104,7 @@ fn hold_session<I: Read, O: Write, E: Write>(
     converse(alloc, user, &mut server, &Disk { rt })
 }
 
-// What stands before each line: nothing, where standard input or output is no terminal.
+// The prompt before each line. `None` if standard input or output is no terminal.
 fn prompt_of(rt: &HostRuntime, name: &str) -> Result<Option<String>, ClientFault> {
     if rt.stdin().is_terminal() && rt.stdout().is_terminal() {
         Ok(Some(format!(in rt.alloc(); "{name}> ")?))
@@ -113,7 +113,7 @@ fn prompt_of(rt: &HostRuntime, name: &str) -> Result<Option<String>, ClientFault
     }
 }
 
-// The key: of the file, of the environment, or what is answered at the terminal.
+// The key: from the file, from the environment, or from the answer at the terminal.
 fn key_of<I: Read, O: Write, E: Write>(
     rt: &HostRuntime,
     request: &ConnectRequest<'_>,
@@ -137,7 +137,7 @@ fn key_of<I: Read, O: Write, E: Write>(
     ))
 }
 
-// What is answered at the terminal, where there is one.
+// The answer at the terminal, if there is one.
 fn asked_key<I: Read, O: Write, E: Write>(
     rt: &HostRuntime,
     name: &str,
@@ -150,12 +150,12 @@ fn asked_key<I: Read, O: Write, E: Write>(
     Ok(user.answer_to(question.as_str())?)
 }
 
-// That the words of `connect` are wrong in the way that the text says.
+// The failure that the arguments of `connect` are wrong, with this text.
 fn wrong(rt: &HostRuntime, text: &str) -> Failure {
     Failure::Subcommand(SubcommandFault::wrong(rt.alloc(), Subcommand::Connect, text))
 }
 
-// The first line of the file of this path.
+// The first line of the file at this path.
 fn key_of_file(rt: &HostRuntime, path: &str) -> Result<String, ClientFault> {
     match fs::read_to_string(rt, path) {
         Ok(text) => Ok(String::from_str(rt.alloc(), first_line(text.as_str()))?),

@@ -1,4 +1,4 @@
-//! The program `rig_host`: what its arguments ask for, and the statuses with which it ends.
+//! The program `rig_host`: it does what its arguments request, and ends with an exit status.
 #![tactic(auto)]
 
 ghost use Rattle.std.specs.Prelude.{◌≡◌};
@@ -32,7 +32,7 @@ fn main(rt: HostRuntime) -> ExitCode {
     match run(&rt, &rt) {
         Ok(()) => ExitCode::SUCCESS,
         Err(failure) => {
-            // where standard error is closed, the status alone tells
+            // if standard error is closed, only the status says it
             let _ = eprint!(rt; "{failure}");
             failure.status()
         }
@@ -42,16 +42,16 @@ fn main(rt: HostRuntime) -> ExitCode {
 /// Why the program ends with another status than 0. Its `Display` is for standard error.
 #[derive(Drop)]
 enum Failure {
-    /// What ended a subcommand that needs no network, or came before any.
+    /// The fault of a subcommand that needs no network, or one before any subcommand.
     Subcommand(SubcommandFault),
-    /// What ended the server otherwise than by a halt.
+    /// The fault that ended the server, if not a halt.
     Server(ServeFault),
-    /// What ended a session otherwise than by `bye`.
+    /// The fault that ended a session, if not `bye`.
     Client(ClientFault),
 }
 
 impl Failure {
-    // The status of the program that ends so.
+    // The exit status of the program for this failure.
     fn status(&self) -> ExitCode
         ensures subcommand { (fault : AnySubcommandFault) → self.now ≡ Failure.Subcommand fault → exit_status result ≡ status_of fault }
         ensures server { (fault : AnyServeFault) → self.now ≡ Failure.Server fault → exit_status result ≡ 3 }
@@ -98,19 +98,19 @@ impl From<ClientFault> for Failure {
     }
 }
 
-// Does what the arguments ask for: they are looked at first, then the configuration. A server starts its threads by the second handle.
+// Does what the arguments request. The arguments are checked before the configuration. A server starts its threads with `threads`.
 fn run<T: Threads + Wait + Clock + Sync>(rt: &HostRuntime, threads: &T) -> Result<(), Failure> {
     let words = read_words(rt)?;
     let request = requested(rt, words.as_slice())?;
     carry_out(rt, threads, &request)
 }
 
-// What the words of the arguments ask for.
+// The request that the arguments make.
 fn requested<'a>(rt: &HostRuntime, words: &'a [String]) -> Result<Request<'a>, SubcommandFault> {
     Ok(read_arguments(rt.alloc(), words)?)
 }
 
-// Does what is requested. The configuration of a server is read before the port is taken.
+// Carries out a request. The configuration of a server is read before the port is taken.
 fn carry_out<T: Threads + Wait + Clock + Sync>(
     rt: &HostRuntime,
     threads: &T,
@@ -139,7 +139,7 @@ fn configured(rt: &HostRuntime, path: Option<&str>) -> Result<Config, Subcommand
     Ok(read_configuration(rt, path)?)
 }
 
-// The words of the arguments, the program's own first.
+// The arguments, with the program's own name first.
 fn read_words(rt: &HostRuntime) -> Result<Vec<String>, SubcommandFault> {
     match env::args(rt) {
         Ok(words) => Ok(words.collect(rt.alloc())?),

@@ -16,7 +16,7 @@ use worker_pool::gates::Free;
 /// Serves the rig on a port of 127.0.0.1, with the operator's lines on standard input.
 ///
 /// # Errors
-/// `Listen` where the port can't be had, and the faults of the server.
+/// `Listen` if the port isn't available, and the faults of the server.
 pub fn run_server<T: Threads + Wait + Clock + Sync>(
     rt: &HostRuntime,
     threads: &T,
