@@ -38,7 +38,7 @@ all_due P row all =
     all_option P (due_in_mode row) (mode_named p row.mode) (λ m.
     all_flat P (λ (i : TaskInvocation). filter (λ (a : ActiveTask). same_name a.task i.task && is_due_at row.mode_time m i.frequency) row.active) m.invocations (λ i. all_filter P _ row.active all))))
 
--- a job that is active behind the event is counted exactly if it was
+-- a job that is active after the event is counted exactly if it was counted before
 pub counted_of_active : (host : HostState) (rows : List Row) (j : JobId) → is_active (get_or rows j.tenant (empty_row host.clock)) j ≡ true
     → is_counted (with_rows host rows) j ≡ is_counted host j
 counted_of_active host rows j active =
@@ -58,7 +58,7 @@ module _ (setting : Setting) where
     pub marks : (t : ℕ) → t < length setting.config.tenants → AllByRecursion (λ a. is_counted host (job_of t a) ≡ has_completion setting past (job_of t a)) (row_of setting past t).active
     pub known : (j : JobId) → is_counted host j ≡ true → has_completion setting past j ≡ true
 
-  -- marks stay where the rows change
+  -- marks are kept when the rows change
   pub marks_after : (host : HostState) (past : List Event) (t : ℕ) (rows : List Row) (row : Row) → get_or rows t (empty_row host.clock) ≡ row
       → AllByRecursion (IsMarked host past t) row.active → AllByRecursion (IsMarked (with_rows host rows) past t) row.active
   marks_after host past t rows row at marked =

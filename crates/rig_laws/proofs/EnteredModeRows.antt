@@ -11,7 +11,7 @@ use Rattle.rig_model.specs.declared.trace.records.Happening.TheVariants as happe
 use Rattle.rig_model.specs.Row.{ActiveTask, Row, running, empty_row}
 use Rattle.rig_model.specs.SecondHalf.{second_half_of}
 
--- From mode m, a sensor above 4 leads to mode n, and one above 2 into m itself, where x and y change places.
+-- In mode m, a sensor value above 4 switches to mode n, and one above 2 to m itself and exchanges x and y.
 abbrev relay_text : List ℕ
 relay_text =
     codes "sensor s := 0 line 0; output x := 0; output y := 0; task T(i) output x { x := i; } task U(i) output y { y := i; } mode m period 12 { exitfreq 6 if s > 4 do n; exitfreq 6 if s > 2 do m { x := y; y := x; }; taskfreq 3 do T(s); taskfreq 2 do U(s); } mode n period 24 { taskfreq 6 do T(s); taskfreq 4 do U(s); } start m;"
@@ -70,7 +70,8 @@ at time active = record (empty_row 100) { state = running; program = Some relay;
 abbrev behind : ℕ → Row → Row
 behind s row = second_half_of ((0, pos s) ∷ []) [] row
 
--- Two ticks into the round T, of period 4, and U, of period 6, are ten ticks before their next common deadline: ten ticks before its end n is entered.
+-- T, of period 4, and U, of period 6, are two ticks into the round, ten ticks before their next common deadline. So n is entered ten ticks
+-- before its end.
 pub in_mid_round : behind 5 (at 2 (releases 98 1)) ≡ record (at 15 (releases 98 1)) {
   mode = codes "n";
   ports = ports 5 7 8 1;
@@ -79,7 +80,7 @@ pub in_mid_round : behind 5 (at 2 (releases 98 1)) ≡ record (at 15 (releases 9
 }
 in_mid_round = refl
 
--- A mode that is entered from itself goes on where it was. Its destinations read the ports as they were before the switch.
+-- A mode that is entered from itself continues at its mode time. Its destinations read the ports as they were before the switch.
 pub into_itself : behind 3 (at 2 (releases 98 1)) ≡ record (at 3 (releases 98 1)) {
   ports = ports 3 8 7 1;
   records = record { tick = 100; happening = happening.Mode (codes "m") } ∷ [];
@@ -87,7 +88,7 @@ pub into_itself : behind 3 (at 2 (releases 98 1)) ≡ record (at 3 (releases 98 
 }
 into_itself = refl
 
--- Where no task is active the target begins its round, and its own invocations are due.
+-- If no task is active, the target mode begins its round, and its own invocations are due.
 pub at_the_start : behind 5 (at 0 []) ≡ record (at 1 (releases 100 5)) {
   mode = codes "n";
   ports = ports 5 7 8 5;
@@ -96,6 +97,6 @@ pub at_the_start : behind 5 (at 0 []) ≡ record (at 1 (releases 100 5)) {
 }
 at_the_start = refl
 
--- Where no guard holds the mode stands.
+-- If no guard holds, the mode doesn't change.
 pub not_taken : behind 2 (at 2 (releases 98 1)) ≡ record (at 3 (releases 98 1)) { ports = ports 2 7 8 1; next_tick = 101 }
 not_taken = refl

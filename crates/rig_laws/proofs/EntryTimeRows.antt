@@ -1,4 +1,4 @@
--- Mode times behind a switch, computed from the definitions.
+-- Mode times after a switch, computed from the definitions.
 use Rattle.std.proofs.Common.{◌≡◌, ℕ, [], ◌∷◌, None, refl}
 use Rattle.std.specs.Prelude.{codes}
 use Rattle.giotto_tasks.specs.declared.names.Name.{Name}
@@ -23,11 +23,11 @@ cruise = record { name = codes "cruise"; period = 36; updates = []; switches = [
 abbrev active : Name → ActiveTask
 active task = record { task = task; release = 3; inputs = []; states = [] }
 
--- both tasks end together at 24, 10 ticks on, and so they do in the mode that is entered, at 36
+-- both tasks end together at 24, 10 ticks later; in the mode that is entered they end at 36, also 10 ticks later
 pub both_go_on : entry_time climb cruise 14 (active (codes "hold") ∷ active (codes "plan") ∷ []) ≡ 26
 both_go_on = refl
 
--- the one ends at 16, 2 ticks on
+-- this task ends at 16, 2 ticks later
 pub one_goes_on : entry_time climb cruise 14 (active (codes "hold") ∷ []) ≡ 34
 one_goes_on = refl
 

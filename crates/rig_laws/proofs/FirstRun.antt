@@ -1,4 +1,4 @@
--- The adder's runs: what alpha is answered, computed from the definitions.
+-- The adder's runs: the answers to alpha, computed from the definitions.
 use Rattle.std.proofs.Common.{◌≡◌, ℕ, pos, List, [], ◌∷◌, ◌++◌, refl, true, reverse, None}
 use Rattle.std.specs.Prelude.{codes}
 use Rattle.std.specs.Fmt.{digits}
@@ -12,7 +12,7 @@ use Rattle.rig_model.specs.Views.{view_of}
 use Rattle.rig_model.proofs.of_text.Adder.{adder_text}
 use Rattle.rig_laws.proofs.Rig.{rig}
 
--- lines, each with LF behind it
+-- lines, each followed by LF
 abbrev pub answered : List (List ℕ) → List ℕ
 answered lines = flat_map (λ l. l ++ 10 ∷ []) lines
 
@@ -23,7 +23,7 @@ tick v = Tick (pos v ∷ [])
 abbrev pub completed : ℕ → ℕ → Event
 completed t release = Done (record { tenant = t; tick = release; task = codes "T" })
 
--- `show port`, of a port of its own name
+-- `show port` of a port that isn't a task's own
 abbrev pub shown : ℕ → List ℕ → Event
 shown t port = Own t (ShowPort (record { task = None; name = port }))
 
@@ -41,7 +41,7 @@ answers_first_run = refl
 pub first_run_is_legal : is_legal rig (reverse first_run) ≡ true
 first_run_is_legal = refl
 
--- Work that is done earlier changes no byte.
+-- Completing the work earlier changes no byte.
 abbrev pub early_work : List Event
 early_work = loaded_and_started 0 ++ tick 5 ∷ completed 0 0 ∷ tick 7 ∷ tick 9 ∷ shown 0 (codes "a") ∷ []
 
@@ -58,7 +58,7 @@ pub answers_before_deadline : answers_of rig (reverse (loaded_and_started 0 ++ t
 unfolding digits
 answers_before_deadline = refl
 
--- Beta's commands and work, in between and with other readings of no line of alpha's, leave alpha's view as it is.
+-- Beta's commands and work, in between and with other readings of no line of alpha's, don't change alpha's view.
 abbrev pub beside_beta : List Event
 beside_beta =
     Own 1 (Load adder_text) ∷ Own 0 (Load adder_text) ∷ Own 1 Start ∷ Own 0 Start ∷ tick 5 ∷ completed 1 0 ∷ shown 1 (codes "a")

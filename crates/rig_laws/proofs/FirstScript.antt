@@ -1,4 +1,4 @@
--- Scripts, from their bytes to the bytes that are answered, computed from the definitions.
+-- Scripts, from their bytes to the bytes that answer them, computed from the definitions.
 use Rattle.std.proofs.Common.{◌≡◌, ℕ, List, [], ◌∷◌, ◌++◌, refl}
 use Rattle.std.specs.Prelude.{codes}
 use Rattle.std.specs.Char.{encode_utf8}
@@ -9,7 +9,7 @@ use Rattle.rig_model.proofs.of_text.Adder.{adder_text}
 use Rattle.rig_laws.proofs.Rig.{rig}
 use Rattle.rig_model.specs.Script.{script_text_of, memory_reply}
 
--- lines, each with LF behind it
+-- lines, each followed by LF
 abbrev lines : List (List ℕ) → List ℕ
 lines ls = flat_map (λ l. l ++ 10 ∷ []) ls
 
@@ -19,12 +19,12 @@ first_script : script_text_of rig (lines (
 unfolding digits is_utf8 chars encode_utf8
 first_script = refl
 
--- A frame needs a value for each line; a tick that is refused isn't counted.
+-- A frame needs a value for each line. A refused tick isn't counted.
 bad_frame : script_text_of rig (lines (codes "op tick" ∷ codes "op tick 5" ∷ [])) ≡ lines (codes "op err bad-frame" ∷ codes "op ok tick 0" ∷ [])
 unfolding digits is_utf8 chars encode_utf8
 bad_frame = refl
 
--- The operator works for one tenant, by its name, or for all.
+-- `op work` works for one tenant, by its name, or for all.
 work_of_one : script_text_of rig (lines (
     (codes "alpha load " ++ adder_text) ∷ codes "alpha start" ∷ (codes "beta load " ++ adder_text) ∷ codes "beta start" ∷ codes "op tick 5"
     ∷ codes "op work alpha" ∷ codes "op work alpha" ∷ codes "op work nobody" ∷ codes "op work alpha beta" ∷ codes "op work" ∷ codes "op work beta" ∷ []))
@@ -33,18 +33,18 @@ work_of_one : script_text_of rig (lines (
 unfolding digits is_utf8 chars encode_utf8
 work_of_one = refl
 
--- Who speaks comes before what is said; blank lines have no reply; a CR before LF and a missing last LF don't matter.
+-- The speaker is checked before the rest of the line. Blank lines have no reply. A CR before LF and a missing last LF don't matter.
 speakers : script_text_of rig (lines (codes "nobody fly" ∷ codes "alpha" ∷ codes "op" ∷ codes "  " ∷ codes "alpha fly" ∷ codes "op work 9x" ∷ []) ++ (13 ∷ 10 ∷ codes "alpha start" ++ 13 ∷ []))
     ≡ lines (codes "host err who" ∷ codes "alpha err bad-command" ∷ codes "op err bad-command" ∷ codes "alpha err bad-command" ∷ codes "op err bad-command" ∷ codes "alpha err not-loaded" ∷ [])
 unfolding digits is_utf8 chars encode_utf8
 speakers = refl
 
--- A byte that is no text ends the script.
+-- A line that is not UTF-8 ends the script.
 no_text : script_text_of rig (lines (codes "alpha start" ∷ (0xff ∷ []) ∷ codes "alpha start" ∷ [])) ≡ lines (codes "alpha err not-loaded" ∷ codes "host bye bad-line" ∷ [])
 unfolding digits is_utf8 chars encode_utf8
 no_text = refl
 
--- Where memory was refused, who would have answered says so.
+-- If memory is refused, the reply says so under the name that would have answered.
 no_memory_for_a_tenant : memory_reply rig (codes "\talpha start") ≡ codes "alpha err memory" ++ 10 ∷ []
 no_memory_for_a_tenant = refl
 

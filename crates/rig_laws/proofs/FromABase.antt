@@ -1,4 +1,4 @@
--- The first run, cut behind its second instant: the rest from that base gives what the whole gives, computed from the definitions.
+-- The first run, cut after its second instant: the rest from that base gives what the whole gives, computed from the definitions.
 use Rattle.std.proofs.Common.{◌≡◌, List, [], ◌∷◌, ◌++◌, refl, true, false, reverse}
 use Rattle.std.specs.Prelude.{codes}
 use Rattle.std.specs.Fmt.{digits}
@@ -16,7 +16,7 @@ before = loaded_and_started 0 ++ tick 5 ∷ tick 7 ∷ []
 abbrev pub rest : List Event
 rest = completed 0 0 ∷ tick 9 ∷ shown 0 (codes "a") ∷ []
 
--- the rig as it stands behind the second instant
+-- the rig after the second instant
 abbrev pub from_there : Setting
 from_there = record rig { base = host_after rig (reverse before) }
 

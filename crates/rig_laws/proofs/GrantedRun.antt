@@ -15,7 +15,7 @@ use Rattle.rig_laws.proofs.Rig.{rig}
 abbrev pub consumer_text : List ℕ
 consumer_text = codes "sensor g := -1 grant; mode n period 1 { } start n;"
 
--- adds this to what is granted, and drives an actuator with the sum of the tick before
+-- adds this to the granted value, and drives an actuator with the sum of the tick before
 abbrev adding_text : List ℕ → List ℕ
 adding_text n = codes "sensor g := -1 grant; actuator a := 0; output o := 0; task T(i) output o { o := i + " ++ (n ++ codes "; } mode m period 1 { actfreq 1 do a := o; taskfreq 1 do T(g); } start m;")
 
@@ -25,7 +25,7 @@ offered_to t tenant = Own t (Grants (Offer (codes "a") tenant None))
 abbrev pub bound_to : ℕ → List ℕ → Event
 bound_to t tenant = Own t (Grants (Bind (codes "g") tenant (codes "a")))
 
--- alpha runs the adder, and beta is bound to its actuator; behind two instants the sum of the first is written at the third
+-- alpha runs the adder, and beta is bound to its actuator; two instants later, at the third, the sum of the first is written
 abbrev along : List Event
 along =
     Own 0 Start ∷ Own 1 Start ∷ tick 5 ∷ tick 7 ∷ completed 0 0 ∷ tick 9 ∷ shown 1 (codes "g")
@@ -42,7 +42,7 @@ pub supplier_is_answered : answers_of rig (reverse granted_run) 0 ≡ answered (
 unfolding digits
 supplier_is_answered = refl
 
--- Without the offer nothing passes.
+-- Without the offer no value passes.
 abbrev unoffered_run : List Event
 unoffered_run = Own 0 (Load adder_text) ∷ Own 1 (Load consumer_text) ∷ bound_to 1 (codes "alpha") ∷ along
 
@@ -60,8 +60,8 @@ pub nothing_from_an_empty_supplier : answers_of rig (reverse empty_supplier) 1 �
 unfolding digits
 nothing_from_an_empty_supplier = refl
 
--- Each is bound to the other: alpha adds 1 to what beta drives, and beta 10 to what alpha drives. Both take what the other drives at the same
--- instant, behind its update.
+-- Each is bound to the other: alpha adds 1 to what beta drives, and beta adds 10 to what alpha drives. Both take what the other drives at
+-- the same instant, after its update.
 abbrev mutual_run : List Event
 mutual_run =
     Own 0 (Load (adding_text (codes "1"))) ∷ Own 1 (Load (adding_text (codes "10"))) ∷ offered_to 0 (codes "beta") ∷ offered_to 1 (codes "alpha") ∷ bound_to 0 (codes "beta") ∷ bound_to 1 (codes "alpha")

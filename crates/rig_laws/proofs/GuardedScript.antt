@@ -1,5 +1,5 @@
--- Two scripts that differ in one tenant's lines, computed from the definitions. A granted value is a guard, so `op work` completes other
--- jobs in each, and a tenant of which that one is no source has the same replies.
+-- Two scripts that differ in one tenant's lines, computed from the definitions. A granted value is a guard, so `op work` completes different
+-- jobs in each. A tenant that doesn't have that tenant as a source has the same replies in both.
 use Rattle.std.proofs.Common.{◌≡◌, ℕ, ◌==◌, true, false, List, [], ◌∷◌, ◌++◌, refl, ap, ◌∙◌}
 use Rattle.std.specs.Prelude.{codes}
 use Rattle.std.specs.Char.{encode_utf8}
@@ -23,7 +23,7 @@ guarded number =
     ∷ codes "gamma bind g from beta.a" ∷ codes "gamma start"
     ∷ codes "op tick 5" ∷ codes "op work" ∷ codes "op tick 7" ∷ codes "op work" ∷ codes "op tick 9" ∷ codes "alpha show port a" ∷ codes "gamma show mode" ∷ []
 
--- what is replied, by the jobs of each `op work` and gamma's mode
+-- the replies, by the number of jobs of each `op work` and by gamma's mode
 abbrev replied : List ℕ → List ℕ → List ℕ → List ℕ
 replied first second mode =
     answered (
@@ -40,7 +40,7 @@ works_with_a_zero : script_from three_rig [] (guarded (codes "0")) ≡ replied (
 unfolding digits is_utf8 chars encode_utf8
 works_with_a_zero = refl
 
--- The two differ in a line of beta alone, and alpha has no source but itself: the law speaks of them.
+-- The two differ only in a line of beta, and alpha has no source but itself, so the law applies.
 one_line_differs : without_lines_of three (λ u. u == 1) (guarded (codes "9")) ≡ without_lines_of three (λ u. u == 1) (guarded (codes "0"))
 unfolding digits is_utf8 chars encode_utf8
 one_line_differs = refl
@@ -63,7 +63,7 @@ replies_with_a_zero : own_replies three_rig 0 [] (guarded (codes "0")) ≡ answe
 unfolding digits is_utf8 chars encode_utf8
 replies_with_a_zero = refl
 
--- Gamma, which is bound to beta, is answered otherwise.
+-- Gamma, which is bound to beta, has other replies.
 consumer_with_a_nine : own_replies three_rig 2 [] (guarded (codes "9")) ≡ answered (codes "ok load" ∷ codes "ok bind" ∷ codes "ok start" ∷ codes "ok mode running n 0" ∷ [])
 unfolding digits is_utf8 chars encode_utf8
 consumer_with_a_nine = refl

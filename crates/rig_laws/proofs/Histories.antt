@@ -33,7 +33,7 @@ module _ (setting : Setting) where
   abbrev pub own_instant : List Event → List ℤ → ℕ → LocalInstant
   own_instant past frame t = instant_for setting (row_of setting past) (has_completion setting past) frame t
 
-  -- what holds of a tenant's row behind its own command, and of its row before another's, holds behind a command
+  -- what holds of a tenant's row after its own command, and of its row before another tenant's, holds after a command
   pub own_row : (C : Row → Type 0) (past : List Event) (c : Command) (t : ℕ) (b : Bool)
       → C (after_command setting t c (row_of setting past t)).row → C (row_of setting past t)
       → C (run_of setting t (cond b (command c ∷ view_of setting past t) (view_of setting past t)))
@@ -43,7 +43,7 @@ module _ (setting : Setting) where
   abbrev pub IsEarly : List Event → ActiveTask → Type 0
   IsEarly past a = a.release < next_tick setting past
 
-  -- where the history begins with a base
+  -- if the history begins with a base
   module _ (base : IsBase setting.config setting.base) where
     base_keeps : (t : ℕ) → Keeps (IsEarly []) setting.base.clock (row_at setting.base t)
     base_keeps t = ⊎_elim

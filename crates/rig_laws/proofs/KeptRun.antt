@@ -1,4 +1,4 @@
--- What is kept of lists for a tenant, and its sources, computed from the definitions.
+-- The parts of lists that are kept for a tenant, and its sources, computed from the definitions.
 use Rattle.std.proofs.Common.{◌≡◌, ℕ, List, [], ◌∷◌, ◌++◌, refl, true, reverse, map, take, drop}
 use Rattle.std.specs.Prelude.{codes, None}
 use Rattle.std.specs.Fmt.{digits}
@@ -20,14 +20,14 @@ use Rattle.rig_laws.proofs.Rig.{rig}
 abbrev unbound : ℕ → Event
 unbound t = Own t (Grants (Unbind (codes "g")))
 
--- Beta is bound to alpha, so all is kept for it.
+-- Beta is bound to alpha, so everything is kept for it.
 pub granted_run_is_legal : is_legal rig (reverse granted_run) ≡ true
 granted_run_is_legal = refl
 
 pub all_is_kept_for_the_consumer : kept_of rig (reverse granted_run) 1 ≡ reverse granted_run
 all_is_kept_for_the_consumer = refl
 
--- Alpha is bound to nobody, so nothing of beta's is kept for it.
+-- Alpha is bound to nobody, so none of beta's events is kept for it.
 abbrev alpha_alone : List Event
 alpha_alone =
     Own 0 (Load adder_text) ∷ Own 0 (Grants (Offer (codes "a") (codes "beta") None)) ∷ Own 0 Start ∷ tick 5 ∷ tick 7 ∷ completed 0 0 ∷ tick 9
@@ -40,11 +40,11 @@ pub supplier_alone_is_answered : answers_of rig (reverse alpha_alone) 0 ≡ answ
 unfolding digits
 supplier_alone_is_answered = refl
 
--- Nobody is bound: the own completion is kept, and the other's isn't.
+-- Nobody is bound: a tenant's own completion is kept, and the other tenant's isn't.
 pub own_completion_is_kept : kept_of rig (reverse beside_beta) 0 ≡ reverse (loaded_and_started 0 ++ tick 5 ∷ tick 7 ∷ completed 0 0 ∷ tick 9 ∷ shown 0 (codes "a") ∷ [])
 own_completion_is_kept = refl
 
--- The bind stands before the first instant alone, without an offer. The supplier counts up to there: its load is kept, and its start isn't.
+-- The bind exists only before the first instant, without an offer. The supplier counts up to there: its load is kept, and its start isn't.
 abbrev bound_at_first : List Event → List Event
 bound_at_first start =
     Own 0 (Load adder_text) ∷ Own 1 (Load consumer_text) ∷ bound_to 1 (codes "alpha") ∷ Own 1 Start ∷ tick 5
@@ -66,7 +66,7 @@ pub kept_is_answered : answers_of rig (reverse (bound_at_first [])) 1
 unfolding digits
 kept_is_answered = refl
 
--- A bind that is undone before any instant adds no source.
+-- A bind that is removed before any instant adds no source.
 pub undone_bind_adds_none : kept_of rig (reverse (Own 0 (Load adder_text) ∷ bound_to 1 (codes "alpha") ∷ unbound 1 ∷ tick 5 ∷ [])) 1
     ≡ reverse (bound_to 1 (codes "alpha") ∷ unbound 1 ∷ tick 5 ∷ [])
 undone_bind_adds_none = refl
@@ -93,7 +93,7 @@ three = record {
 abbrev pub three_rig : Setting
 three_rig = record { config = three; base = new_base three 0 }
 
--- Beta's bind stands before the first of three instants alone, and gamma's before all.
+-- Beta's bind exists only before the first of three instants, and gamma's before all.
 abbrev chained : List Event
 chained =
     bound_to 1 (codes "alpha") ∷ bound_to 2 (codes "beta") ∷ tick 0 ∷ Own 0 (Load adder_text) ∷ unbound 1 ∷ tick 0 ∷ Own 1 (Load consumer_text) ∷ tick 0
@@ -102,7 +102,7 @@ chained =
 pub chained_is_legal : is_legal three_rig (reverse chained) ≡ true
 chained_is_legal = refl
 
--- gamma's sources behind so many of these events
+-- gamma's sources after this many of these events
 abbrev sources_behind : ℕ → List ℕ
 sources_behind n = sources_of three_rig 2 (reverse (drop n chained)) (reverse (take n chained))
 
@@ -112,7 +112,7 @@ pub sources_at_each_place : map sources_behind (10 ∷ 9 ∷ 8 ∷ 7 ∷ 6 ∷ 5
     ∷ (2 ∷ 1 ∷ 1 ∷ 1 ∷ 0 ∷ 0 ∷ []) ∷ (2 ∷ 1 ∷ 1 ∷ 1 ∷ 0 ∷ 0 ∷ []) ∷ (2 ∷ 1 ∷ 1 ∷ 1 ∷ 0 ∷ 0 ∷ []) ∷ []
 sources_at_each_place = refl
 
--- Alpha's events come behind the one instant before which beta is bound to it, and are left out.
+-- Alpha's events come after the only instant before which beta is bound to it, so they are left out.
 pub chain_is_kept : kept_of three_rig (reverse chained) 2
     ≡ reverse (bound_to 1 (codes "alpha") ∷ bound_to 2 (codes "beta") ∷ tick 0 ∷ unbound 1 ∷ tick 0 ∷ Own 1 (Load consumer_text) ∷ tick 0 ∷ Own 2 (Load consumer_text) ∷ [])
 chain_is_kept = refl

@@ -1,4 +1,4 @@
--- Bytes, their lines and what is written for them, computed from the definitions.
+-- Bytes, their lines and the answers to them, computed from the definitions.
 use Rattle.std.proofs.Common.{◌≡◌, ◌+◌, [], ◌∷◌, ◌++◌, Some, None, refl}
 use Rattle.std.specs.Prelude.{codes}
 use Rattle.std.specs.Char.{encode_utf8}
@@ -30,7 +30,7 @@ half_a_character_is_no_text : text_of_line (97 ∷ 0xc3 ∷ []) ≡ None
 unfolding is_utf8 chars encode_utf8
 half_a_character_is_no_text = refl
 
--- who answers with the number of lines so far and the line
+-- the answer to a line is the number of lines so far and the line
 a_bad_line_ends : answered (λ n line. (48 + n) ∷ line) (λ n line. n + 1) 0 (cut (97 ∷ 10 ∷ 13 ∷ 10 ∷ 98 ∷ 10 ∷ 0xff ∷ 10 ∷ 99 ∷ [])) ≡ (48 ∷ 97 ∷ 49 ∷ 50 ∷ 98 ∷ []) ++ codes "host bye bad-line" ++ 10 ∷ []
 unfolding is_utf8 chars encode_utf8
 a_bad_line_ends = refl

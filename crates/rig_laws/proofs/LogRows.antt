@@ -17,7 +17,7 @@ use Rattle.rig_model.specs.declared.logged.Logged.TheVariants as logged
 use Rattle.rig_model.specs.Base.{Setting, new_base}
 use Rattle.rig_model.specs.Logs.{IsLegalLog, calls_of_seat, answers_in}
 
--- lines, each with LF behind it
+-- lines, each followed by LF
 abbrev answered : List (List ℕ) → List ℕ
 answered lines = flat_map (λ l. l ++ 10 ∷ []) lines
 
@@ -30,7 +30,7 @@ port_a = record { task = None; name = codes "a" }
 abbrev tick : ℕ → Logged
 tick v = logged.Tick (pos v ∷ [])
 
--- Seat 0 speaks for alpha, seat 1 for beta. Alpha's adder reads 5 at its release and writes 6 at its deadline.
+-- Seat 0 makes calls for alpha, seat 1 for beta. Alpha's adder reads 5 at its release and writes 6 at its deadline.
 abbrev pub run : List Logged
 run =
     logged.Call 0 (call 0 (Load adder_text) Loaded) ∷ logged.Call 1 (call 1 (Load adder_text) Loaded) ∷ logged.Call 0 (call 0 Start Started)

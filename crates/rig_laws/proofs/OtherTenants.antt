@@ -1,4 +1,4 @@
--- What a tenant does that is no source of another one anywhere in a list: nothing of it is kept for that one, whatever it is.
+-- A tenant that is nowhere in a list a source of another tenant: none of its events is kept for the other tenant, whatever they are.
 use Rattle.std.proofs.Common.{◌≡◌, ℕ, ⊎_elim, ◌⊎◌, inl, inr, Bool, true, false, cond, not, ◌||◌, eqb, ℤ, List, [], ◌∷◌, ◌++◌, refl, sym, ap, ◌∙◌, subst, append-nil}
 use Rattle.std.specs.List.{flat_map}
 use Rattle.std.proofs.lemmas.Bool.{false_from_ne_true, eq-eqb}
@@ -11,7 +11,7 @@ use Rattle.rig_model.specs.Views.{row_of}
 use Rattle.rig_laws.proofs.cited.TwoWorlds.{source_of_both, in_front, behind, same_place, each_has, source_of_end, kept_rows, kept_answers}
 use Rattle.giotto_tasks.proofs.cited.TestLemmas.{either, or_true}
 
--- lists that are equal for each of these
+-- the flattened lists are equal if the lists are equal for each of these sources
 flat_same : (f g : ℕ → List ℕ) (sources : List ℕ) → ((v : ℕ) → is_source sources v ≡ true → f v ≡ g v) → flat_map f sources ≡ flat_map g sources
 flat_same f g [] same = refl
 flat_same f g (s ∷ sources) same =
@@ -19,7 +19,7 @@ flat_same f g (s ∷ sources) same =
     let rest = flat_same f g sources (λ v e. same v (ap (λ b. eqb s v || b) e ∙ or_true (eqb s v))) in
     λ k. here k ++ rest k
 
--- among the same lists of more
+-- the sources in the flattened lists of some tenants are among those of more tenants
 flat_more : (f : ℕ → List ℕ) (sources others : List ℕ) (u : ℕ) → ((v : ℕ) → is_source sources v ≡ true → is_source others v ≡ true)
     → is_source (flat_map f sources) u ≡ true → is_source (flat_map f others) u ≡ true
 flat_more f [] others u more e = absurd (cc)
@@ -29,7 +29,7 @@ flat_more f (s ∷ sources) others u more e =
     (flat_more f sources others u (λ v h. more v (ap (λ b. eqb s v || b) h ∙ or_true (eqb s v))))
 
 module _ (setting : Setting) where
-  -- more sources behind an event are more before it
+  -- more sources after an event are more before it
   more_before : (e : Event) (past : List Event) (sources others : List ℕ) → ((v : ℕ) → is_source sources v ≡ true → is_source others v ≡ true)
       → (v : ℕ) → is_source (sources_before setting e past sources) v ≡ true → is_source (sources_before setting e past others) v ≡ true
   more_before (Own t c) past sources others more v e = more v e
@@ -49,7 +49,7 @@ module _ (setting : Setting) where
       more_from later past (sources_before setting x (later ++ past) sources) (sources_before setting x (later ++ past) others)
       (more_before x (later ++ past) sources others more) v e
 
-  -- where the same is kept, the sources have the same rows, and the sources before an instant are the same
+  -- if the same part is kept, the sources have the same rows, and the sources before an instant are the same
   same_row : (past others : List Event) (sources : List ℕ) (v : ℕ) → is_source sources v ≡ true → kept_from setting sources past ≡ kept_from setting sources others
       → row_of setting past v ≡ row_of setting others v
   same_row past others sources v e same =
@@ -80,7 +80,7 @@ module _ (setting : Setting) where
       ap (λ (events : List Event). Tick frame ∷ events) (kept ∙ ap (λ (s : List ℕ). kept_from setting s others) (same_before frame past others sources same))
 
   module _ (u : ℕ) where
-    -- the tenant at place u is no source anywhere in the list, or in the list without what it does
+    -- the tenant at place u is no source anywhere in the list, or in the list without its events
     abbrev IsNoSource : List Event → List ℕ → Type 0
     IsNoSource past sources =
         (is_source (sources_from setting sources past []) u ≡ false) ⊎ (is_source (sources_from setting sources (without_tenant u past) []) u ≡ false)
@@ -92,13 +92,13 @@ module _ (setting : Setting) where
     none_at_end past sources (inl e) = refuted sources _ (source_of_end setting past [] sources u) e
     none_at_end past sources (inr e) = refuted sources _ (source_of_end setting (without_tenant u past) [] sources u) e
 
-    -- the same is kept, and the sources are the same
+    -- the kept part is the same, and the sources are the same
     abbrev IsSame : List Event → List ℕ → Type 0
     IsSame past sources =
         (sources_from setting sources past [] ≡ sources_from setting sources (without_tenant u past) [])
         × (kept_from setting sources past ≡ kept_from setting sources (without_tenant u past))
 
-    -- those behind a tick have no source that those before it don't have
+    -- the sources after a tick are all among those before it
     pub fewer_in : (events others : List Event) (sources : List ℕ)
         → is_source (sources_from setting (sources ++ flat_map (λ t. suppliers_of setting (row_of setting others t)) sources) events []) u ≡ false
         → is_source (sources_from setting sources events []) u ≡ false

@@ -1,4 +1,4 @@
--- Overruns, and completions that come late or never were asked for, computed from the definitions.
+-- Overruns, and completions that come late or for a job that was never released, computed from the definitions.
 use Rattle.std.proofs.Common.{◌≡◌, ℕ, pos, List, [], ◌∷◌, ◌++◌, refl, true, false, reverse}
 use Rattle.std.specs.Prelude.{codes}
 use Rattle.std.specs.Fmt.{digits}
@@ -16,7 +16,7 @@ use Rattle.rig_laws.proofs.Rig.{rig}
 pub overrun_state : (row_of rig (reverse (loaded_and_started 0 ++ tick 5 ∷ tick 7 ∷ tick 9 ∷ [])) 0).state ≡ stopped (overrun (codes "T"))
 overrun_state = refl
 
--- After the first run the next release overruns: the actuator is initial again, the output and the sensor keep their values.
+-- After the first run the next release overruns: the actuator is initial again, and the output and the sensor keep their values.
 abbrev pub run_into_overrun : List Event
 run_into_overrun = first_run ++ tick 11 ∷ tick 13 ∷ shown 0 (codes "a") ∷ shown 0 (codes "o") ∷ shown 0 (codes "s") ∷ []
 
@@ -34,11 +34,11 @@ pub records_run_into_overrun : (row_of rig (reverse run_into_overrun) 0).records
     ∷ at 0 (happening.Act (codes "a") (pos 0)) ∷ at 0 (happening.Start (codes "m")) ∷ []
 records_run_into_overrun = refl
 
--- alpha overruns, is loaded and started anew, and its task is released again at instant 3
+-- alpha overruns, is loaded and started again, and its task is released again at instant 3
 abbrev again : List Event
 again = loaded_and_started 0 ++ tick 5 ∷ tick 7 ∷ tick 9 ∷ [] ++ (loaded_and_started 0 ++ tick 1 ∷ [])
 
--- the completion of the run that has ended is legal and counts for nothing
+-- the completion of the run that has ended is legal and doesn't count
 pub late_completion_is_legal : is_legal rig (reverse (again ++ completed 0 0 ∷ tick 1 ∷ tick 1 ∷ [])) ≡ true
 late_completion_is_legal = refl
 

@@ -1,4 +1,4 @@
--- A tenant's answers grow by what is replied to its commands, and by nothing else.
+-- A tenant's answers grow by the replies to its commands, and by nothing else.
 use Rattle.std.proofs.Common.{◌≡◌, ℕ, ◌+◌, ◌-◌, ◌^◌, ◌==◌, nat_lt, Bool, true, false, ℤ, List, [], ◌∷◌, ◌++◌, length, drop, map, reverse, Option, Some, None, codes, refl, sym, ap, ◌∙◌, append_assoc, append-nil}
 use Rattle.std.proofs.lemmas.Bool.{eqb-true}
 use Rattle.std.proofs.Math.Seq.{drop-append-add}
@@ -25,7 +25,7 @@ use Rattle.rig_model.specs.Script.{Step, OperatorLine, tick, work, work_of, line
 use Rattle.rig_model.specs.TenantReplies.{is_own_command, own_reply, own_replies}
 
 module _ (setting : Setting) (t : ℕ) where
-  -- the answers behind a step
+  -- the answers after a step
   abbrev behind : Step → List Event → List ℕ
   behind step past = answers_of setting (step.events ++ past) t
 
@@ -79,7 +79,7 @@ module _ (setting : Setting) (t : ℕ) where
           let steps : operator_step setting past words ≡ lines_step setting past = rw e refl in
           ap (λ s. behind s past) steps
 
-  -- a line that is no command of the tenant has no reply of its own, and its step leaves the answers
+  -- a line that is no command of the tenant adds nothing to the tenant's replies, and its step doesn't change the answers
   unanswered : (past : List Event) (line : List ℕ) (step : Step) → line_step setting past line ≡ step → own_reply setting t past line ≡ [] → behind step past ≡ answers_of setting past t
       → answers_of setting (past_behind setting past line) t ≡ answers_of setting past t ++ own_reply setting t past line
   unanswered past line step is none quiet =

@@ -1,4 +1,4 @@
--- The ports with which the adder begins, computed from the definitions.
+-- The ports that the adder begins with, computed from the definitions.
 use Rattle.std.proofs.Common.{◌≡◌, pos, [], ◌∷◌, Some, None, refl}
 use Rattle.std.specs.Prelude.{codes}
 use Rattle.rig_model.proofs.of_text.Adder.{adder}

@@ -1,4 +1,4 @@
--- What is recorded of the updates of a small mode and of a task's outputs, computed from the definitions.
+-- The records of the updates of a small mode and of a task's outputs, computed from the definitions.
 use Rattle.std.proofs.Common.{◌≡◌, pos, [], ◌∷◌, Some, None, refl}
 use Rattle.std.specs.Prelude.{codes}
 use Rattle.giotto_tasks.specs.Names.{Valuation}

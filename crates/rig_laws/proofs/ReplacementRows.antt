@@ -1,4 +1,4 @@
--- What small programs keep of the values of the one that they replace, computed from the definitions.
+-- The values that small programs keep of the program that they replace, computed from the definitions.
 use Rattle.std.proofs.Common.{◌≡◌, pos, negsuc, List, [], ◌∷◌, None, refl}
 use Rattle.std.specs.Prelude.{codes}
 use Rattle.giotto_tasks.specs.Names.{Valuation}
@@ -6,7 +6,7 @@ use Rattle.giotto_tasks.specs.Syntax.{finished}
 use Rattle.rig_model.specs.text.Program.{from_line, from_grant, SensorDeclaration, ActuatorDeclaration, GiottoProgram}
 use Rattle.rig_model.specs.Replacement.{carried_ports}
 
--- sensors and actuators, and besides: output o := 1; task T(x) output o state n := 2 { }
+-- these sensors and actuators, and also: output o := 1; task T(x) output o state n := 2 { }
 abbrev program_of : List SensorDeclaration → List ActuatorDeclaration → GiottoProgram
 program_of sensors actuators = record {
   sensors = sensors;
@@ -40,6 +40,6 @@ kind_changed = refl
 abbrev other_places : GiottoProgram
 other_places = program_of (record { name = codes "g"; initial = pos 50; source = from_grant } ∷ record { name = codes "s"; initial = pos 60; source = from_grant } ∷ []) (record { name = codes "b"; initial = pos 70; line = None } ∷ [])
 
--- a sensor keeps its value wherever it stands and whatever it reads
+-- a sensor keeps its value wherever it is declared and whatever it reads
 pub elsewhere : carried_ports ports running other_places ≡ (codes "g", pos 50) ∷ (codes "s", pos 5) ∷ (codes "b", pos 70) ∷ (codes "o", pos 1) ∷ (codes "T.x", pos 0) ∷ (codes "T.n", pos 2) ∷ []
 elsewhere = refl

@@ -1,4 +1,4 @@
--- Scripts that differ in the lines of tenants that are no sources: the same is kept for a tenant, whatever jobs either completes.
+-- Scripts that differ only in lines of tenants that are no sources: the same part is kept for a tenant, whatever jobs either completes.
 use Rattle.std.proofs.Common.{◌≡◌, ℕ, ◌+◌, ◌-◌, ◌^◌, ◌==◌, nat_lt, ◌⊎◌, ⊎_elim, inl, inr, Bool, true, false, cond, not, ℤ, List, [], ◌∷◌, ◌++◌, length, map, filter, reverse, Option, Some, None, refl, sym, ap, ◌∙◌, subst}
 use Rattle.std.specs.List.{enumerate_from, flat_map, AllByRecursion}
 use Rattle.std.specs.Option.{option_map_or}
@@ -32,7 +32,7 @@ use Rattle.rig_laws.proofs.cited.TwoWorlds.{kept_answers, kept_completions, kept
 use Rattle.rig_laws.proofs.OtherTenants.{at_place, fewer_in, moved, refuted, same_froms, same_kepts}
 use Rattle.rig_laws.proofs.OwnReplies.{answered_along}
 
--- lists that are equal for each element
+-- the flattened lists are equal if the lists are equal for each element
 flat_each : {X Y : Type 0} (f g : X → List Y) (xs : List X) → ((x : X) → f x ≡ g x) → flat_map f xs ≡ flat_map g xs
 flat_each f g xs each = λ k. flat_map (λ x. each x k) xs
 
@@ -41,12 +41,12 @@ none_pass : {X : Type 0} (test : X → Bool) (xs : List X) → AllByRecursion (�
 none_pass test [] all = refl
 none_pass test (x ∷ xs) all = ap (λ b. cond b (x ∷ filter test xs) (filter test xs)) all.0 ∙ none_pass test xs all.1
 
--- those of these jobs that belong to one of these tenants
+-- those of these jobs that are jobs of one of these tenants
 abbrev jobs_of : List ℕ → List JobId → List JobId
 jobs_of tenants js = filter (λ (j : JobId). is_source tenants j.tenant) js
 
 module _ (setting : Setting) where
-  -- completions add nothing but themselves, and those of the sources are kept
+  -- completions add only themselves, and those of the sources are kept
   kept_done : (js : List JobId) (past : List Event) (sources : List ℕ)
       → kept_from setting sources (reverse (map Done js) ++ past) ≡ reverse (map Done (jobs_of sources js)) ++ kept_from setting sources past
   kept_done [] past sources = refl
@@ -70,7 +70,7 @@ module _ (setting : Setting) where
   ticks_done [] past = refl
   ticks_done (j ∷ js) past = ap (next_tick setting) (first_done j js past) ∙ ticks_done js (Done j ∷ past)
 
-  -- the outstanding jobs of a source are outstanding behind what is kept
+  -- the outstanding jobs of a source are also outstanding after the kept part
   outstanding_kept : (past : List Event) (sources : List ℕ) (t : ℕ) → is_source sources t ≡ true → outstanding_at setting (kept_from setting sources past) t ≡ outstanding_at setting past t
   outstanding_kept past sources t e =
       ap (λ (row : Row). filter (is_open kept) (map (job_of t) row.active)) (kept_rows setting past sources t e)
@@ -87,14 +87,14 @@ module _ (setting : Setting) where
       is_open : List Event → JobId → Bool
       is_open events j = not (has_completion setting events j)
 
-  -- those of another tenant belong to no source
+  -- the outstanding jobs of a tenant that is no source belong to no source
   outstanding_elsewhere : (past : List Event) (sources : List ℕ) (t : ℕ) → is_source sources t ≡ false → jobs_of sources (outstanding_at setting past t) ≡ []
   outstanding_elsewhere past sources t e =
       none_pass (λ (j : JobId). is_source sources j.tenant) (outstanding_at setting past t)
       (all_filtered (λ (j : JobId). is_source sources j.tenant ≡ false) (job_of t) (λ j. not (has_completion setting past j)) (row_of setting past t).active
       (all_of {P = λ (a : ActiveTask). is_source sources t ≡ false} (λ a. e) (row_of setting past t).active))
 
-  -- where the same is kept, the sources have the same outstanding jobs
+  -- if the same part is kept, the sources have the same outstanding jobs
   module _ (past others : List Event) (sources : List ℕ) (same : kept_from setting sources past ≡ kept_from setting sources others) where
     same_outstanding : (t : ℕ) → jobs_of sources (outstanding_at setting past t) ≡ jobs_of sources (outstanding_at setting others t)
     same_outstanding t = by (is_source sources t) refl
@@ -120,7 +120,7 @@ module _ (setting : Setting) where
         belongs : JobId → Bool
         belongs j = is_source sources j.tenant
 
-  -- the sources are the same, and the same is kept
+  -- the sources are the same, and the kept part is the same
   abbrev IsSame : List Event → List Event → List ℕ → Type 0
   IsSame past others sources =
       (sources_from setting sources past [] ≡ sources_from setting sources others []) × (kept_from setting sources past ≡ kept_from setting sources others)
@@ -130,7 +130,7 @@ module _ (setting : Setting) where
     abbrev AreNoSources : List Event → List ℕ → Type 0
     AreNoSources past sources = (u : ℕ) → tenants u ≡ true → is_source (sources_from setting sources past []) u ≡ false
 
-    -- as many instants, and the same for all sources that have none of these tenants among them in the first list
+    -- equally many instants, and `IsSame` for all sources that have none of these tenants among them anywhere in the first list
     record Alike (past others : List Event) : Type 0 where
       pub ticks : next_tick setting past ≡ next_tick setting others
       pub same : (sources : List ℕ) → AreNoSources past sources → IsSame past others sources
@@ -175,7 +175,7 @@ module _ (setting : Setting) where
       same = λ sources absent. let h = alike.same sources absent in (h.0, h.1 ∙ sym (not_kept u c past sources (kept_from setting sources others) e absent));
     }
 
-    -- what one of these tenants says adds nothing, or a command of its
+    -- a line of one of these tenants adds nothing, or one of the tenant's commands
     abbrev IsSaid : List Event → List ℕ → Type 0
     IsSaid past line =
         ((line_step setting past line).events ≡ [])
@@ -195,7 +195,7 @@ module _ (setting : Setting) where
         by Unknown speaks e = absurd (cc)
 
     module _ (past others : List Event) (alike : Alike past others) where
-      -- alike behind what these steps add
+      -- alike after what these steps add
       abbrev Behind : Step → Step → Type 0
       Behind step other = Alike (step.events ++ past) (other.events ++ others)
 
@@ -284,7 +284,7 @@ module _ (setting : Setting) where
           by (Some c) e =
               by_events (tenant_step setting past t who line) (tenant_step setting others t who line) (Own t c ∷ []) (Own t c ∷ []) (rw e refl) (rw e refl) (alike_own t c past others alike)
 
-      -- behind the same line
+      -- after the same line
       alike_line : (line : List ℕ) → Alike (past_behind setting past line) (past_behind setting others line)
       alike_line line = by (speaker_of setting.config line) refl
         where
@@ -312,7 +312,7 @@ module _ (setting : Setting) where
               by_steps first (own past t) second (own others t) here there (alike_tenant t (first_word_of line) (behind_first_word line))
           by Unknown e = quiet first second (rw e refl) (rw e refl)
 
-      -- behind a line of one of these tenants, in one of the two
+      -- after a line of one of these tenants, in one of the two
       line_in_first : (line : List ℕ) → is_one_of tenants (speaker_of setting.config line) ≡ true → Alike (past_behind setting past line) others
       line_in_first line one =
           ⊎_elim
@@ -330,7 +330,8 @@ module _ (setting : Setting) where
     abbrev left_in : List (List ℕ) → List (List ℕ)
     left_in lines = without_lines_of setting.config tenants lines
 
-    -- What the same line keeps in both, and a line of these tenants in the first alone, is kept by a script beside the script without the lines of these tenants.
+    -- A relation holds between a script and the script without the lines of these tenants, if it is kept by the same line in both, and by a
+    -- line of these tenants in the first script alone.
     module _ (R : List Event → List Event → Type 0)
         (both : (line : List ℕ) (past others : List Event) → R past others → R (past_behind setting past line) (past_behind setting others line))
         (first : (line : List ℕ) (past others : List Event) → is_one_of tenants (speaker_of setting.config line) ≡ true → R past others → R (past_behind setting past line) others) where

@@ -1,4 +1,4 @@
--- Sessions, from their bytes to the calls that they make and the bytes that are answered, computed from the definitions.
+-- Sessions, from their bytes to the calls that they make and the bytes that answer them, computed from the definitions.
 use Rattle.std.proofs.Common.{◌≡◌, ℕ, List, [], ◌∷◌, ◌++◌, refl}
 use Rattle.std.specs.Prelude.{codes}
 use Rattle.std.specs.Char.{encode_utf8}
@@ -11,12 +11,12 @@ use Rattle.rig_model.specs.declared.lines.commands.Command.TheVariants.{ShowMode
 use Rattle.rig_model.specs.declared.lines.replies.Reply.TheVariants.{Mode, Started}
 use Rattle.rig_model.specs.declared.lines.replies.Status.TheVariants.{Empty}
 
--- lines, each with LF behind it
+-- lines, each followed by LF
 abbrev lines : List (List ℕ) → List ℕ
 lines ls = flat_map (λ l. l ++ 10 ∷ []) ls
 
--- Who isn't greeted makes no call; an unknown tenant and a wrong key are answered alike; a blank line has no reply, and the last line
--- needs no LF.
+-- A client that isn't greeted makes no call. An unknown tenant and a wrong key have the same reply. A blank line has no reply, and the last
+-- line needs no LF.
 greetings : session_of built_in_config (replied (Mode Empty) ∷ [])
     (cut (lines (codes "show mode" ∷ codes "hello alpha no" ∷ codes "hello nobody ka" ∷ codes "hello alpha ka" ∷ codes "hello alpha ka" ∷ [] ∷ []) ++ codes "show mode"))
     ≡ record {
@@ -28,7 +28,7 @@ greetings : session_of built_in_config (replied (Mode Empty) ∷ [])
 unfolding is_utf8 chars encode_utf8
 greetings = refl
 
--- Nothing is answered behind a call that is refused.
+-- Nothing is answered after a refused call.
 full_pass : session_of built_in_config (replied (Mode Empty) ∷ pass_full ∷ []) (cut (lines (codes "hello alpha ka" ∷ codes "show mode" ∷ codes "show mode" ∷ codes "rows" ∷ [])))
     ≡ record {
       state = ended;
@@ -49,7 +49,7 @@ strange_pass : session_of built_in_config (replied (Mode Empty) ∷ strange ∷ 
 unfolding is_utf8 chars encode_utf8
 strange_pass = refl
 
--- Want of memory ends nothing: a call that found none isn't made, and one whose reply couldn't be told is.
+-- Running out of memory doesn't end the session. A call without memory isn't made. A call with no memory for its reply is made.
 memory : session_of built_in_config (no_memory ∷ untold Started ∷ []) (cut (lines (codes "hello beta kb" ∷ codes "start" ∷ codes "start" ∷ codes "quit" ∷ codes "start" ∷ [])))
     ≡ record {
       state = ended;
@@ -60,7 +60,7 @@ memory : session_of built_in_config (no_memory ∷ untold Started ∷ []) (cut (
 unfolding is_utf8 chars encode_utf8
 memory = refl
 
--- A name has the shape of one, a key is any word, and nothing stands behind either or behind "quit"; a byte that is no text ends it.
+-- A name must have a name's shape, and a key is any word. No word may follow either, or "quit". A line that is not UTF-8 ends the session.
 forms : session_of built_in_config []
     (cut (lines (codes "hello" ∷ codes "hello alpha" ∷ codes "hello 9x ka" ∷ codes "hello alpha ka now" ∷ codes "quit now" ∷ codes "fly" ∷ codes "\thello  alpha\tka\r" ∷ (0xff ∷ []) ∷ codes "quit" ∷ [])))
     ≡ record {
@@ -73,7 +73,7 @@ forms : session_of built_in_config []
 unfolding is_utf8 chars encode_utf8
 forms = refl
 
--- Who isn't greeted may leave.
+-- A client that isn't greeted may quit.
 early_quit : (session_of built_in_config [] (cut (lines (codes "quit" ∷ codes "hello alpha ka" ∷ [])))).text ≡ lines (codes "bye" ∷ [])
 unfolding is_utf8 chars encode_utf8
 early_quit = refl

@@ -15,8 +15,8 @@ use Rattle.rig_laws.proofs.FirstRun.{answered, tick, completed, first_run}
 use Rattle.rig_laws.proofs.Rig.{rig}
 use Rattle.rig_model.proofs.of_rules.ExamplePrograms.{switcher_text, two_constants}
 
--- T of period 3 is released at instant 0. The switch at mode time 2 finds it unfinished, one tick before its deadline, and so enters mode n, of
--- period 9, at mode time 8, one tick before its end.
+-- T of period 3 is released at instant 0. At the switch, at mode time 2, it is unfinished, one tick before its deadline. So mode n, of period
+-- 9, is entered at mode time 8, one tick before its end.
 abbrev switched_run : List Event
 switched_run = Own 0 (Load switcher_text) ∷ Own 0 Start ∷ tick 1 ∷ tick 2 ∷ tick 5 ∷ []
 
@@ -30,18 +30,19 @@ pub switched_records : (row_of rig (reverse switched_run) 0).records
     ≡ record { tick = 2; happening = happening.Mode (codes "n") } ∷ record { tick = 0; happening = happening.Start (codes "m") } ∷ []
 switched_records = refl
 
--- what alpha is shown there, and behind a stop
+-- what alpha is shown there, and after a stop
 pub switched_answers : answers_of rig (reverse (switched_run ++ Own 0 ShowMode ∷ Own 0 ShowAll ∷ Own 0 Stop ∷ Own 0 ShowMode ∷ [])) 0
     ≡ answered (codes "ok load" ∷ codes "ok start" ∷ codes "ok mode running n 0" ∷ codes "ok all s=5 o=0 T.i=1" ∷ codes "ok stop" ∷ codes "ok mode stopped asked" ∷ [])
 unfolding digits
 switched_answers = refl
 
--- T goes on in n and ends there, with what it read at its release.
+-- T continues in n and ends there, with the input that it read at its release.
 pub switched_output : (row_of rig (reverse (switched_run ++ completed 0 0 ∷ tick 3 ∷ [])) 0).ports
     ≡ (codes "s", pos 3) ∷ (codes "o", pos 2) ∷ (codes "T.i", pos 3) ∷ []
 switched_output = refl
 
--- A program that waits while the adder runs is installed when the adder's period ends: the old outputs are written first, and the actuator of the same name keeps its value.
+-- A program that waits while the adder runs is installed when the adder's period ends: the old outputs are written first, and the actuator
+-- of the same name keeps its value.
 abbrev waiting : Row
 waiting = record (row_of rig (reverse (first_run ++ tick 3 ∷ completed 0 2 ∷ [])) 0) { waiting = Some two_constants }
 

@@ -1,4 +1,4 @@
--- The whole host on the first run beside beta, computed from the definitions.
+-- The whole host on the first run alongside beta, computed from the definitions.
 use Rattle.std.proofs.Common.{◌≡◌, pos, [], ◌∷◌, refl, reverse, map}
 use Rattle.std.specs.Prelude.{codes}
 use Rattle.rig_model.specs.Row.{Row}

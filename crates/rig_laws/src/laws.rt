@@ -17,15 +17,15 @@ ghost use Rattle.rig_model.specs.DifferingScripts.{DifferInNoSource};
 ghost use Rattle.rig_model.specs.Script.{past_after};
 ghost use Rattle.rig_model.specs.TenantReplies.{own_replies};
 
-/// Two lists of events, the newest first, that give a tenant equal views give it equal answers.
+/// If two lists of events, the newest first, give a tenant equal views, they give it equal answers.
 pub fn equal_views_give_equal_answers()
     ensures { (setting : Setting) (past others : List Event) (t : ℕ) →
         view_of setting past t ≡ view_of setting others t → answers_of setting past t ≡ answers_of setting others t }
 {}
 
-/// After every legal list of events, the newest first, that begins with a base, each tenant's row in the whole host is that of
-/// the one-tenant machine over the tenant's own view, and the host awaits just the completions that count. Its clock is the
-/// number of the next instant.
+/// After every legal list of events that begins with a base, each tenant's row in the whole host is that of the one-tenant machine over the
+/// tenant's own view. The list has the newest event first. The host awaits exactly the completions that count. Its clock is the number of
+/// the next instant.
 pub fn whole_host()
     ensures rows { (setting : Setting) (past : List Event) (t : ℕ) → IsHistory setting past
         → is_tenant setting.config t ≡ true → row_at (host_after setting past) t ≡ row_of setting past t }
@@ -39,36 +39,36 @@ pub fn new_host_is_a_base()
     ensures { (config : Rig) (first_tick : ℕ) → IsBase config (new_base config first_tick) }
 {}
 
-/// What stands behind a legal list of events, the newest first, that begins with a base is a base again.
+/// The host after a legal list of events, the newest first, that begins with a base is a base again.
 pub fn later_host_is_a_base()
     ensures { (setting : Setting) (past : List Event) → IsHistory setting past → IsBase setting.config (host_after setting past) }
 {}
 
-/// What is kept for a tenant of a legal list of events, the newest first, that begins with a base is legal too.
+/// The part of a legal list of events that is kept for a tenant is legal too. The list begins with a base and has the newest event first.
 pub fn kept_list_is_legal()
     ensures { (setting : Setting) (past : List Event) (t : ℕ) → IsHistory setting past → is_legal setting (kept_of setting past t) ≡ true }
 {}
 
-/// What is kept of a list of events, the newest first, for a tenant gives it the answers of the whole list.
+/// The part of a list of events that is kept for a tenant gives it the answers of the whole list. The list has the newest event first.
 pub fn kept_list_gives_equal_answers()
     ensures { (setting : Setting) (past : List Event) (t : ℕ) → answers_of setting (kept_of setting past t) t ≡ answers_of setting past t }
 {}
 
-/// Two lists of events, the newest first, of which the same is kept for a tenant give it equal answers, whatever values are
-/// granted in either.
+/// If the same part of two lists of events is kept for a tenant, they give it equal answers, whatever values are granted in either. The lists
+/// have the newest event first.
 pub fn equal_kept_lists_give_equal_answers()
     ensures { (setting : Setting) (past others : List Event) (t : ℕ) →
         kept_of setting past t ≡ kept_of setting others t → answers_of setting past t ≡ answers_of setting others t }
 {}
 
-/// A tenant that is a source of another at one place of a list is one at each earlier place.
+/// A tenant that is a source of another at one place of a list is also its source at each earlier place.
 pub fn sources_stay_sources()
     ensures { (setting : Setting) (t u : ℕ) (later more past : List Event) →
         is_source (sources_of setting t later (more ++ past)) u ≡ true → is_source (sources_of setting t (later ++ more) past) u ≡ true }
 {}
 
-/// Where a tenant is no source of another one anywhere in a list, the other one's answers stay as they are, whatever commands
-/// and completions of that tenant are left out, put in or changed.
+/// If a tenant is nowhere in a list a source of another tenant, the other tenant's answers don't change, whatever commands and completions
+/// of the first tenant are left out, added or changed.
 pub fn no_source_changes_no_answer()
     ensures kept { (setting : Setting) (past others : List Event) (t u : ℕ) → is_source (sources_of setting t past []) u ≡ false
         → without_tenant u past ≡ without_tenant u others → kept_of setting past t ≡ kept_of setting others t }
@@ -76,16 +76,16 @@ pub fn no_source_changes_no_answer()
         → without_tenant u past ≡ without_tenant u others → answers_of setting past t ≡ answers_of setting others t }
 {}
 
-/// What a script's text replies to a tenant's commands are that tenant's answers by the model, over its view of the events that
-/// the lines spell: for each tenant, lines, and events before them.
+/// The replies to a tenant's commands in a script's text are the tenant's answers by the model, over its view of the events that the lines
+/// spell. This holds for each tenant, for all lines, and after any events.
 pub fn own_replies_are_answers()
     ensures { (setting : Setting) (t : ℕ) (past : List Event) (lines : List (List ℕ)) →
         answers_of setting (past_after setting past lines) t ≡ answers_of setting past t ++ own_replies setting t past lines }
 {}
 
-/// Where none of some tenants is a source of another one anywhere in a script, what the script's text replies to the other one's
-/// commands stays as it is, whatever lines of those tenants are left out, put in or changed. Each `op work` completes the jobs that
-/// are outstanding in its own script, and these may differ. None of those tenants becomes a source by it.
+/// If none of some tenants is anywhere in a script a source of another tenant, the replies to the other tenant's commands don't change,
+/// whatever lines of those tenants are left out, added or changed. Each `op work` completes the jobs that are outstanding in its own script,
+/// and these may differ. That makes none of those tenants a source.
 pub fn no_source_changes_no_reply()
     ensures sources { (setting : Setting) (tenants : ℕ → Bool) (t : ℕ) (past : List Event) (lines others : List (List ℕ)) →
         DifferInNoSource setting tenants t past lines others
@@ -106,12 +106,12 @@ pub fn replay_is_legal()
     ensures { (setting : Setting) (log : List Logged) → IsBase setting.config setting.base → IsReplay setting log → IsLegalLog setting log }
 {}
 
-/// What a legal log answers a tenant are its answers by the model, over the events of the log.
+/// The answers of a legal log to a tenant are the tenant's answers by the model, over the events of the log.
 pub fn log_has_answers()
     ensures { (setting : Setting) (log : List Logged) (t : ℕ) → IsLegalLog setting log → answers_in log t ≡ answers_of setting (events_of log) t }
 {}
 
-/// What a legal log answers a tenant are its answers over what is kept for it of the log's events, and those are legal.
+/// The answers of a legal log to a tenant are its answers over the part of the log's events that is kept for it, and that part is legal.
 pub fn log_has_kept_answers()
     ensures { (setting : Setting) (log : List Logged) (t : ℕ) → IsLegalLog setting log
         → answers_in log t ≡ answers_of setting (kept_of setting (events_of log) t) t }

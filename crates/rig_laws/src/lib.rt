@@ -1,8 +1,8 @@
-//! What holds of the definitions of `rig_model` alone, whatever the code: each law is a function without a body that carries it.
+//! Laws of the definitions of `rig_model`, which hold for any code: each is a function without a body that carries it.
 //!
-//! [`laws`] has the law of the whole host, that each tenant's row is that of the one-tenant machine over its own view; views, legality
-//! and bases; kept lists and sources, with the two-worlds theorem; the replies of a script; and logs, which are legal where the host's steps
-//! give them. Worked rows are computed in `proofs/`.
+//! [`laws`] has the law of the whole host: each tenant's row is that of the one-tenant machine over its own view. It also has laws of
+//! views, legality and bases; of kept lists and sources, with the two-worlds theorem; of the replies of a script; and of logs, which are
+//! legal if the host's steps give them. Worked rows are computed in `proofs/`.
 #![tactic(auto)]
 
 pub mod laws;

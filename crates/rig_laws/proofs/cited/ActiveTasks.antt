@@ -1,4 +1,4 @@
--- What holds of each active task is kept by each step, if it holds of what is released at the instant's number.
+-- Each step keeps a property of each active task, if the tasks that are released at the instant's number have it.
 use Rattle.std.proofs.Common.{◌≡◌, ℕ, ◌+◌, Bool, true, false, cond, List, [], ◌∷◌, Option, Some, None, length}
 use Rattle.std.specs.Prelude.{Result, Ok, Err, option_to_list}
 use Rattle.std.specs.Option.{option_map}
@@ -96,18 +96,18 @@ module _ (P : ActiveTask → Type 0) (n : ℕ) where
         keeps_in_mode _ _ (λ p m r kr. let all = keeps_invoked p m r kr in record { each = all.each; at = all.at })
         (keeps_in_mode _ _ (λ p m r kr. keeps_switched readings granted p m r kr) (keeps_replaced row k))
 
-    -- what holds before the second half, and of what is released, holds behind it
+    -- what holds of the tasks before the second half, and of released tasks, holds after it
     pub kept_by_second_half : (readings : Readings) (granted : Valuation) (row : Row) → Keeps row → AllByRecursion P (second_half_of readings granted row).active
     kept_by_second_half readings granted row k = (keeps_if (is_running row) _ row (keeps_running readings granted row k) k).each
 
-    -- the second half, but for the next tick, which it moves on
+    -- the same for an instant, which also moves the next tick on
     pub kept_by_instant : (i : LocalInstant) (row : Row) → Keeps row → AllByRecursion P (after_instant i row).active × ((after_instant i row).next_tick ≡ n + 1)
     kept_by_instant i row k =
         let half = keeps_first_half i.unfinished row k in
         let moved = keeps_if _ _ _ (keeps_running i.readings i.granted (first_half_of i.unfinished row) half) half in
         (moved.each, λ j. moved.at j + 1)
 
-  -- a command leaves the active tasks, or there are none
+  -- a command keeps the active tasks, or leaves none
   keeps_within : (p : GiottoProgram) (row : Row) (o : Option Budget) → Keeps row → Keeps (load_within p row o).row
   keeps_within p row None k = record { each = tt; at = k.at }
   keeps_within p row (Some b) k = k

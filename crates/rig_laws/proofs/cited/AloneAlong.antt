@@ -49,7 +49,7 @@ module _ (setting : Setting) where
       counting : HostState
       counting = record host { counted = j ∷ host.counted }
 
-      -- a job that is active and isn't awaited is counted, if it is this one
+      -- an active job that isn't awaited is counted, if it is this one
       not_awaited : is_awaited host j ≡ false → (k : JobId) → is_active (row_at host k.tenant) k ≡ true → is_counted host k ≡ has_completion setting past k
           → is_counted host k ≡ (same_job j k || has_completion setting past k)
       not_awaited e k active marked = split (same_job j k) refl
@@ -93,7 +93,7 @@ module _ (setting : Setting) where
         known = known_if b;
       }
 
-  -- the instant of each tenant is that of its view
+  -- each tenant's instant is that of its view
   same_unfinished : (host : HostState) (past : List Event) → Agrees setting host past → (t : ℕ) → t < length setting.config.tenants
       → unfinished_at host t ≡ unfinished_of setting past t (row_of setting past t)
   same_unfinished host past agrees t lt =
@@ -199,7 +199,7 @@ module _ (setting : Setting) where
       by true e = e
       by false e = e
 
-  -- where the history begins with a base
+  -- if the history begins with a base
   module _ (base : IsBase setting.config setting.base) where
     pub agrees_along : (past : List Event) → is_legal setting past ≡ true → Agrees setting (host_after setting past) past
     agrees_along [] legal = base_agrees base

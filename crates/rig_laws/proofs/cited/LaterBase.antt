@@ -1,4 +1,4 @@
--- What stands behind a legal list is a base again, and so is a new host.
+-- The host after a legal list is a base again, and so is a new host.
 use Rattle.std.proofs.Common.{◌≡◌, ℕ, ◌<◌, ⊎_elim, Bool, true, false, cond, List, [], ◌∷◌, length, map, filter, refl, sym, ap, ◌∙◌, subst, arith}
 use Rattle.std.specs.List.{list_any, AllByRecursion}
 use Rattle.std.proofs.lemmas.Bool.{cases_lt, and_parts}

@@ -7,10 +7,10 @@ use Rattle.rig_model.specs.declared.jobs.JobId.{JobId}
 use Rattle.rig_model.specs.declared.events.Event.{Event}
 use Rattle.rig_model.specs.declared.events.Event.TheVariants.{Done}
 
--- a tenant of no name
+-- a tenant without a name
 abbrev pub nobody : TenantConfig
 nobody = record { name = []; key = []; budgets = no_budgets }
 
--- of the completions of these jobs, the first comes first
+-- of the completions of these jobs, the first job's comes first
 pub first_done : (j : JobId) (js : List JobId) (past : List Event) → reverse (map Done (j ∷ js)) ++ past ≡ reverse (map Done js) ++ (Done j ∷ past)
 first_done j js past = ap (λ es. es ++ past) (reverse-append (Done j ∷ []) (map Done js)) ∙ append_assoc (reverse (map Done js)) (Done j ∷ []) past

@@ -1,4 +1,4 @@
--- Which jobs were released in a history, and what stands outside the roster.
+-- The jobs that were released in a history, and the rows of places outside the roster.
 use Rattle.std.proofs.Common.{◌≡◌, ℕ, ◌<◌, ◌≤◌, ◌⊎◌, inl, inr, true, false, cond, ◌||◌, eqb, ℤ, List, [], ◌∷◌, length, sym, ap, ◌∙◌, arith}
 use Rattle.std.specs.List.{AllByRecursion}
 use Rattle.std.proofs.lemmas.Bool.{and_parts}
@@ -71,7 +71,7 @@ module _ (setting : Setting) (base : IsBase setting.config setting.base) where
   pub released_done : (past : List Event) (i j : JobId) → was_released setting (Done i ∷ past) j ≡ was_released setting past j
   released_done past i j = absorbed (is_active (row_of setting (Done i ∷ past) j.tenant) j) (was_released setting past j) (released_if_active past j)
 
-  -- an instant releases under its own number
+  -- an instant releases jobs under its own number
   pub active_behind : (past : List Event) (frame : List ℤ) (j : JobId) → is_active (row_of setting (Tick frame ∷ past) j.tenant) j ≡ true
       → (j.tick ≡ next_tick setting past) ⊎ (was_released setting past j ≡ true)
   active_behind past frame j =

@@ -30,7 +30,7 @@ released : (setting : Setting) (past : List Event) (j : JobId) → is_active (ro
 released setting [] j e = e
 released setting (x ∷ past) j e = ap (λ b. b || was_released setting past j) e
 
--- a job that is awaited is one of a tenant of the roster
+-- an awaited job is a job of a tenant of the roster
 of_roster : (setting : Setting) (host : HostState) (j : JobId) → length host.rows ≡ length setting.config.tenants → is_awaited host j ≡ true → is_tenant setting.config j.tenant ≡ true
 of_roster setting host j long e = ⊎_elim
     (λ (lt : j.tenant < length setting.config.tenants). grind (arith, nat_tests))
@@ -42,7 +42,7 @@ of_roster setting host j long e = ⊎_elim
     (cases_lt j.tenant (length setting.config.tenants))
 
 module _ (setting : Setting) (base : IsBase setting.config setting.base) where
-  -- an entry that the host gives may come, and holds
+  -- an entry that the host gives may come next, and holds
   follows : (log : List Logged) (e : Logged) → is_legal setting (events_of log) ≡ true → Gives setting (host_after setting (events_of log)) e
       → (may_follow setting (events_of log) (event_of e) ≡ true) × Holds setting log e
   follows log (logged.Call seat call) legal g =

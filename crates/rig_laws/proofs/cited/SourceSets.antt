@@ -1,4 +1,4 @@
--- Sets of sources: what follows from them goes by membership alone.
+-- Sets of sources: what follows from them depends on membership alone.
 use Rattle.std.proofs.Common.{◌≡◌, ℕ, Bool, true, ◌||◌, eqb, List, [], ◌∷◌, ◌++◌, refl, sym, ap, ◌∙◌, arith}
 use Rattle.std.specs.List.{list_any, flat_map}
 use Rattle.std.proofs.lemmas.Bool.{eq-eqb}
@@ -37,7 +37,7 @@ any_flat p f [] = refl
 any_flat p f (x ∷ xs) = list_any-append p (f x) (flat_map f xs) ∙ ap (λ b. list_any p (f x) || b) (any_flat p f xs)
 
 module _ (setting : Setting) where
-  -- before an instant: a source behind it, or a supplier of one
+  -- before an instant: a source after it, or a supplier of one
   pub before_tick : (past : List Event) (ss : List ℕ) (u : ℕ)
       → is_source (ss ++ flat_map (λ t. suppliers_of setting (row_of setting past t)) ss) u ≡ (is_source ss u || list_any (λ t. is_source (suppliers_of setting (row_of setting past t)) u) ss)
   before_tick past ss u =

@@ -1,4 +1,4 @@
--- What is kept of a list for a tenant: it is legal where the list is, and gives the tenant the same view.
+-- The part of a list that is kept for a tenant: it is legal if the list is, and it gives the tenant the same view.
 use Rattle.std.proofs.Common.{◌≡◌, ℕ, ◌+◌, Bool, true, false, cond, ◌&&◌, ◌||◌, eqb, ℤ, List, [], ◌∷◌, ◌++◌, length, map, Option, Some, None, refl, sym, ap, ◌∙◌, subst, append_assoc, arith}
 use Rattle.std.specs.Prelude.{nat_lt, ◌-◌, ◌^◌}
 use Rattle.std.specs.List.{cons_option, filter_map, flat_map, AllByRecursion}
@@ -31,7 +31,7 @@ use Rattle.rig_model.proofs.cited.JobNames.{same_job_is}
 use Rattle.giotto_tasks.proofs.cited.ListLemmas.{all_map, map_same}
 use Rattle.giotto_tasks.proofs.cited.TestLemmas.{either, or_true}
 
--- one among two lists of sources
+-- a source in two joined lists is in one of them
 pub source_of_both : (xs ys : List ℕ) (u : ℕ) → is_source (xs ++ ys) u ≡ (is_source xs u || is_source ys u)
 source_of_both xs ys u = list_any-append (λ t. eqb t u) xs ys
 
@@ -48,7 +48,7 @@ own_source t = ap (λ b. b || false) (eq-eqb t t refl)
 pub same_place : (t u : ℕ) → eqb t u ≡ true → t ≡ u
 same_place t u e = grind (arith, nat_tests)
 
--- what every source has by a list, one of them has
+-- what the list of one source has, the flattened lists of all sources have
 pub each_has : (f : ℕ → List ℕ) (sources : List ℕ) (t u : ℕ) → is_source sources t ≡ true → is_source (f t) u ≡ true → is_source (flat_map f sources) u ≡ true
 each_has f [] t u e h = absurd (cc)
 each_has f (s ∷ sources) t u e h =
@@ -57,7 +57,7 @@ each_has f (s ∷ sources) t u e h =
     (λ g. behind (f s) (flat_map f sources) u (each_has f sources t u g h))
 
 module _ (setting : Setting) where
-  -- a source behind an event is one before it
+  -- a source after an event is a source before it
   pub source_before : (e : Event) (past : List Event) (sources : List ℕ) (u : ℕ) → is_source sources u ≡ true → is_source (sources_before setting e past sources) u ≡ true
   source_before (Own t c) past sources u h = h
   source_before (Done j) past sources u h = h
@@ -112,7 +112,7 @@ module _ (setting : Setting) where
           let bad : true ≡ false = sym e ∙ (ap (λ (k : JobId). is_source sources k.tenant) (sym (same_job_is i j h)) ∙ is) in absurd (cc)) in
           same ∙ sym (ap (λ b. b || has_completion setting past j) other)
 
-  -- an instant is the same for a source where the rows and the completions of all sources before it are
+  -- an instant is the same for a source if the rows and the completions of all sources before it are the same
   module _ (kept past : List Event) (frame : List ℤ) (sources : List ℕ)
       (same : (u : ℕ) → is_source sources u ≡ true → row_of setting kept u ≡ row_of setting past u)
       (completed : (j : JobId) → is_source sources j.tenant ≡ true → has_completion setting kept j ≡ has_completion setting past j) where
@@ -151,7 +151,7 @@ module _ (setting : Setting) where
         let granted = same_granted t e named in
         λ k. record { readings = readings_within (budgets_at setting.config t).reads frame; unfinished = same_left t e k; granted = granted k }
 
-  -- what is kept gives each source at the end the same view
+  -- the kept part gives each source at the end the same view
   pub kept_views : (past : List Event) (sources : List ℕ) (t : ℕ) → is_source sources t ≡ true → view_of setting (kept_from setting sources past) t ≡ view_of setting past t
   kept_views [] sources t e = refl
   kept_views (Own u c ∷ past) sources t e = by (is_source sources u) refl (kept_views past sources t e)
@@ -208,7 +208,7 @@ module _ (setting : Setting) where
       by false same = same
 
   module _ (base : IsBase setting.config setting.base) where
-    -- a source's jobs are released where they were
+    -- a source's jobs are released at the same instants
     kept_releases : (past : List Event) (sources : List ℕ) (j : JobId) → is_source sources j.tenant ≡ true
         → was_released setting (kept_from setting sources past) j ≡ was_released setting past j
     kept_releases [] sources j e = refl
@@ -266,7 +266,7 @@ module _ (setting : Setting) where
     pub kept_legal : (past : List Event) (t : ℕ) → is_legal setting past ≡ true → is_legal setting (kept_of setting past t) ≡ true
     kept_legal past t legal = kept_from_legal past (t ∷ []) legal
 
-  -- a source at a place is one at each earlier place
+  -- a source at a place is a source at each earlier place
   pub source_of_end : (more past : List Event) (sources : List ℕ) (u : ℕ) → is_source sources u ≡ true → is_source (sources_from setting sources more past) u ≡ true
   source_of_end [] past sources u e = e
   source_of_end (x ∷ more) past sources u e = source_of_end more past (sources_before setting x (more ++ past) sources) u (source_before x (more ++ past) sources u e)
