@@ -1,4 +1,4 @@
--- Which programs a tenant is let load: the well-formed ones that texts spell, within its budgets.
+-- Which programs a tenant may load: the well-formed ones that texts spell, within its budgets.
 use Rattle.std.specs.Prelude.{ℕ, ◌-◌, ◌^◌, min, Bool, false, not, nat_lt, ◌&&◌, List, [], ◌∷◌, length, Option, Some, None, Result, Ok, Err}
 use Rattle.std.specs.List.{find, list_all}
 use Rattle.giotto_rules.specs.declared.text.faults.ReadFault.{ReadFault}
@@ -23,12 +23,12 @@ refusal_of_text faults.TooDeep = TooDeep
 refusal_of_text faults.TooMany = TooMany
 refusal_of_text faults.Memory = Memory
 
--- a program that was read, by the first rule that it breaks: refused for it, or well-formed
+-- a program that was read, by the first rule that it breaks: refused for that rule, or well-formed
 abbrev pub well_formed_by : GiottoProgram → Option ℕ → Result GiottoProgram Refusal
 well_formed_by p (Some n) = Err (Rule n)
 well_formed_by p None = Ok p
 
--- the well-formed program of a text, by what the text reads as
+-- the well-formed program of a text, by the result of reading the text
 abbrev pub program_read : Result GiottoProgram ReadFault → Result GiottoProgram Refusal
 program_read (Err fault) = Err (refusal_of_text fault)
 program_read (Ok p) = well_formed_by p (first_broken_rule p)
@@ -37,7 +37,7 @@ program_read (Ok p) = well_formed_by p (first_broken_rule p)
 abbrev pub program_of : List ℕ → Result GiottoProgram Refusal
 program_of text = program_read (parsed text)
 
--- the program's sensors read, and its actuators drive, only lines that the tenant may use so
+-- the program's sensors read, and its actuators drive, only lines that the tenant may read or drive
 abbrev pub uses_own_lines : Budgets → GiottoProgram → Bool
 uses_own_lines budgets p = list_all (may_use budgets.reads) (lines_read p) && list_all (may_use budgets.writes) (lines_written p)
 
@@ -45,7 +45,7 @@ uses_own_lines budgets p = list_all (may_use budgets.reads) (lines_read p) && li
 abbrev pub steps_of_program : GiottoProgram → ℕ
 steps_of_program p = min (greatest_cost_of p) (2 ^ 64 - 1)
 
--- whether a program whose text has so many bytes is over this budget: its own number is above the tenant's
+-- whether a program with a text of this many bytes is over this budget: its figure is above the tenant's
 abbrev pub is_over : Budgets → ℕ → GiottoProgram → Budget → Bool
 is_over budgets bytes p Bytes = nat_lt budgets.bytes bytes
 is_over budgets bytes p Ports = nat_lt budgets.ports (length (ports_of p))
@@ -56,10 +56,10 @@ is_over budgets bytes p Lines = not (uses_own_lines budgets p)
 is_over budgets bytes p Offers = false
 is_over budgets bytes p Binds = false
 
--- the budgets of a program, in the order in which they are looked at
+-- the budgets of a program, in the order in which they are checked
 abbrev pub budgets_of_program : List Budget
 budgets_of_program = Bytes ∷ Ports ∷ Tasks ∷ Modes ∷ Steps ∷ Lines ∷ []
 
--- the first budget that a program is over whose text has so many bytes
+-- the first budget that a program with a text of this many bytes is over
 abbrev pub broken_budget : Budgets → ℕ → GiottoProgram → Option Budget
 broken_budget budgets bytes p = find (is_over budgets bytes p) budgets_of_program

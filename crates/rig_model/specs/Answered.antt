@@ -1,17 +1,17 @@
--- What is written for the lines of a script, by who answers them.
+-- What is written for the lines of a script. The replies are a parameter.
 use Rattle.std.specs.Prelude.{ℕ, List, [], ◌∷◌, ◌++◌, Option, Some, None, IsSome, codes}
 use Rattle.std.specs.Option.{option_map}
 use Rattle.rig_model.specs.TextLines.{text_of_line}
 
--- a reply line: who is answered, a space, the reply, and LF
+-- a reply line: the addressee, a space, the reply, and LF
 abbrev pub reply_line : List ℕ → List ℕ → List ℕ
 reply_line who reply = who ++ (32 ∷ reply ++ 10 ∷ [])
 
--- what is written for a line that is too long or no text, and that ends the script
+-- what is written for a line that is too long or not UTF-8; that line ends the script
 abbrev pub bye_bad_line : List ℕ
 bye_bad_line = reply_line (codes "host") (codes "bye bad-line")
 
--- what is written where a reply found no memory, by who is answered
+-- what is written to this addressee when there is no memory for a reply
 abbrev pub err_memory : List ℕ → List ℕ
 err_memory who = reply_line who (codes "err memory")
 
@@ -19,7 +19,7 @@ err_memory who = reply_line who (codes "err memory")
 abbrev pub IsText : List ℕ → Type 0
 IsText line = IsSome (text_of_line line)
 
--- `reply` is what a state of who answers says to a line's text, and `after` the state behind it
+-- `reply` is the reply in a state to a line's text, and `after` the state after it
 module _ {S : Type 0} (reply : S → List ℕ → List ℕ) (after : S → List ℕ → S) where
   abbrev pub answered : S → List (List ℕ) → List ℕ
   answered s [] = []

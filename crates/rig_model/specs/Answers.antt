@@ -6,7 +6,7 @@ use Rattle.rig_model.specs.Base.{Setting}
 use Rattle.rig_model.specs.Views.{LocalEvent, command, instant, after_command, run_of, view_of}
 
 module _ (setting : Setting) where
-  -- the replies of the one-tenant machine, each with LF behind it, in the order in which they were given
+  -- the replies of the one-tenant machine, each followed by LF, in the order in which they were given
   abbrev pub answers_along : ℕ → List LocalEvent → List ℕ
   answers_along t [] = []
   answers_along t (command c ∷ past) = answers_along t past ++ (text_of_reply (after_command setting t c (run_of setting t past)).reply ++ 10 ∷ [])

@@ -1,4 +1,4 @@
--- Where a history begins, and what stays fixed throughout.
+-- The beginning of a history, and what stays fixed throughout it.
 use Rattle.std.specs.Prelude.{◌≡◌, ◌<◌, ℕ, true, [], map, length}
 use Rattle.std.specs.List.{AllByRecursion}
 use Rattle.tenant_lines.specs.declared.config.TenantConfig.{TenantConfig}
@@ -8,8 +8,8 @@ use Rattle.rig_model.specs.Row.{ActiveTask, empty_row}
 use Rattle.rig_model.specs.HostState.{HostState, row_at, is_counted}
 use Rattle.tenant_lines.specs.config.Roster.{Rig}
 
--- What a host has to keep so that a history can begin with it: each tenant of the roster has a row, which has counted the instants up to
--- the next one; what is active was released before that; and what is counted is active.
+-- What a host must meet so that a history can begin with it. Each tenant of the roster has a row, which has counted the instants up to the
+-- next one. Every active task was released before that instant. Every counted job is active.
 pub record IsBase (config : Rig) (base : HostState) : Type 0 where
   pub as_many : length base.rows ≡ length config.tenants
   pub counts : (t : ℕ) → t < length config.tenants → (row_at base t).next_tick ≡ base.clock
@@ -20,7 +20,7 @@ pub record IsBase (config : Rig) (base : HostState) : Type 0 where
 abbrev pub new_base : Rig → ℕ → HostState
 new_base config first_tick = record { rows = map (λ (t : TenantConfig). empty_row first_tick) config.tenants; counted = []; clock = first_tick }
 
--- what stays fixed throughout a history: the configuration, and the base with which it begins
+-- what stays fixed throughout a history: the configuration, and the base that it begins with
 pub record Setting : Type 0 where
   pub config : Rig
   pub base : HostState

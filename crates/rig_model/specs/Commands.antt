@@ -1,4 +1,4 @@
--- What a command does, and its reply. A refusal changes nothing; the first that applies is given.
+-- What a command does, and its reply. A refusal changes nothing. If several refusals apply, the first is given.
 use Rattle.std.specs.Prelude.{pos, unwrap_or, ℕ, length, reverse, take, if◌then◌else◌, ℤ, [], map, Option, Some, None, Result, Ok, Err}
 use Rattle.giotto_tasks.specs.Names.{Valuation, value_at}
 use Rattle.giotto_rules.specs.Ports.{ProgramPort, shown_name, ports_of}
@@ -30,12 +30,12 @@ use Rattle.rig_model.specs.Admission.{broken_budget, program_of}
 abbrev pub port_with_value : Valuation → ProgramPort → PortValue
 port_with_value ports x = record { port = record { task = x.task; name = x.name }; value = unwrap_or (value_at ports (shown_name x)) (pos 0) }
 
--- what a command leads to: the row behind it, and the reply
+-- what a command results in: the row after it, and the reply
 pub record CommandOutcome : Type 0 where
   pub row : Row
   pub reply : Reply
 
--- a refusal: the row as it was, and why
+-- a refusal: the row unchanged, and the reason
 abbrev pub refused : Row → Refusal → CommandOutcome
 refused row r = record { row = row; reply = Refused r }
 
@@ -48,39 +48,40 @@ abbrev pub load_within : GiottoProgram → Row → Option Budget → CommandOutc
 load_within p row (Some b) = refused row (OverBudget b)
 load_within p row None = record { row = at_beginning loaded p row; reply = Loaded }
 
--- `load` of a well-formed program whose text has so many bytes: the tenant must not be running
+-- `load` of a well-formed program with a text of this many bytes: the tenant must not be running
 abbrev pub load_kept : Budgets → ℕ → GiottoProgram → Row → CommandOutcome
 load_kept budgets bytes p row = if is_running row then refused row Running else load_within p row (broken_budget budgets bytes p)
 
--- `load` of a text of so many bytes, by the well-formed program that it spells, or why there is none
+-- `load` of a text of this many bytes, by the well-formed program that it spells, or the reason why it spells none
 abbrev pub load_read : Budgets → ℕ → Row → Result GiottoProgram Refusal → CommandOutcome
 load_read budgets bytes row (Err r) = refused row r
 load_read budgets bytes row (Ok p) = load_kept budgets bytes p row
 
--- `replace` by a running tenant of a well-formed program, by the first budget that the program is over: it waits, and one that waited before doesn't
+-- `replace` by a running tenant of a well-formed program, by the first budget that the program is over; else the program waits, in place of
+-- one that waited before
 abbrev pub replace_within : GiottoProgram → Row → Option Budget → CommandOutcome
 replace_within p row (Some b) = refused row (OverBudget b)
 replace_within p row None = record { row = record row { waiting = Some p }; reply = Replaced }
 
--- `replace` of a well-formed program whose text has so many bytes: the tenant must be running
+-- `replace` of a well-formed program with a text of this many bytes: the tenant must be running
 abbrev pub replace_kept : Budgets → ℕ → GiottoProgram → Row → CommandOutcome
 replace_kept budgets bytes p row = if is_running row then replace_within p row (broken_budget budgets bytes p) else refused row NotRunning
 
--- `replace` of a text of so many bytes, by the well-formed program that it spells, or why there is none
+-- `replace` of a text of this many bytes, by the well-formed program that it spells, or the reason why it spells none
 abbrev pub replace_read : Budgets → ℕ → Row → Result GiottoProgram Refusal → CommandOutcome
 replace_read budgets bytes row (Err r) = refused row r
 replace_read budgets bytes row (Ok p) = replace_kept budgets bytes p row
 
--- `start`: the tenant must have a program, which begins anew
+-- `start`: the tenant must have a program, which starts again from its beginning
 abbrev pub start_program : Row → Option GiottoProgram → CommandOutcome
 start_program row None = refused row NotLoaded
 start_program row (Some p) = record { row = recorded (happening.Start p.start) (at_beginning running p row); reply = Started }
 
--- `stop`: a running tenant stops, as it asked
+-- `stop`: a running tenant stops, because it asked to
 abbrev pub stop_program : Row → CommandOutcome
 stop_program row = if is_running row then record { row = stopped_with asked row; reply = Stopped } else refused row NotRunning
 
--- what `show mode` tells
+-- the answer of `show mode`
 abbrev pub status_of : Row → Status
 status_of row = by row.state
   where
@@ -99,7 +100,7 @@ abbrev pub show_value : PortName → Row → Option ℤ → CommandOutcome
 show_value x row None = refused row NoPort
 show_value x row (Some z) = record { row = row; reply = Port (record { port = x; value = z }) }
 
--- `show port`: the tenant must have a program, then the program the port
+-- `show port`: the tenant must have a program, and the program must have the port
 abbrev pub show_port : PortName → Row → Option GiottoProgram → CommandOutcome
 show_port x row None = refused row NotLoaded
 show_port x row (Some p) = show_value x row (value_of_port p row.ports x.task x.name)
@@ -109,15 +110,15 @@ abbrev pub show_all : Row → Option GiottoProgram → CommandOutcome
 show_all row None = refused row NotLoaded
 show_all row (Some p) = record { row = row; reply = All (map (port_with_value row.ports) (ports_of p)) }
 
--- `trace`: as many of the last records as are kept, the oldest first
+-- `trace`: the last records, as many as are kept, the oldest first
 abbrev pub show_trace : ℕ → Row → CommandOutcome
 show_trace most row = record { row = row; reply = reply.Trace (reverse (take most row.records)) }
 
--- the offers and binds of a row, as those of this owner
+-- the offers and binds of a row, with this owner
 abbrev pub grant_rows : Owner → Row → GrantRows
 grant_rows owner row = record { owner = owner; offers = row.offers; binds = row.binds }
 
--- the row with the offers and binds behind a command about grants, and the command's reply
+-- the row with the offers and binds after a command about grants, and the command's reply
 abbrev pub with_grants : Row → GrantOutcome → CommandOutcome
 with_grants row o = record { row = record row { offers = o.rows.offers; binds = o.rows.binds }; reply = o.reply }
 

@@ -7,12 +7,12 @@ use Rattle.rig_model.specs.Jobs.{same_job}
 use Rattle.rig_model.specs.HostState.{is_counted}
 use Rattle.rig_model.specs.Base.{Setting}
 
--- these events, the newest first, and then the completions of these jobs, the first of them first
+-- these events, the newest first, followed in time by the completions of these jobs, in the jobs' order
 abbrev pub with_completions : List JobId → List Event → List Event
 with_completions jobs past = reverse (map Done jobs) ++ past
 
 module _ (setting : Setting) where
-  -- the job has a completion: among the events, or counted by the base
+  -- the job has a completion among the events, or the base counts it
   abbrev pub has_completion : List Event → JobId → Bool
   has_completion [] j = is_counted setting.base j
   has_completion (Own t c ∷ past) j = has_completion past j

@@ -1,4 +1,4 @@
--- The first half of an instant: the due tasks end, and the due actuators are updated; or the tenant is stopped, if a due task isn't completed.
+-- The first half of an instant: the due tasks end and the due actuators are updated, or the tenant is stopped if a due task isn't completed.
 use Rattle.std.specs.Prelude.{ℤ, List, map, ℕ, Bool, not, ◌&&◌, if◌then◌else◌, [], ◌∷◌, ◌++◌, filter, None}
 use Rattle.std.specs.List.{zip, flat_map}
 use Rattle.giotto_tasks.specs.declared.names.Name.{Name}
@@ -16,7 +16,7 @@ use Rattle.rig_model.specs.Due.{is_due_at}
 use Rattle.rig_model.specs.Updates.{all_updated, updates_happened}
 use Rattle.tenant_lines.specs.trace.Trace.{with_happenings}
 
--- each of these outputs that is written, with its value, in their order
+-- each of these outputs, written with its value, in their order
 abbrev pub outputs_happened : List Name → List ℤ → List Happening
 outputs_happened names zs = map (λ (o : Name × ℤ). happening.Out o.0 o.1) (zip names zs)
 
@@ -49,7 +49,7 @@ abbrev pub happening_of : StopReason → Happening
 happening_of asked = happening.Asked
 happening_of (overrun x) = happening.Overrun x
 
--- A stop: actuators are initial, active tasks and a waiting program are gone, all other ports keep their values.
+-- A stop: actuators are initial, there are no active tasks and no waiting program, and all other ports keep their values.
 abbrev pub stopped_with : StopReason → Row → Row
 stopped_with reason row =
     recorded (happening_of reason)
@@ -60,7 +60,7 @@ abbrev pub ended_with : ActiveTask → Valuation → TaskDeclaration → Valuati
 ended_with a ports t =
     with_values (with_values ports t.outputs (outputs_of (body_of t) a.inputs a.states)) (own_ports t.name (names_of t.states)) (states_of (body_of t) a.inputs a.states)
 
--- the ports behind the ends of these tasks
+-- the ports after the ends of these tasks
 abbrev pub all_ended : GiottoProgram → List ActiveTask → Valuation → Valuation
 all_ended p [] ports = ports
 all_ended p (a ∷ rest) ports = all_ended p rest (option_map_or (ended_with a ports) (task_named p a.task) ports)
@@ -88,11 +88,12 @@ completed_in_mode p m row =
       records = with_happenings row.next_tick (ends_happened p (due_tasks row) ++ updates_happened m row.mode_time m.updates written) row.records;
     }
 
--- the first half, by the due tasks that were not completed, in the mode's text order: if there is one, the tenant is stopped, and the first is named; else the due tasks end and the due actuators are updated
+-- the first half, by the due tasks that were not completed, in the mode's text order: the tenant is stopped for the first of them; if there is
+-- none, the due tasks end and the due actuators are updated
 abbrev pub first_half_with : List Name → Row → Row
 first_half_with (x ∷ xs) row = stopped_with (overrun x) row
 first_half_with [] row = if is_running row then in_mode completed_in_mode row else row
 
--- The first half, where these tasks were not completed.
+-- The first half, if these are the tasks that were not completed.
 abbrev pub first_half_of : List Name → Row → Row
 first_half_of unfinished row = first_half_with (filter (is_among unfinished) (names_due row)) row

@@ -14,12 +14,12 @@ use Rattle.tenant_lines.specs.declared.replies.Refusal.TheVariants.{NoTenant, Ow
 use Rattle.tenant_lines.specs.declared.replies.Reply.{Reply}
 use Rattle.tenant_lines.specs.declared.replies.Reply.TheVariants.{Offered, Unoffered, Bound, Unbound, Rows, Refused}
 
--- what a command about grants leads to: the rows behind it, and the reply
+-- what a command about grants results in: the rows after it, and the reply
 pub record GrantOutcome : Type 0 where
   pub rows : GrantRows
   pub reply : Reply
 
--- why a row isn't made or taken out, as a reply tells it; `b` is the budget of such rows
+-- the reason why a row isn't made or removed, as a reply gives it; `b` is the budget of such rows
 abbrev pub refusal_of_row : Budget → GrantFault → Refusal
 refusal_of_row b fault.NoTenant = NoTenant
 refusal_of_row b fault.Own = Own
@@ -28,17 +28,17 @@ refusal_of_row b fault.NotThere = NotThere
 refusal_of_row b fault.Budget = OverBudget b
 refusal_of_row b fault.Memory = Memory
 
--- the rows with these offers and this reply; or as they were, and why
+-- the rows with these offers and this reply; or the rows unchanged, and the reason
 abbrev pub with_offers : GrantRows → Reply → Result (List offers.Offer) GrantFault → GrantOutcome
 with_offers rows done (Ok os) = record { rows = record rows { offers = os }; reply = done }
 with_offers rows done (Err f) = record { rows = rows; reply = Refused (refusal_of_row Offers f) }
 
--- the rows with these binds and this reply; or as they were, and why
+-- the rows with these binds and this reply; or the rows unchanged, and the reason
 abbrev pub with_binds : GrantRows → Reply → Result (List binds.Bind) GrantFault → GrantOutcome
 with_binds rows done (Ok bs) = record { rows = record rows { binds = bs }; reply = done }
 with_binds rows done (Err f) = record { rows = rows; reply = Refused (refusal_of_row Binds f) }
 
--- The step of a command about grants: the rows behind it, and its reply. An offer that names no bounds has its owner's.
+-- The step of a command about grants: the rows after it, and its reply. An offer that names no bounds has its owner's bounds.
 abbrev pub grants_commanded : GrantCommand → GrantRows → GrantOutcome
 grants_commanded (command.Offer actuator tenant bounds) rows = with_offers rows Offered (offered rows.owner rows.offers actuator tenant (unwrap_or bounds rows.owner.bounds))
 grants_commanded (command.Unoffer actuator tenant) rows = with_offers rows Unoffered (unoffered rows.owner rows.offers actuator tenant)

@@ -12,21 +12,21 @@ use Rattle.rig_model.specs.Row.{actuator_value, Row}
 abbrev pub granted_through : Bind × Option ℤ → Option (Name × ℤ)
 granted_through g = option_map (λ z. (g.0.sensor, z)) g.1
 
--- what these binds grant by their places: a value, or none
+-- what these binds grant, by their places: a value, or none
 abbrev pub granted_along : List Bind → List (Option ℤ) → Valuation
 granted_along binds values = filter_map granted_through (zip binds values)
 
--- `rows` are all tenants' rows before the instant, `halves` those behind its first half
+-- `rows` are all tenants' rows before the instant, `halves` those after its first half
 module _ (roster : List Name) (rows halves : ℕ → Row) where
-  -- what tenant u grants to tenant t of this actuator: what its offer to t makes of the value behind u's first half. Nothing where u
+  -- What tenant u grants to tenant t of this actuator: its offer to t applied to the actuator's value after u's first half. Nothing if u
   -- doesn't offer it to t, or has no program with such an actuator.
   abbrev pub granted_from : ℕ → Name → ℕ → Option ℤ
   granted_from t actuator u = option_and_then (λ o. option_map (granted_value o) (actuator_value (halves u) actuator)) (offer_of (rows u).offers actuator (name_of_place roster t))
 
-  -- what is granted to tenant t through a bind of its
+  -- what is granted to tenant t through one of its binds
   abbrev pub granted_by : ℕ → Bind → Option ℤ
   granted_by t b = option_and_then (granted_from t b.actuator) (place_in roster b.tenant)
 
-  -- what tenant t is granted: each sensor that is bound has what is granted through its bind
+  -- what tenant t is granted: each bound sensor has what is granted through its bind
   abbrev pub granted_to : ℕ → Valuation
   granted_to t = granted_along (rows t).binds (map (granted_by t) (rows t).binds)

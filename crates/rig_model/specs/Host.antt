@@ -10,7 +10,7 @@ use Rattle.rig_model.specs.Base.{Setting}
 use Rattle.rig_model.specs.Views.{after_command, instant_for}
 use Rattle.rig_model.specs.Instants.{LocalInstant, after_instant}
 
--- these rows, with those counted jobs that are still active
+-- the host with these rows, and with those counted jobs that are still active
 abbrev pub with_rows : HostState → List Row → HostState
 with_rows host rows =
     let next : HostState = record host { rows = rows } in
@@ -21,7 +21,8 @@ module _ (setting : Setting) where
   abbrev pub instant_of : HostState → List ℤ → ℕ → LocalInstant
   instant_of host frame t = instant_for setting (row_at host) (is_counted host) frame t
 
-  -- a command changes its tenant's row alone, an instant all rows, a completion that is awaited the counted jobs, and another one nothing
+  -- A command changes only its tenant's row, and an instant changes all rows. An awaited completion changes only the counted jobs, and any
+  -- other completion changes nothing.
   abbrev pub after_event : HostState → Event → HostState
   after_event host (Own t c) = with_rows host (slice_set host.rows t (after_command setting t c (row_at host t)).row)
   after_event host (Tick frame) =

@@ -1,4 +1,4 @@
--- What the host is at one place of a history.
+-- The state of a host at one place of a history.
 use Rattle.std.specs.Prelude.{ℕ, Bool, not, ◌&&◌, List, slice_index_or}
 use Rattle.std.specs.List.{list_any}
 use Rattle.rig_model.specs.declared.jobs.JobId.{JobId}
@@ -11,13 +11,13 @@ pub record HostState : Type 0 where
   pub counted : List JobId
   pub clock : ℕ
 
--- the row of the tenant at place t; an empty one where the roster has no such place
+-- the row of the tenant at place t; an empty one if the roster has no such place
 abbrev pub row_at : HostState → ℕ → Row
 row_at host t = slice_index_or host.rows t (empty_row host.clock)
 
 abbrev pub is_counted : HostState → JobId → Bool
 is_counted host j = list_any (λ i. same_job i j) host.counted
 
--- the host awaits a completion: the job is active, and not counted yet
+-- the host awaits a completion if the job is active and not counted yet
 abbrev pub is_awaited : HostState → JobId → Bool
 is_awaited host j = is_active (row_at host j.tenant) j && not (is_counted host j)

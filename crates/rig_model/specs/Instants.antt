@@ -16,13 +16,13 @@ pub record LocalInstant : Type 0 where
   pub unfinished : List Name
   pub granted : Valuation
 
--- the row behind both halves of an instant
+-- the row after both halves of an instant
 abbrev pub after_instant : LocalInstant → Row → Row
 after_instant i row = second_half_of i.readings i.granted (first_half_of i.unfinished row)
 
 -- What an instant is for the tenant at place t, which may read these lines: their values, its due tasks that were not completed, and the
--- values granted to it, which are taken behind the first half of all, and before the second half of any. `rows` are those before the
--- instant.
+-- values granted to it. Granted values are taken after the first halves of all tenants, and before the second half of any. `rows` are the
+-- rows before the instant.
 abbrev pub local_instant : List Name → List ℕ → (ℕ → Row) → (JobId → Bool) → List ℤ → ℕ → LocalInstant
 local_instant roster reads rows completed frame t =
     let left : ℕ → List Name = λ u. unfinished_tasks (λ a. completed (job_of u a)) (rows u) in

@@ -18,12 +18,13 @@ module _ (setting : Setting) where
   next_tick (Tick frame ∷ past) = next_tick past + 1
   next_tick (Done j ∷ past) = next_tick past
 
-  -- the job was active in the base or at some place of the list, which is so exactly from its release on
+  -- the job was active in the base or after some event of the list, which is so exactly from its release on
   abbrev pub was_released : List Event → JobId → Bool
   was_released [] j = is_active (row_at setting.base j.tenant) j
   was_released (e ∷ past) j = is_active (row_of setting (e ∷ past) j.tenant) j || was_released past j
 
-  -- this event may come next: a command of a tenant of the roster, a frame with a value for each line at a tick below the greatest, or the completion of a job that was released
+  -- this event may come next: a command of a tenant of the roster, a frame with a value for each line at a tick below the greatest, or the
+  -- completion of a job that was released
   abbrev pub may_follow : List Event → Event → Bool
   may_follow past (Own t c) = is_tenant setting.config t
   may_follow past (Tick frame) = length frame == setting.config.lines && nat_lt (next_tick past) (2 ^ 64 - 1)
@@ -33,12 +34,13 @@ module _ (setting : Setting) where
   is_legal [] = true
   is_legal (e ∷ past) = may_follow past e && is_legal past
 
-  -- A completion counts if its task is active with its release, and no completion of it came before. In a legal list that says that none counted before, since a task that is active now was active ever since its release.
-  -- An event has the job's name alone: its body, inputs and states are compared with those of `awaited_in`.
+  -- A completion counts if its task is active with its release, and no completion of the job came before. In a legal list the second condition
+  -- says that no earlier completion of the job counted, since a task that is active now has been active ever since its release.
+  -- An event carries only the job's name. Its body, inputs and states are compared with those of `awaited_in`.
   abbrev pub counts : List Event → JobId → Bool
   counts past j = is_active (row_of setting past j.tenant) j && not (has_completion setting past j)
 
--- a list of events that can happen, where the history begins with a base
+-- a list of events that can happen after its base
 pub record IsHistory (setting : Setting) (past : List Event) : Type 0 where
   pub base : IsBase setting.config setting.base
   pub legal : is_legal setting past ≡ true

@@ -19,11 +19,11 @@ driver_of k p = find (λ a. drives k a.line) p.actuators
 abbrev pub line_value : Row → ℕ → Option ℤ
 line_value row k = option_and_then (λ a. actuator_value row a.name) (option_and_then (driver_of k) row.program)
 
--- the place of the tenant that may drive line k, if one may
+-- the place of the tenant that may drive line k, if there is one
 abbrev pub writer_of : Rig → ℕ → Option ℕ
 writer_of config k = position (λ (tenant : TenantConfig). may_use tenant.budgets.writes k) config.tenants
 
--- The value of line k: that of the actuator with this line in the program of the tenant that may drive it; 0 where no tenant may, or its
+-- The value of line k: that of the actuator with this line in the program of the tenant that may drive it; 0 if no tenant may, or if its
 -- program has no such actuator.
 abbrev pub value_of_line : Rig → (ℕ → Row) → ℕ → ℤ
 value_of_line config rows k = unwrap_or (option_and_then (λ t. line_value (rows t) k) (writer_of config k)) (pos 0)

@@ -39,6 +39,6 @@ abbrev pub holds : Option Expression → Valuation → Bool
 holds None ports = Bool.true
 holds (Some e) ports = is_true (value_of e ports)
 
--- the value of a port, an input or a state of a task where one is named, if the program has the port
+-- the value of a port, if the program has the port: an input or a state if a task is named
 abbrev pub value_of_port : GiottoProgram → Valuation → Option Name → Name → Option ℤ
 value_of_port p ports task x = option_and_then (λ slot. value_at ports (shown_name (record { task = task; name = x }))) (slot_of p task x)

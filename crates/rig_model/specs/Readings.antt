@@ -1,4 +1,4 @@
--- What sensors take: the values of the lines that may be read, and granted values.
+-- The values that sensors take: those of the lines that may be read, and granted values.
 use Rattle.std.specs.Prelude.{ℕ, ◌==◌, if◌then◌else◌, ℤ, List, [], ◌∷◌, filter, Option, Some, None, unwrap_or}
 use Rattle.std.specs.List.{enumerate_from}
 use Rattle.giotto_tasks.specs.Names.{Valuation, value_at}

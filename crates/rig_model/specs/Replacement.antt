@@ -1,4 +1,4 @@
--- What a program keeps of the values of the one that it replaces.
+-- The values that a program keeps of the one that it replaces.
 use Rattle.std.specs.Prelude.{Bool, ◌&&◌, ◌||◌, if◌then◌else◌, ℤ, List, map, unwrap_or}
 use Rattle.giotto_tasks.specs.declared.names.Name.{Name}
 use Rattle.giotto_tasks.specs.Names.{Valuation, value_at, is_among}
@@ -6,7 +6,7 @@ use Rattle.giotto_rules.specs.text.Program.{GiottoProgram}
 use Rattle.giotto_rules.specs.Declarations.{sensor_names, actuator_names}
 use Rattle.rig_model.specs.Ports.{initial_ports}
 
--- a port of this name stands in both programs, among these names of each
+-- both programs have a port of this name, among these names of each
 abbrev pub stands_in_both : (GiottoProgram → List Name) → GiottoProgram → GiottoProgram → Name → Bool
 stands_in_both names old new x = is_among (names old) x && is_among (names new) x
 
@@ -15,6 +15,6 @@ abbrev pub carried_over : Valuation → GiottoProgram → GiottoProgram → Name
 carried_over ports old new x z =
     if stands_in_both sensor_names old new x || stands_in_both actuator_names old new x then unwrap_or (value_at ports x) z else z
 
--- the ports of the new program, where these are those of the old one
+-- the ports of the new program, given those of the old one
 abbrev pub carried_ports : Valuation → GiottoProgram → GiottoProgram → Valuation
 carried_ports ports old new = map (λ (v : Name × ℤ). (v.0, carried_over ports old new v.0 v.1)) (initial_ports new)

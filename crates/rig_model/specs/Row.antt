@@ -1,4 +1,4 @@
--- What one tenant is.
+-- The state of one tenant.
 use Rattle.std.specs.Prelude.{ℕ, ℤ, Bool, true, false, List, [], ◌∷◌, Option, Some, None, if◌then◌else◌}
 use Rattle.giotto_tasks.specs.declared.names.Name.{Name}
 use Rattle.giotto_tasks.specs.Names.{Valuation, value_at, is_among}
@@ -13,7 +13,7 @@ use Rattle.std.specs.Option.{option_map_or}
 -- why a tenant was stopped
 pub data StopReason : Type 0 where
   asked : StopReason
-  -- this task was due, and its computation not completed
+  -- this task was due, and its computation was not completed
   overrun : Name → StopReason
 
 -- what a tenant is doing
@@ -23,7 +23,7 @@ pub data TenantState : Type 0 where
   running : TenantState
   stopped : StopReason → TenantState
 
--- a task between its release and its deadline, with what it was given at its release
+-- a task between its release and its deadline, with its inputs and states at its release
 pub record ActiveTask : Type 0 where
   pub task : Name
   -- the number of the instant that released it
@@ -31,7 +31,7 @@ pub record ActiveTask : Type 0 where
   pub inputs : List ℤ
   pub states : List ℤ
 
--- one tenant: its program, and what the program is at
+-- one tenant: its program, and the state that it has reached
 pub record Row : Type 0 where
   pub state : TenantState
   pub program : Option GiottoProgram
@@ -77,12 +77,12 @@ is_running_state (stopped reason) = false
 abbrev pub is_running : Row → Bool
 is_running row = is_running_state row.state
 
--- the row behind a step for the value; the row as it is where there is none
+-- the row after a step for the value; the row unchanged if there is no value
 abbrev pub where_some : {A : Type 0} → (A → Row → Row) → Option A → Row → Row
 where_some step None row = row
 where_some step (Some x) row = step x row
 
--- a step in the row's program; the row as it is where it has none
+-- a step in the row's program; the row unchanged if it has no program
 abbrev pub in_program : (GiottoProgram → Row → Row) → Row → Row
 in_program step row = where_some step row.program row
 
@@ -90,7 +90,7 @@ in_program step row = where_some step row.program row
 abbrev pub in_mode : (GiottoProgram → ModeDeclaration → Row → Row) → Row → Row
 in_mode step row = in_program (λ p. where_some (step p) (mode_named p row.mode)) row
 
--- one record more, of the next instant's number
+-- one record more, with the next instant's number
 abbrev pub recorded : Happening → Row → Row
 recorded h row = record row { records = record { tick = row.next_tick; happening = h } ∷ row.records }
 

@@ -1,4 +1,4 @@
--- The text that a script is answered.
+-- The text that answers a script.
 use Rattle.std.specs.Prelude.{ℕ, zero, suc, ◌-◌, ◌^◌, nat_lt, not, ◌==◌, if◌then◌else◌, ℤ, List, [], ◌∷◌, ◌++◌, length, map, filter, reverse, Option, Some, None, codes}
 use Rattle.std.specs.List.{flat_map, enumerate_from}
 use Rattle.std.specs.Fmt.{decimal, signed_decimal}
@@ -26,11 +26,11 @@ use Rattle.rig_model.specs.declared.speakers.Speaker.TheVariants.{Nobody, Operat
 use Rattle.rig_model.specs.Answered.{reply_line, err_memory, answered, state_after}
 use Rattle.rig_model.specs.TextLines.{cut}
 
--- the word with which the operator's lines begin
+-- the first word of the operator's lines
 abbrev pub operator : List ℕ
 operator = codes "op"
 
--- A line begins with who speaks: the operator, or a tenant by its name.
+-- A line begins with its speaker: `op` for the operator, or a tenant's name.
 abbrev pub speaker_of : Rig → List ℕ → Speaker
 speaker_of config line = by (first_word_of line)
   where
@@ -45,7 +45,7 @@ speaker_of config line = by (first_word_of line)
 abbrev pub operator_refusal : List ℕ → List ℕ
 operator_refusal why = reply_line operator (codes "err " ++ why)
 
--- who is answered to a line: its first word, by who speaks in it, and "host" where nobody has that name
+-- the addressee of the reply to a line, by the line's speaker: its first word, or "host" if nobody has that name
 abbrev pub addressee_of : Speaker → List ℕ → List ℕ
 addressee_of Nobody line = first_word_of line
 addressee_of Operator line = first_word_of line
@@ -96,7 +96,7 @@ only_answered reply = record { events = []; reply = reply }
 abbrev pub work_step : List JobId → Step
 work_step jobs = record { events = reverse (map Done jobs); reply = reply_line operator (codes "ok work " ++ decimal (length jobs)) }
 
--- the values of the first n lines of the rig, each behind a space
+-- the values of the first n lines of the rig, each after a space
 abbrev pub text_of_lines : (ℕ → ℤ) → ℕ → List ℕ
 text_of_lines value zero = []
 text_of_lines value (suc k) = text_of_lines value k ++ (codes " " ++ signed_decimal (value k))
@@ -159,19 +159,19 @@ module _ (setting : Setting) where
   abbrev pub reply_to_line : List Event → List ℕ → List ℕ
   reply_to_line past line = (line_step past line).reply
 
-  -- what is written where the reply to a line found no memory
+  -- what is written when there is no memory for the reply to a line
   abbrev pub memory_reply : List ℕ → List ℕ
   memory_reply line = err_memory (addressee_of (speaker_of setting.config line) line)
 
-  -- the events behind a line, the newest first
+  -- the events after a line, the newest first
   abbrev pub past_behind : List Event → List ℕ → List Event
   past_behind past line = (line_step past line).events ++ past
 
-  -- the events behind these lines, the newest first
+  -- the events after these lines, the newest first
   abbrev pub past_after : List Event → List (List ℕ) → List Event
   past_after past lines = state_after reply_to_line past_behind past lines
 
-  -- what is written for these lines behind the events of the past
+  -- what is written for these lines after the events of the past
   abbrev pub script_from : List Event → List (List ℕ) → List ℕ
   script_from past lines = answered reply_to_line past_behind past lines
 

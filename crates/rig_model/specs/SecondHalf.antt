@@ -1,4 +1,5 @@
--- The second half of an instant: a waiting program is installed, sensors are read, a switch may be taken, tasks are invoked, and the mode time moves on.
+-- The second half of an instant: a waiting program is installed, sensors are read, a switch may be taken, tasks are invoked, and the mode
+-- time moves on.
 use Rattle.std.specs.Prelude.{ℕ, ◌+◌, ◌-◌, ◌%◌, ◌==◌, Bool, ◌&&◌, if◌then◌else◌, ℤ, List, [], ◌∷◌, ◌++◌, map, Some, None, option_to_list}
 use Rattle.std.specs.List.{filter_map}
 use Rattle.std.specs.Option.{option_map, option_map_or}
@@ -37,12 +38,13 @@ replaced_if_due row = if row.mode_time == 0 then where_some installed row.waitin
 abbrev pub sensed : Readings → Valuation → GiottoProgram → Row → Row
 sensed readings granted p row = record row { ports = with_values row.ports (sensor_names p) (map (reading_taken readings granted) p.sensors) }
 
--- as far from the end of the target's period as tasks of these periods are from their next common deadline
+-- the time that is as far from the end of the target's period as tasks of these periods are from their next common deadline; 0 without
+-- a task
 abbrev pub time_before_end : ModeDeclaration → ModeDeclaration → ℕ → List ℕ → ℕ
 time_before_end from target time [] = 0
 time_before_end from target time (k ∷ ks) = let l = least_common_multiple from.period (k ∷ ks) in target.period - (l - time % l)
 
--- The mode time behind a switch, where these tasks are active: 0 if none is.
+-- The mode time after a switch with these active tasks: 0 if there is none.
 abbrev pub entry_time : ModeDeclaration → ModeDeclaration → ℕ → List ActiveTask → ℕ
 entry_time from target time active = time_before_end from target time (filter_map (λ (a : ActiveTask). period_of_task from a.task) active)
 
@@ -56,11 +58,11 @@ entered m s target row =
       ports = with_destinations s row.ports;
     })
 
--- the first switch that is due and whose guard holds is taken, if there is one
+-- takes the first switch that is due and whose guard holds, if there is one
 abbrev pub switched : GiottoProgram → ModeDeclaration → Row → Row
 switched p m row = where_some (λ s. where_some (entered m s) (mode_named p s.target)) (switch_taken m row.mode_time row.ports) row
 
--- an invocation happens where it is due and its guard holds
+-- an invocation happens if it is due and its guard holds
 abbrev pub is_invoked : ModeDeclaration → ℕ → TaskInvocation → Valuation → Bool
 is_invoked m time i ports = is_due_at time m i.frequency && holds i.guard ports
 
@@ -72,15 +74,15 @@ values_given i ports = map (λ e. value_of e ports) i.arguments
 abbrev pub released : ℕ → TaskInvocation → Valuation → TaskDeclaration → ActiveTask
 released n i ports t = record { task = t.name; release = n; inputs = values_given i ports; states = values_of ports (own_ports t.name (names_of t.states)) }
 
--- and its inputs take the driver's values
+-- and the task's inputs take the driver's values
 abbrev pub with_inputs : TaskInvocation → Valuation → TaskDeclaration → Valuation
 with_inputs i ports t = with_values ports (own_ports t.name t.inputs) (values_given i ports)
 
--- the ports behind one invocation
+-- the ports after one invocation
 abbrev pub invoked : GiottoProgram → ModeDeclaration → ℕ → TaskInvocation → Valuation → Valuation
 invoked p m time i ports = if is_invoked m time i ports then option_map_or (with_inputs i ports) (task_named p i.task) ports else ports
 
--- the ports behind these invocations, in text order
+-- the ports after these invocations, in text order
 abbrev pub all_invoked : GiottoProgram → ModeDeclaration → ℕ → List TaskInvocation → Valuation → Valuation
 all_invoked p m time [] ports = ports
 all_invoked p m time (i ∷ is) ports = all_invoked p m time is (invoked p m time i ports)
@@ -106,7 +108,7 @@ moved_on m row = record row { mode_time = (row.mode_time + 1) % m.period }
 abbrev pub counted : Row → Row
 counted row = record row { next_tick = row.next_tick + 1 }
 
--- the steps of a running tenant: sensors and a switch in the mode that stands, invocations in the mode behind it
+-- the steps of a running tenant: sensors and a switch in the current mode, invocations in the mode after the switch
 abbrev pub second_half_running : Readings → Valuation → Row → Row
 second_half_running readings granted row =
     in_mode (λ p m row. moved_on m (invoked_in_mode p m row))

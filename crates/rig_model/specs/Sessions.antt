@@ -1,4 +1,4 @@
--- The text that a session is answered, and the calls that it makes.
+-- The text that answers a session, and the calls that the session makes.
 use Rattle.std.specs.Prelude.{ℕ, if◌then◌else◌, List, [], ◌∷◌, ◌++◌, drop, Option, Some, None, codes}
 use Rattle.std.specs.Option.{option_map}
 use Rattle.giotto_tasks.specs.declared.names.Name.{Name}
@@ -21,17 +21,17 @@ pub data SessionLine : Type 0 where
   -- a tenant's name and its key
   hello : Name → List ℕ → SessionLine
   quit : SessionLine
-  -- a command of the tenant that was greeted
+  -- a command of the greeted tenant
   ask : Command → SessionLine
 
--- behind "hello": NAME KEY
+-- after "hello": NAME KEY
 abbrev pub hello_of : List (List ℕ) → Option SessionLine
 hello_of [] = None
 hello_of (x ∷ []) = None
 hello_of (x ∷ key ∷ []) = if is_name x then Some (hello x key) else None
 hello_of (x ∷ key ∷ w ∷ ws) = None
 
--- behind "quit": nothing
+-- after "quit": nothing
 abbrev pub quit_of : List (List ℕ) → Option SessionLine
 quit_of [] = Some quit
 quit_of (w ∷ ws) = None
@@ -46,13 +46,13 @@ line_of_words line (w ∷ ws) =
 abbrev pub session_line_of : List ℕ → Option SessionLine
 session_line_of line = line_of_words line (words_of line)
 
--- who speaks in a session
+-- the state of a session: which tenant was greeted, if any
 pub data State : Type 0 where
   -- no tenant was greeted yet
   stranger : State
   -- the tenant at this place of the roster was greeted
   tenant : ℕ → State
-  -- nobody any more
+  -- the session has ended
   ended : State
 
 -- the session's own replies
@@ -68,14 +68,14 @@ err_not_greeted = codes "err not-greeted"
 abbrev pub err_greeted : List ℕ
 err_greeted = codes "err greeted"
 
--- of an unknown tenant and of a wrong key
+-- the reply for an unknown tenant and for a wrong key
 abbrev pub err_who : List ℕ
 err_who = codes "err who"
 
 abbrev pub bye : List ℕ
 bye = codes "bye"
 
--- to a line that is too long or no text
+-- to a line that is too long or not UTF-8
 abbrev pub bye_bad_line : List ℕ
 bye_bad_line = codes "bye bad-line"
 
@@ -87,7 +87,7 @@ pub data Act : Type 0 where
   -- a tenant's command
   call : ℕ → Command → Act
 
--- what a line does, and who speaks behind it
+-- what a line does, and the state after it
 pub record Step : Type 0 where
   pub act : Act
   pub state : State
@@ -98,13 +98,13 @@ says reply s = record { act = say reply; state = s }
 abbrev pub stays_quiet : State → Step
 stays_quiet s = record { act = quiet; state = s }
 
--- what comes of a call
+-- the outcome of a call
 pub data Outcome : Type 0 where
-  -- it is made, and given this reply
+  -- it is made, with this reply
   replied : Reply → Outcome
-  -- the same, and there is no memory for the reply's text
+  -- the same, but there is no memory for the reply's text
   untold : Reply → Outcome
-  -- there is no memory for the call, and it isn't made
+  -- it isn't made, since there is no memory for it
   no_memory : Outcome
   -- it is refused, since its pass is full
   pass_full : Outcome
@@ -118,7 +118,7 @@ text_of_outcome no_memory = text_of_reply (Refused Memory)
 text_of_outcome pass_full = codes "bye pass-full"
 text_of_outcome strange = codes "bye strange"
 
--- the calls that are made by one: itself, if it is made
+-- the calls that one call makes: itself, if it is made
 abbrev pub calls_by : ℕ → Command → Outcome → List Call
 calls_by t c (replied r) = record { tenant = t; command = c; reply = r } ∷ []
 calls_by t c (untold r) = record { tenant = t; command = c; reply = r } ∷ []
@@ -126,7 +126,7 @@ calls_by t c no_memory = []
 calls_by t c pass_full = []
 calls_by t c strange = []
 
--- who speaks behind a call, in whose step this one does: nobody, where it is refused
+-- the state after a call, given the state of the call's step: a refused call ends the session
 abbrev pub state_by : State → Outcome → State
 state_by s (replied r) = s
 state_by s (untold r) = s
@@ -134,7 +134,7 @@ state_by s no_memory = s
 state_by s pass_full = ended
 state_by s strange = ended
 
--- the first of these; where there is none, there is no memory
+-- the first of these outcomes; if there is none, there is no memory
 abbrev pub first_outcome : List Outcome → Outcome
 first_outcome [] = no_memory
 first_outcome (o ∷ os) = o
@@ -142,14 +142,14 @@ first_outcome (o ∷ os) = o
 -- a session so far
 pub record Session : Type 0 where
   pub state : State
-  -- what comes of the calls behind, in their order
+  -- the outcomes of the calls still to come, in their order
   pub outcomes : List Outcome
   -- the calls that were made, with their replies
   pub calls : List Call
   -- what was written
   pub text : List ℕ
 
--- a new one
+-- a new session
 abbrev pub begun : List Outcome → Session
 begun outcomes = record { state = stranger; outcomes = outcomes; calls = []; text = [] }
 
@@ -157,7 +157,7 @@ begun outcomes = record { state = stranger; outcomes = outcomes; calls = []; tex
 abbrev pub written : List ℕ → List ℕ
 written reply = reply ++ 10 ∷ []
 
--- a session behind a step
+-- a session after a step
 abbrev pub behind_step : Session → Step → Session
 behind_step s step = by step.act
   where
@@ -172,12 +172,12 @@ behind_step s step = by step.act
     }
 
 module _ (config : Rig) where
-  -- by the place of the tenant whose name and key are told
+  -- the step by the place of the tenant whose name and key the line gives
   abbrev pub hello_step : Option ℕ → Step
   hello_step None = says err_who stranger
   hello_step (Some t) = says ok_hello (tenant t)
 
-  -- by who speaks
+  -- the step by the state and the line
   abbrev pub form_step : State → Option SessionLine → Step
   form_step ended line = stays_quiet ended
   form_step stranger None = says err_bad_command stranger
@@ -195,14 +195,14 @@ module _ (config : Rig) where
   abbrev pub text_step : State → List ℕ → Step
   text_step s text = form_step s (session_line_of text)
 
-  -- a line that is too long or no text ends a session
+  -- a line that is too long or not UTF-8 ends a session
   abbrev pub line_step : State → Option (List ℕ) → Step
   line_step s (Some text) = text_step s text
   line_step ended None = stays_quiet ended
   line_step stranger None = says bye_bad_line ended
   line_step (tenant t) None = says bye_bad_line ended
 
-  -- a session behind a line, and behind these lines
+  -- a session after a line, and after these lines
   abbrev pub behind_line : Session → List ℕ → Session
   behind_line s line = behind_step s (line_step s.state (text_of_line line))
 
@@ -210,6 +210,6 @@ module _ (config : Rig) where
   behind_lines s [] = s
   behind_lines s (line ∷ later) = behind_lines (behind_line s line) later
 
-  -- a new session behind these lines, where this comes of its calls
+  -- a new session after these lines, if its calls have these outcomes
   abbrev pub session_of : List Outcome → List (List ℕ) → Session
   session_of outcomes lines = behind_lines (begun outcomes) lines

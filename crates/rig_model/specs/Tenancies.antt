@@ -1,4 +1,4 @@
--- What the tenants of a rig are given when they are made, and keep.
+-- What a tenant is given when it is made, and keeps.
 use Rattle.tenant_lines.specs.declared.config.Budgets.{Budgets}
 use Rattle.tenant_lines.specs.grants.Grants.{Owner}
 use Rattle.std.specs.Prelude.{ℕ, List, map}
@@ -9,7 +9,7 @@ use Rattle.tenant_lines.specs.declared.config.TenantConfig.{TenantConfig}
 pub record Tenancy : Type 0 where
   -- its place in the roster, the roster, how many offers and binds it may have, and the bounds of an offer that names none
   pub owner : Owner
-  -- what it may use
+  -- its budgets
   pub budgets : Budgets
 
 -- the names of all tenants, by their places

@@ -1,4 +1,4 @@
--- What the text of a script replies to one tenant's commands.
+-- The replies to one tenant's commands in the text that answers a script.
 use Rattle.std.specs.Prelude.{ℕ, ◌+◌, ◌==◌, ◌&&◌, if◌then◌else◌, Bool, false, is_some, List, [], ◌∷◌, ◌++◌, length, drop, Option, Some, None}
 use Rattle.std.specs.Option.{option_map}
 use Rattle.rig_model.specs.Base.{Setting}
@@ -11,7 +11,7 @@ use Rattle.rig_model.specs.TextLines.{text_of_line}
 use Rattle.rig_model.specs.Script.{speaker_of, reply_to_line, past_behind}
 
 module _ (setting : Setting) (t : ℕ) where
-  -- the tenant at place t speaks in the line, and it spells a command
+  -- the speaker of the line is the tenant at place t, and the line spells a command
   abbrev pub is_own_command : List ℕ → Bool
   is_own_command line = by (speaker_of setting.config line)
     where
@@ -25,7 +25,8 @@ module _ (setting : Setting) (t : ℕ) where
   abbrev pub own_reply : List Event → List ℕ → List ℕ
   own_reply past line = if is_own_command line then drop (length (first_word_of line) + 1) (reply_to_line setting past line) else []
 
-  -- what is written for the tenant's commands among these lines, up to one that is no text, behind the events of the past
+  -- what is written for the tenant's commands among these lines, after the events of the past; it stops at a line that is too long or not
+  -- UTF-8
   abbrev pub own_replies : List Event → List (List ℕ) → List ℕ
   own_replies past [] = []
   own_replies past (line ∷ later) = or_none (option_map (λ text. own_reply past text ++ own_replies (past_behind setting past text) later) (text_of_line line))

@@ -13,16 +13,16 @@ cut (c ∷ cs) = if c == 10 then [] ∷ cut cs else joined_to_first c (cut cs)
 abbrev pub lf_count : List ℕ → ℕ
 lf_count bytes = length (filter (λ c. c == 10) bytes)
 
--- the lines that have come whole with these bytes: as many, from the first on, as there are LFs
+-- the lines that are complete in these bytes: as many, from the first on, as there are LFs
 abbrev pub whole_lines : List ℕ → List (List ℕ)
 whole_lines bytes = take (lf_count bytes) (cut bytes)
 
--- one CR at the end taken off
+-- without one CR at the end
 abbrev pub without_last_cr : List ℕ → List ℕ
 without_last_cr [] = []
 without_last_cr (c ∷ []) = if c == 13 then [] else c ∷ []
 without_last_cr (c ∷ d ∷ cs) = c ∷ without_last_cr (d ∷ cs)
 
--- the text of a line of at most so many bytes in UTF-8, and of no other
+-- the text of a line of at most `MAX_LINE` bytes in UTF-8; no other line has a text
 abbrev pub text_of_line : List ℕ → Option (List ℕ)
 text_of_line line = if nat_le (length line) MAX_LINE && is_utf8 line then Some (without_last_cr line) else None

@@ -8,15 +8,15 @@ use Rattle.tenant_lines.specs.declared.trace.records.Happening.TheVariants as ha
 use Rattle.rig_model.specs.Ports.{holds}
 use Rattle.rig_model.specs.Due.{is_due_at}
 
--- an actuator update happens where it is due and its guard holds
+-- an actuator update happens if it is due and its guard holds
 abbrev pub is_updated : ModeDeclaration → ℕ → ActuatorUpdate → Valuation → Bool
 is_updated m time u ports = is_due_at time m u.frequency && holds u.guard ports
 
--- the ports behind one actuator update
+-- the ports after one actuator update
 abbrev pub updated : ModeDeclaration → ℕ → ActuatorUpdate → Valuation → Valuation
 updated m time u ports = if is_updated m time u ports then with_value ports u.actuator (value_of u.value ports) else ports
 
--- the ports behind these actuator updates, in text order
+-- the ports after these actuator updates, in text order
 abbrev pub all_updated : ModeDeclaration → ℕ → List ActuatorUpdate → Valuation → Valuation
 all_updated m time [] ports = ports
 all_updated m time (u ∷ us) ports = all_updated m time us (updated m time u ports)

@@ -22,18 +22,18 @@ module _ (setting : Setting) where
   abbrev pub after_command : ℕ → Command → Row → CommandOutcome
   after_command t c row = commanded (tenancy_at setting.config t) c row
 
-  -- the one-tenant machine: the row after the tenant's own events, from that of the base on
+  -- the one-tenant machine: the row after the tenant's own events, beginning with that of the base
   abbrev pub run_of : ℕ → List LocalEvent → Row
   run_of t [] = row_at setting.base t
   run_of t (command c ∷ past) = (after_command t c (run_of t past)).row
   run_of t (instant i ∷ past) = after_instant i (run_of t past)
 
-  -- what an instant is for the tenant at place t, where these are the rows before it
+  -- what an instant is for the tenant at place t, given the rows before it
   abbrev pub instant_for : (ℕ → Row) → (JobId → Bool) → List ℤ → ℕ → LocalInstant
   instant_for rows completed frame t = local_instant (roster_of setting.config) (budgets_at setting.config t).reads rows completed frame t
 
-  -- A tenant's view: its own commands, and at each instant the values of its lines, its due tasks that were not completed, and the
-  -- values granted to it. Of other tenants it has no more than these.
+  -- A tenant's view: its own commands, and for each instant the values of its lines, its due tasks that were not completed, and the
+  -- values granted to it. It has nothing else of other tenants.
   abbrev pub view_of : List Event → ℕ → List LocalEvent
   view_of [] t = []
   view_of (Own u c ∷ past) t = if u == t then command c ∷ view_of past t else view_of past t

@@ -24,11 +24,11 @@ pub enum Event {
 }
 
 impl Event {
-    /// An equal event, in memory of its own. Takes memory for the text of a `load` or a `replace` that has one and for the values of
-    /// an instant that has some; a completion takes none.
+    /// An equal event, in separate memory. Allocates for the text of a `load` or a `replace` if it isn't empty, and for the values of an
+    /// instant if there are any. Copying a completion allocates nothing.
     ///
     /// # Errors
-    /// Want of memory for that text or these values.
+    /// Out of memory for that text or these values.
     pub fn copy(&self, alloc: Global) -> Result<Event, AllocError>
         ensures same { IfOk result (λ event. event ≡ self.now) }
         ensures command { (tenant : ℕ) (command : Command) → self.now ≡ Event.Own tenant command → IsErr result → IsTrue (has_text command) }

@@ -5,10 +5,10 @@ ghost use Rattle.std.specs.Prelude.{◌≡◌, ◌<◌, length, IfOk, IsErr};
 use giotto_tasks::lists::List;
 use std::alloc::{AllocError, Global};
 
-/// A list of these values, one for each line. It takes memory where there is one.
+/// A list of these values, one for each line. Allocates if there is a value.
 ///
 /// # Errors
-/// Want of memory.
+/// Out of memory.
 pub fn copy_of_frame(alloc: Global, frame: &[i64]) -> Result<List<i64>, AllocError>
     ensures same { IfOk result (λ copy. copy ≡ frame.now) }
     ensures memory { IsErr result → 0 < length frame.now }

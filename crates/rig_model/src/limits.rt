@@ -1,7 +1,7 @@
-//! The limits of lines, of which code and definitions both speak.
+//! The limits of lines, for code and definitions.
 
-/// How many bytes a line may have, without its LF.
+/// The greatest number of bytes in a line, without its LF.
 pub const MAX_LINE: usize = 16384;
 
-/// How many reads may give bytes without the end of the input.
+/// The greatest number of reads that may give bytes without reaching the end of the input.
 pub const MAX_READS: u32 = 1048576;

@@ -1,4 +1,4 @@
-//! What is logged.
+//! The entries of a log.
 
 ghost use Rattle.std.specs.Arc.{arc_value};
 ghost use Rattle.std.specs.Box.{box_value};
@@ -17,7 +17,7 @@ use tenant_lines::replies::Reply;
 /// The number of a seat, from 0.
 pub type SeatId = usize;
 
-/// A call: a command of a tenant, with the reply that it was given.
+/// A call: a tenant's command, with its reply.
 #[derive(Drop)]
 pub struct Call {
     pub tenant: TenantId,
@@ -25,15 +25,15 @@ pub struct Call {
     pub reply: Reply,
 }
 
-// Where a call is kept: in a place that others share, or in one of its own.
+// Where a call is kept: in a shared place, or in a private one.
 #[derive(Drop)]
 enum Place {
     Shared(Arc<Call, Global>),
     Own(Box<Call>),
 }
 
-/// A call as a log or a pass keeps it: in memory of its own, or in memory that another shares. It moves no more than an address. Contracts
-/// see it as the call.
+/// A call as a log or a pass keeps it: in private memory, or in memory shared with another. Moving it moves no more than an address.
+/// Contracts see it as the call.
 #[derive(Drop)]
 pub struct KeptCall {
     place: Place,
@@ -55,15 +55,15 @@ pub enum Logged {
     Call(SeatId, KeptCall),
     /// An instant of all tenants, with the input value of each line.
     Tick(List<i64>),
-    /// The completion of a job, which counted.
+    /// The completion of a job, if it counted.
     Done(JobId),
 }
 
 impl Call {
-    /// An equal call, in memory of its own.
+    /// An equal call, in separate memory.
     ///
     /// # Errors
-    /// Want of memory.
+    /// Out of memory.
     pub fn copy(&self, alloc: Global) -> Result<Call, AllocError>
         ensures { IfOk result (λ call. call ≡ self.now) }
     {
@@ -76,7 +76,7 @@ impl Call {
 }
 
 impl KeptCall {
-    /// The call in this place of its own. Takes no memory.
+    /// Keeps the call in this private place. Allocates nothing.
     pub fn own(call: Box<Call>) -> KeptCall
         ensures { result ≡ box_value call }
     {
@@ -85,10 +85,10 @@ impl KeptCall {
         }
     }
 
-    /// The call twice, in one place.
+    /// The call twice, in one shared place.
     ///
     /// # Errors
-    /// Want of memory for the place, or a share of it is refused.
+    /// Out of memory for the place, or a share of it is refused.
     pub fn twice(alloc: Global, call: Call) -> Result<(KeptCall, KeptCall), AllocError>
         ensures { IfOk result (λ calls. (calls.0 ≡ call) × (calls.1 ≡ call)) }
     {
@@ -115,10 +115,10 @@ impl KeptCall {
         }
     }
 
-    /// An equal call: in the same place where that is shared, else in memory of its own.
+    /// An equal call: in the same place if that is shared, else in separate memory.
     ///
     /// # Errors
-    /// Want of memory, or a share is refused.
+    /// Out of memory, or a share is refused.
     pub fn copy(&self, alloc: Global) -> Result<KeptCall, AllocError>
         ensures { IfOk result (λ call. call ≡ self.now) }
     {
@@ -133,10 +133,10 @@ impl KeptCall {
 }
 
 impl Logged {
-    /// An equal entry, in memory of its own.
+    /// An equal entry. A call in a shared place stays in that place; everything else is copied to separate memory.
     ///
     /// # Errors
-    /// Want of memory.
+    /// Out of memory, or a share is refused.
     pub fn copy(&self, alloc: Global) -> Result<Logged, AllocError>
         ensures { IfOk result (λ entry. entry ≡ self.now) }
     {

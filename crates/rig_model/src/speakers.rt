@@ -1,4 +1,4 @@
-//! Who speaks in a line of a script, and who is answered.
+//! The speaker of a script's line, and the name that the reply is addressed to.
 
 ghost use Rattle.std.specs.Prelude.{◌≡◌, ℕ, List};
 ghost use Rattle.rig_model.specs.Script.{addressee_of, speaker_of};
@@ -7,7 +7,7 @@ ghost use Rattle.tenant_lines.specs.Words.{first_word_of};
 use tenant_lines::config::{Config, TenantId};
 use tenant_lines::words;
 
-/// Who speaks in a line.
+/// The speaker of a line.
 #[derive(Clone, Copy, Debug, PartialEq, Eq)]
 pub enum Speaker {
     /// The line is blank.
@@ -20,14 +20,14 @@ pub enum Speaker {
     Unknown,
 }
 
-/// Who speaks in a line, by its first word.
+/// The speaker of a line, by its first word.
 pub fn who_speaks(config: &Config, line: &str) -> Speaker
     ensures { result ≡ speaker_of config.now line.now }
 {
     who_is(config, words::first_word(line))
 }
 
-/// Who begins a line with this word; nobody where it has no byte.
+/// The speaker of a line with this first word. `Nobody` if the word is empty.
 pub fn who_is(config: &Config, word: &str) -> Speaker
     ensures { (line : List ℕ) → word.now ≡ first_word_of line → result ≡ speaker_of config.now line }
 {
@@ -43,8 +43,7 @@ pub fn who_is(config: &Config, word: &str) -> Speaker
     }
 }
 
-/// Who is answered to a line, by who speaks in it: its first word, and `host` where nobody has
-/// that name.
+/// The name that the reply to a line is addressed to, by the line's speaker: its first word, or `host` if nobody has that name.
 pub fn addressee(speaker: Speaker, line: &str) -> &str
     ensures { result.now ≡ addressee_of speaker line.now }
 {

@@ -1,4 +1,4 @@
--- Two names of jobs that the test tells equal are one.
+-- Names of jobs that the test finds equal are equal.
 use Rattle.std.proofs.Math.Bool.{and_assoc}
 use Rattle.std.proofs.Common.{◌≡◌, true, ◌&&◌, eqb, refl, sym, ℕ, ◌||◌, List, [], ◌∷◌, ap, ◌∙◌}
 use Rattle.giotto_tasks.specs.Names.{same_name}

@@ -7,7 +7,7 @@ use Rattle.tenant_lines.specs.Words.{words_of, first_word_of, behind_first_word}
 use Rattle.tenant_lines.proofs.cited.WordLemmas.{words_first, words_none}
 use Rattle.rig_model.specs.Script.{work_of, operator_line_of}
 
--- the words of a line, by its first word and what stands behind it
+-- the words of a line, by its first word and what comes after it
 pub words_with : (line first rest word : List ℕ) → first ≡ first_word_of line → rest ≡ behind_first_word line → first ≡ word → 0 < length word → words_of line ≡ word ∷ words_of rest
 words_with line first rest word f b is some =
     let front : first_word_of line ≡ word = sym f ∙ is in
@@ -32,11 +32,11 @@ other_line line first f no_tick no_work no_lines = by (first_word_of line) refl
         ap operator_line_of (words_first line some)
         ∙ other_words (first_word_of line) (words_of (behind_first_word line)) (λ e. no_tick (f ∙ e)) (λ e. no_work (f ∙ e)) (λ e. no_lines (f ∙ e))
 
--- `lines` with a word behind it
+-- `lines` with another word after it
 pub lines_with_more : (line : List ℕ) → 0 < length (first_word_of line) → operator_line_of (codes "lines" ∷ words_of line) ≡ None
 lines_with_more line more = ap (λ ws. operator_line_of (codes "lines" ∷ ws)) (words_first line more)
 
--- `work` with a tenant's name behind it
+-- `work` with a tenant's name after it
 pub work_with_name : (line : List ℕ) → 0 < length (first_word_of line) → is_name (first_word_of line) ≡ true → length (first_word_of (behind_first_word line)) ≡ 0
     → operator_line_of (codes "work" ∷ words_of line) ≡ Some (work_of (first_word_of line))
 work_with_name line some name short =
@@ -46,7 +46,7 @@ work_with_name line some name short =
     by true e = refl
     by false e = absurd (cc)
 
--- `work` with a word of another shape behind it
+-- `work` with a word of another shape after it
 pub work_with_no_name : (line : List ℕ) → 0 < length (first_word_of line) → is_name (first_word_of line) ≡ false → operator_line_of (codes "work" ∷ words_of line) ≡ None
 work_with_no_name line some name = ap (λ ws. operator_line_of (codes "work" ∷ ws)) (words_first line some) ∙ by (words_of (behind_first_word line))
   where
@@ -54,7 +54,7 @@ work_with_no_name line some name = ap (λ ws. operator_line_of (codes "work" ∷
     by [] = rw name refl
     by (x ∷ xs) = refl
 
--- `work` with two words behind it
+-- `work` with two words after it
 pub work_with_more : (line : List ℕ) → 0 < length (first_word_of line) → 0 < length (first_word_of (behind_first_word line)) → operator_line_of (codes "work" ∷ words_of line) ≡ None
 work_with_more line some more =
     ap (λ ws. operator_line_of (codes "work" ∷ ws)) (words_first line some ∙ ap (λ ws. first_word_of line ∷ ws) (words_first (behind_first_word line) more))
