@@ -10,7 +10,7 @@ pub none_counted : (n : ℕ) (known : Option (List ℕ)) → AreCounted n n know
 none_counted n None = omega arith
 none_counted n (Some bytes) = (0, omega arith, record { taken = []; split = refl; least = omega arith; most = omega arith })
 
--- too many reads are those of the lines
+-- only `Turns` of the lines becomes `Turns` of the operator
 pub lines_turns : (fault : LinesFault) → fault_of_lines fault ≡ Turns → fault ≡ lines.Turns
 lines_turns lines.Read is = absurd (cc)
 lines_turns lines.Write is = absurd (cc)

@@ -24,7 +24,7 @@ no_reply texts text = []
 abbrev with_text : List (List ℕ) → List ℕ → List (List ℕ)
 with_text texts text = texts ++ text ∷ []
 
--- the first lines of these bytes were given, with these texts, and `rest` is still to come
+-- the first lines of these bytes were read, with these texts, and `rest` is still to come
 abbrev pub HasRead : List ℕ → List (List ℕ) → List ℕ → Bool → Type 0
 HasRead bytes texts rest ended = HasCome no_reply with_text [] bytes None texts rest ended None
 
@@ -58,7 +58,7 @@ module _ (bytes : List ℕ) (texts : List (List ℕ)) (rest : List ℕ) (ended :
   pub all_read : rest ≡ [] → map text_of_line (cut bytes) ≡ map Some texts
   all_read none = ap (map text_of_line) (read.4.1 ∙ ap (λ l. read.4.0 ++ cut l) none ∙ append-nil read.4.0) ∙ texts_read
 
-  -- no line more came whole
+  -- no further line is complete
   pub whole_read : (remaining : Option (List ℕ)) → ended ≢ true → HasNoWholeLine rest remaining → AreWhole bytes remaining texts
   whole_read None more none = absurd none
   whole_read (Some left) more none = by read.4.5
@@ -73,7 +73,7 @@ module _ (bytes : List ℕ) (texts : List (List ℕ)) (rest : List ℕ) (ended :
             ap (map text_of_line) whole ∙ texts_read,
           )
 
--- where the reader of lines gave no further line
+-- if the reader of lines gave no further line
 module _ (bytes : List ℕ) (texts : List (List ℕ)) (rest : List ℕ) (ended : Bool) (read : HasRead bytes texts rest ended) (remaining : Option (List ℕ)) (ended_now : Bool) (Left : List ℕ → Type 0) where
   pub lines_broken : (fault : LinesFault) → (ended ≡ true → fault ≡ lines.Memory) → IsNextLine rest (Err fault) remaining ended_now Left → IsBrokenOff (fault_of_lines fault) bytes texts remaining
   lines_broken lines.Read last next = inl (whole_read bytes texts rest ended read remaining (λ is. let wrong = last is in absurd (cc)) next)
@@ -96,7 +96,7 @@ number_after_both (driven values ∷ xs) n ys = number_after_both xs n ys
 number_after_both (undriven ∷ xs) n ys = number_after_both xs n ys
 number_after_both (settled ∷ xs) n ys = number_after_both xs n ys
 
--- one line more
+-- one more line
 pub answered_more : (texts : List (List ℕ)) (n : ℕ) (text : List ℕ) (asked more : List Asked) (said reply : List ℕ) → AreAnswered n texts asked said → IsTextAnswered (number_after n asked) text more reply
     → AreAnswered n (texts ++ text ∷ []) (asked ++ more) (said ++ reply)
 answered_more [] n text asked more said reply so_far one = (
@@ -128,10 +128,10 @@ abbrev pub HasOperated : (List Asked → Type 0) → (List ℕ → Type 0) → �
 HasOperated Asks Writes number Reads =
     (texts : List (List ℕ)) × (asked : List Asked) × (said : List ℕ) × Asks asked × Writes said × AreAnswered 0 texts asked said × (number ≡ number_after 0 asked) × Reads texts
 
--- a line more, after a flush
+-- one more line, after a flush
 module _ (u v w : Option (List Asked)) (before old flushed : Option (List ℕ)) (n m : ℕ) (text : List ℕ) (Reads : List (List ℕ) → Type 0) (so_far : HasOperated (Adds u v) (Appends before old) n Reads)
     (kept : Keeps old flushed) where
-  -- it was answered, and what was written is known to be so much
+  -- it was answered, and what was written is known to this extent
   pub operated_further : (Writes All : List ℕ → Type 0) → ((said reply : List ℕ) → Appends before flushed said → Writes reply → All (said ++ reply)) → HasReplied n m text (Adds v w) Writes
       → (asked : List Asked) × (said : List ℕ) × Adds u w asked × All said × AreAnswered 0 (so_far.0 ++ text ∷ []) asked said × (m ≡ number_after 0 asked)
   operated_further Writes All both one = (

@@ -18,7 +18,7 @@ pub replied : (Asks : List Asked → Type 0) (old new : ℕ) (line : ServedLine)
 replied Asks old new line w v (Ok u) asked said written failed asks answered next = (asked, said, asks, written, answered, next)
 replied Asks old new line w v (Err fault) asked said written failed asks answered next = (failed, (asked, said, asks, tt, answered, next))
 
--- completions are no instants
+-- completions are not instants
 none_given : (n : ℕ) (jobs : List JobValue) → n ≡ number_after n (map completed jobs)
 none_given n [] = refl
 none_given n (j ∷ js) = none_given n js
@@ -26,6 +26,6 @@ none_given n (j ∷ js) = none_given n js
 pub next_number : (number next : ℕ) (frame : List ℤ) (jobs unsent : List JobValue) → next ≡ min (number + 1) (2 ^ 64 - 1) → next ≡ number_after number (given frame jobs ∷ sent jobs unsent ∷ map completed unsent)
 next_number number next frame jobs unsent is = is ∙ none_given (min (number + 1) (2 ^ 64 - 1)) unsent
 
--- a line for whose values there is no memory
+-- a line with no memory for its values
 pub unread : (number : ℕ) (text : List ℕ) (known : Option (List Asked)) (Writes : List ℕ → Type 0) → first_word_of text ≡ codes "tick" → Writes err_memory → HasReplied number number text (Adds known known) Writes
 unread number text known Writes first written = ([], err_memory, adds_nothing known, written, inr (first, refl, refl), refl)

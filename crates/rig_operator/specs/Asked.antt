@@ -1,4 +1,4 @@
--- What an operator asks of a rig, with the answers.
+-- The questions of an operator to a rig, with the answers.
 use Rattle.std.specs.Prelude.{◌+◌, ◌-◌, ◌^◌, min, ℕ, ℤ, List, [], ◌∷◌}
 pub use Rattle.host_core.specs.Adding.{Adds}
 use Rattle.host_core.specs.declared.hosts.TickFault.{TickFault}
@@ -10,7 +10,7 @@ pub data Asked : Type 0 where
   given : List ℤ → List JobValue → Asked
   -- an instant with this frame, which was refused
   refused : List ℤ → TickFault → Asked
-  -- the first jobs were to be sent, and the second ones came back
+  -- jobs that were to be sent, and those of them that came back
   sent : List JobValue → List JobValue → Asked
   -- the completion of this job
   completed : JobValue → Asked
@@ -18,10 +18,10 @@ pub data Asked : Type 0 where
   driven : List ℤ → Asked
   -- there was no memory for the values of the lines
   undriven : Asked
-  -- it was waited until no job was outstanding
+  -- the rig waited until no job was outstanding
   settled : Asked
 
--- the number of the next instant, after these questions: each instant that was given adds one, up to the greatest number of 64 bits
+-- the number of the next instant after these questions: each given instant adds one, up to 2 ^ 64 - 1
 abbrev pub number_after : ℕ → List Asked → ℕ
 number_after number [] = number
 number_after number (given frame jobs ∷ later) = number_after (min (number + 1) (2 ^ 64 - 1)) later

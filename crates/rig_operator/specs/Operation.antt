@@ -12,8 +12,8 @@ use Rattle.rig_operator.specs.declared.operating.Ending.{Ending}
 use Rattle.rig_operator.specs.declared.operating.Ending.TheVariants.{Halt, Input}
 use Rattle.tenant_jobs.specs.Jobs.{JobValue}
 
--- What is asked for a line, with the answers, and what is written then, where this is the number of the next instant. `halt` has no rule:
--- it ends.
+-- What is asked for a line, with the answers, and what is then written, if this is the number of the next instant. `halt` has no rule,
+-- since it ends the lines.
 pub data IsAnswered (number : ℕ) : ServedLine → List Asked → List ℕ → Type 0 where
   nothing : IsAnswered number blank [] []
   -- all its jobs are sent, and those that come back are completed, in their order
@@ -26,7 +26,7 @@ pub data IsAnswered (number : ℕ) : ServedLine → List Asked → List ℕ → 
   waited : IsAnswered number settle (settled ∷ []) ok_wait
   unknown : IsAnswered number bad_command [] err_bad_command
 
--- The same of a line's text. Where there is no memory for the values of a `tick`, nothing is asked.
+-- The same for a line's text. If there is no memory for the values of a `tick`, nothing is asked.
 abbrev pub IsTextAnswered : ℕ → List ℕ → List Asked → List ℕ → Type 0
 IsTextAnswered number text asked said =
     IsAnswered number (served_line_of (words_of text)) asked said ⊎ ((first_word_of text ≡ codes "tick") × (asked ≡ []) × (said ≡ err_memory))
@@ -50,8 +50,8 @@ Operates Asks Writes Reads = (texts : List (List ℕ)) × AreOperated Asks Write
 abbrev pub BeginWith : List ℕ → List (List ℕ) → (List (List ℕ) → Type 0) → Type 0
 BeginWith bytes texts Then = (front : List (List ℕ)) × (later : List (List ℕ)) × (cut bytes ≡ front ++ later) × (map text_of_line front ≡ map Some texts) × Then later
 
--- How the lines of some bytes ended, after those with these texts, by what the reader still has: with `halt`, and `Left` holds of the
--- bytes after it; else with the bytes, or with a line that is too long or not UTF-8.
+-- How the lines of some bytes ended after those with these texts, by what the reader still has. They ended with `halt`, and `Left` holds of
+-- the bytes after it; or with the bytes; or with a line that is too long or not UTF-8.
 abbrev pub IsEnd : Ending → List ℕ → List (List ℕ) → Option (List ℕ) → (List ℕ → Type 0) → Type 0
 IsEnd Halt bytes texts remaining Left = BeginWith bytes texts (λ lines.
     (line : List ℕ) × (text : List ℕ) × (rest : List ℕ) × (lines ≡ line ∷ cut rest) × (text_of_line line ≡ Some text) × (served_line_of (words_of text) ≡ halt) × Left rest)
@@ -59,18 +59,18 @@ IsEnd Input bytes texts remaining Left =
     ((map text_of_line (cut bytes) ≡ map Some texts) × (remaining ≡ Some []))
     ⊎ BeginWith bytes texts (λ lines. (line : List ℕ) × (later : List (List ℕ)) × (lines ≡ line ∷ later) × (text_of_line line ≡ None))
 
--- these are the texts of the lines that came whole: those of the bytes down to what the reader still has
+-- these are the texts of the complete lines: those of the bytes up to what the reader still has
 abbrev pub AreWhole : List ℕ → Option (List ℕ) → List (List ℕ) → Type 0
 AreWhole bytes remaining texts = IsSomeAnd remaining (λ more. (taken : List ℕ) × (bytes ≡ taken ++ more) × (map text_of_line (whole_lines taken) ≡ map Some texts))
 
--- Which lines of some bytes were answered before a fault. Where a read failed, or too many gave bytes, just those that came whole; a read
--- fails also where there is no memory for a line, and then just those before it. Where a write failed, some lines from the first on.
+-- The lines of some bytes that were answered before a fault. `Turns`: exactly the complete lines. `Read`: the same; or, if there was no
+-- memory for a line, exactly the lines before it. `Write`: some lines, from the first on.
 abbrev pub IsBrokenOff : OperatorFault → List ℕ → List (List ℕ) → Option (List ℕ) → Type 0
 IsBrokenOff Read bytes texts remaining = AreWhole bytes remaining texts ⊎ BeginWith bytes texts (λ lines. (line : List ℕ) × (later : List (List ℕ)) × (lines ≡ line ∷ later))
 IsBrokenOff Turns bytes texts remaining = AreWhole bytes remaining texts
 IsBrokenOff Write bytes texts remaining = BeginWith bytes texts (λ lines. Unit {0})
 
--- where a write failed nothing is said of what was written
+-- if a write failed, nothing is promised about what was written
 abbrev pub WrittenBefore : OperatorFault → (List ℕ → Type 0) → List ℕ → Type 0
 WrittenBefore Read Writes said = Writes said
 WrittenBefore Turns Writes said = Writes said

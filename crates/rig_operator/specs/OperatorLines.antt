@@ -32,7 +32,7 @@ served_line_of (w ∷ ws) =
     alone line [] = line
     alone line (x ∷ xs) = bad_command
 
--- what the code tells of a line
+-- the line that the code found
 abbrev pub line_of : OperatorLine → ServedLine
 line_of Blank = blank
 line_of (Tick values) = tick values.items

@@ -1,15 +1,15 @@
--- What is written to an operator.
+-- The replies to an operator.
 use Rattle.std.specs.Prelude.{ℕ, ℤ, List, ◌++◌, codes}
 use Rattle.std.specs.Fmt.{decimal, signed_decimal}
 use Rattle.std.specs.List.{flat_map}
 use Rattle.host_core.specs.declared.hosts.TickFault.{TickFault}
 use Rattle.host_core.specs.declared.hosts.TickFault.TheVariants.{BadFrame, ClockEnded, Memory}
 
--- an instant of this number
+-- to an instant of this number
 abbrev pub tick_reply : ℕ → List ℕ
 tick_reply number = codes "ok tick " ++ (decimal number ++ codes "\n")
 
--- an instant that was refused
+-- to a refused instant
 abbrev pub refusal : TickFault → List ℕ
 refusal BadFrame = codes "err bad-frame\n"
 refusal ClockEnded = codes "err clock-ended\n"

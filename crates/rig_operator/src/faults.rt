@@ -1,9 +1,9 @@
-//! Why an operator's lines are no longer answered.
+//! Faults that end the answering of an operator's lines.
 
 use text_lines::faults::LinesFault;
 use thiserror::Error;
 
-/// Why an operator's lines are no longer answered.
+/// The reason why an operator's lines are no longer answered.
 #[derive(Clone, Copy, Debug, PartialEq, Eq, Error)]
 pub enum OperatorFault {
     /// A read failed, or there was no memory for a line.

@@ -4,9 +4,9 @@
 //! let ending = operate(&rt, alloc, &mut rig, &mut lines, &mut reader, &mut writer)?;
 //! ```
 //!
-//! The operator gives the instants, looks at the lines of the rig, and halts. [`operator_lines`] says what a line is, [`rigs`] what is
-//! asked of a rig, and [`operating::operate`] answers the lines. `specs/OperatorLines.antt` defines which lines there are,
-//! `specs/Asked.antt` the questions with their answers, and `specs/Operation.antt` what is asked and written for each line.
+//! The operator gives the instants, reads the lines of the rig, and halts. [`operator_lines`] has the forms of a line, [`rigs`] the
+//! questions to a rig, and [`operating::operate`] answers the lines. `specs/OperatorLines.antt` defines the lines, `specs/Asked.antt` the
+//! questions with their answers, and `specs/Operation.antt` what is asked and written for each line.
 #![tactic(auto)]
 
 pub mod faults;

@@ -24,7 +24,7 @@ use text_lines::lines::{Line, Lines};
 /// How an operator's lines ended.
 #[derive(Clone, Copy, Debug, PartialEq, Eq)]
 pub enum Ending {
-    /// By the line `halt`.
+    /// The line `halt` ended them.
     Halt,
     /// The input has ended, or a line was longer than 16,384 bytes or not UTF-8.
     Input,
@@ -35,7 +35,7 @@ pub enum Ending {
 /// If there is no memory for the values of a `tick`, or for the reply to `lines`, it writes `err memory` and reads the next line.
 ///
 /// # Errors
-/// `Read`, `Write` and `Turns` as `Lines::next_line`. `Read` also if there is no memory for a line, and `Write` if a reply can't be
+/// `Read`, `Write` and `Turns` as in `Lines::next_line`. `Read` also if there is no memory for a line, and `Write` if a reply can't be
 /// written.
 pub fn operate<R: Wait, G: Rig, I: Read, W: Write>(
     rt: &R,
@@ -67,7 +67,7 @@ pub fn operate<R: Wait, G: Rig, I: Read, W: Write>(
     unreachable!()
 }
 
-// Answers a line, where `number` is that of the next instant. Returns whether the line is `halt`.
+// Answers a line. `number` is the number of the next instant. Returns whether the line is `halt`.
 fn answer<R: Wait, G: Rig, W: Write>(
     rt: &R,
     alloc: Global,
@@ -141,7 +141,7 @@ fn tick<R: Wait, G: Rig, W: Write>(
     }
 }
 
-// Runs the jobs that couldn't be sent, the first one first.
+// Runs the jobs that couldn't be sent, in their order.
 fn complete<R: Wait, G: Rig>(rt: &R, rig: &mut G, jobs: Jobs)
     ensures { Adds (G.asked rig.old) (G.asked rig.new) (map completed jobs.jobs) }
 {
@@ -151,7 +151,7 @@ fn complete<R: Wait, G: Rig>(rt: &R, rig: &mut G, jobs: Jobs)
     }
 }
 
-// Writes the value with which each line is driven.
+// Writes the value that each line is driven with.
 fn show_lines<R: Wait, G: Rig, W: Write>(
     rt: &R,
     alloc: Global,

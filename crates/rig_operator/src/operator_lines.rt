@@ -1,4 +1,4 @@
-//! The operator's lines, as they stand in a server: without `op` before them.
+//! The operator's lines in a server, which don't begin with `op`.
 
 ghost use Rattle.std.specs.Prelude.{◌≡◌, ◌==◌, ◌∷◌, IfOk, IsErr, if◌then◌else◌, codes, length};
 ghost use Rattle.rig_model.specs.lines.Words.{first_word_of, words_of};
@@ -8,27 +8,27 @@ use rig_model::lines::words;
 use rig_model::lines::words::Values;
 use std::alloc::{AllocError, Global};
 
-/// What a line of the operator is.
+/// A line of the operator.
 #[derive(Drop)]
 pub enum OperatorLine {
     /// A blank line, which has no reply.
     Blank,
     /// An instant, with the value of each line of the rig.
     Tick(Values),
-    /// The value with which each line is driven.
+    /// Asks for the value that each line is driven with.
     Lines,
     /// Waits until no job is outstanding.
     Wait,
-    /// Takes no further connection, and ends once the open ones have ended.
+    /// Accepts no further connection, and ends after the open ones have ended.
     Halt,
-    /// None of these.
+    /// None of these forms.
     BadCommand,
 }
 
-/// What a line of the operator is: blank, `tick V ..`, `lines`, `wait` or `halt`.
+/// Reads a line of the operator: blank, `tick V ..`, `lines`, `wait` or `halt`.
 ///
 /// # Errors
-/// Want of memory for the values of a `tick`.
+/// Out of memory for the values of a `tick`.
 pub fn operator_line(alloc: Global, line: &str) -> Result<OperatorLine, AllocError>
     ensures line { IfOk result (λ told. line_of told ≡ served_line_of (words_of line.now)) }
     ensures memory { IsErr result → first_word_of line.now ≡ codes "tick" }
@@ -44,7 +44,7 @@ pub fn operator_line(alloc: Global, line: &str) -> Result<OperatorLine, AllocErr
     }
 }
 
-// A `tick` with these words behind it.
+// A `tick`, given the words after it.
 fn tick(alloc: Global, rest: &str) -> Result<OperatorLine, AllocError>
     ensures { IfOk result (λ told. line_of told ≡ served_line_of (codes "tick" ∷ words_of rest.now)) }
 {
@@ -54,7 +54,7 @@ fn tick(alloc: Global, rest: &str) -> Result<OperatorLine, AllocError>
     }
 }
 
-// A line of one word, with this behind it.
+// A line of one word, given the rest of the line.
 fn alone(rest: &str, line: OperatorLine) -> OperatorLine
     ensures { line_of result ≡ (if (length (first_word_of rest.now) == 0) then line_of line else bad_command) }
 {

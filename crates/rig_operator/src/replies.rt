@@ -1,4 +1,4 @@
-//! What is written for an operator's lines.
+//! The replies to an operator's lines.
 
 ghost use Rattle.std.specs.Prelude.{◌≡◌, IfOk, string_bytes};
 ghost use Rattle.rig_operator.specs.Replies.{lines_reply, refusal, tick_reply};
@@ -9,7 +9,7 @@ use itoa::Buffer;
 use std::alloc::{AllocError, Global};
 use std::fmt::Write;
 
-/// The reply to an instant of this number. Takes no memory.
+/// The reply to an instant of this number. Allocates nothing.
 pub(crate) fn tick_reply(number: u64) -> ArrayString<32>
     ensures { result.bytes ≡ tick_reply number }
 {
@@ -21,7 +21,7 @@ pub(crate) fn tick_reply(number: u64) -> ArrayString<32>
     reply
 }
 
-/// The reply to an instant that was refused.
+/// The reply to a refused instant.
 pub(crate) fn refusal(fault: TickFault) -> &'static str
     ensures { result.now ≡ refusal fault }
 {

@@ -1,4 +1,4 @@
-//! What an operator asks of a rig.
+//! The questions of an operator to a rig.
 
 ghost use Rattle.std.specs.Prelude.{[], ◌∷◌, List, Option, IfOk, OnErr, IfErr};
 ghost use Rattle.rig_operator.specs.Asked.{Adds, Asked, completed, driven, given, refused, sent, settled, undriven};
@@ -8,15 +8,15 @@ use std::alloc::AllocError;
 use std::sync::Wait;
 use tenant_jobs::jobs::{Done, Jobs};
 
-/// What an operator asks of a rig.
+/// A rig as an operator uses it.
 pub trait Rig {
-    // what it was asked and has answered, the oldest first, where that is known
+    // the questions so far with their answers, the oldest first, if they are known
     ghost asked: { Self → Option (List Asked) };
 
-    /// An instant of all tenants with this frame, and the jobs that it releases.
+    /// Gives an instant of all tenants with this frame, and returns the jobs that it releases.
     ///
     /// # Errors
-    /// As a host's.
+    /// Those of a host's `tick`.
     fn tick<R: Wait>(&mut self, rt: &R, frame: &[i64]) -> Result<Jobs, TickFault>
         ensures given { IfOk result (λ jobs. Adds (asked self.old) (asked self.new) (given frame.now jobs.jobs ∷ [])) }
         ensures refused { IfErr result (λ fault. Adds (asked self.old) (asked self.new) (refused frame.now fault ∷ [])) };
@@ -29,7 +29,7 @@ pub trait Rig {
     fn done<R: Wait>(&mut self, rt: &R, done: Done)
         ensures { Adds (asked self.old) (asked self.new) (completed done ∷ []) };
 
-    /// The value with which each line of the rig is driven.
+    /// The value that each line of the rig is driven with.
     ///
     /// # Errors
     /// Out of memory.

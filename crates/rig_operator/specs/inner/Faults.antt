@@ -4,7 +4,7 @@ use Rattle.rig_operator.specs.declared.faults.OperatorFault.TheVariants.{Read, W
 use Rattle.text_lines.specs.declared.faults.LinesFault.{LinesFault}
 use Rattle.text_lines.specs.declared.faults.LinesFault.TheVariants as lines
 
--- a line for which there is no memory isn't read
+-- if there is no memory for a line, the line isn't read
 abbrev pub fault_of_lines : LinesFault → OperatorFault
 fault_of_lines lines.Read = Read
 fault_of_lines lines.Write = Write
