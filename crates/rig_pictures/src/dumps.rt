@@ -13,11 +13,12 @@ use std::io::{Read, Write};
 use tenant_dumps::dumps::Dump;
 use tenant_dumps::views::View;
 
-/// Answers the lines of a reader as `rig_script::script` does. The value change dump of the run: a stamp for each instant, with what
-/// stands behind it, and one for what the script leaves.
+/// Answers the lines of a reader as `rig_script::script` does, and returns the value change dump of the run.
+///
+/// The dump has a stamp for each instant, with what the tenants show after it, and one for the end of the script.
 ///
 /// # Errors
-/// As `script`; `Memory` also where there was want of memory for the dump, and then all lines were answered.
+/// As `script`; `Memory` also if an allocation for the dump fails. If it fails after the first line was read, all lines are answered.
 pub fn script_with_dump<R: Read, W: Write>(
     alloc: Global,
     reader: &mut R,
@@ -32,16 +33,16 @@ pub fn script_with_dump<R: Read, W: Write>(
     Ok(watcher.dump.text(alloc)?)
 }
 
-// Writes a dump of what it sees.
+// Writes what it sees into a dump.
 #[derive(Drop)]
 struct DumpWatcher {
     dump: Dump,
-    // How many instants it saw.
+    // The number of instants seen.
     instants: u64,
 }
 
 impl DumpWatcher {
-    // That has seen nothing.
+    // A watcher that has seen nothing yet.
     fn new(alloc: Global, config: &Config) -> Result<DumpWatcher, AllocError> {
         let mut dump = Dump::new(alloc);
         for tenant in config.tenants() {

@@ -5,8 +5,8 @@
 //! let picture = timeline(alloc, &mut reader, &config, None)?;
 //! ```
 //!
-//! [`watching`] answers a script as `rig_script` does, and asks the [`questions`] behind each line whose answers it shows to whoever
-//! watches: [`dumps`] writes down what changed at each instant, and a [`runs::Run`] has what a timeline draws, with its [`tasks`].
+//! [`watching`] answers a script as `rig_script` does. After each line it asks the tenants the [`questions`], and shows the answers to a
+//! watcher. [`dumps`] writes down what changed at each instant. A [`runs::Run`] has what a timeline draws, with its [`tasks`].
 #![tactic(auto)]
 
 mod dumps;

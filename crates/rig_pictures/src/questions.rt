@@ -1,4 +1,4 @@
-//! What tenants are asked between two lines of a script: questions, which change nothing.
+//! Questions to tenants between two lines of a script. They change nothing.
 
 ghost use Rattle.std.specs.Prelude.{◌≡◌, ◌<◌, length, IfOk, IsTrue};
 ghost use Rattle.rig_script.specs.host.HostStanding.{ForEachState};
@@ -16,10 +16,10 @@ use rig_model::lines::replies::Reply;
 use std::alloc::{AllocError, Global};
 use tenant_dumps::views::View;
 
-/// What all tenants show, in the order of the roster.
+/// Returns what all tenants show, in the order of the roster.
 ///
 /// # Errors
-/// Want of memory.
+/// Out of memory.
 pub(crate) fn views_of(alloc: Global, host: &mut Host) -> Result<Vec<View>, AllocError>
     ensures { host.new ≡ host.old }
 {
@@ -31,7 +31,7 @@ pub(crate) fn views_of(alloc: Global, host: &mut Host) -> Result<Vec<View>, Allo
     Ok(views)
 }
 
-// What the tenant at this place shows.
+// Returns what the tenant at this place shows.
 fn view_of(alloc: Global, host: &mut Host, tenant: TenantId) -> Result<View, AllocError>
     requires { tenant < length host.old.config.tenants }
     ensures { host.new ≡ host.old }
@@ -43,7 +43,7 @@ fn view_of(alloc: Global, host: &mut Host, tenant: TenantId) -> Result<View, All
     }
 }
 
-// The ports of a reply to `show all`; none where there is no program.
+// The ports of a reply to `show all`; none if there is no program.
 fn ports_of(alloc: Global, reply: Reply) -> List<PortValue> {
     match reply {
         Reply::All(ports) => ports,
@@ -51,10 +51,12 @@ fn ports_of(alloc: Global, reply: Reply) -> List<PortValue> {
     }
 }
 
-/// The reply of the tenant at this place to a command. One that leaves the tenant's row, as the question `show mode` does, leaves the host as it was.
+/// Returns the reply of the tenant at this place to a command.
+///
+/// A command that leaves the tenant's row unchanged, as the question `show mode` does, leaves the host unchanged.
 ///
 /// # Errors
-/// Want of memory.
+/// Out of memory.
 pub fn ask(host: &mut Host, tenant: TenantId, question: Command) -> Result<Reply, AllocError>
     requires { tenant < length host.old.config.tenants }
     ensures same { IsTrue (is_question question) → host.new ≡ host.old }

@@ -1,8 +1,8 @@
 //! The run of one tenant, seen line by line.
 //!
-//! Marks are seen by what `show mode` tells behind each line: a switch into the same mode is none, and a waiting program is installed
-//! where the mode time was 0. Once a tenant's trace can be asked for as well, its records since the last line tell all of them, and are
-//! read in `Watch::see` in place of this.
+//! Marks are derived from the reply to `show mode` after each line. A switch into the same mode gives no mark, and a waiting program is
+//! installed if the mode time was 0. Once a tenant's trace can be asked for as well, its records since the last line have all marks:
+//! `Watch::see` is to read them instead.
 
 use crate::tasks::{Moment, see_task};
 use crate::watching::{Scene, Watch};
@@ -21,21 +21,21 @@ use tenant_timelines::timelines::Timeline;
 /// The run of one tenant.
 #[derive(Drop)]
 pub struct Run {
-    // None where it is that of the first tenant that loads a program, and none has.
+    // `None` if it is the run of the first tenant that loads a program, and none has yet.
     tenant: Option<TenantId>,
     timeline: Timeline,
     program: Option<Checked>,
-    // The program that waits to be installed.
+    // The program that is to be installed next.
     waiting: Option<Checked>,
     // Whether the mode time of the next instant is 0.
     is_round: bool,
 }
 
 impl Run {
-    /// A run of which nothing was seen: that of this tenant, or of the first that loads a program.
+    /// Creates a run of which nothing was seen: of this tenant, or of the first that loads a program if it is `None`.
     ///
     /// # Errors
-    /// Want of memory.
+    /// Out of memory.
     pub fn new(alloc: Global, tenant: Option<TenantId>) -> Result<Run, AllocError> {
         Ok(Run {
             tenant,
@@ -46,12 +46,12 @@ impl Run {
         })
     }
 
-    /// Whose run it is, where it is known.
+    /// The tenant of the run, if it is known.
     pub fn tenant(&self) -> Option<TenantId> {
         self.tenant
     }
 
-    /// What is drawn of it.
+    /// The timeline that is drawn of it.
     pub fn timeline(&self) -> &Timeline {
         &self.timeline
     }
@@ -71,7 +71,7 @@ impl Run {
         Ok(())
     }
 
-    // Whether it is the run of this tenant. It becomes that of the first who is asked about.
+    // Whether it is the run of this tenant. If the tenant isn't known yet, it becomes this one.
     fn is_of(&mut self, tenant: TenantId) -> bool {
         match self.tenant {
             Some(own) => own == tenant,
@@ -82,14 +82,14 @@ impl Run {
         }
     }
 
-    // Takes a program in place of the old one.
+    // Takes a program that replaces the old one.
     fn load(&mut self, alloc: Global, program: Checked) -> Result<(), AllocError> {
         add_lanes(alloc, &mut self.timeline, &program)?;
         self.program = Some(program);
         Ok(())
     }
 
-    // Notes the begin of a round at an instant, and whether the program that waits is installed there.
+    // Notes the begin of a round at an instant, and returns whether the waiting program is installed there.
     fn see_round(
         &mut self,
         alloc: Global,
@@ -116,7 +116,7 @@ impl Run {
         }
     }
 
-    // Notes what became of jobs, which were released, and the values of ports.
+    // Notes the ends and releases of jobs, and the values of ports.
     fn see_lanes(&mut self, alloc: Global, moment: &Moment<'_>) -> Result<(), AllocError> {
         let Some(program) = &self.program else {
             return Ok(());
@@ -167,7 +167,7 @@ impl Watch for Run {
     }
 }
 
-// What this status tells, but for the mode time.
+// What this status says, without the mode time.
 fn doing_of(status: &Status) -> Doing {
     match status {
         Status::Empty => Doing::Empty,
@@ -207,7 +207,7 @@ fn add_lanes(alloc: Global, timeline: &mut Timeline, program: &Checked) -> Resul
     Ok(())
 }
 
-// The value of a lane's port, where the program has such a port.
+// The value of a lane's port, if the program has such a port.
 fn value_of(lane: &PortLane, program: &Checked, view: &View) -> Option<i64> {
     if is_in(program, lane.kind, &lane.name) {
         view.value(&lane.name)
@@ -225,7 +225,7 @@ fn is_in(program: &Checked, kind: Kind, name: &Name) -> bool {
     }
 }
 
-// The program of a text that the host took.
+// The program of a text that the host accepted.
 fn program_of(alloc: Global, text: &str) -> Result<Checked, AllocError> {
     match read_program(alloc, text) {
         Ok(program) => Ok(program),

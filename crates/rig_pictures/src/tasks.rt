@@ -18,7 +18,7 @@ pub struct Moment<'a> {
     pub tenant: TenantId,
     pub view: &'a View,
     pub place: Place,
-    /// The number of the instant, where the line gave one.
+    /// The number of the instant, if the line gave one.
     pub instant: Option<u64>,
     /// Whether a waiting program was installed at it.
     pub is_installed: bool,
@@ -27,7 +27,7 @@ pub struct Moment<'a> {
 /// Notes what becomes of a task's open job, and the job that is released.
 ///
 /// # Errors
-/// Want of memory.
+/// Out of memory.
 pub fn see_task(
     alloc: Global,
     lane: &mut TaskLane,
@@ -47,7 +47,7 @@ pub fn see_task(
     }
 }
 
-// What becomes of the open job.
+// Notes what becomes of the open job.
 fn see_open(alloc: Global, lane: &mut TaskLane, moment: &Moment<'_>) -> Result<(), AllocError> {
     let Some(mut job) = lane.open.take() else {
         return Ok(());
@@ -87,7 +87,7 @@ fn end_of(
     }))
 }
 
-// What a job wrote. Where another program was installed behind it, nobody shows it any more.
+// What a job wrote. Empty if another program was installed after the job: nothing shows its outputs then.
 fn written_by(alloc: Global, job: &JobBar, moment: &Moment<'_>) -> Result<PortTexts, AllocError> {
     if moment.is_installed {
         return Ok(PortTexts::new(alloc));
@@ -103,7 +103,7 @@ fn is_due(job: &JobBar, moment: &Moment<'_>) -> bool {
     }
 }
 
-// Whether the completion of the task's job of this release is awaited.
+// Whether the completion of the task's job that was released at this tick is awaited.
 fn is_awaited(task: &Name, tick: u64, moment: &Moment<'_>) -> Result<bool, AllocError> {
     let host = moment.host;
     let id = job_id(moment.tenant, tick, task);
@@ -111,7 +111,7 @@ fn is_awaited(task: &Name, tick: u64, moment: &Moment<'_>) -> Result<bool, Alloc
     Ok(job.is_some())
 }
 
-// The job that this instant releases, if it does.
+// Notes the job that this instant releases, if any.
 fn see_release(
     alloc: Global,
     lane: &mut TaskLane,
@@ -129,7 +129,7 @@ fn see_release(
     Ok(())
 }
 
-// The name of a task's job of this release.
+// The id of the task's job that was released at this tick.
 fn job_id(tenant: TenantId, tick: u64, task: &Name) -> JobId {
     JobId {
         tenant,
@@ -160,7 +160,7 @@ fn bar_of(
     })
 }
 
-// How many ticks lie between two invocations of a task in a mode, if the mode invokes it.
+// The number of ticks between two invocations of a task in a mode, if the mode invokes it.
 fn period_of(program: &Checked, mode: &Name, task: &Name) -> Option<u64> {
     let mode = program
         .program()
@@ -202,7 +202,7 @@ fn outputs_of(alloc: Global, view: &View, names: &[Name]) -> Result<PortTexts, A
     Ok(texts)
 }
 
-// Equal names.
+// Copies of these names.
 fn copies(alloc: Global, names: &[Name]) -> Result<Vec<Name>, AllocError> {
     let mut copies = Vec::new(alloc);
     for name in names {

@@ -9,8 +9,9 @@ use std::io;
 use std::io::Read;
 use tenant_timelines::draw;
 
-/// The timeline of a tenant's run in the script of this reader, in SVG: that of this tenant, or of the first that loads a program, or of
-/// the first of the roster where none does.
+/// Draws the timeline of a tenant's run in the script of this reader, in SVG.
+///
+/// If `tenant` is `None`, it is the run of the first tenant that loads a program, or of the first of the roster if none does.
 ///
 /// # Errors
 /// As `rig_script::script`.

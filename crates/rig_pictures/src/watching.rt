@@ -1,4 +1,4 @@
-//! A script that is watched: who answers it is asked, behind each line, what stands there.
+//! A watched script: after each line, a watcher is shown the state of the tenants.
 
 ghost use Rattle.std.specs.Prelude.{◌≡◌, OnOk};
 ghost use Rattle.std.specs.Io.KnownBytes.{Appends};
@@ -16,13 +16,13 @@ use std::alloc::{AllocError, Global};
 use std::io::{Read, Write};
 use tenant_dumps::views::View;
 
-/// What stands behind a line of a script.
+/// The state of host and tenants after a line of a script.
 #[derive(Drop)]
 pub struct Scene<'a> {
-    /// The host, behind the line.
+    /// The host, after the line.
     pub host: &'a Host,
     pub line: &'a str,
-    /// What the line was answered, with LF; no byte where it has no reply.
+    /// The reply to the line, with LF; empty if it has none.
     pub reply: &'a str,
     /// What each tenant shows, in the order of the roster.
     pub views: &'a [View],
@@ -30,6 +30,7 @@ pub struct Scene<'a> {
 
 impl<'a> Scene<'a> {
     /// The tenant that this command, `load` or `replace`, gave a program in this line, and the program's text.
+    /// `None` if the line doesn't do that.
     pub fn given(&self, command: &str) -> Option<(TenantId, &'a str)> {
         let Speaker::Tenant(tenant) = who_speaks(self.host.config(), self.line) else {
             return None;
@@ -43,22 +44,22 @@ impl<'a> Scene<'a> {
     }
 }
 
-/// Who watches a script.
+/// A watcher of a script.
 pub trait Watch {
-    /// Takes what stands behind a line.
+    /// Takes the state after a line.
     ///
     /// # Errors
-    /// Want of memory. Nothing is shown from then on.
+    /// Out of memory. Nothing is shown from then on.
     fn see(&mut self, alloc: Global, scene: &Scene<'_>) -> Result<(), AllocError>;
 
-    /// Takes what stands at the end of the script.
+    /// Takes the state at the end of the script.
     ///
     /// # Errors
-    /// Want of memory.
+    /// Out of memory.
     fn end(&mut self, alloc: Global, views: &[View]) -> Result<(), AllocError>;
 }
 
-/// A host that answers, and who watches it.
+/// A host that answers, and its watcher.
 #[derive(Drop)]
 struct Watched<W> {
     host: Host,
@@ -68,7 +69,7 @@ struct Watched<W> {
 }
 
 impl<W: Watch> Watched<W> {
-    // Shows what stands behind a line.
+    // Shows the state after a line.
     fn show(&mut self, alloc: Global, line: &str, reply: &str) -> Result<(), AllocError>
         ensures { self.new.host ≡ self.old.host }
     {
@@ -82,7 +83,7 @@ impl<W: Watch> Watched<W> {
         self.watcher.see(alloc, &scene)
     }
 
-    // Shows what stands at the end.
+    // Shows the state at the end.
     fn end(&mut self, alloc: Global) -> Result<(), AllocError> {
         if !self.is_whole {
             return Err(AllocError);
@@ -106,10 +107,10 @@ impl<W: Watch> Answers for Watched<W> {
     }
 }
 
-/// Answers the lines of a reader as `rig_script::script` does, and shows the watcher what stands behind each, and at the end.
+/// Answers the lines of a reader as `rig_script::script` does, and shows the watcher the state after each line and at the end.
 ///
 /// # Errors
-/// As `script`; `Memory` also where there was want of memory for what is shown, and then all lines were answered.
+/// As `script`; `Memory` also if an allocation for what is shown fails: all lines are answered then.
 pub fn watched_script<R: Read, W: Write, P: Watch + Drop>(
     alloc: Global,
     reader: &mut R,
