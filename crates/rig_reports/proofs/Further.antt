@@ -1,4 +1,4 @@
--- Who was told the lines of a script, one line on.
+-- The listener of a script after one more line.
 use Rattle.std.proofs.Common.{◌≡◌, ◌+◌, ◌-◌, ◌^◌, ℕ, Bool, min, List, [], ◌∷◌, ◌++◌, length, Result, Ok, Err, IfOk, Vec, sym, ap, subst, ◌∙◌, arith}
 use Rattle.std.proofs.lemmas.List.{length-append}
 use Rattle.rig_pictures.specs.host.HostStanding.{HostStanding}
@@ -25,7 +25,7 @@ numbered answered n e = omega (arith, e)
 counted : (answered : ℕ) (texts : List (List ℕ)) (text : List ℕ) → answered ≡ min (length texts) (2 ^ 64 - 1) → number_behind answered ≡ min (length (texts ++ text ∷ [])) (2 ^ 64 - 1)
 counted answered texts text e = let more = length-append texts (text ∷ []) in omega (arith, e, more)
 
--- a line as it is told
+-- a line as the listener gets it
 abbrev told : ℕ → List ℕ → List ℕ → List Overrun → HeardLine
 told number text reply overruns = record { number = number; text = text; reply = reply; overruns = overruns }
 

@@ -1,4 +1,4 @@
--- What is told of lines, one line on.
+-- What is reported of lines, with one more line.
 use Rattle.std.proofs.Common.{◌≡◌, ◌+◌, ℕ, suc, List, [], ◌∷◌, ◌++◌, length, ap, ◌∙◌, arith}
 use Rattle.rig_model.specs.Base.{Setting}
 use Rattle.rig_model.specs.Script.{past_behind}

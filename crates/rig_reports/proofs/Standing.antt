@@ -1,4 +1,4 @@
--- What `show mode` tells of a row, and which tenants ran.
+-- What `show mode` says of a row, and which tenants ran.
 use Rattle.std.proofs.lemmas.Bool.Decides.{nat_tests}
 use Rattle.std.proofs.Common.{◌≡◌, ◌==◌, ◌+◌, ◌<◌, ℕ, zero, suc, Bool, true, false, List, [], ◌∷◌, ◌++◌, length, get_or, refl, sym, ap, subst, ◌∙◌, arith}
 use Rattle.rig_model.specs.Base.{Setting}
@@ -16,7 +16,7 @@ use Rattle.rig_model.specs.declared.lines.replies.Status.TheVariants.{Empty, Loa
 use Rattle.giotto_tasks.specs.declared.names.Name.{Name}
 use Rattle.std.specs.Prelude.{Option, Some, None}
 
--- the same as a status tells it
+-- whether a status says that the tenant runs
 abbrev pub tells_running : Status → Bool
 tells_running Empty = false
 tells_running (Loaded m) = false
@@ -73,7 +73,7 @@ module _ (setting : Setting) (past : List Event) where
           let within : t < length (running_up_to setting past n) = rw (as_many n) less in
           get_or_append_left (running_up_to setting past n) (is_running (row_behind setting past n) ∷ []) false t within ∙ below less
 
--- the overruns of one tenant more
+-- the overruns with one more tenant
 pub stops_more : (setting : Setting) (before past : List Event) (t : ℕ) (stop : Option Overrun) (so_far now : List Overrun) → so_far ≡ overruns_up_to setting before past t
     → stop ≡ overrun_of (name_at setting.config t) (row_behind setting before t) (row_behind setting past t) → now ≡ so_far ++ listed stop → now ≡ overruns_up_to setting before past (t + 1)
 stops_more setting before past t stop so_far now so is grown =

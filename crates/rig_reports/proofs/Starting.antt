@@ -1,4 +1,4 @@
--- A script that is told begins with a new host.
+-- A script with a listener begins with a new host.
 use Rattle.std.proofs.Common.{◌≡◌, ◌-◌, ◌^◌, ℕ, min, List, [], ◌++◌, length, Option, Some, None, IfSome, refl, ap, inl, inr, ◌∙◌}
 use Rattle.rig_pictures.specs.host.HostStanding.{HostStanding, Stands}
 use Rattle.rig_model.specs.config.Roster.{Rig}
@@ -68,7 +68,7 @@ pub broken_with_report : (config : Rig) (known left : Option (List ℕ)) (Writte
 broken_with_report config None left Written fault broken = λ setting of. tt
 broken_with_report config (Some bytes) left Written fault broken = λ setting of. inl (broken setting of)
 
--- all was answered, and there was no memory to tell its end
+-- all lines were answered, and there was no memory to report the end
 pub broken_at_end : (config : Rig) (known left : Option (List ℕ)) (Written : List ℕ → Type 0)
     → ForNewHostReading config known (λ setting bytes. Written (script_text_of setting bytes)) → ForNewHostReading config known (IsReportBrokenOff left Written Memory)
 broken_at_end config None left Written written = λ setting of. tt
@@ -79,7 +79,7 @@ pub left_at_end : (known left : Option (List ℕ)) (end : Option ℕ) → IfSome
 left_at_end None left end ends = tt
 left_at_end (Some bytes) left end ends = λ all. ends.1 (ends.0 ∙ none_bad 0 (cut bytes) all)
 
--- the replies of a run, with that to its end
+-- the replies of a run, with the reply to the line that ended it
 pub answered_from_start : (config : Rig) (bytes script : List ℕ) (left : Option (List ℕ)) (listener replies : List (List ℕ)) (end : Option ℕ) → bytes ≡ script → replies ≡ listener ++ reply_to_bad_line end
     → ForNewHostReading config (Some bytes) (λ setting bytes. listener ≡ map (λ (l : HeardLine). line_in l.reply) (heard_of setting bytes)) → IsEndOf bytes left end
     → (setting : Setting) → IsSettingOf config setting → replies ≡ replies_of setting script

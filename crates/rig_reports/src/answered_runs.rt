@@ -1,4 +1,4 @@
-//! The replies that come to the lines of a run.
+//! The replies to the lines of a run.
 
 ghost use Rattle.std.specs.Prelude.{◌≡◌, ◌++◌, IfOk};
 ghost use Rattle.rig_model.specs.Base.{Setting};
@@ -13,11 +13,12 @@ use script_reports::runs::{Replies, RunLine, script_of};
 use std::alloc::{AllocError, Global};
 use std::io;
 
-/// What the lines of a run are answered, each as `rig_script::script` answers it from a new host on. A line that is too long is answered
-/// `host bye bad-line`, and no line behind it is answered.
+/// Returns the replies to the lines of a run, which are those of `rig_script::script` from a new host on.
+///
+/// The reply to a line that is too long is `host bye bad-line`, and no line after it is answered.
 ///
 /// # Errors
-/// `Memory`, where there is want of it.
+/// `Memory` if an allocation fails.
 pub fn answered_run(
     alloc: Global,
     config: &Config,

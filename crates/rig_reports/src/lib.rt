@@ -1,13 +1,13 @@
-//! What is told of a script that a host answers: its refusals, its overruns, where it was cut off, and what differs from a run.
+//! Reports about a script that a host answers: its refusals, its overruns, where it was cut off, and its differences from a run.
 //!
 //! ```text
 //! let strict = strict_script(alloc, &mut reader, &mut writer, &config)?;
 //! let replies = answered_run(alloc, &config, run.lines())?;
 //! ```
 //!
-//! [`telling`] answers a script as `rig_script` does, and tells whoever listens each line, with the [`overruns`] at the instant that it
-//! gave. [`strict_script`] has a report of it, and [`answered_run`] the replies to the lines of a run. `specs/inner/Reported.antt` says what
-//! is told of a line.
+//! [`telling`] answers a script as `rig_script` does, and passes each line to a listener, with the [`overruns`] at the instant that it gave.
+//! [`strict_script`] returns a report about the script, and [`answered_run`] the replies to the lines of a run.
+//! `specs/inner/Reported.antt` defines what is reported of a line.
 #![tactic(auto)]
 
 mod answered_runs;

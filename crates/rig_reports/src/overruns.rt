@@ -1,4 +1,4 @@
-//! Which tenants an instant stopped by an overrun: those that ran before it, and are stopped behind it since a task missed its deadline.
+//! The overruns at an instant: the tenants that ran before it, and are stopped after it because a task missed its deadline.
 
 ghost use Rattle.std.specs.Prelude.{◌≡◌, ◌<◌, ◌++◌, List, IfOk, OnOk, false, get_or, length};
 ghost use Rattle.rig_model.specs.config.Roster.{name_at};
@@ -18,10 +18,10 @@ use rig_pictures::questions::ask;
 use script_reports::listeners::Overrun;
 use std::alloc::{AllocError, Global};
 
-/// Which tenants run, by their places in the roster.
+/// Returns which tenants run, by their places in the roster.
 ///
 /// # Errors
-/// Want of memory.
+/// Out of memory.
 pub fn running(alloc: Global, host: &mut Host) -> Result<Vec<bool>, AllocError>
     ensures same { host.new ≡ host.old }
     ensures each { IfOk result (λ ran. ForEachPastOf host.old (λ setting past. ran.items ≡ running_up_to setting past (length setting.config.tenants))) }
@@ -34,10 +34,12 @@ pub fn running(alloc: Global, host: &mut Host) -> Result<Vec<bool>, AllocError>
     Ok(running)
 }
 
-/// The overruns at an instant, in the order of the roster. `ran` tells who ran before it, by the places of the roster.
+/// Returns the overruns at an instant, in the order of the roster.
+///
+/// `ran` says which tenants ran before it, by their places in the roster.
 ///
 /// # Errors
-/// Want of memory.
+/// Out of memory.
 pub fn overruns(alloc: Global, host: &mut Host, ran: &[bool]) -> Result<Vec<Overrun>, AllocError>
     ensures same { host.new ≡ host.old }
     ensures each { IfOk result (λ stops. (before : List Event) → ForEachPastOf host.old (λ setting past. ran.now ≡ running_up_to setting before (length setting.config.tenants)
@@ -71,7 +73,7 @@ fn ran_at(ran: &[bool], tenant: TenantId) -> bool
     }
 }
 
-// The overrun of the tenant at this place, which ran before an instant or not.
+// The overrun of the tenant at this place, if there is one. `ran` says whether the tenant ran before the instant.
 fn overrun_of(host: &mut Host, tenant: TenantId, ran: bool) -> Result<Option<Overrun>, AllocError>
     requires { tenant < length host.old.config.tenants }
     ensures same { host.new ≡ host.old }
@@ -99,7 +101,7 @@ fn name_of(config: &Config, tenant: TenantId) -> Name
     config.tenants()[tenant].name.copy()
 }
 
-// Whether a reply to `show mode` tells that the tenant runs.
+// Whether a reply to `show mode` says that the tenant runs.
 fn tells_running(reply: &Reply) -> bool
     ensures { (row : Row) → reply.now ≡ Mode (status_of row) → result ≡ is_running row }
 {
@@ -109,7 +111,7 @@ fn tells_running(reply: &Reply) -> bool
     }
 }
 
-// The task for whose overrun the tenant is stopped, as a reply to `show mode` tells it.
+// The task whose overrun stopped the tenant, if a reply to `show mode` names one.
 fn missed_task(reply: &Reply) -> Option<Name>
     ensures { (row : Row) → reply.now ≡ Mode (status_of row) → result ≡ missed_task row }
 {

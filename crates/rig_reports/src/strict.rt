@@ -15,11 +15,13 @@ use script_reports::told::Report;
 use std::alloc::{AllocError, Global};
 use std::io::{Read, Write};
 
-/// Answers the lines of a reader as `rig_script::script` does. A line of text for each reply that was an `err`, for each overrun, and for
-/// the line that ended the script since it was too long or no text.
+/// Answers the lines of a reader as `rig_script::script` does, and returns a report about them.
+///
+/// The report has a line for each reply that was an `err`, for each overrun, and for the line that ended the script, if one was too long
+/// or not UTF-8.
 ///
 /// # Errors
-/// As `script`; `Memory` also where there was want of memory for what is told.
+/// As `script`; `Memory` also if an allocation for the report fails.
 pub fn strict_script<R: Read, W: Write>(
     alloc: Global,
     reader: &mut R,

@@ -1,4 +1,4 @@
-//! A script that is told: a host answers it, and who listens is told each line as it is answered.
+//! A script with a listener: a host answers the lines, and the listener gets each as it is answered.
 
 ghost use Rattle.std.specs.Prelude.{◌≡◌, [], ◌+◌, ◌-◌, ◌^◌, min, List, IfErr, IfOk, IfSome, OnOk};
 ghost use Rattle.std.specs.Io.KnownBytes.{Appends};
@@ -21,19 +21,20 @@ use script_reports::listeners::{Listener, Overrun};
 use std::alloc::{AllocError, Global};
 use std::io::{Read, Write};
 
-/// Who was told a script, and how it ended.
+/// The listener of a script, and how the script ended.
 #[derive(Drop)]
 pub struct Told<L> {
     pub listener: L,
-    /// The number of the line that ended the script, since it was too long or no text.
+    /// The number of the line that ended the script, if one was too long or not UTF-8.
     pub bad_line: Option<u64>,
 }
 
-/// Answers the lines of a reader as `rig_script::script` does, and tells the listener each line, blank ones too, once it is answered. A
-/// line that is too long or no text isn't told: it has no text. The listener was told nothing so far.
+/// Answers the lines of a reader as `rig_script::script` does, and passes each line to the listener once it is answered.
+///
+/// Blank lines are passed on too. A line that is too long or not UTF-8 isn't passed on. The listener has heard nothing yet.
 ///
 /// # Errors
-/// As `script`; `Memory` also where there was want of memory for what is told.
+/// As `script`; `Memory` also if an allocation for what the listener gets fails.
 pub fn told_script<R: Read, W: Write, L: Listener + Drop>(
     alloc: Global,
     reader: &mut R,
@@ -68,16 +69,16 @@ pub fn told_script<R: Read, W: Write, L: Listener + Drop>(
     })
 }
 
-// A host that answers, and who is told its lines.
+// A host that answers, and the listener that gets its lines.
 #[derive(Drop)]
 struct Telling<L> {
     host: Host,
     listener: L,
-    // How many lines were answered, blank ones too.
+    // The number of answered lines, blank ones too.
     answered: u64,
 }
 
-// What stands before a line.
+// The state before a line.
 #[derive(Drop)]
 struct Before {
     clock: u64,
@@ -107,7 +108,7 @@ impl<L: Listener> Answers for Telling<L> {
 }
 
 impl<L: Listener> Telling<L> {
-    // Tells a line that was answered.
+    // Passes an answered line to the listener.
     fn tell(
         &mut self,
         alloc: Global,
@@ -126,7 +127,7 @@ impl<L: Listener> Telling<L> {
     }
 }
 
-// What stands before a line.
+// The state before a line.
 fn before_line(alloc: Global, host: &mut Host) -> Result<Before, AllocError>
     ensures same { host.new ≡ host.old }
     ensures before { IfOk result (λ before. ForEachPastOf host.old (λ setting past. IsBefore setting past before.clock before.ran.items)) }
@@ -136,7 +137,7 @@ fn before_line(alloc: Global, host: &mut Host) -> Result<Before, AllocError>
     Ok(Before { clock, ran })
 }
 
-// The overruns at the instant that a line gave; none where it gave no instant.
+// The overruns at the instant that a line gave; none if it gave no instant.
 fn overruns_since(
     alloc: Global,
     host: &mut Host,
@@ -152,7 +153,7 @@ fn overruns_since(
     overruns(alloc, host, before.ran.as_slice())
 }
 
-// The number of the line that ended a script which ended so behind so many lines.
+// The number of the line that ended a script, if it ended in this way after `answered` lines.
 fn bad_line(ending: Ending, answered: u64) -> Option<u64>
     ensures { result ≡ end_behind ending answered }
 {

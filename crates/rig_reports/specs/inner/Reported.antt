@@ -1,4 +1,4 @@
--- What is told of the lines of a script: each with its reply, and with the overruns at the instant that it gave.
+-- What is reported of the lines of a script: each with its reply, and with the overruns at the instant that it gave.
 use Rattle.std.specs.Prelude.{◌≡◌, ◌⊎◌, ℕ, zero, suc, ◌+◌, ◌==◌, if◌then◌else◌, List, [], ◌∷◌, ◌++◌, length, map, Option, Some, None, codes}
 use Rattle.std.specs.Option.{option_map}
 use Rattle.giotto_tasks.specs.declared.names.Name.{Name}
@@ -20,7 +20,7 @@ use Rattle.script_reports.specs.cited.Runs.{line_in}
 use Rattle.script_reports.specs.cited.Told.{told_of_end, told_of_lines}
 use Rattle.script_reports.specs.declared.listeners.Overrun.{Overrun}
 
--- the task for whose overrun a tenant is stopped
+-- the task whose overrun stopped a tenant, if one did
 abbrev pub missed_task : Row → Option Name
 missed_task row = by row.state
   where
@@ -34,17 +34,17 @@ missed_task row = by row.state
     by running = None
     by (stopped reason) = stopped_by reason
 
--- the overrun of a tenant of this name, by its rows before an instant and behind it: it ran, and is stopped since it missed a deadline
+-- the overrun of a tenant with this name, by its rows before and after an instant: it ran, and is stopped because a task missed its deadline
 abbrev pub overrun_of : Name → Row → Row → Option Overrun
 overrun_of who before after = if is_running before then option_map (λ (x : Name). record { tenant = who; task = x }) (missed_task after) else None
 
--- a list of one or none
+-- a list of one overrun or none
 abbrev pub listed : Option Overrun → List Overrun
 listed None = []
 listed (Some o) = o ∷ []
 
 module _ (setting : Setting) where
-  -- the row of the tenant at place t behind these events
+  -- the row of the tenant at place t after these events
   abbrev pub row_behind : List Event → ℕ → Row
   row_behind past t = row_at (host_after setting past) t
 
@@ -53,45 +53,45 @@ module _ (setting : Setting) where
   overruns_up_to before after zero = []
   overruns_up_to before after (suc t) = overruns_up_to before after t ++ listed (overrun_of (name_at setting.config t) (row_behind before t) (row_behind after t))
 
-  -- the overruns at the instant that a line gave; none where it gave no instant
+  -- the overruns at the instant that a line gave; none if it gave no instant
   abbrev pub overruns_between : List Event → List Event → List Overrun
   overruns_between before after = if next_tick setting after == next_tick setting before then [] else overruns_up_to before after (length setting.config.tenants)
 
-  -- what is told of a line of this text behind so many others, behind which stand the events of the past: the next number, the reply that
-  -- the rig gives there, and the overruns at its instant
+  -- what is reported of a line of this text after `n` others, if `past` are the events so far: the next number, the reply that the rig
+  -- gives there, and the overruns at its instant
   abbrev pub heard_line : List Event → ℕ → List ℕ → HeardLine
   heard_line past n text =
       record { number = number_behind n; text = text; reply = reply_to_line setting past text; overruns = overruns_between past (past_behind setting past text) }
 
-  -- what is told of lines of these texts behind others
+  -- what is reported of lines of these texts after `n` others
   abbrev pub heard_from : List Event → ℕ → List (List ℕ) → List HeardLine
   heard_from past n [] = []
   heard_from past n (text ∷ texts) = heard_line past n text ∷ heard_from (past_behind setting past text) (n + 1) texts
 
-  -- what is told of the lines of a script
+  -- what is reported of the lines of a script
   abbrev pub heard_of : List ℕ → List HeardLine
   heard_of bytes = heard_from [] 0 (texts_of (cut bytes))
 
--- what is told of the line of this number that ended a script, if one did
+-- what is reported of the line with this number that ended a script, if one did
 abbrev pub told_of_bad_line : Option ℕ → List ℕ
 told_of_bad_line None = []
 told_of_bad_line (Some number) = told_of_end number
 
--- the reply to the line of this number that ended a script, if one did
+-- the reply to the line with this number that ended a script, if one did
 abbrev pub reply_to_bad_line : Option ℕ → List (List ℕ)
 reply_to_bad_line None = []
 reply_to_bad_line (Some number) = codes "host bye bad-line" ∷ []
 
--- the report of a script: what is told of its lines, and of the one that ends it
+-- the report of a script: what is reported of its lines, and of the one that ends it
 abbrev pub report_of : Setting → List ℕ → List ℕ
 report_of setting bytes = told_of_lines (heard_of setting bytes) ++ told_of_bad_line (bad_line_of (cut bytes))
 
--- the replies to the lines of a script, each without its LF, and that to the one that ends it
+-- the replies to the lines of a script, and the reply to the line that ends it, each without its LF
 abbrev pub replies_of : Setting → List ℕ → List (List ℕ)
 replies_of setting bytes = map (λ (l : HeardLine). line_in l.reply) (heard_of setting bytes) ++ reply_to_bad_line (bad_line_of (cut bytes))
 
--- What was written before a fault of a script with a report, as of one without. There is want of memory also where the script was answered
--- whole, for the line that ended it.
+-- What was written before a fault of a script with a report: the same as without one. Memory can also run out after the script was answered
+-- whole, for the report of the line that ended it.
 abbrev pub IsReportBrokenOff : Option (List ℕ) → (List ℕ → Type 0) → ScriptFault → Setting → List ℕ → Type 0
 IsReportBrokenOff left Written fault setting bytes =
     IsScriptBrokenOff left Written fault setting bytes ⊎ ((fault ≡ Memory) × Written (script_text_of setting bytes))
