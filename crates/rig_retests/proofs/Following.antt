@@ -41,7 +41,7 @@ module _ (host later : HostStanding) (config : Rig) (begins : (setting : Setting
   followed None goes all = λ setting of. tt
   followed (Some bytes) goes all = λ setting of. (goes setting [] [] (watching setting of)).1 all
 
-  -- how a script went that was watched
+  -- how a watched script went
   pub watched_so : (known left : Option (List ℕ)) (ending : Ending) (ok : Result Ending ScriptFault) → ok ≡ Ok ending
       → (ok ≡ Ok Input → IfSome known (λ bytes. All IsText (cut bytes) × (left ≡ Some []))) → (ok ≡ Ok BadLine → IfSome known (λ bytes. ¬ (All IsText (cut bytes))))
       → ForEachPastReading (λ setting texts past. IsWatching setting host before true first had texts past) known
@@ -51,7 +51,7 @@ module _ (host later : HostStanding) (config : Rig) (begins : (setting : Setting
   watched_so (Some bytes) left ending ok is input bad goes course line tenant = λ setting of.
       went_so config bytes left setting of.same_config ending answered has ok is input bad (past_after setting [] (cut bytes)) (goes setting [] [] (watching setting of)).2 course line tenant
 
--- where what a tick adds was kept
+-- what holds of the table with a tick's additions holds of the kept table
 pub kept : (added : Result (Vec Addition Global) AllocError) (host : HostStanding) (before after : Links) (Holds : Links → Type 0) → IfOk added (λ list. AreAdded before host list.items) → IsAddedTo added before after
     → ((list : List Addition) → AreAdded before host list → Holds (with_links before list)) → Holds after
 kept (Ok list) host before after Holds adds is goes = subst Holds (sym is) (goes list.items adds)
@@ -70,7 +70,7 @@ module _ (host later : HostStanding) (config : Rig) (begins : (setting : Setting
   recorded_from_start None goes = λ setting of. tt
   recorded_from_start (Some bytes) goes = λ setting of. (goes setting [] [] (starts_recorded setting of)).1
 
-  -- and the lines
+  -- the recorded lines of a script, from a new host on
   pub lines_from_start : (known : Option (List ℕ))
       → ForEachPastReading (λ setting texts past. IsRecorded setting host none before first texts past) known
       (λ setting texts past bytes. IsRecorded setting later answered events last (texts ++ texts_of (cut bytes)) (past_after setting past (cut bytes)))
@@ -78,7 +78,7 @@ module _ (host later : HostStanding) (config : Rig) (begins : (setting : Setting
   lines_from_start None goes = λ setting of. tt
   lines_from_start (Some bytes) goes = λ setting of. (goes setting [] [] (starts_recorded setting of)).3
 
-  -- how it went
+  -- how a recorded script went
   pub recorded_so : (known left : Option (List ℕ)) (ending : Ending) (ok : Result Ending ScriptFault) → ok ≡ Ok ending
       → (ok ≡ Ok Input → IfSome known (λ bytes. All IsText (cut bytes) × (left ≡ Some []))) → (ok ≡ Ok BadLine → IfSome known (λ bytes. ¬ (All IsText (cut bytes))))
       → ForEachPastReading (λ setting texts past. IsRecorded setting host none before first texts past) known

@@ -1,4 +1,4 @@
--- What is noted of the lines of a script, one line on, and how it went.
+-- The notes about the lines of a script after one more line, and how the script went.
 use Rattle.std.proofs.Common.{◌≡◌, ◌+◌, ◌-◌, ◌^◌, ◌||◌, ℕ, min, Bool, true, false, List, [], ◌∷◌, ◌++◌, length, Option, Some, Result, Ok, refl, sym, ap, subst, ◌∙◌, arith}
 use Rattle.std.proofs.lemmas.List.{length-append}
 use Rattle.std.proofs.lemmas.List.Folds.{list_any-append}
@@ -41,7 +41,7 @@ noted_on setting texts past text speaker before after had has h speaks one_more 
   quiet_on setting past text speaker had has h.2 speaks grown,
 )
 
--- how a script went, as the one who answered its lines tells
+-- how a script went, by its ending and the number of answered lines
 pub went_so : (config : Rig) (bytes : List ℕ) (left : Option (List ℕ)) (setting : Setting) → setting.config ≡ config → (ending : Ending) (answered : ℕ) (has : Bool) (ok : Result Ending ScriptFault) → ok ≡ Ok ending
     → (ok ≡ Ok Input → All IsText (cut bytes) × (left ≡ Some [])) → (ok ≡ Ok BadLine → ¬ (All IsText (cut bytes))) → (past : List Event) → IsNoted setting answered has (texts_of (cut bytes)) past
     → (course : Course) → course.bad_line ≡ end_behind ending answered → course.has_tenant ≡ has → IsCourseOf config bytes left past course

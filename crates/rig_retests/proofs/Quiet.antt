@@ -1,4 +1,4 @@
--- A line that isn't a tenant's adds no command of a tenant.
+-- A line that isn't a tenant's adds no command of a tenant to the events.
 use Rattle.std.proofs.Common.{◌≡◌, ◌==◌, ◌-◌, ◌^◌, ◌||◌, ℕ, nat_lt, Bool, true, false, ℤ, List, [], ◌∷◌, length, map, reverse, Option, Some, None, refl, sym, ap, ◌∙◌}
 use Rattle.std.specs.List.{list_any}
 use Rattle.std.proofs.lemmas.List.{reverse-append}
@@ -24,7 +24,7 @@ completions (j ∷ js) =
     ap (list_any is_command) (reverse-append (Done j ∷ []) (map Done js)) ∙ (list_any-append is_command (reverse (map Done js)) (Done j ∷ []) ∙ ap (λ (b : Bool). b || false) (completions js))
 
 module _ (setting : Setting) (past : List Event) where
-  -- nor is what an instant adds
+  -- an instant adds no command
   instant : (frame : List ℤ) → list_any is_command (tick_step setting past frame).events ≡ false
   instant frame = by (length frame == setting.config.lines) refl (nat_lt (next_tick setting past) (2 ^ 64 - 1)) refl
     where
@@ -63,7 +63,7 @@ module _ (setting : Setting) (past : List Event) where
   either false b e = (refl, e)
   either true b e = absurd (cc)
 
-  -- one line on
+  -- `IsQuiet` holds after one more line
   pub quiet_on : (line : List ℕ) (speaker : Speaker) (before after : Bool) → IsQuiet before past → speaker ≡ speaker_of setting.config line → after ≡ (before || is_tenants speaker)
       → IsQuiet after (past_behind setting past line)
   quiet_on line speaker before after quiet is grown none =

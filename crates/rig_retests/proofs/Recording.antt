@@ -1,4 +1,4 @@
--- What is recorded of lines, one line on.
+-- The recording after one more line.
 use Rattle.std.proofs.Common.{◌≡◌, ◌+◌, ◌-◌, ◌^◌, ℕ, suc, min, List, [], ◌∷◌, ◌++◌, length, reverse, sym, ap, ◌∙◌, append_assoc, append-nil, arith}
 use Rattle.std.proofs.lemmas.List.{length-append, length-reverse}
 use Rattle.rig_model.specs.Base.{Setting}
@@ -9,7 +9,7 @@ use Rattle.rig_retests.specs.inner.Recording.{Recorded, recorded_from, recorded_
 use Rattle.rig_script.specs.Given.{number_behind}
 use Rattle.rig_script.specs.cited.Past.{past_behind_all}
 
--- how many events came to those before
+-- the number of events that were added to those before
 pub came : (count told now : ℕ) (before after known added : List Event) → before ≡ known → after ≡ known ++ reverse added → told ≡ length before → now ≡ length after → count ≡ now - told → count ≡ length added
 came count told now before after known added first last were are is =
     let one : length before ≡ length known = ap (λ (es : List Event). length es) first in

@@ -1,4 +1,4 @@
--- A line gives one tick alone, or none.
+-- A line gives one tick and no other event, or no tick.
 use Rattle.std.proofs.Common.{◌≡◌, ◌⊎◌, ◌+◌, ◌-◌, ◌^◌, ◌==◌, ℕ, nat_lt, Bool, true, false, ℤ, List, [], ◌∷◌, ◌++◌, length, map, reverse, Option, Some, None, codes, inl, inr, refl, sym, ap, subst, ◌∙◌, arith}
 use Rattle.std.specs.Fmt.{decimal}
 use Rattle.giotto_tasks.specs.declared.names.Name.{Name}
@@ -26,7 +26,7 @@ use Rattle.rig_model.specs.lines.Replies.{text_of_reply}
 use Rattle.rig_model.specs.lines.Words.{words_of, first_word_of, behind_first_word}
 
 module _ (setting : Setting) where
-  -- no instant came between: the next one has the same number, and a table stays that of the events
+  -- there is no instant between `past` and `later`: the next one has the same number, and a table of links is still that of the events
   pub record IsStill (past later : List Event) : Type 0 where
     pub clock : next_tick setting later ≡ next_tick setting past
     pub table : (links : Links) → IsLinkTable setting past links → IsLinkTable setting later links
@@ -129,7 +129,7 @@ module _ (setting : Setting) where
     clock_after : after.clock ≡ next_tick setting (past_behind setting past line)
     clock_after = later.stands.same_clock ∙ same_clock setting (past_behind setting past line)
 
-    -- where the clock stands, the table stays
+    -- if the clock hasn't changed, the table stays
     pub table_stays : after.clock ≡ before.clock → IsLinkTable setting (past_behind setting past line) links
     table_stays e = by (by_line past line)
       where
@@ -139,7 +139,7 @@ module _ (setting : Setting) where
             let next : next_tick setting (past_behind setting past line) ≡ next_tick setting past + 1 = ap (λ (es : List Event). next_tick setting (es ++ past)) f.1 in
             absurd (omega (arith, next, clock_before, clock_after, e))
 
-    -- where it went on, the table has what the tick adds
+    -- if the clock went on, the table has what the tick adds
     pub table_goes_on : (added : List Addition) → AreAdded links before added → (after.clock ≡ before.clock → ⊥) → IsLinkTable setting (past_behind setting past line) (with_links links added)
     table_goes_on added adds differs = by (by_line past line)
       where

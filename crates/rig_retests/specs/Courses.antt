@@ -10,22 +10,22 @@ use Rattle.rig_retests.specs.declared.courses.Course.{Course}
 use Rattle.rig_retests.specs.Speaking.{is_tenants}
 use Rattle.rig_script.specs.Given.{IsEndOf, texts_of}
 
--- an event is a tenant's command
+-- whether an event is a tenant's command
 abbrev pub is_command : Event → Bool
 is_command (Own t c) = true
 is_command (Tick frame) = false
 is_command (Done job) = false
 
--- one of the lines of these texts is a tenant's of the configuration
+-- whether one of these lines is of a tenant of the configuration
 abbrev pub has_tenant_in : Rig → List (List ℕ) → Bool
 has_tenant_in config texts = list_any (λ text. is_tenants (speaker_of config text)) texts
 
--- where no line of a script was a tenant's, none of its events is a tenant's command
+-- if no line of a script was a tenant's, none of its events is a tenant's command
 abbrev pub IsQuiet : Bool → List Event → Type 0
 IsQuiet has_tenant past = has_tenant ≡ false → list_any is_command past ≡ false
 
--- how a script of these bytes went: by what its reader has left and which line ended it, by whether one of those before is a tenant's, and by
--- the events that it spells
+-- The course of a script of these bytes: which line ended it, if one did, and whether one of the lines before that is a tenant's. If no line
+-- ended it, its reader has nothing left. If no line is a tenant's, none of the events that it spells is a tenant's command.
 abbrev pub IsCourseOf : Rig → List ℕ → Option (List ℕ) → List Event → Course → Type 0
 IsCourseOf config bytes left past course =
     IsEndOf bytes left course.bad_line × (course.has_tenant ≡ has_tenant_in config (texts_of (cut bytes))) × IsQuiet course.has_tenant past

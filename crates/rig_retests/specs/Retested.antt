@@ -1,4 +1,4 @@
--- What is told of a script's sources.
+-- What is reported of a script's sources.
 use Rattle.tenant_sources.specs.Links.{Links}
 use Rattle.rig_retests.specs.declared.courses.Course.{Course}
 

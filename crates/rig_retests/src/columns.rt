@@ -9,7 +9,7 @@ pub struct Columns {
 }
 
 impl Columns {
-    /// Without a row.
+    /// Creates a table without rows.
     pub fn new(alloc: Global) -> Columns {
         Columns {
             rows: Vec::new(alloc),
@@ -19,17 +19,18 @@ impl Columns {
     /// Adds a row below the others. No cell has an LF.
     ///
     /// # Errors
-    /// Want of memory.
+    /// Out of memory.
     pub fn add(&mut self, cells: Vec<String>) -> Result<(), AllocError> {
         self.rows.push(cells)?;
         Ok(())
     }
 
-    /// The rows as lines: two blanks between a column and the next, and none behind a row. A column is as wide as its widest cell that
-    /// isn't the last of its row.
+    /// Returns the rows as lines, with two blanks between columns and none at the end of a row.
+    ///
+    /// A column is as wide as its widest cell that isn't the last of its row.
     ///
     /// # Errors
-    /// Want of memory.
+    /// Out of memory.
     pub fn text(&self, alloc: Global) -> Result<String, AllocError> {
         let widths = self.widths(alloc)?;
         let mut text = String::new(alloc);
@@ -41,7 +42,7 @@ impl Columns {
         Ok(text)
     }
 
-    // How wide each column is, in characters.
+    // The width of each column, in characters.
     fn widths(&self, alloc: Global) -> Result<Vec<usize>, AllocError> {
         let mut widths = Vec::new(alloc);
         for row in &self.rows {
@@ -51,7 +52,7 @@ impl Columns {
     }
 }
 
-// Makes room for the cells of a row.
+// Widens the columns for the cells of a row, without its last.
 fn widen(widths: &mut Vec<usize>, row: &[String]) -> Result<(), AllocError> {
     let Some((_last, cells)) = row.split_last() else {
         return Ok(());
@@ -66,7 +67,7 @@ fn widen(widths: &mut Vec<usize>, row: &[String]) -> Result<(), AllocError> {
     Ok(())
 }
 
-// A row, with blanks behind each cell up to the next column.
+// A row, with blanks after each cell up to the next column.
 fn line_of(alloc: Global, row: &[String], widths: &[usize]) -> Result<String, AllocError> {
     let mut line = String::new(alloc);
     for (column, cell) in row.iter().enumerate() {

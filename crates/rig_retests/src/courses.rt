@@ -1,4 +1,4 @@
-//! How a script went, by which it is known whether what is told of it says less than it seems to.
+//! How a script went, and whether a report about it says less than it seems to.
 
 ghost use Rattle.std.specs.Prelude.{◌≡◌};
 ghost use Rattle.rig_retests.specs.inner.Courses.{shortfall_of};
@@ -12,18 +12,18 @@ use std::fmt;
 /// How a script went.
 #[derive(Clone, Copy, Debug, PartialEq, Eq)]
 pub struct Course {
-    /// The number of the line that ended the script for all, since it was too long or no text.
+    /// The number of the line that ended the script for all, if a line was too long or not UTF-8.
     pub bad_line: Option<usize>,
-    /// Whether a line was a tenant's of the configuration.
+    /// Whether a line was of a tenant of the configuration.
     pub has_tenant: bool,
 }
 
-/// Why what is told of a script says less than it seems to. Its `Display` is a line for standard error.
+/// Why a report about a script says less than it seems to. Its `Display` is a line for standard error.
 #[derive(Clone, Copy, Debug, PartialEq, Eq)]
 pub enum Shortfall {
-    /// The line of this number was too long or no text, and ended the script for all.
+    /// The line with this number was too long or not UTF-8, and ended the script for all.
     CutOff(usize),
-    /// No line was a tenant's of the configuration.
+    /// No line was of a tenant of the configuration.
     NoTenant,
 }
 
@@ -43,7 +43,9 @@ impl fmt::Display for Shortfall {
 }
 
 impl Course {
-    /// Why what is told of the script says less than it seems to, if it does: it was cut off, or else no line was a tenant's.
+    /// Returns why a report about the script says less than it seems to, if it does.
+    ///
+    /// Either the script was cut off, or else no line was a tenant's.
     pub fn shortfall(self) -> Option<Shortfall>
         ensures { result ≡ shortfall_of self }
     {
@@ -58,7 +60,7 @@ impl Course {
     }
 }
 
-/// How a script went that ended so behind so many lines that were answered, of which one was a tenant's or none.
+/// Returns the course of a script that ended in this way after `answered` lines. `has_tenant` says whether one of them was a tenant's.
 pub(crate) fn course_of(ending: Ending, answered: usize, has_tenant: bool) -> Course
     ensures tenant { result.has_tenant ≡ has_tenant }
     ensures line { result.bad_line ≡ end_behind ending answered }
@@ -73,7 +75,7 @@ pub(crate) fn course_of(ending: Ending, answered: usize, has_tenant: bool) -> Co
     }
 }
 
-/// Whether a line of this speaker is a tenant's of the configuration.
+/// Whether this speaker is a tenant of the configuration.
 pub(crate) fn is_tenants(speaker: Speaker) -> bool
     ensures { result ≡ is_tenants speaker }
 {

@@ -5,7 +5,7 @@ use crate::texts::{bind_of_link, name_of, place_of_link};
 use rig_model::config::{Config, TenantId};
 use std::alloc::{AllocError, Global};
 
-// What a graph begins with.
+// The beginning of each graph.
 const HEAD: &str = "\
 digraph retests {
   rankdir=LR;
@@ -19,11 +19,13 @@ digraph retests {
   edge [fontname=\"sans-serif\", fontsize=10];
 ";
 
-/// The graph in the language of graphviz: a node for each tenant, and for each of its sources an edge from that one to it, solid where
-/// the tenant itself binds, else dashed.
+/// Returns the graph in the language of graphviz.
+///
+/// It has a node for each tenant, and an edge from each of its sources to it. The edge is solid if the tenant itself binds the source,
+/// else dashed.
 ///
 /// # Errors
-/// Want of memory.
+/// Out of memory.
 pub fn graph_of_retests(
     alloc: Global,
     config: &Config,

@@ -1,17 +1,17 @@
-//! Whose change calls for whose retest in a script.
+//! Which tenants of a script need a retest after another one changes.
 //!
 //! ```text
 //! let retests = retests_of(alloc, &mut reader, &config)?;
 //! let text = text_of_retests(alloc, &config, &retests)?;
 //! ```
 //!
-//! [`tables`] answers a script into nothing, and keeps which tenants are a source of which: their commands and the completions of their
-//! jobs may change what the tenant is answered. [`texts`] prints them, and [`graphs`] draws them for graphviz.
+//! [`tables`] answers a script without writing its replies, and records which tenants are sources of which. The commands of a source, and
+//! the completions of its jobs, may change the replies to the tenant. [`texts`] prints the table, and [`graphs`] draws it for graphviz.
 //!
-//! [`trials`] shows the same of one tenant: [`recordings`] has the events of a script, which are run in whole and without what can't
-//! reach the tenant, and its answers of both runs stand side by side.
+//! [`trials`] shows the same for one tenant. [`recordings`] has the events of a script. They are run in whole, and again without those
+//! that can't reach the tenant. The tenant's answers in both runs are shown side by side.
 //!
-//! Both have the [`courses::Course`] of the script: where it was cut off, or no line is a tenant's, what is told says less than it seems to.
+//! Both have the [`courses::Course`] of the script. If it was cut off, or no line is a tenant's, the report says less than it seems to.
 #![tactic(auto)]
 
 mod columns;

@@ -1,4 +1,4 @@
-//! What is noted of the lines of a script, beside what they do.
+//! Notes about the lines of a script, apart from what they do.
 
 ghost use Rattle.std.specs.Prelude.{◌≡◌, ◌||◌, ◌+◌, ◌-◌, ◌^◌, min, false};
 ghost use Rattle.rig_retests.specs.Speaking.{is_tenants};
@@ -10,19 +10,19 @@ use rig_script::speakers::Speaker;
 use std::alloc::{AllocError, Global};
 use tenant_programs::admission::read_program;
 
-/// How many lines were answered, whether one was a tenant's, and which rig lines the programs use that tenants were given.
+/// The number of answered lines, whether one was a tenant's, and the rig lines that the programs of tenants use.
 #[derive(Drop)]
 pub struct Notes {
-    /// Blank ones too.
+    /// The number of answered lines, blank ones too.
     pub answered: usize,
     pub has_tenant: bool,
     pub lines: PlantLines,
-    /// Whether all could be noted so far.
+    /// Whether everything could be noted so far.
     pub is_whole: bool,
 }
 
 impl Notes {
-    /// Of no line.
+    /// Creates the notes of no line.
     pub fn new(alloc: Global) -> Notes
         ensures answered { result.answered ≡ 0 }
         ensures tenant { result.has_tenant ≡ false }
@@ -35,7 +35,7 @@ impl Notes {
         }
     }
 
-    /// Notes a line that was answered, as far as there is memory.
+    /// Notes a line that was answered, as far as memory allows.
     pub fn note(&mut self, alloc: Global, speaker: Speaker, line: &str, reply: &str)
         ensures answered { self.new.answered ≡ min (self.old.answered + 1) (2 ^ 64 - 1) }
         ensures tenant { self.new.has_tenant ≡ (self.old.has_tenant || is_tenants speaker) }

@@ -1,4 +1,6 @@
-//! Which rig lines each tenant drives and reads: the plant may carry a change from any line that is driven to any that is read.
+//! Which rig lines each tenant drives and reads.
+//!
+//! The plant may carry a change from any line that is driven to any that is read.
 
 use crate::texts::name_of;
 use rig_model::config::{Config, TenantId};
@@ -29,7 +31,7 @@ pub enum Direction {
 }
 
 impl PlantLines {
-    /// Of no program.
+    /// Creates the lines of no program.
     pub fn new(alloc: Global) -> PlantLines {
         PlantLines {
             uses: Vec::new(alloc),
@@ -67,8 +69,9 @@ impl PlantLines {
         Ok(())
     }
 
-    /// The tenants whose programs use lines in this direction, in the order of the roster, each with its lines in theirs, as
-    /// `pump (0, 2), mixer (1)`; `nobody` if there is none.
+    /// Returns the tenants whose programs use lines in this direction, each with its lines, as `pump (0, 2), mixer (1)`.
+    ///
+    /// The tenants are in the order of the roster, and the lines in ascending order. `nobody` if there is none.
     ///
     /// # Errors
     /// Out of memory.
@@ -93,7 +96,7 @@ impl PlantLines {
         Ok(text)
     }
 
-    // The lines that the programs of a tenant use in this direction, as `0, 2`; no byte if there is none.
+    // The lines that the programs of a tenant use in this direction, as `0, 2`; empty if there is none.
     fn lines_of(
         &self,
         alloc: Global,

@@ -1,4 +1,4 @@
-//! A script that is recorded: its lines with their replies, and the events that they are.
+//! A recorded script: its lines with their replies, and its events.
 
 ghost use Rattle.std.specs.Prelude.{◌≡◌, ◌||◌, ◌+◌, ◌-◌, ◌^◌, ◌++◌, min, [], map, reverse, IfOk, OnOk};
 ghost use Rattle.rig_model.specs.Script.{past_after};
@@ -27,10 +27,12 @@ pub struct RecordedLine {
     pub number: usize,
     pub text: String,
     pub speaker: Speaker,
-    /// What it was answered, with LF.
+    /// The reply to it, with LF.
     pub reply: String,
-    /// How many events it is: one is a command of a tenant or an instant; `work` is one for each job that it completed; a line that was
-    /// refused before it came to the host, and a question of the operator, is none.
+    /// The number of its events.
+    ///
+    /// A command of a tenant is one event, and so is an instant. `work` is one event for each job that it completed. A line that was
+    /// refused before it reached the host is no event, nor is a question of the operator.
     pub events: usize,
 }
 
@@ -83,17 +85,17 @@ fn has_tenant(lines: &[RecordedLine]) -> bool
     lines.iter().any(|line| is_tenants(line.speaker))
 }
 
-// A host that answers, and what was recorded of it.
+// A host that answers, and the recording of its lines.
 #[derive(Drop)]
 struct Recorder {
     host: Host,
-    // How many lines were answered, blank ones too.
+    // The number of answered lines, blank ones too.
     answered: usize,
     recording: Recording,
 }
 
 impl Recorder {
-    // Before the first line.
+    // The recorder before the first line.
     fn new(alloc: Global, host: Host) -> Recorder
         ensures host { result.host ≡ host }
         ensures answered { result.answered ≡ 0 }

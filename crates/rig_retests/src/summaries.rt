@@ -1,4 +1,4 @@
-//! The summary of a trial: who was left out, and how many replies were compared.
+//! The summary of a trial: which tenants were left out, and how many replies were compared.
 
 use crate::recordings::Recording;
 use crate::texts::name_of;
@@ -7,17 +7,17 @@ use host_core::trials::TrialOutcome;
 use rig_model::config::{Config, TenantId};
 use std::alloc::{AllocError, Global};
 
-// How many events of one tenant there are, and how many of them are left out.
+// The number of a tenant's events, and of those that are left out.
 #[derive(Clone, Copy, Drop)]
 struct Tally {
     events: usize,
     left_out: usize,
 }
 
-/// Two lines: who was left out, and how many replies of the tenant were compared and are equal.
+/// Returns two lines: which tenants were left out, and how many replies of the tenant were compared and are equal.
 ///
 /// # Errors
-/// Want of memory.
+/// Out of memory.
 pub fn text_of_summary(
     alloc: Global,
     config: &Config,
@@ -30,7 +30,7 @@ pub fn text_of_summary(
     format!(in alloc; "Left out are {who}.\nReplies compared: {compared}, equal: {equal}.\n")
 }
 
-// Who was left out, in whole or in part, in the order of the roster.
+// The tenants that were left out, in whole or in part, in the order of the roster.
 fn text_of_left_out(
     alloc: Global,
     config: &Config,
@@ -75,7 +75,7 @@ fn tally_of(events: &[Event], stays: &[bool], tenant: TenantId) -> Tally {
     tally
 }
 
-// Whether an event is a command of this tenant, or a completion of its.
+// Whether an event is a command of this tenant, or a completion of one of its jobs.
 fn is_of(event: &Event, tenant: TenantId) -> bool {
     match event {
         Event::Own(own, _) => *own == tenant,
@@ -84,7 +84,7 @@ fn is_of(event: &Event, tenant: TenantId) -> bool {
     }
 }
 
-// How many lines of two texts are equal, each with the one at its place.
+// The number of lines of two texts that are equal at the same place.
 fn equal_lines(one: &str, other: &str) -> usize {
     one.lines()
         .zip(other.lines())

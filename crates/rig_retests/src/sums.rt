@@ -1,13 +1,13 @@
-//! What is told below a trial: how much of the script was left out, and whether the answers are the same.
+//! The lines below a trial: how much of the script was left out, and whether the answers are the same.
 
 use host_core::events::Event;
 use std::alloc::AllocError;
 
-/// How many lines, events and answers there are.
+/// The numbers of lines, events and answers.
 #[derive(Drop)]
 pub struct Sum {
     lines: usize,
-    // Of which no event stays, and of which only some do.
+    // The lines of which no event stays, and those of which only some do.
     left_out: usize,
     in_part: usize,
     events: usize,
@@ -17,7 +17,7 @@ pub struct Sum {
 }
 
 impl Sum {
-    /// Of no line.
+    /// Creates the sum of no line.
     pub fn new() -> Sum {
         Sum {
             lines: 0,
@@ -30,7 +30,7 @@ impl Sum {
         }
     }
 
-    /// Counts a line with so many events, of which so many are left out.
+    /// Counts a line with `events` events, of which `left_out` are left out.
     pub fn add_line(&mut self, events: usize, left_out: usize) {
         self.lines = self.lines.saturating_add(1);
         self.events = self.events.saturating_add(events);
@@ -58,10 +58,10 @@ impl Sum {
     }
 }
 
-/// Writes what was left out, and whether the answers of the tenant of this name are the same in both runs.
+/// Writes what was left out, and whether the answers of the tenant with this name are the same in both runs.
 ///
 /// # Errors
-/// Want of memory.
+/// Out of memory.
 pub fn write_sum(
     text: &mut String,
     name: &str,

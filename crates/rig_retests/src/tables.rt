@@ -28,7 +28,9 @@ use std::io::Read;
 use std::marker::Model;
 use tenant_sources::tables::{Addition, Link, SourceTable};
 
-/// Whose change calls for whose retest in a script. Contracts see it as the table of links between its tenants, and how the script went.
+/// Which tenants of a script need a retest after another one changes.
+///
+/// Contracts see it as the table of links between the tenants, and how the script went.
 #[derive(Drop)]
 pub struct Retests {
     table: SourceTable,
@@ -47,7 +49,7 @@ impl Model for Retests {
 }
 
 impl Retests {
-    /// Whether `source`, another tenant, is a source of `tenant` somewhere in the script. Takes no memory.
+    /// Whether `source`, another tenant, is a source of `tenant` somewhere in the script. Allocates no memory.
     pub fn is_source(&self, tenant: TenantId, source: TenantId) -> bool
         ensures itself { tenant ≡ source → result ≡ false }
         ensures sources { tenant ≢ source → (setting : Setting) (past : List Event) → IsLinkTable setting past self.now.links → is_tenant setting.config tenant ≡ true → is_tenant setting.config source ≡ true
@@ -59,11 +61,13 @@ impl Retests {
         self.table.is_source(tenant, source)
     }
 
-    /// The binds that lead from `tenant` to `source`, the tenant's own first: each stood just before a tick, and each at an earlier one than
-    /// the one in front of it. None where it is no source, or the tenant itself. The first one's tick is the first at which it is one.
+    /// Returns the binds that lead from `tenant` to `source`, the tenant's own first. Empty if it is no source, or the tenant itself.
+    ///
+    /// Each bind existed just before its tick, and its tick is earlier than that of the bind before it in the list. The tick of the first
+    /// bind is the first at which `source` is a source of `tenant`.
     ///
     /// # Errors
-    /// Want of memory, only where it is a source.
+    /// Out of memory, only if it is a source.
     pub fn chain(
         &self,
         alloc: Global,
@@ -79,7 +83,7 @@ impl Retests {
         self.table.chain(alloc, tenant, source)
     }
 
-    /// The line of the script, counted from 1, that gave a tick; each line counts, a blank one too.
+    /// Returns the line of the script that gave a tick, counted from 1. Each line counts, a blank one too.
     pub fn line_of(&self, tick: u64) -> Option<usize> {
         let Ok(tick) = usize::try_from(tick) else {
             return None;
@@ -100,19 +104,19 @@ impl Retests {
     }
 }
 
-// A host that answers, and the sources behind its lines.
+// A host that answers, and the sources after its lines.
 #[derive(Drop)]
 struct Watched {
     host: Host,
     table: SourceTable,
     lines: Vec<usize>,
     notes: Notes,
-    // Whether all could be kept so far.
+    // Whether everything could be kept so far.
     is_whole: bool,
 }
 
 impl Watched {
-    // Keeps what a tick adds, and its line, as far as there is memory.
+    // Keeps what a tick adds, and its line, as far as memory allows.
     fn keep(&mut self, added: Result<Vec<Addition>, AllocError>)
         requires { IfOk added (λ list. All (IsPlaceOf self.old.table) list.items) }
         ensures host { self.new.host ≡ self.old.host }
@@ -150,10 +154,10 @@ impl Answers for Watched {
     }
 }
 
-/// Whose change calls for whose retest in the script of this reader, which is answered as `rig_script::script` answers it.
+/// Answers the lines of a reader as `rig_script::script` does, and returns which tenants need a retest after another one changes.
 ///
 /// # Errors
-/// As `script`; `Memory` also where there was want of memory for the table, and then all lines were answered.
+/// As `script`; `Memory` also if an allocation for the table fails. If it fails after the first line was read, all lines are answered.
 pub fn retests_of<R: Read>(
     alloc: Global,
     reader: &mut R,

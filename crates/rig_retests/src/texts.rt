@@ -10,17 +10,19 @@ use rig_model::config::{Config, TenantId};
 use std::alloc::{AllocError, Global};
 use tenant_sources::tables::Link;
 
-// What stands below the table.
+// The remarks below the table.
 const REMARKS: &str = "
 A bind counts from the first tick after it, whether its value is offered or not.
 The table knows binds, not the plant: a change may also pass from any line that is driven, through the plant, to any line that is read.
 ";
 
-/// The table: for each tenant, in the order of the roster, a row for each other tenant whose change calls for its retest, or one row
-/// where there is none. Below it the same by the tenant that changes.
+/// Returns the table of retests.
+///
+/// Each tenant, in the order of the roster, has a row for each other tenant whose change calls for its retest, or one row if there is
+/// none. Below it is the same by the tenant that changes.
 ///
 /// # Errors
-/// Want of memory.
+/// Out of memory.
 pub fn text_of_retests(
     alloc: Global,
     config: &Config,
@@ -45,7 +47,7 @@ pub fn text_of_retests(
     Ok(text)
 }
 
-// The same by the tenant that changes: for each, in the order of the roster, whose retest its change calls for.
+// The same by the tenant that changes. Each, in the order of the roster, has the tenants that need a retest then.
 fn text_of_changes(
     alloc: Global,
     config: &Config,
@@ -61,7 +63,7 @@ fn text_of_changes(
     columns.text(alloc)
 }
 
-// Whose retest a change of this tenant calls for: its own, and that of each whose source it is.
+// The tenants that need a retest after a change of this one: itself, and each whose source it is.
 fn retested_after(
     alloc: Global,
     config: &Config,
@@ -118,7 +120,7 @@ fn row_of(
     Ok(row)
 }
 
-// The binds of a chain; where there are several, each with its place.
+// The binds of a chain. If there are several, each has its place.
 fn text_of_chain(
     alloc: Global,
     config: &Config,
@@ -143,7 +145,7 @@ fn text_of_chain(
 /// The bind of a link, as `g from alpha.a`.
 ///
 /// # Errors
-/// Want of memory.
+/// Out of memory.
 pub fn bind_of_link(alloc: Global, config: &Config, link: &Link) -> Result<String, AllocError> {
     let supplier = name_of(config, link.supplier);
     text_of_bind(
@@ -154,10 +156,10 @@ pub fn bind_of_link(alloc: Global, config: &Config, link: &Link) -> Result<Strin
     )
 }
 
-/// Where the tick of a link stands in the script, as `line 7 tick 0`.
+/// Returns the place in the script of a link's tick, as `line 7 tick 0`.
 ///
 /// # Errors
-/// Want of memory.
+/// Out of memory.
 pub fn place_of_link(alloc: Global, retests: &Retests, link: &Link) -> Result<String, AllocError> {
     text_of_place(alloc, retests.line_of(link.tick), link.tick)
 }
@@ -174,7 +176,7 @@ fn text_of_bind(
     format!(in alloc; "{sensor} from {supplier}.{actuator}")
 }
 
-// A tick, with its line where that is known.
+// A tick, with its line if that is known.
 fn text_of_place(alloc: Global, line: Option<usize>, tick: u64) -> Result<String, AllocError>
     ensures { IfOk result (λ text. string_bytes text ≡ text_of_place line tick) }
 {
@@ -184,7 +186,7 @@ fn text_of_place(alloc: Global, line: Option<usize>, tick: u64) -> Result<String
     }
 }
 
-/// The name of the tenant at this place; no byte where there is none.
+/// The name of the tenant at this place; empty if there is none.
 pub fn name_of(config: &Config, tenant: TenantId) -> &str {
     match config.tenants().get(tenant) {
         Some(tenant) => tenant.name.as_str(),
@@ -195,7 +197,7 @@ pub fn name_of(config: &Config, tenant: TenantId) -> &str {
 /// Cells of these texts.
 ///
 /// # Errors
-/// Want of memory.
+/// Out of memory.
 pub fn cells(alloc: Global, texts: &[&str]) -> Result<Vec<String>, AllocError> {
     let mut cells = Vec::new(alloc);
     for text in texts {
@@ -204,10 +206,10 @@ pub fn cells(alloc: Global, texts: &[&str]) -> Result<Vec<String>, AllocError> {
     Ok(cells)
 }
 
-/// A text of at most so many characters: where it is longer, its first ones and ` ..`. A tab is a blank.
+/// Shortens a text to at most `most` characters. A longer text is cut, and ends with ` ..`; a tab becomes a blank.
 ///
 /// # Errors
-/// Want of memory.
+/// Out of memory.
 pub fn shortened(alloc: Global, text: &str, most: usize) -> Result<String, AllocError> {
     if text.chars().count() <= most {
         return beginning(alloc, text, most);
@@ -217,7 +219,7 @@ pub fn shortened(alloc: Global, text: &str, most: usize) -> Result<String, Alloc
     format!(in alloc; "{first} ..")
 }
 
-// So many characters of a text, each control character a blank.
+// The first `length` characters of a text, with a blank for each control character.
 fn beginning(alloc: Global, text: &str, length: usize) -> Result<String, AllocError> {
     let mut shown = String::new(alloc);
     for c in text.chars().take(length) {

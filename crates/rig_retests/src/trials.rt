@@ -1,4 +1,4 @@
-//! The trial of a script for one tenant: what is kept of it, and what the tenant is answered with and without the rest.
+//! The trial of a script for one tenant: the part that is kept, and the tenant's answers with and without the rest.
 
 ghost use Rattle.std.specs.Prelude.{◌≡◌, [], IfOk, string_bytes};
 ghost use Rattle.rig_model.specs.Script.{past_after};
@@ -22,33 +22,35 @@ use rig_script::speakers::Speaker;
 use std::alloc::{AllocError, Global};
 use std::io::Read;
 
-// How many characters of a line of the script are shown.
+// The number of characters shown of a line of the script.
 const LINE_WIDTH: usize = 40;
 
-// How many of the tasks whose completions are left out.
+// The number of characters shown of the tasks whose completions are left out.
 const TASKS_WIDTH: usize = 60;
 
-// How long the two answers to a line are at most where they stand side by side.
+// The greatest length of answers that are shown side by side.
 const ANSWER_WIDTH: usize = 28;
 
-/// How a trial is told.
+/// The form in which a trial is printed.
 #[derive(Clone, Copy, Debug, PartialEq, Eq)]
 pub enum TrialForm {
     /// A row for each line, with the answers in both runs.
     Listing,
-    /// Who was left out, and how many replies were compared.
+    /// Which tenants were left out, and how many replies were compared.
     Summary,
 }
 
-/// What is told of a trial, and how its script went.
+/// The text of a trial, and how its script went.
 #[derive(Drop)]
 pub struct TrialText {
     pub text: String,
     pub course: Course,
 }
 
-/// Runs the script of a reader and what is kept of it for a tenant: a row for each line, with the tenant's answers in both runs, or a
-/// summary; and below them how many lines were left out, and whether the answers are the same.
+/// Runs the script of a reader, and the part of it that is kept for a tenant, and returns a text about both runs.
+///
+/// A listing has a row for each line, with the tenant's answers in both runs; the other form is a summary. Below follow how many lines
+/// were left out, and whether the answers are the same.
 ///
 /// # Errors
 /// As `rig_script::script`.
@@ -63,7 +65,7 @@ pub fn text_of_trial<R: Read>(
         IsCourseOf config.now bytes (R.remaining reader.new) (past_after setting [] (cut bytes)) told.course)) }
 {
     let recording = recorded(alloc, reader, config)?;
-    // What happened is legal, and the tenant is in the roster: it is refused for want of memory alone.
+    // The events are legal and the tenant is in the roster, so it is refused only if an allocation fails.
     let Ok(trial) = trial_outcome(alloc, config, recording.events.as_slice(), tenant) else {
         return Err(ScriptFault::Memory);
     };
@@ -74,7 +76,7 @@ pub fn text_of_trial<R: Read>(
     })
 }
 
-// The rows or a summary, and what stands below them.
+// The rows or a summary, and the lines below them.
 fn text_of_both(
     alloc: Global,
     config: &Config,
@@ -106,13 +108,13 @@ fn text_of_both(
 // What is left out of a line.
 #[derive(Drop)]
 struct LeftOut {
-    // How many events.
+    // The number of events.
     number: usize,
-    // The tasks of those that are completions.
+    // The tasks of the completions among them.
     tasks: String,
 }
 
-// The rows of a trial, and what there is for those that follow.
+// The rows of a trial, and the events and answers that are left for the rows to come.
 #[derive(Drop)]
 struct Sheet<'a> {
     tenant: TenantId,
@@ -126,7 +128,7 @@ struct Sheet<'a> {
 }
 
 impl<'a> Sheet<'a> {
-    // The titles alone.
+    // The sheet with its titles only.
     fn new(
         alloc: Global,
         tenant: TenantId,
@@ -165,7 +167,7 @@ impl<'a> Sheet<'a> {
         self.columns.add(row)
     }
 
-    // Passes over the events of a line.
+    // Passes over the events of a line, and returns what is left out of it.
     fn pass(
         &mut self,
         alloc: Global,
@@ -247,7 +249,7 @@ impl LeftOut {
     }
 }
 
-// What becomes of a line with so many events, of which so many are left out.
+// What becomes of a line with `events` events, of which `left_out` are left out.
 fn fate(alloc: Global, events: usize, left_out: usize) -> Result<String, AllocError>
     ensures { IfOk result (λ text. string_bytes text ≡ text_of_fate events left_out) }
 {
@@ -263,14 +265,14 @@ fn fate(alloc: Global, events: usize, left_out: usize) -> Result<String, AllocEr
     part(alloc, events - left_out, events)
 }
 
-// That so many of the events of a line are kept.
+// The text that `kept` of the events of a line are kept.
 fn part(alloc: Global, kept: usize, events: usize) -> Result<String, AllocError>
     ensures { IfOk result (λ text. string_bytes text ≡ text_of_part kept events) }
 {
     format!(in alloc; "{kept} of {events}")
 }
 
-// A text up to its first LF, and what stands behind that.
+// A text up to its first LF, and the rest after it.
 fn first_line(text: &str) -> (&str, &str) {
     match text.split_once('\n') {
         Some(parts) => parts,
@@ -292,7 +294,7 @@ fn add_head(
     Ok(())
 }
 
-// In the place of answers, the tasks whose completions are left out.
+// Instead of answers, the tasks whose completions are left out.
 fn add_tasks(alloc: Global, left_out: &LeftOut, row: &mut Vec<String>) -> Result<(), AllocError> {
     row.push(String::new(alloc))?;
     if left_out.tasks.is_empty() {

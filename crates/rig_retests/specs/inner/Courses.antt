@@ -1,10 +1,10 @@
--- What falls short in what is told of a script, by how it went.
+-- What a report about a script lacks, by how the script went.
 use Rattle.std.specs.Prelude.{ℕ, Option, Some, None, if◌then◌else◌}
 use Rattle.rig_retests.specs.declared.courses.Course.{Course}
 use Rattle.rig_retests.specs.declared.courses.Shortfall.{Shortfall}
 use Rattle.rig_retests.specs.declared.courses.Shortfall.TheVariants.{CutOff, NoTenant}
 
--- a script that was cut off tells too little, and so does one of which no line is a tenant's
+-- the report lacks something if the script was cut off, or if no line of it is a tenant's
 abbrev pub shortfall_of : Course → Option Shortfall
 shortfall_of course = by course.bad_line
   where

@@ -1,4 +1,4 @@
--- A host that answers a script, and the events and lines that are recorded of it.
+-- A host that answers a script, and the recorded events and lines.
 use Rattle.std.specs.Prelude.{◌≡◌, ℕ, ◌+◌, Bool, List, [], ◌∷◌, ◌++◌, length, map, reverse, string_bytes}
 use Rattle.std.specs.List.{list_any}
 use Rattle.tenant_sources.specs.host.HostStanding.{HostStanding}
@@ -15,25 +15,25 @@ use Rattle.rig_script.specs.Given.{number_behind, texts_of}
 use Rattle.rig_script.specs.cited.HostAnswers.{IsHostAfter}
 use Rattle.rig_script.specs.cited.Past.{past_behind_all}
 
--- one of these lines is a tenant's
+-- whether one of these lines is a tenant's
 abbrev pub has_tenant : List RecordedLine → Bool
 has_tenant lines = list_any (λ (line : RecordedLine). is_tenants line.speaker) lines
 
--- a line that was answered, by what is recorded of it
+-- what is recorded of an answered line
 pub record Recorded : Type 0 where
   pub number : ℕ
   pub text : List ℕ
   pub speaker : Speaker
   pub reply : List ℕ
-  -- how many there are
+  -- the number of its events
   pub events : ℕ
 
--- what a recorded line tells
+-- what a recorded line says
 abbrev pub recorded_as : RecordedLine → Recorded
 recorded_as line =
     record { number = line.number; text = string_bytes line.text; speaker = line.speaker; reply = string_bytes line.reply; events = line.events }
 
--- a line that isn't blank, and none for one that is
+-- the line, or nothing if it is blank
 abbrev pub unless_blank : Recorded → List Recorded
 unless_blank line = by line.speaker
   where
@@ -44,7 +44,7 @@ unless_blank line = by line.speaker
     by Unknown = line ∷ []
 
 module _ (setting : Setting) where
-  -- what is recorded of a line of this text behind so many others, behind which stand the events of the past
+  -- what is recorded of a line of this text after `n` others, if `past` are the events so far
   abbrev pub recorded_line : List Event → ℕ → List ℕ → Recorded
   recorded_line past n text = record {
     number = number_behind n;
@@ -54,7 +54,7 @@ module _ (setting : Setting) where
     events = length (line_step setting past text).events;
   }
 
-  -- what is recorded of lines of these texts behind others
+  -- what is recorded of lines of these texts after `n` others
   abbrev pub recorded_from : List Event → ℕ → List (List ℕ) → List Recorded
   recorded_from past n [] = []
   recorded_from past n (text ∷ texts) = unless_blank (recorded_line past n text) ++ recorded_from (past_behind setting past text) (n + 1) texts
@@ -63,8 +63,8 @@ module _ (setting : Setting) where
   abbrev pub recorded_of : List ℕ → List Recorded
   recorded_of bytes = recorded_from [] 0 (texts_of (cut bytes))
 
--- The host stands behind these events, which are those of the lines of these texts. Just they were recorded, the oldest first, and just
--- these lines; and how many they are, and whether one is a tenant's, is noted.
+-- The host is in its state after the events of the past, which are those of the lines of these texts. Exactly these events were recorded,
+-- the oldest first, and exactly these lines. The number of the lines, and whether one is a tenant's, are noted.
 abbrev pub IsRecorded : Setting → HostStanding → ℕ → List Event → List RecordedLine → List (List ℕ) → List Event → Type 0
 IsRecorded setting host answered recorded lines texts past =
     IsHostAfter setting host past × (recorded ≡ reverse past) × (past ≡ past_behind_all setting [] texts) × (map recorded_as lines ≡ recorded_from setting [] 0 texts)

@@ -1,4 +1,4 @@
--- How a bind, its place in a script and what becomes of a line are printed.
+-- The texts of a bind, of its place in a script and of what becomes of a line.
 use Rattle.std.specs.Prelude.{ℕ, ◌-◌, ◌==◌, nat_le, if◌then◌else◌, List, ◌++◌, Option, Some, None, codes}
 use Rattle.std.specs.Fmt.{decimal}
 
@@ -6,7 +6,7 @@ use Rattle.std.specs.Fmt.{decimal}
 abbrev pub text_of_bind : List ℕ → List ℕ → List ℕ → List ℕ
 text_of_bind sensor supplier actuator = sensor ++ (codes " from " ++ (supplier ++ (codes "." ++ actuator)))
 
--- "line LINE tick TICK", and "tick TICK" where the line isn't known
+-- "line LINE tick TICK", or "tick TICK" if the line isn't known
 abbrev pub text_of_place : Option ℕ → ℕ → List ℕ
 text_of_place None tick = codes "tick " ++ decimal tick
 text_of_place (Some line) tick = codes "line " ++ (decimal line ++ (codes " tick " ++ decimal tick))
@@ -15,7 +15,7 @@ text_of_place (Some line) tick = codes "line " ++ (decimal line ++ (codes " tick
 abbrev pub text_of_part : ℕ → ℕ → List ℕ
 text_of_part kept events = decimal kept ++ (codes " of " ++ decimal events)
 
--- what becomes of a line with so many events, of which so many are left out
+-- what becomes of a line with `events` events, of which `left_out` are left out
 abbrev pub text_of_fate : ℕ → ℕ → List ℕ
 text_of_fate events left_out =
     if events == 0 then codes "-"
