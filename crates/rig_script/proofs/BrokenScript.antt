@@ -1,4 +1,4 @@
--- How a script ends by a fault.
+-- How a fault ends a script.
 use Rattle.std.proofs.Common.{◌≡◌, ℕ, ◌≤◌, Bool, true, List, Option, Some, None, Result, Err, refl, subst, sym, ◌∙◌, inl, inr, arith}
 use Rattle.std.specs.Io.KnownBytes.{Appends, Keeps}
 use Rattle.rig_model.specs.Base.{Setting}
@@ -38,7 +38,7 @@ module _ (setting : Setting) (past : List Event) (bytes : List ℕ) (w : Option 
       subst (λ f. AreBrokenOff remaining (Appends w written) f setting past bytes) (sym memory.0)
       (refused_behind (reply_to_line setting) (past_behind setting) past bytes w now rest ended v come flushed kept (memory_reply setting) line later text ended_now written first is memory.1)
 
--- what was read, by how many reads gave bytes
+-- the bytes that were read, by the number of reads that gave bytes
 pub few_read : {T : Type 0} (r : Result T ScriptFault) (known after : Option (List ℕ)) (count : ℕ) → AreCounted 0 count known after → count ≤ MAX_READS → (r ≡ Err Turns → MAX_READS ≤ count) → AreFewRead r known after
 few_read r None after count counted few many = tt
 few_read r (Some bytes) None count counted few many = absurd counted
@@ -48,7 +48,7 @@ few_read r (Some bytes) (Some more) count counted few many =
     let most = taken.3 in
     (taken.0, taken.1, omega (arith, most, few), λ is. let enough = many is in omega (arith, least, enough))
 
--- who finds too many reads
+-- only `Turns` of the lines becomes `Turns` of the script
 pub lines_turns : (fault : LinesFault) → fault_of_lines fault ≡ Turns → fault ≡ lines.Turns
 lines_turns lines.Read is = absurd (cc)
 lines_turns lines.Write is = absurd (cc)

@@ -29,7 +29,7 @@ module _ (setting : Setting) where
   released [] j e = e
   released (e ∷ past) j h = ap (λ b. b || was_released setting past j) h
 
-  -- each outstanding job is active: a tenant's, and so all
+  -- each outstanding job is active: each job of one tenant, and so each job of all
   active_at : (past : List Event) (t : ℕ) → AllByRecursion (λ j. is_active (row_of setting past j.tenant) j ≡ true) (outstanding_at setting past t)
   active_at past t =
       all_filtered (λ j. is_active (row_of setting past j.tenant) j ≡ true) (job_of t) (λ j. not (has_completion setting past j)) (row_of setting past t).active (own_jobs_active t (row_of setting past t))
@@ -47,7 +47,7 @@ module _ (setting : Setting) where
       ∙ all_legal js (Done j ∷ past) (all_map (λ i. was_released setting past i ≡ true) (λ i. was_released setting (Done j ∷ past) i ≡ true) js (λ i h. ap (λ b. is_active (row_of setting past i.tenant) i || b) h ∙ or_true (is_active (row_of setting past i.tenant) i)) all.1)
       (and_from (was_released setting past j) (is_legal setting past) all.0 legal)
 
-  -- the names that the host gives are those of the definitions
+  -- the names that the host returns are those of the definitions
   pub names_are : (past : List Event) (host : HostStanding) → IsHostAfter setting host past → outstanding_jobs host ≡ outstanding_after setting past
   names_are past host h = code_awaits setting host (host_after setting past) h.stands h.stands.placed ∙ same_outstanding setting h.base past h.legal
 

@@ -1,4 +1,4 @@
--- The values of the lines that a host tells are those of the definitions.
+-- The values of the lines that a host returns are those of the definitions.
 use Rattle.std.proofs.Common.{◌≡◌, ℕ, zero, suc, ◌+◌, true, ℤ, List, ◌++◌, codes, refl, ap, ◌∙◌, arith}
 use Rattle.std.proofs.lemmas.Bool.Decides.{nat_tests}
 use Rattle.std.specs.Fmt.{signed_decimal}
@@ -18,7 +18,7 @@ use Rattle.rig_model.specs.Script.{text_of_lines}
 pub told_more : (f : ℕ → ℤ) (k : ℕ) → text_of_lines f (k + 1) ≡ text_of_lines f k ++ (codes " " ++ signed_decimal (f k))
 told_more f k = let next : k + 1 ≡ suc k = omega arith in ap (text_of_lines f) next
 
--- equal values are told alike
+-- equal values have equal texts
 told_alike : (f g : ℕ → ℤ) → ((k : ℕ) → f k ≡ g k) → (n : ℕ) → text_of_lines f n ≡ text_of_lines g n
 told_alike f g same zero = refl
 told_alike f g same (suc k) =

@@ -1,4 +1,4 @@
--- Who speaks as a tenant is one of the roster.
+-- A tenant that speaks in a line is in the roster.
 use Rattle.std.proofs.Common.{◌≡◌, ℕ, ◌<◌, Bool, true, false, nat_lt, List, [], ◌∷◌, length, Option, Some, None, refl, subst, arith}
 use Rattle.std.specs.List.{position_or_len}
 use Rattle.std.proofs.lemmas.Bool.Decides.{nat_tests}
@@ -10,7 +10,7 @@ use Rattle.rig_model.specs.lines.Words.{first_word_of}
 use Rattle.rig_model.specs.declared.speakers.Speaker.TheVariants.{Nobody, Operator, Tenant, Unknown}
 use Rattle.rig_model.specs.Script.{operator, speaker_of}
 
--- a place that was found is one of the roster
+-- a place that was found is a place of the roster
 pub place_within : (config : Rig) (x : Name) (u : ℕ) → place_of config x ≡ Some u → u < length config.tenants
 place_within config x u e = by (nat_lt k (length config.tenants)) refl
   where

@@ -1,4 +1,4 @@
--- What a step answers, and the host behind it.
+-- The answer to a step, and the host after it.
 use Rattle.std.proofs.Common.{◌≡◌, ℕ, ◌-◌, ◌^◌, ◌<◌, ◌==◌, nat_lt, Bool, true, false, ℤ, List, [], ◌∷◌, ◌++◌, length, Some, None, Result, Ok, Err, OnOk, reverse, append-nil, codes, refl, sym, ap, ◌∙◌, subst, arith}
 use Rattle.std.proofs.lemmas.Bool.Decides.{nat_tests}
 use Rattle.std.proofs.lemmas.Bool.{eqb-true, and_from}
@@ -29,30 +29,30 @@ use Rattle.rig_script.specs.inner.Script.{IsCarriedOut}
 use Rattle.rig_script.specs.inner.Records.{AreNone, IsTold}
 pub use Rattle.rig_model.proofs.cited.OperatorWords.{words_with, other_line, lines_with_more, work_with_name, work_with_no_name, work_with_more}
 
--- this text was answered, the events were told, and they have happened
+-- this text was the answer, the events were recorded, and they have happened
 pub step_done : (step : Step) (past : List Event) (r : Result (Unit {0}) AllocError) (Before After : List Event → Type 0) (Said : List ℕ → Type 0) (Stands : List Event → Type 0) (text : List ℕ)
     → OnOk r (Said text) → text ≡ step.reply → IsTold Before After (reverse step.events) → Stands (step.events ++ past) → IsCarriedOut step past Before After r Said Stands
 step_done step past (Ok u) Before After Said Stands text given is told after = (subst Said is given, told, after)
 step_done step past (Err e) Before After Said Stands text given is told after = tt
 
--- what was told is the reply of each state for which the host stands
+-- the written reply is that of each state that the host represents
 pub told_for_each : (r : Result (Unit {0}) AllocError) (Said : List ℕ → Type 0) (host : HostStanding) (t : ℕ) (command : Command) (name : List ℕ) (reply : Reply)
     → ForEachState host (λ setting state. reply ≡ (after_command setting t command (row_at state t)).reply) → OnOk r (Said (reply_line name (text_of_reply reply)))
     → OnOk r (ForEachState host (λ setting state. Said (reply_line name (text_of_reply (after_command setting t command (row_at state t)).reply))))
 told_for_each (Ok u) Said host t command name reply same given = λ setting state stands. subst (λ p. Said (reply_line name (text_of_reply p))) (same setting state stands) given
 told_for_each (Err e) Said host t command name reply same given = tt
 
--- what holds anyhow
+-- what holds in any case
 pub on_ok : (r : Result (Unit {0}) AllocError) {P : Type 0} → P → OnOk r P
 on_ok (Ok u) h = h
 on_ok (Err e) h = tt
 
--- where nothing was told, nobody was told anything
+-- if no event was recorded in an empty recorder, none was recorded in any
 pub none_told_to : (step : Step) (past : List Event) (r : Result (Unit {0}) AllocError) (Told : List Event → Type 0) (Said : List ℕ → Type 0) (Stands : List Event → Type 0) → IsCarriedOut step past AreNone AreNone r Said Stands → IsCarriedOut step past Told Told r Said Stands
 none_told_to step past (Ok u) Told Said Stands h = (h.0, λ told before. subst Told (sym (ap (λ l. told ++ l) (h.1 [] refl) ∙ append-nil told)) before, h.2)
 none_told_to step past (Err e) Told Said Stands h = tt
 
--- nothing was told
+-- nothing was recorded
 pub none_told : (Told : List Event → Type 0) → IsTold Told Told []
 none_told Told told h = subst Told (sym (append-nil told)) h
 
@@ -87,7 +87,7 @@ module _ (setting : Setting) (past : List Event) (host later : HostStanding) (h 
       (ap (λ p. reply_line name (text_of_reply p)) (answered ∙ ap (λ w. (after_command setting t command w).reply) row)) told
       (record { base = h.base; legal = and_from (is_tenant setting.config t) (is_legal setting past) is h.legal; stands = after }))
 
-  -- a command was answered, or there was want of memory
+  -- a command was answered, or memory ran out
   pub command_answered : (t : ℕ) (name line : List ℕ) (command : Command) → t < length host.config.tenants → command_of_line line ≡ Some command
       → OnOk r (ForEachState host (λ setting state. Said (reply_line name (text_of_reply (after_command setting t command (row_at state t)).reply))))
       → OnOk r (TakesEvent (Own t command) host later) → IsTold Before After (Own t command ∷ []) → IsCarriedOut (tenant_step setting past t name line) past Before After r Said (IsHostAfter setting later)
@@ -102,7 +102,7 @@ module _ (setting : Setting) (past : List Event) (host later : HostStanding) (h 
           (subst (λ q. OnOk q (Said (reply_line name (text_of_reply (after_command setting t command (row_at state t)).reply)))) (sym is) (given setting state h.stands)) told
       by (Err e) is given step = subst (λ q. IsCarriedOut (tenant_step setting past t name line) past Before After q Said (IsHostAfter setting later)) (sym is) tt
 
-  -- a line of no form
+  -- a line of none of the forms
   pub operator_refused : (words : List (List ℕ)) → operator_line_of words ≡ None → later ≡ host → OnOk r (Said (reply_line operator (codes "err bad-command")))
       → IsTold Before After [] → IsCarriedOut (operator_step setting past words) past Before After r Said (IsHostAfter setting later)
   operator_refused words none kept given told =
@@ -111,7 +111,7 @@ module _ (setting : Setting) (past : List Event) (host later : HostStanding) (h 
       subst (λ (s : Step). IsCarriedOut s past Before After r Said (IsHostAfter setting later)) (sym steps)
       (step_done step past r Before After Said (IsHostAfter setting later) (reply_line operator (codes "err bad-command")) given refl told (subst (λ s. IsHostAfter setting s past) (sym kept) h))
 
-  -- the values of the lines were told
+  -- the reply has the values of the lines
   pub lines_told : (words : List (List ℕ)) → operator_line_of words ≡ Some line_values → later ≡ host → (text : List ℕ)
       → OnOk r (Said (reply_line operator text)) → IsTold Before After [] → text ≡ codes "ok lines" ++ text_of_lines (line_of host) host.config.lines
       → IsCarriedOut (operator_step setting past words) past Before After r Said (IsHostAfter setting later)

@@ -1,4 +1,4 @@
-//! A script's lines and who answers them.
+//! The lines of a script and their answers.
 
 ghost use Rattle.std.specs.Prelude.{◌≡◌, ◌∷◌, ◌++◌, ℕ, List, [], All, Some, Ok, IfErr, IfSome, OnOk};
 ghost use Rattle.std.specs.Io.KnownBytes.{Appends, Keeps};
@@ -19,15 +19,15 @@ use std::alloc::{AllocError, Global};
 use std::io::{Read, Write};
 use text_lines::lines::{Line, Lines};
 
-/// Who answers the lines of a script.
+/// Answers the lines of a script.
 pub trait Answers {
-    // it was given the lines of these texts, the oldest first, and stands for what these events, the newest first, make of a rig
+    // it was given the lines of these texts, the oldest first, and its state is that of a rig after these events, the newest first
     ghost stands: { Self → Setting → List (List ℕ) → List Event → Type 0 };
 
-    /// Writes the reply to a line into a text, in place of what stood there: no byte for a line that has no reply.
+    /// Replaces the text with the reply to a line. The reply is empty for a line that has none.
     ///
     /// # Errors
-    /// Where there is want of memory for the reply: nothing is said of the text then.
+    /// Out of memory for the reply. The text's content is then unspecified.
     fn answer(&mut self, alloc: Global, line: &str, text: &mut String) -> Result<(), Unanswered>
         ensures { ForEachPast (stands self.old) (λ setting texts past. IsReplied (line_step setting past line.now) past (speaker_of setting.config line.now) result
             (Holds text.new) (stands self.new setting (texts ++ line.now ∷ []))) };
@@ -36,21 +36,22 @@ pub trait Answers {
 /// How the lines of a reader ended.
 #[derive(Clone, Copy, Debug, PartialEq, Eq)]
 pub enum Ending {
-    /// The reader has ended, and no byte of it is left.
+    /// The input has ended, and no byte of it is left.
     Input,
-    /// A line was too long or no text.
+    /// A line was too long or not UTF-8.
     BadLine,
 }
 
-/// Answers the lines of a reader, in their order, until it ends or a line is too long or no text. Such a line is answered
-/// `host bye bad-line`, and what stands behind it isn't read.
+/// Answers the lines of a reader, in their order, until the input ends or a line is too long or not UTF-8. The answer to such a line is
+/// `host bye bad-line`, and later lines are ignored.
 ///
 /// The writer is flushed before each read and at the end.
 ///
 /// # Errors
-/// `Read`, `Write` and `Turns` as `Lines::next_line`, and `Read` also where a line found no memory: just the lines before were answered.
-/// `Memory` where there is want of memory for a reply: `err memory` is written in its place, behind the line's first word, or behind
-/// `host` where nobody has that name.
+/// - `Read`, `Write` and `Turns` as in `Lines::next_line`. `Read` also if there is no memory for a line; exactly the lines before it were
+///   answered.
+/// - `Memory` if there is no memory for a reply. `err memory` is written in its place, after the line's first word, or after `host` if nobody
+///   has that name.
 pub fn answer_lines<R: Read, W: Write, A: Answers>(
     alloc: Global,
     reader: &mut R,
@@ -84,7 +85,7 @@ pub fn answer_lines<R: Read, W: Write, A: Answers>(
     }
 }
 
-// Writes the reply to a line, which is put together in this text; what stood there is gone.
+// Writes the reply to a line. Overwrites this text with the reply.
 fn answer_line<W: Write, A: Answers>(
     alloc: Global,
     writer: &mut W,
@@ -106,7 +107,7 @@ fn answer_line<W: Write, A: Answers>(
     }
 }
 
-// Writes that a line is too long or no text.
+// Writes that a line is too long or not UTF-8.
 fn say_bye<W: Write>(writer: &mut W) -> Result<(), ScriptFault>
     ensures written { OnOk result (Appends (W.contents writer.old) (W.contents writer.new) bye_bad_line) }
     ensures fault { IfErr result (λ fault. fault ≡ ScriptFault.Write) }
@@ -115,7 +116,7 @@ fn say_bye<W: Write>(writer: &mut W) -> Result<(), ScriptFault>
     flush(writer)
 }
 
-// Writes that there is want of memory for a reply, to who is answered.
+// Writes that there is no memory for a reply, to this addressee.
 fn say_memory<W: Write>(writer: &mut W, who: &[u8]) -> Result<(), ScriptFault>
     ensures written { OnOk result (Appends (W.contents writer.old) (W.contents writer.new) (err_memory who.now)) }
     ensures fault { IfErr result (λ fault. fault ≡ ScriptFault.Write) }

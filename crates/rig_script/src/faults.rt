@@ -1,4 +1,4 @@
-//! Why a script ends before its input does.
+//! Faults that end a script before its input ends.
 
 ghost use Rattle.std.specs.Prelude.{◌≡◌};
 ghost use Rattle.rig_script.specs.inner.Faults.{text_of_fault};
@@ -8,10 +8,10 @@ use std::alloc::AllocError;
 use text_lines::faults::LinesFault;
 use thiserror::Error;
 
-/// Why a script ended before its input did.
+/// The reason why a script ended before its input did.
 #[derive(Clone, Copy, Debug, PartialEq, Eq, Error)]
 pub enum ScriptFault {
-    /// A read failed, or there was want of memory for a line.
+    /// A read failed, or there was no memory for a line.
     #[error("reading the input failed")]
     Read,
     /// A write failed.
@@ -20,7 +20,7 @@ pub enum ScriptFault {
     /// The input had not ended after 1,048,576 reads.
     #[error("the input had not ended after 1048576 reads")]
     Turns,
-    /// Want of memory for a reply.
+    /// Out of memory for a reply.
     #[error("no memory for a reply")]
     Memory,
 }
@@ -65,10 +65,10 @@ impl ScriptFault {
     }
 }
 
-/// There was want of memory for the reply to a line.
+/// There was no memory for the reply to a line.
 #[derive(Clone, Copy, Debug, PartialEq, Eq, Error)]
 #[error("no memory for the reply")]
 pub struct Unanswered {
-    /// Who speaks in the line, and is to be told.
+    /// The speaker of the line. The error is reported to that name.
     pub speaker: Speaker,
 }

@@ -44,11 +44,11 @@ impl Answers for Host {
     }
 }
 
-/// Carries out a line of a script: a tenant's by its command, and the operator's by `tick`, `work`, `work TENANT` or `lines`. Who records
-/// its events is told them. The reply is written into a text, in place of what stood there: no byte for a line that has none.
+/// Carries out a line of a script. A tenant's line is a command, and the operator's is `tick`, `work`, `work TENANT` or `lines`. Reports the
+/// line's events to `events`. Replaces the text with the reply, which is empty for a line that has none.
 ///
 /// # Errors
-/// Where there is want of memory: for a command, an instant, its events or the reply. Nothing is said of the text then.
+/// Out of memory for a command, an instant, its events or the reply. The text's content is then unspecified.
 pub fn carry_out<R: Record>(
     alloc: Global,
     host: &mut Host,
@@ -74,7 +74,7 @@ pub fn carry_out<R: Record>(
     }
 }
 
-// The same answer, with who is to be told that there was no memory.
+// The same result, with the speaker in the error.
 fn told(speaker: Speaker, answered: Result<(), AllocError>) -> Result<(), Unanswered>
     ensures { IsTellable speaker answered result }
 {
@@ -84,14 +84,13 @@ fn told(speaker: Speaker, answered: Result<(), AllocError>) -> Result<(), Unansw
     }
 }
 
-/// Answers the lines of a reader, in their order, until the input or the script ends: a tenant's by
-/// its command, and the operator's by `tick`, `work`, `work TENANT` and `lines`. The host is new, and its first tick is 0.
-/// Nothing is left unread where each line is text of at most 16,384 bytes; another line ends the script. No more than 1,048,576 reads
-/// of 4,096 bytes are ever taken.
+/// Answers the lines of a reader, in their order, until the input or the script ends. A tenant's line is a command, and the operator's is
+/// `tick`, `work`, `work TENANT` or `lines`. The host is new, and its first tick is 0. If each line is UTF-8 of at most 16,384 bytes,
+/// nothing is left unread. Any other line ends the script. No more is read than 1,048,576 reads of 4,096 bytes give.
 ///
 /// # Errors
-/// `Read`, `Write`, `Turns` and `Memory` as `answer_lines`; `Turns` only where the input has 1,048,576 bytes or more. `Memory` also where
-/// there is want of memory for the host, and then nothing was read or written.
+/// `Read`, `Write`, `Turns` and `Memory` as in `answer_lines`. `Turns` occurs only if the input has 1,048,576 bytes or more. `Memory` also if
+/// there is no memory for the host; then nothing was read or written.
 pub fn script<R: Read, W: Write>(
     alloc: Global,
     reader: &mut R,
@@ -110,7 +109,7 @@ pub fn script<R: Read, W: Write>(
     Ok(())
 }
 
-// The step of a tenant's line, which stands behind its name.
+// The step of a tenant's line, given the part after the tenant's name.
 fn tenant_line<R: Record>(
     alloc: Global,
     host: &mut Host,
@@ -134,7 +133,7 @@ fn tenant_line<R: Record>(
     show_port(host, tenant, &port, name, text)
 }
 
-// The step of a tenant's line, by its command. It isn't inlined: what a command takes on the stack would be cleared for each line.
+// The step of a tenant's line, by its command. Not inlined, since the stack space of a command would then be cleared for each line.
 #[inline(never)]
 fn command_line<R: Record>(
     alloc: Global,
@@ -198,7 +197,7 @@ fn answer_command(
     tell(text, name, &reply)
 }
 
-// The step of an operator's line, which stands behind `op`.
+// The step of an operator's line, given the part after `op`.
 fn operator_line<R: Record>(
     alloc: Global,
     host: &mut Host,
@@ -221,7 +220,7 @@ fn operator_line<R: Record>(
     reply_line(text, "op", "err bad-command")
 }
 
-// The step of `tick` with these words behind it.
+// The step of `tick`, given the words after it.
 fn tick<R: Record>(
     alloc: Global,
     host: &mut Host,
@@ -246,7 +245,7 @@ fn tick<R: Record>(
     }
 }
 
-// The step of `work` with these words behind it.
+// The step of `work`, given the words after it.
 fn work<R: Record>(
     host: &mut Host,
     events: &mut R,
@@ -265,7 +264,7 @@ fn work<R: Record>(
     reply_line(text, "op", "err bad-command")
 }
 
-// Runs and completes all outstanding jobs, and says how many they were.
+// Runs and completes all outstanding jobs, and replies with their number.
 fn complete_all<R: Record>(
     host: &mut Host,
     events: &mut R,
@@ -278,7 +277,7 @@ fn complete_all<R: Record>(
     work_reply(text, number)
 }
 
-// Runs and completes the outstanding jobs of the tenant of this name, and says how many they were.
+// Runs and completes the outstanding jobs of the tenant of this name, and replies with their number.
 fn complete_tenant<R: Record>(
     host: &mut Host,
     events: &mut R,
@@ -295,7 +294,7 @@ fn complete_tenant<R: Record>(
     work_reply(text, number as u128)
 }
 
-// The step of `lines` with these words behind it.
+// The step of `lines`, given the words after it.
 fn lines(host: &mut Host, line: &str, text: &mut String) -> Result<(), AllocError>
     ensures { CarriesOut (λ setting past. operator_step setting past (codes "lines" ∷ words_of line.now)) AreNone AreNone host.old host.new result (Adds text.old text.new) }
 {
@@ -314,7 +313,7 @@ fn line_values(text: &mut String, host: &Host) -> Result<(), AllocError>
     text.push('\n')
 }
 
-// Adds the value of each line of the rig, with a blank before it.
+// Adds the value of each line of the rig, each after a space.
 fn add_values(text: &mut String, host: &Host) -> Result<(), AllocError>
     ensures { OnOk result (string_bytes text.new ≡ string_bytes text.old ++ text_of_lines (line_of host.now) host.now.config.lines) }
 {
@@ -336,7 +335,7 @@ fn tick_reply(text: &mut String, number: u64) -> Result<(), AllocError>
     text.push('\n')
 }
 
-// The reply to `work` that completed so many jobs.
+// The reply to `work` that completed this many jobs.
 #[inline(always)]
 fn work_reply(text: &mut String, number: u128) -> Result<(), AllocError>
     ensures { OnOk result (string_bytes text.new ≡ string_bytes text.old ++ reply_line operator (codes "ok work " ++ decimal number)) }
@@ -347,7 +346,7 @@ fn work_reply(text: &mut String, number: u128) -> Result<(), AllocError>
     text.push('\n')
 }
 
-// The reply to a tenant's command, as it is written: the tenant's name, a space, the reply, and LF.
+// Adds the reply to a tenant's command, as it is written: the tenant's name, a space, the reply, and LF.
 #[inline(always)]
 fn tell(text: &mut String, name: &str, reply: &Reply) -> Result<(), AllocError>
     ensures { OnOk result (string_bytes text.new ≡ string_bytes text.old ++ reply_line name.now (text_of_reply reply.now)) }
@@ -357,7 +356,7 @@ fn tell(text: &mut String, name: &str, reply: &Reply) -> Result<(), AllocError>
     text.push('\n')
 }
 
-// The reply to `show port`, as it is written.
+// Adds the reply to `show port`, as it is written.
 #[inline(always)]
 fn tell_value(text: &mut String, name: &str, port: &PortName, value: i64) -> Result<(), AllocError>
     ensures { OnOk result (string_bytes text.new ≡ string_bytes text.old ++ reply_line name.now (text_of_reply (Reply.Port (record { port = port.now; value = value })))) }
@@ -367,7 +366,7 @@ fn tell_value(text: &mut String, name: &str, port: &PortName, value: i64) -> Res
     text.push('\n')
 }
 
-// Adds who is answered, and a space.
+// Adds the addressee and a space.
 #[inline(always)]
 fn begin(text: &mut String, name: &str) -> Result<(), AllocError>
     ensures { OnOk result (string_bytes text.new ≡ string_bytes text.old ++ (name.now ++ codes " ")) }
@@ -376,7 +375,7 @@ fn begin(text: &mut String, name: &str) -> Result<(), AllocError>
     text.push(' ')
 }
 
-// A reply as it is written: who is answered, a space, the reply, and LF.
+// Adds a reply, as it is written: the addressee, a space, the reply, and LF.
 fn reply_line(text: &mut String, who: &str, reply: &str) -> Result<(), AllocError>
     ensures { OnOk result (string_bytes text.new ≡ string_bytes text.old ++ reply_line who.now reply.now) }
 {

@@ -4,10 +4,10 @@
 //! script(alloc, &mut reader, &mut writer, &config)?;
 //! ```
 //!
-//! [`speakers`] tells who speaks in a line, [`answers`] has whoever answers lines, and [`script`] is a host that answers them; [`carry_out`]
-//! answers one, and tells a record of [`records`] what it does. In the crate `rig_model` `TextLines.antt` says how bytes are cut, and `Script.antt` what a
-//! script is answered; `specs/Given.antt` says which lines are answered and which one ends them, and `specs/BrokenOff.antt` what was written
-//! before a fault. The lines are those of the crate `text_lines`.
+//! [`speakers`] has the speaker of a line. [`answers`] has the trait for answering lines, and [`script`] answers them with a host.
+//! [`carry_out`] answers one line and reports its events to a record of [`records`]. In the crate `rig_model`, `TextLines.antt` defines how
+//! bytes are cut into lines, and `Script.antt` the answers to a script. `specs/Given.antt` defines which lines are answered and which line
+//! ends a script, and `specs/BrokenOff.antt` what was written before a fault. The lines are those of the crate `text_lines`.
 #![tactic(auto)]
 
 pub mod answers;

@@ -1,4 +1,4 @@
-//! Who is told what the lines of a script do.
+//! Recorders of the events of a script's lines.
 
 ghost use Rattle.std.specs.Prelude.{◌≡◌, ◌<◌, ◌++◌, ◌∷◌, [], List, length, map, OnOk};
 ghost use Rattle.host_core.specs.HostStanding.{outstanding_jobs, outstanding_of};
@@ -13,16 +13,16 @@ use rig_model::lines::commands::Command;
 use std::alloc::{AllocError, Global};
 use tenant_jobs::jobs::JobId;
 
-/// Who is told what a line does: a tenant's command is one event, answered or refused, and so is an instant; `work` is one for each job
-/// that it completes, in the order of the roster; every other line is none.
+/// A recorder of the events of lines. A tenant's command is one event, whether it is answered or refused. An instant is one event. `work` is
+/// one event for each job that it completes, in the order of the roster. Every other line has no event.
 pub trait Record {
-    // it was told these events, the oldest first
+    // it has recorded these events, the oldest first
     ghost tells: { Self → List Event → Type 0 };
 
     /// A command, which is carried out next.
     ///
     /// # Errors
-    /// Want of memory.
+    /// Out of memory.
     fn command(
         &mut self,
         alloc: Global,
@@ -34,27 +34,27 @@ pub trait Record {
     /// An instant with this frame, which has happened.
     ///
     /// # Errors
-    /// Want of memory.
+    /// Out of memory.
     fn tick(&mut self, alloc: Global, frame: &[i64]) -> Result<(), AllocError>
         ensures { OnOk result (IsTold (tells self.old) (tells self.new) (Event.Tick frame.now ∷ [])) };
 
-    /// The completions of all outstanding jobs of a host, which are completed next.
+    /// The completions of all outstanding jobs of a host. The jobs are completed next.
     ///
     /// # Errors
-    /// Want of memory.
+    /// Out of memory.
     fn work(&mut self, host: &Host) -> Result<(), AllocError>
         ensures { OnOk result (IsTold (tells self.old) (tells self.new) (map Event.Done (outstanding_jobs host.now))) };
 
-    /// The completions of one tenant's outstanding jobs.
+    /// The completions of one tenant's outstanding jobs. The jobs are completed next.
     ///
     /// # Errors
-    /// Want of memory.
+    /// Out of memory.
     fn work_of(&mut self, host: &Host, tenant: TenantId) -> Result<(), AllocError>
         requires { tenant < length host.now.config.tenants }
         ensures { OnOk result (IsTold (tells self.old) (tells self.new) (map Event.Done (outstanding_of host.now tenant))) };
 }
 
-/// Nobody is told.
+/// Records nothing.
 #[derive(Drop)]
 pub struct Unrecorded;
 
@@ -85,7 +85,7 @@ impl Record for Unrecorded {
     }
 }
 
-/// The events of the lines, the oldest first.
+/// Records the events of the lines, the oldest first.
 impl Record for Vec<Event> {
     ghost use Rattle.std.specs.Prelude.{◌≡◌};
 
@@ -117,7 +117,7 @@ impl Record for Vec<Event> {
     }
 }
 
-// Puts the completions of these jobs behind the other events.
+// Appends the completions of these jobs to the events.
 fn add_completions(events: &mut Vec<Event>, jobs: Vec<JobId>) -> Result<(), AllocError>
     ensures { OnOk result (events.new.items ≡ events.old.items ++ map Event.Done jobs.items) }
 {

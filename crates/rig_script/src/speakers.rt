@@ -1,3 +1,3 @@
-//! Who speaks in a line of a script.
+//! The speaker of a script's line.
 
 pub use rig_model::speakers::{Speaker, addressee, who_is, who_speaks};

@@ -1,4 +1,4 @@
--- The events behind lines, one line on.
+-- The events after lines, for one more line.
 use Rattle.std.proofs.Common.{◌≡◌, ℕ, List, [], ◌∷◌, ◌++◌, refl}
 use Rattle.rig_model.specs.Base.{Setting}
 use Rattle.rig_model.specs.Script.{past_behind}

@@ -11,7 +11,7 @@ text_of_fault Write = codes "io: write"
 text_of_fault Turns = codes "io: turns"
 text_of_fault Memory = codes "io: memory"
 
--- a line that finds no memory isn't read
+-- if there is no memory for a line, the line isn't read
 abbrev pub fault_of_lines : LinesFault → ScriptFault
 fault_of_lines lines.Read = Read
 fault_of_lines lines.Write = Write

@@ -7,7 +7,7 @@ use Rattle.rig_model.specs.Script.{text_of_lines}
 use Rattle.rig_script.proofs.LineValues.{told_more}
 use Rattle.rig_script.proofs.host_answers.add_values.Goals as goal
 
--- a value more behind what was written
+-- one more value after what was written
 more : (before : List ℕ) (f : ℕ → ℤ) (k : ℕ) → (before ++ text_of_lines f k) ++ (codes " " ++ signed_decimal (f k)) ≡ before ++ text_of_lines f (k + 1)
 more before f k = append_assoc before (text_of_lines f k) (codes " " ++ signed_decimal (f k)) ∙ ap (λ l. before ++ l) (sym (told_more f k))
 

@@ -8,7 +8,7 @@ use Rattle.rig_script.specs.inner.Script.{IsAnswered, IsCarriedOut, IsTellable}
 use Rattle.rig_script.proofs.Speaking.{tenant_within}
 use Rattle.rig_script.proofs.host_answers.carry_out.Goals as goal
 
--- what was carried out is answered, or who speaks is to be told
+-- the step was answered, or the error has the speaker
 carried : (step : Step) (past : List Event) (speaker : Speaker) (Before After : List Event → Type 0) (a : Result (Unit {0}) AllocError) (r : Result (Unit {0}) Unanswered)
     (Said : List ℕ → Type 0) (Stands : List Event → Type 0) → IsTellable speaker a r → IsCarriedOut step past Before After a Said Stands → IsAnswered step past speaker Before After r Said Stands
 carried step past speaker Before After (Ok u) r Said Stands is h = rw is h

@@ -9,7 +9,7 @@ use Rattle.rig_model.specs.Script.{operator_step}
 use Rattle.rig_script.proofs.Steps.{words_with, other_line, operator_refused, none_told, none_told_to}
 use Rattle.rig_script.proofs.host_answers.operator_line.Goals as goal
 
--- two words that the test tells apart
+-- two words for which the test is false are different
 differ : (x y : List ℕ) → false ≡ same_name x y → x ≡ y → ⊥
 differ x y other is = false≢true (other ∙ ap (same_name x) (sym is) ∙ same_name_self x)
 
