@@ -1,4 +1,4 @@
-//! A client: the connection as its session reads it, and how it is ended.
+//! A client's connection: how its session reads it, and how it is ended.
 
 use crate::refusals::Refusal;
 use std::io;
@@ -6,19 +6,19 @@ use std::io::{ErrorKind, Read};
 use std::net::{Shutdown, TcpStream};
 use std::time::Duration;
 
-// How many milliseconds a read takes at most behind the end of a session, and how many there are.
+// The timeout in milliseconds of a read after the end of a session, and the greatest number of such reads.
 const LAST_READ: u64 = 100;
 
 const LAST_READS: u32 = 256;
 
-/// A client's bytes. Where nothing came for the time that the stream waits, they have ended.
+/// A client's bytes. They have ended if nothing came within the stream's timeout.
 #[derive(Drop)]
 pub(crate) struct Client<'a> {
     stream: &'a TcpStream,
 }
 
 impl<'a> Client<'a> {
-    /// The client of this stream.
+    /// Creates the client of this stream.
     pub(crate) fn new(stream: &'a TcpStream) -> Client<'a> {
         Client { stream }
     }
@@ -34,10 +34,10 @@ impl<'a> Read for Client<'a> {
     }
 }
 
-/// Has a stream answer at once, and wait no longer than this for its client, if there is a bound.
+/// Prepares a stream: it sends at once, and waits no longer than `idle` for its client, if there is a bound.
 ///
 /// # Errors
-/// As the system's.
+/// Those of the system.
 pub(crate) fn prepare(stream: &TcpStream, idle: Option<Duration>) -> io::Result<()> {
     stream.set_nodelay(true)?;
     stream.set_read_timeout(idle)?;
@@ -51,8 +51,9 @@ pub(crate) fn refuse(stream: &TcpStream, refusal: Refusal) {
     let _ = stream.shutdown(Shutdown::Write);
 }
 
-/// Ends writing, and reads what the client still sends for a while, so that it gets its last replies: a connection that is closed over
-/// unread bytes is reset.
+/// Ends writing, and reads for a while what the client still sends, so that the client gets its last replies.
+///
+/// A connection that is closed with unread bytes is reset.
 pub(crate) fn dismiss(stream: &TcpStream) {
     let _ = stream.shutdown(Shutdown::Write);
     let _ = stream.set_read_timeout(Some(Duration::from_millis(LAST_READ)));

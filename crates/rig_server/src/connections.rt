@@ -27,24 +27,24 @@ const PAUSE: u64 = 10;
 /// What the threads of a server share.
 #[derive(Drop)]
 pub(crate) struct Hall<'a, N: Naming, D> {
-    /// What a session takes its memory from.
+    /// The allocator of the sessions.
     pub(crate) alloc: Global,
     /// The tenants and their keys.
     pub(crate) config: &'a Config,
-    /// Who takes the calls.
+    /// The desk that takes the calls.
     pub(crate) desk: &'a D,
-    /// How long a session may be silent, if there is a bound.
+    /// How long a session may be idle, if there is a bound.
     pub(crate) idle: Option<Duration>,
     /// The open connections.
     pub(crate) register: Mutex<Register<N>>,
-    /// Told of each connection that has ended.
+    /// Notified of each connection that has ended.
     pub(crate) left: Condvar,
 }
 
 /// Starts the thread that takes connections.
 ///
 /// # Errors
-/// `Memory` where no thread can be had.
+/// `Memory` if no thread can be started.
 pub(crate) fn start<
     's,
     E,
@@ -63,7 +63,7 @@ pub(crate) fn start<
     }
 }
 
-// Takes connections until the register is closed. One that can't be taken is passed over.
+// Accepts connections until the register is closed. One that can't be accepted is skipped.
 fn accept_all<'s, E, N: Naming + Send + Sync, D: Seats<N> + Sync, R: Threads + Wait + Clock + Sync>(
     rt: &'s R,
     scope: &'s Scope<'s, E>,
@@ -108,7 +108,7 @@ fn take<'s, E, N: Naming + Send + Sync, D: Seats<N> + Sync, R: Threads + Wait + 
     }
 }
 
-// A place and a seat, or why a connection gets none.
+// A place and a seat for a connection, or why it gets none.
 fn enter<N: Naming, R: Wait, D: Seats<N>>(
     rt: &R,
     hall: &Hall<'_, N, D>,
@@ -126,14 +126,14 @@ fn enter<N: Naming, R: Wait, D: Seats<N>>(
     }
 }
 
-// A seat, or why a connection gets none.
+// A seat for a connection, or why it gets none.
 fn seat<N: Naming, R: Wait, D: Seats<N>>(rt: &R, desk: &D) -> Result<Pass<N>, Refusal>
     ensures { IfErr result (IsUnseated (D.refuses desk.now)) }
 {
     Ok(desk.seat(rt)?)
 }
 
-// Tells a connection that it has no thread.
+// Refuses a connection that gets no thread.
 fn give_up<N: Naming, R: Wait, D>(rt: &R, hall: &Hall<'_, N, D>, place: usize) {
     let handle = hall.register.lock(rt).give_up(place);
     if let Some(handle) = handle {
@@ -141,7 +141,7 @@ fn give_up<N: Naming, R: Wait, D>(rt: &R, hall: &Hall<'_, N, D>, place: usize) {
     }
 }
 
-// Answers a connection until it ends, and leaves its pass.
+// Answers a connection until it ends, and leaves its pass in the register.
 fn converse<N: Naming, R: Wait, D: Seats<N>>(
     rt: &R,
     hall: &Hall<'_, N, D>,
@@ -156,7 +156,7 @@ fn converse<N: Naming, R: Wait, D: Seats<N>>(
     hall.left.notify_all();
 }
 
-// Answers the lines of a connection. A fault of its stream ends it as its end does.
+// Answers the lines of a connection. A fault of its stream ends it just as the end of its stream does.
 fn answer<N: Naming, R: Wait, D: Seats<N>>(
     rt: &R,
     hall: &Hall<'_, N, D>,
@@ -178,7 +178,7 @@ fn answer<N: Naming, R: Wait, D: Seats<N>>(
         &mut writer,
     );
     if let Err(TalkFault::Write) = end {
-        // what is left can't be written, and isn't waited for a second time
+        // the rest can't be written; once the stream is shut down, the flush doesn't wait a second time
         let _ = stream.shutdown(Shutdown::Both);
     }
     let _ = writer.flush();

@@ -1,4 +1,4 @@
-//! Why a server ends otherwise than by a halt.
+//! Why a server ended, if not by a halt.
 
 ghost use Rattle.std.specs.Prelude.{◌≡◌};
 ghost use Rattle.rig_server.specs.inner.Faults.{text_of_fault};
@@ -7,13 +7,13 @@ use rig_operator::faults::OperatorFault;
 use std::alloc::AllocError;
 use thiserror::Error;
 
-/// Why a server ended otherwise than by a halt.
+/// Why a server ended, if not by a halt.
 #[derive(Clone, Copy, Debug, PartialEq, Eq, Error)]
 pub enum ServeFault {
-    /// The listener has no address, or can't be held a second time.
+    /// The listener has no address, or no second handle of it can be made.
     #[error("listening failed")]
     Listen,
-    /// A read of the operator's lines failed, or there was want of memory for one.
+    /// A read of the operator's lines failed, or memory ran out for one.
     #[error("reading the operator's lines failed")]
     Read,
     /// A write to the operator failed.
@@ -22,7 +22,7 @@ pub enum ServeFault {
     /// The operator's input had not ended after 1,048,576 reads.
     #[error("the operator's input had not ended after 1048576 reads")]
     Turns,
-    /// Want of memory or of a thread before the first line, or of memory for the last.
+    /// Out of memory or threads before the first line, or out of memory for the last one.
     #[error("no memory for the server")]
     Memory,
 }

@@ -1,4 +1,4 @@
-//! Halting: no further connection is taken, and the open ones are waited for, or ended at a second halt.
+//! Halting: the server takes no further connection, and waits for the open ones, or ends them at a second halt.
 
 use crate::connections::Hall;
 use locked_book::naming::Naming;
@@ -13,10 +13,10 @@ use std::time::{Clock, Duration};
 use std::{io, thread};
 use text_lines::lines::{Line, Lines};
 
-// After how many milliseconds a second halt is looked for again.
+// The time in milliseconds between two checks for a second halt.
 const PAUSE: u64 = 20;
 
-/// Whether a second halt was said.
+/// Whether the operator said a second `halt`.
 #[derive(Drop)]
 pub(crate) struct SecondHalt {
     said: Arc<AtomicU64, Global>,
@@ -28,8 +28,9 @@ impl SecondHalt {
     }
 }
 
-/// Looks for a second halt in what is left of the operator's lines, in a thread that nobody waits for: what the operator still says may
-/// never come. `None` where no thread can be had.
+/// Looks for a second halt in the rest of the operator's lines, in a separate thread. `None` if it can't be started.
+///
+/// Nobody waits for the thread, because the operator's next line may never come.
 pub(crate) fn look_for_halt<R: Threads, I: Read + Drop + Send + 'static>(
     rt: &R,
     alloc: Global,
@@ -45,7 +46,7 @@ pub(crate) fn look_for_halt<R: Threads, I: Read + Drop + Send + 'static>(
     }
 }
 
-// Reads until a line is `halt`, and tells it.
+// Reads until a line is `halt`, and notes it in `said`.
 fn read_to_halt<I: Read + Drop>(alloc: Global, lines: Lines, reader: I, said: &AtomicU64) {
     let mut lines = lines;
     let mut reader = reader;
@@ -63,7 +64,7 @@ fn read_to_halt<I: Read + Drop>(alloc: Global, lines: Lines, reader: I, said: &A
     }
 }
 
-/// Takes no further connection: wakes who accepts, by ending the listener that this is a handle of.
+/// Takes no further connection. Shuts down the listener of this handle, which wakes the thread that accepts.
 pub(crate) fn close_doors<N: Naming, R: Wait, D>(
     rt: &R,
     hall: &Hall<'_, N, D>,
@@ -73,7 +74,7 @@ pub(crate) fn close_doors<N: Naming, R: Wait, D>(
     let _ = listener.shutdown(Shutdown::Both);
 }
 
-/// Waits until no connection is open. A second halt ends all that are.
+/// Waits until no connection is open. A second halt ends all that are open.
 pub(crate) fn wait_for_all<N: Naming, R: Wait + Clock, D>(
     rt: &R,
     hall: &Hall<'_, N, D>,

@@ -1,11 +1,12 @@
 //! The server: a session for each connection, over one desk, and an operator who gives the instants.
 //!
-//! [`serving::serve`] takes connections from a listener until the operator halts it. Each has a thread, a seat of the desk and a session
-//! of `rig_sessions`; what an instant releases is run by a pool of `worker_pool`. [`register`] has the open connections, by which they can
-//! be ended from outside, and the passes that came back of those that ended: at the halt the desk is closed with all of them.
-//! The operator's lines are answered by `rig_operator`.
+//! [`serving::serve`] takes connections from a listener until the operator halts it. Each connection has a thread, a seat of the desk and a
+//! session of `rig_sessions`. A pool of `worker_pool` runs the jobs that an instant releases. `rig_operator` answers the operator's lines.
 //!
-//! A client holds its own thread alone. While it is waited for, no lock is held.
+//! [`register`] has the open connections, so that they can be ended from outside, and the passes of those that have ended. At the halt,
+//! the desk is closed with all passes.
+//!
+//! A client holds only its own thread. No lock is held while the server waits for a client.
 #![tactic(auto)]
 
 mod clients;

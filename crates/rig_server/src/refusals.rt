@@ -51,7 +51,7 @@ impl Refusal {
     /// Writes the line that the client gets.
     ///
     /// # Errors
-    /// As the writer's.
+    /// Those of the writer.
     pub(crate) fn write<W: Write>(self, writer: &mut W) -> io::Result<()>
         ensures { OnOk result (Appends (W.contents writer.old) (W.contents writer.new) (text_of_refusal self)) }
     {

@@ -12,8 +12,9 @@ use slab::Slab;
 use std::alloc::{AllocError, Global};
 use std::net::{Shutdown, TcpStream};
 
-/// The open connections, each by a second handle of its stream, and the passes that came back. It has space for the pass of each open
-/// connection, so that none is lost when memory runs out.
+/// The open connections, each with a second handle of its stream, and the passes that came back.
+///
+/// It has space for the pass of each open connection, so that no pass is lost when memory runs out.
 #[derive(Drop)]
 pub(crate) struct Register<N: Naming> {
     streams: Slab<TcpStream>,
@@ -23,7 +24,7 @@ pub(crate) struct Register<N: Naming> {
 }
 
 impl<N: Naming> Register<N> {
-    /// A register without connections. Takes no memory.
+    /// Creates a register without connections. Allocates no memory.
     pub(crate) fn new(alloc: Global) -> Register<N>
         ensures streams { slab_len result.streams ≡ 0 }
         ensures passes { result.passes.items ≡ [] }
@@ -36,7 +37,7 @@ impl<N: Naming> Register<N> {
         }
     }
 
-    /// The place of a new connection, by a handle of its stream.
+    /// Adds a connection, with a handle of its stream, and returns its place.
     ///
     /// # Errors
     /// `Closed` after `close`, else `Memory`.
@@ -58,7 +59,7 @@ impl<N: Naming> Register<N> {
         Ok(self.streams.insert_reserved(handle))
     }
 
-    // Reserves space for one connection more, and for its pass.
+    // Reserves space for one more connection, and for its pass.
     fn make_room(&mut self) -> Result<(), AllocError>
         ensures streams { OnOk result (HasRoomFor self.new.streams 1) }
         ensures same { self.new.streams.slots ≡ self.old.streams.slots }
@@ -73,7 +74,7 @@ impl<N: Naming> Register<N> {
         self.streams.reserve(1)
     }
 
-    /// Takes a connection out that has ended, and keeps its pass. Drops the pass if there is no connection at this place.
+    /// Removes a connection that has ended, and keeps its pass. Drops the pass if there is no connection at this place.
     pub(crate) fn leave(&mut self, place: usize, pass: Pass<N>)
         ensures passes { MatchBool (is_some (get self.old.streams place)) (self.new.passes.items ≡ self.old.passes.items ++ pass ∷ []) (self.new.passes.items ≡ self.old.passes.items) }
         ensures streams { MatchBool (is_some (get self.old.streams place)) (slab_len self.new.streams + 1 ≡ slab_len self.old.streams) (slab_len self.new.streams ≡ slab_len self.old.streams) }
@@ -85,7 +86,7 @@ impl<N: Naming> Register<N> {
         }
     }
 
-    /// Takes a connection out that had no session: the handle of its stream.
+    /// Removes a connection that had no session, and returns the handle of its stream.
     pub(crate) fn give_up(&mut self, place: usize) -> Option<TcpStream>
         ensures handle { IsSome result ↔ ContainsKey self.old.streams place }
         ensures streams { MatchBool (is_some (get self.old.streams place)) (slab_len self.new.streams + 1 ≡ slab_len self.old.streams) (slab_len self.new.streams ≡ slab_len self.old.streams) }
@@ -96,7 +97,7 @@ impl<N: Naming> Register<N> {
         self.streams.try_remove(place)
     }
 
-    /// Takes no further connection.
+    /// Closes the register: it takes no further connection.
     pub(crate) fn close(&mut self)
         ensures closed { self.new.is_closed ≡ true }
         ensures streams { self.new.streams ≡ self.old.streams }
@@ -126,7 +127,7 @@ impl<N: Naming> Register<N> {
         }
     }
 
-    /// The passes that came back.
+    /// Returns the passes that came back.
     pub(crate) fn into_passes(self) -> Vec<Pass<N>>
         ensures { result.items ≡ self.passes.items }
     {

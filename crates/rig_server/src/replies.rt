@@ -9,7 +9,7 @@ use locked_book::faults::CloseFault;
 use std::alloc::{AllocError, Global};
 use std::io::Write;
 
-/// The port on which the server listens.
+/// Returns the line with the port on which the server listens.
 ///
 /// # Errors
 /// Out of memory.
@@ -19,7 +19,7 @@ pub(crate) fn ready_line(alloc: Global, port: u16) -> Result<String, AllocError>
     format!(in alloc; "ready {port}\n")
 }
 
-/// The last line: what the desk answered when it was closed.
+/// Returns the last line: the desk's answer to its close.
 ///
 /// # Errors
 /// Out of memory.

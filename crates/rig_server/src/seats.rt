@@ -1,4 +1,4 @@
-//! Seats: what gives them.
+//! What gives seats, such as a desk.
 
 ghost use Rattle.std.specs.Prelude.{⊤, IfErr};
 ghost use Rattle.locked_book.specs.declared.faults.PassFault.{PassFault};
@@ -12,13 +12,13 @@ use std::sync::Wait;
 
 /// Gives seats, and takes the calls of those that have one.
 pub trait Seats<N: Naming>: Calls<N> {
-    // for which reasons it gives none, where that is known
+    // the reasons for which it gives none, if they are known
     ghost refuses: { Self → PassFault → Type 0 } = { λ _ _. ⊤ };
 
-    /// The pass of a seat that was not given before.
+    /// Returns the pass of a seat that was not given before.
     ///
     /// # Errors
-    /// As those of a desk.
+    /// Those of a desk.
     fn seat<R: Wait>(&self, rt: &R) -> Result<Pass<N>, PassFault>
         ensures fault { IfErr result (λ fault. refuses self.now fault) };
 }

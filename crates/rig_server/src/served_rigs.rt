@@ -17,7 +17,7 @@ pub(crate) struct ServedRig<'a, N: Naming> {
 }
 
 impl<'a, N: Naming> ServedRig<'a, N> {
-    /// The rig of this desk, with these workers.
+    /// Creates the rig of this desk, with these workers.
     pub(crate) fn new(desk: &'a Desk<N>, pool: &'a Pool) -> ServedRig<'a, N> {
         ServedRig { desk, pool }
     }

@@ -43,29 +43,31 @@ const FIRST_TICK: u64 = 0;
 /// What a server is started with.
 #[derive(Drop)]
 pub struct Service<'a, G> {
-    /// What it takes its memory from.
+    /// The allocator of the server.
     pub alloc: Global,
     /// The tenants and the lines of the rig.
     pub config: &'a Config,
-    /// How many workers run jobs: 1 to 64.
+    /// The number of workers that run jobs: 1 to 64.
     pub workers: usize,
-    /// How long a session may be silent, and a write wait, if there is a bound.
+    /// How long a session may be idle, and a write may wait, if there is a bound.
     pub idle: Option<Duration>,
-    /// What a worker asks before it runs a job.
+    /// The gate that a worker asks before it runs a job.
     pub gate: &'a G,
 }
 
-/// Serves a rig on this listener, with the first instant 0: a session for each connection, and the operator's lines of this reader,
-/// answered on the writer. `ready PORT` is written first, and what the desk said when it was closed last.
+/// Serves a rig on this listener until the operator halts it. The first instant is 0.
 ///
-/// It ends by the operator's `halt`, or as if it were said where the operator's input ends or a line of it is too long or no text: no
-/// further connection is taken, and the open ones are waited for. A second `halt`, said while the first one waits, ends these. Then the
-/// workers are stopped, and the desk is closed with the passes of all connections.
+/// Each connection has a session. The operator's lines come from the reader, and are answered on the writer. `ready PORT` is written first,
+/// and the desk's answer to its close last.
+///
+/// The server halts at the operator's `halt`. It halts in the same way if the operator's input ends, or a line of it is too long or not
+/// UTF-8. Then it takes no further connection, and waits for the open ones. A second `halt` in the meantime ends them. Then the workers
+/// are stopped, and the desk is closed with the passes of all connections.
 ///
 /// # Errors
-/// `Listen` where the listener has no address, and `Memory` where there is no memory, or no thread, to begin: nothing was written then.
-/// `Read`, `Write` and `Turns` where the operator's reader or writer fails: it ended as by a `halt`. `Memory` also where the last line
-/// found none.
+/// - `Listen` if the listener has no address, and `Memory` if there is no memory or no thread to begin: nothing is written then.
+/// - `Read`, `Write` and `Turns` if the operator's reader or writer fails: the server ends as after a `halt`.
+/// - `Memory` also if an allocation for the last line fails.
 pub fn serve<
     R: Threads + Wait + Clock + Sync,
     I: Read + Drop + Send + 'static,
@@ -86,8 +88,8 @@ pub fn serve<
     serve_desk::<Brand, _, _, _, _>(rt, &doors, reader, writer, service, service.config, history)
 }
 
-// A listener, the line that tells its port, and a handle by which it is ended. Who waits in an accept is woken so, and it takes no
-// descriptor then.
+// A listener, the line with its port, and a handle to shut it down. Shutting down wakes the thread that waits in an accept, and needs no
+// new descriptor.
 #[derive(Drop)]
 struct Doors<'a> {
     listener: &'a TcpListener,
@@ -138,7 +140,7 @@ fn serve_desk<
     closed
 }
 
-// Serves over a desk. The passes of all connections, and how the operator ended.
+// Serves over a desk, and returns the passes of all connections, and how the operator ended.
 fn hold<
     'a,
     N: Naming + Send + Sync,
@@ -170,7 +172,7 @@ fn hold<
     Ok((hall.register.into_inner().into_passes(), ended))
 }
 
-// Has the connections, the workers and the operator run until all have ended. How the operator ended is in the value.
+// Runs the connections, the workers and the operator until all have ended. The inner result is how the operator ended.
 fn run<
     N: Naming + Send + Sync,
     R: Threads + Wait + Clock + Sync,
@@ -269,7 +271,7 @@ fn answer_operator<R: Wait, G: Rig, I: Read, W: Write>(
     }
 }
 
-// Closes the desk with all passes, and writes what it answered.
+// Closes the desk with all passes, and writes its answer.
 fn close<N: Naming, W: Write>(
     alloc: Global,
     desk: Desk<N>,
@@ -282,7 +284,7 @@ fn close<N: Naming, W: Write>(
     say_answer(alloc, close_desk(desk, passes), writer)
 }
 
-// Closes the desk with all passes. What it answered: `None` where it is closed.
+// Closes the desk with all passes, and returns its answer: `None` if it is closed.
 fn close_desk<N: Naming>(desk: Desk<N>, passes: Vec<Pass<N>>) -> Option<CloseFault>
     ensures { IsClosed N.config N.first_tick passes.items result }
 {

@@ -5,7 +5,7 @@ use Rattle.locked_book.specs.declared.faults.PassFault.TheVariants as faults
 use Rattle.rig_server.specs.declared.refusals.Refusal.{Refusal}
 use Rattle.rig_server.specs.declared.refusals.Refusal.TheVariants.{Closed, Memory, Seats, Thread}
 
--- why there is no seat
+-- why there is no seat, as a refusal
 abbrev pub refusal_of : PassFault → Refusal
 refusal_of faults.SeatsEnded = Seats
 refusal_of faults.Memory = Memory

@@ -7,7 +7,7 @@ use Rattle.locked_book.specs.declared.faults.CloseFault.TheVariants.{Mismatch, M
 abbrev pub ready_line : ℕ → List ℕ
 ready_line port = codes "ready " ++ (decimal port ++ codes "\n")
 
--- what the desk answered when it was closed
+-- the desk's answer to its close
 abbrev pub close_reply : Option CloseFault → List ℕ
 close_reply None = codes "bye close ok\n"
 close_reply (Some (Mismatch seat)) = codes "bye close mismatch " ++ (decimal seat ++ codes "\n")
