@@ -25,14 +25,14 @@ take_both m n xs =
 pub calls_are : (old new : PassValue) (made calls : List Call) (before : ℕ) → new.calls ≡ old.calls ++ made → before ≡ length old.calls → calls ≡ drop before new.calls → calls ≡ made
 calls_are old new made calls before added many are = are ∙ ap (λ n. drop n new.calls) many ∙ ap (λ l. drop (length old.calls) l) added ∙ drop-append_seam old.calls made
 
--- any calls can be told
+-- calls always have outcomes and a text
 pub all_told : (made : List Call) → (os : List Outcome) × (said : List ℕ) × AreTold made os said
 all_told [] = ([], [], (refl, refl))
 all_told (k ∷ ks) =
     let rest = all_told ks in
     (replied k.reply ∷ rest.0, written (text_of_outcome (replied k.reply)) ++ rest.1, (replied k.reply, rest.0, rest.1, inl refl, refl, refl, rest.2))
 
--- one more
+-- one call more
 pub told_more : (made : List Call) (os : List Outcome) (said : List ℕ) (k : Call) (o : Outcome) → AreTold made os said → (o ≡ replied k.reply) ⊎ (o ≡ untold k.reply)
     → AreTold (made ++ k ∷ []) (os ++ o ∷ []) (said ++ written (text_of_outcome o))
 told_more [] os said k o told is = (o, [], [], is, ap (λ l. l ++ o ∷ []) told.0, ap (λ l. l ++ written (text_of_outcome o)) told.1 ∙ sym (append-nil (written (text_of_outcome o))), (refl, refl))
@@ -54,7 +54,7 @@ module _ (config : Rig) where
   texts_both s [] ys = refl
   texts_both s (x ∷ xs) ys = texts_both (behind_step s (text_step config s.state x)) xs ys
 
-  -- no text
+  -- no texts
   abbrev pub none_taken : (s : State) (old : PassValue) → AreTaken config s [] s old old
   none_taken s old = record {
     given = [];
@@ -73,7 +73,7 @@ module _ (config : Rig) where
     pass = taken.pass;
   }
 
-  -- some texts, and others behind them
+  -- some texts, and others after them
   abbrev pub both_taken : (a b c : State) (xs ys : List (List ℕ)) (old mid new : PassValue) → AreTaken config a xs b old mid → AreTaken config b ys c mid new → AreTaken config a (xs ++ ys) c old new
   both_taken a b c xs ys old mid new one other = record {
     given = one.given ++ other.given;
@@ -96,7 +96,7 @@ module _ (config : Rig) where
   ended_texts [] os calls text = refl
   ended_texts (x ∷ xs) os calls text = ended_texts xs os calls text
 
-  -- texts behind the end
+  -- texts after the end
   abbrev pub ended_taken : (xs : List (List ℕ)) (old : PassValue) → AreTaken config ended xs ended old old
   ended_taken xs old = record {
     given = [];
@@ -106,7 +106,7 @@ module _ (config : Rig) where
     pass = sym (append-nil old.calls);
   }
 
-  -- some texts were answered, and not all behind them
+  -- some texts were answered, and not all of those after them
   pub unanswered_behind : (a b : State) (xs ys : List (List ℕ)) (old mid new : PassValue) (fault : TalkFault) → AreTaken config a xs b old mid → AreUnanswered config b ys mid new fault → AreUnanswered config a (xs ++ ys) old new fault
   unanswered_behind a b xs ys old mid new Read one other = absurd other
   unanswered_behind a b xs ys old mid new Turns one other = absurd other
@@ -115,7 +115,7 @@ module _ (config : Rig) where
   unanswered_behind a b xs ys old mid new (Desk f) one other =
       (both_taken a b ended xs ys old mid new one other.0, one.given ++ other.1, ap (λ l. one.given ++ l) other.2 ∙ sym (append_assoc one.given other.1 (outcome_of f ∷ [])), other.3)
 
-  -- and further ones behind those
+  -- and further texts after those
   pub unanswered_before : (a : State) (xs ys : List (List ℕ)) (old new : PassValue) (fault : TalkFault) → AreUnanswered config a xs old new fault → AreUnanswered config a (xs ++ ys) old new fault
   unanswered_before a xs ys old new Read other = other
   unanswered_before a xs ys old new Turns other = other
@@ -127,7 +127,7 @@ module _ (config : Rig) where
     other.3,
   )
 
-  -- who asks, where a text asks for a call
+  -- only the greeted tenant makes a call, and stays greeted
   hello_asks_none : (found : Option ℕ) (s u : State) (t : ℕ) (c : Command) → hello_step config found ≡ record { act = call t c; state = u } → (s ≡ tenant t) × (u ≡ s)
   hello_asks_none None s u t c e = let wrong = ap (λ (x : Step). x.act) e in absurd (cc)
   hello_asks_none (Some n) s u t c e = let wrong = ap (λ (x : Step). x.act) e in absurd (cc)
@@ -151,7 +151,7 @@ module _ (config : Rig) where
   pub asks : (s u : State) (t : ℕ) (c : Command) (x : List ℕ) → text_step config s x ≡ record { act = call t c; state = u } → (s ≡ tenant t) × (u ≡ s)
   asks s u t c x e = asks_by s u t c (session_line_of x) e
 
-  -- one text more that waits
+  -- one more text that waits
   pub one_more_waits : (s : State) (t v : ℕ) (xs : List (List ℕ)) (cs : List Command) (x : List ℕ) (c : Command) → s ≡ tenant v → text_step config s x ≡ record { act = call v c; state = s }
       → AreWaiting config s t xs cs → AreWaiting config s v (xs ++ x ∷ []) (cs ++ c ∷ [])
   one_more_waits s t v [] [] x c is asked waits = (is, asked, tt)
@@ -175,7 +175,7 @@ module _ (config : Rig) where
   others_wait (suc n) s t (y ∷ ys) [] waits = absurd waits
   others_wait (suc n) s t (y ∷ ys) (d ∷ ds) waits = others_wait n s t ys ds waits.2
 
-  -- a text that waits, and what stands before and behind it
+  -- a text that waits, and the texts before and after it
   abbrev pub WaitsAt : State → ℕ → List (List ℕ) → ℕ → Type 0
   WaitsAt s t xs n =
       (x : List ℕ) × (rest : List (List ℕ)) × (c : Command) × (xs ≡ take n xs ++ x ∷ rest) × (take (suc n) xs ≡ take n xs ++ x ∷ []) × (text_step config s x ≡ record { act = call t c; state = s })
@@ -189,7 +189,7 @@ module _ (config : Rig) where
       let on = waits_at n s t ys ds waits.2 (omega (arith, less)) in
       (on.0, on.1, on.2, ap (λ l. y ∷ l) on.3, ap (λ l. y ∷ l) on.4, on.5)
 
-  -- the calls of texts that waited, told or untold
+  -- the calls of texts that waited, whether their replies were written or not
   pub told_texts : (s : State) (t : ℕ) (xs : List (List ℕ)) (cs : List Command) (made : List Call) (os : List Outcome) (said : List ℕ) → AreWaiting config s t xs cs
       → map asked_by made ≡ map (asking t) (take (length made) cs) → AreTold made os said
       → (later : List Outcome) (calls : List Call) (text : List ℕ)
@@ -236,7 +236,7 @@ module _ (config : Rig) where
   fewer_called t cs fault old new r is called made same =
       subst (λ (m : List Call). length m < length cs) (sym same) (subst (λ (x : Result Unit DeskFault). OnErr x (length called.made < length cs)) is called.fewer)
 
-  -- a call behind them found no memory
+  -- a call after them found no memory
   pub memory_behind : (s : State) (t : ℕ) (xs : List (List ℕ)) (cs : List Command) (r : Result Unit DeskFault) (old new : PassValue) → r ≡ Err desk.Memory → (called : AreCalled t cs r old new) (made : List Call) → made ≡ called.made
       → (os : List Outcome) (said : List ℕ) → AreTold made os said → AreWaiting config s t xs cs → (w v z : Option (List ℕ)) → Appends w v said → Appends v z (written (text_of_outcome no_memory))
       → AreAnswered config s (take (length made + 1) xs) s old new (Appends w z)
@@ -250,7 +250,7 @@ module _ (config : Rig) where
       subst (λ l. AreAnswered config s l s old new (Appends w z)) (sym (ap (λ m. take m xs) more ∙ at.4))
       (both, Appends-trans w v z said here.0.said one here.1)
 
-  -- a call behind them was refused, and the session ended
+  -- a call after them was refused, and the session ended
   pub refused_behind : (f : DeskFault) → f ≢ desk.Memory → (s : State) (t : ℕ) (xs : List (List ℕ)) (cs : List Command) (r : Result Unit DeskFault) (old new : PassValue) → r ≡ Err f → (called : AreCalled t cs r old new) (made : List Call)
       → made ≡ called.made → (os : List Outcome) (said : List ℕ) → AreTold made os said → AreWaiting config s t xs cs → AreUnanswered config s xs old new (Desk f)
   refused_behind f other s t xs cs r old new is called made same os said told waits =
@@ -289,7 +289,7 @@ module _ (config : Rig) where
       let many = as_many_wait s t xs cs waits in
       subst (λ l. AreAnswered config s l s old new Written) (take_all at xs (omega (arith, many, all))) done
 
-  -- a text that is answered by itself, behind those that waited
+  -- a text that is answered by itself, after those that waited
   pub one_behind : (from s u : State) (texts : List (List ℕ)) (t : ℕ) (waiting : List Command) (old mid now new : PassValue) (w v z y : Option (List ℕ)) (x : List ℕ) → IsUnderWay config from texts s t waiting old mid (Appends w v)
       → ((xs : List (List ℕ)) → AreWaiting config s t xs waiting → AreAnswered config s xs s mid now (Appends v z)) → IsAnswered (text_step config s x) u now new (Appends z y) → (v2 : ℕ) (rest : List Command) → rest ≡ []
       → IsUnderWay config from (texts ++ x ∷ []) u v2 rest old new (Appends w y)
@@ -313,7 +313,7 @@ module _ (config : Rig) where
   one_failed s x old new Write failed = (x ∷ [], [], refl, failed.0, one_taken s failed.0 x old new failed.1)
   one_failed s x old new (Desk f) failed = (one_taken s ended x old new failed.0, [], failed.1, failed.2)
 
-  -- one that isn't
+  -- a text that isn't answered
   pub one_unanswered : (from s : State) (texts : List (List ℕ)) (t : ℕ) (waiting : List Command) (old mid now new : PassValue) (Before Behind : List ℕ → Type 0) (x : List ℕ) (fault : TalkFault) → IsUnderWay config from texts s t waiting old mid Before
       → ((xs : List (List ℕ)) → AreWaiting config s t xs waiting → AreAnswered config s xs s mid now Behind) → IsUnanswered (text_step config s x) now new fault → AreUnanswered config from (texts ++ x ∷ []) old new fault
   one_unanswered from s texts t waiting old mid now new Before Behind x fault on called failed =
@@ -322,14 +322,14 @@ module _ (config : Rig) where
       subst (λ l. AreUnanswered config from (l ++ x ∷ []) old new fault) (sym on.split)
       (unanswered_behind from s (on.front ++ on.back) (x ∷ []) old now new fault front (one_failed s x now new fault failed))
 
-  -- those that waited weren't all answered
+  -- not all texts that waited were answered
   pub waiting_unanswered : (from s : State) (texts : List (List ℕ)) (t : ℕ) (waiting : List Command) (old mid new : PassValue) (Before : List ℕ → Type 0) (x : List (List ℕ)) (fault : TalkFault) → IsUnderWay config from texts s t waiting old mid Before
       → ((xs : List (List ℕ)) → AreWaiting config s t xs waiting → AreUnanswered config s xs mid new fault) → AreUnanswered config from (texts ++ x) old new fault
   waiting_unanswered from s texts t waiting old mid new Before x fault on called =
       subst (λ l. AreUnanswered config from (l ++ x) old new fault) (sym on.split)
       (unanswered_before from (on.front ++ on.back) x old new fault (unanswered_behind from s on.front on.back old mid new fault on.answered.0 (called on.back on.waits)))
 
-  -- those that waited weren't all answered, or what was to be written behind them wasn't
+  -- not all texts that waited were answered, or the bytes after them weren't written
   pub answered_or_not : (from s : State) (texts : List (List ℕ)) (t : ℕ) (waiting : List Command) (old mid new : PassValue) (Before : List ℕ → Type 0) (x : List ℕ) (fault : TalkFault) → IsUnderWay config from texts s t waiting old mid Before
       → ((xs : List (List ℕ)) → AreWaiting config s t xs waiting → ((fault ≡ Write) × AreTaken config s xs s mid new) ⊎ AreUnanswered config s xs mid new fault) → AreUnanswered config from (texts ++ x ∷ []) old new fault
   answered_or_not from s texts t waiting old mid new Before x fault on called = elim (called on.back on.waits) [
@@ -339,7 +339,7 @@ module _ (config : Rig) where
         (unanswered_before from (on.front ++ on.back) (x ∷ []) old new fault (unanswered_behind from s on.front on.back old mid new fault on.answered.0 failed))
   ]
 
-  -- one more waits
+  -- one more text waits
   pub one_waits : (from s u : State) (texts : List (List ℕ)) (t v : ℕ) (waiting more : List Command) (old mid : PassValue) (Written : List ℕ → Type 0) (x : List ℕ) (c : Command) → IsUnderWay config from texts s t waiting old mid Written
       → text_step config s x ≡ record { act = call v c; state = u } → more ≡ waiting ++ c ∷ [] → IsUnderWay config from (texts ++ x ∷ []) u v more old mid Written
   one_waits from s u texts t v waiting more old mid Written x c on asked added =

@@ -1,4 +1,4 @@
--- What a line of a session is, by its first word and what stands behind it.
+-- What a line of a session is, by its first word and the words after it.
 use Rattle.std.proofs.Common.{◌≡◌, ℕ, zero, suc, ◌<◌, ◌==◌, Bool, true, false, if◌then◌else◌, is_some, List, [], ◌∷◌, length, Option, Some, None, codes, refl, ap, ◌∙◌, arith}
 use Rattle.std.proofs.lemmas.Bool.Decides.{nat_tests}
 use Rattle.std.specs.Option.{option_map}
@@ -50,7 +50,7 @@ module _ (line : List ℕ) where
       ap (line_of_words line) (words_first line (some_byte (first_word_of line) some))
       ∙ rw (differs (first_word_of line) (codes "hello") no_hello, differs (first_word_of line) (codes "quit") no_quit) refl
 
--- nothing stands behind "quit"
+-- there is no word after "quit"
 pub quit_alone : (rest : List ℕ) → length (first_word_of rest) ≡ 0 → quit_of (words_of rest) ≡ Some quit
 quit_alone rest none = ap quit_of (words_none rest none)
 
@@ -69,7 +69,7 @@ name_has_byte : (w : List ℕ) → is_name w ≡ true → 0 < length w
 name_has_byte [] is = absurd (cc)
 name_has_byte (c ∷ cs) is = omega arith
 
--- behind "hello": no name, no key, or both and what stands behind them
+-- after "hello": no name, no key, or both and the words after them
 module _ (rest : List ℕ) where
   pub no_name : is_name (first_word_of rest) ≡ false → hello_of (words_of rest) ≡ None
   no_name bad = by_word rest (λ ws. hello_of ws ≡ None) (λ none. refl) (λ some. by (words_of (behind_first_word rest)))
@@ -92,7 +92,7 @@ module _ (rest : List ℕ) where
       (λ none. rw (good, none) refl)
       (λ more. let other : (length (first_word_of (behind_first_word behind)) == 0) ≡ false = grind (arith, nat_tests, more) in rw other refl)
 
--- a line of no form
+-- a line of none of the forms
 pub form_refused : (config : Rig) (s : State) → (s ≡ ended → ⊥) → form_step config s None ≡ says err_bad_command s
 form_refused config stranger other = refl
 form_refused config (tenant t) other = refl
@@ -109,12 +109,12 @@ form_quit config stranger other = refl
 form_quit config (tenant t) other = refl
 form_quit config ended other = absurd (other refl)
 
--- a command, where no tenant was greeted
+-- a command, if no tenant was greeted
 pub form_unasked : (config : Rig) (c : Option Command) → form_step config stranger (option_map ask c) ≡ says (if is_some c then err_not_greeted else err_bad_command) stranger
 form_unasked config None = refl
 form_unasked config (Some c) = refl
 
--- a command whose text found no memory
+-- a command with no memory for its text
 pub text_found_no_memory : (config : Rig) (t : ℕ) (found : Option Command) → option_map has_text found ≡ Some true → IsCallWithText (form_step config (tenant t) (option_map ask found)) (tenant t)
 text_found_no_memory config t None is = absurd (cc)
 text_found_no_memory config t (Some c) is = (t, c, refl, cc)

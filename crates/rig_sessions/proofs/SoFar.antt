@@ -25,7 +25,7 @@ use Rattle.text_lines.proofs.cited.FirstLines.{behind_first, first_of_both}
 use Rattle.text_lines.proofs.cited.CountedReads.{taken_by}
 
 module _ (config : Rig) where
-  -- behind a line's text
+  -- after a line's text
   abbrev pub after : Session → List ℕ → Session
   after s text = behind_step s (line_step config s.state (Some text))
 
@@ -46,7 +46,7 @@ module _ (config : Rig) where
   lines_both s [] ys = refl
   lines_both s (x ∷ xs) ys = lines_both (behind_line config s x) xs ys
 
-  -- behind the end
+  -- after the end
   pub ended_stays : (os : List Outcome) (calls : List Call) (text : List ℕ) (ls : List (List ℕ))
       → behind_lines config (record { state = ended; outcomes = os; calls = calls; text = text }) ls ≡ record { state = ended; outcomes = os; calls = calls; text = text }
   ended_stays os calls text [] = refl
@@ -63,14 +63,14 @@ module _ (config : Rig) where
   bad_step (tenant t) other = refl
   bad_step ended other = absurd (other refl)
 
-  -- These bytes were taken down to `rest`: with some outcomes, whatever comes behind, the session is in this state, with the calls that the
-  -- pass has new and the bytes that were written.
+  -- These bytes were taken up to `rest`. With some outcomes, whatever comes later, the session is in this state, has made the new calls of
+  -- the pass, and has written these bytes.
   abbrev pub IsOn : List ℕ → List ℕ → Bool → State → PassValue → PassValue → Option (List ℕ) → Option (List ℕ) → Type 0
   IsOn bytes rest over s old new w v =
       (given : List Outcome) × (made : List Call) × (said : List ℕ) × (new.calls ≡ old.calls ++ made) × Appends w v said
       × ((later : List Outcome) → HasCome silent after (begun (given ++ later)) bytes None (record { state = s; outcomes = later; calls = made; text = said }) rest over None)
 
-  -- over the texts of the first lines that are left
+  -- over the texts of the first remaining lines
   pub come_over : (begin : Session) (bytes : List ℕ) (x : Session) (rest : List ℕ) (over : Bool) (texts : List (List ℕ)) (later : List ℕ)
       → HasCome silent after begin bytes None x rest over None → AreFirstLines rest texts over (λ r. r ≡ later) → HasCome silent after begin bytes None (behind_texts config x texts) later over None
   come_over begin bytes x rest over [] later come first = subst (λ r. HasCome silent after begin bytes None x r over None) first come
@@ -82,14 +82,14 @@ module _ (config : Rig) where
   on_nowhere bytes over old w = ([], [], [], sym (append-nil old.calls), appends_nothing w, λ later. come_nowhere silent after (begun later) bytes None over)
 
   module _ (bytes rest : List ℕ) (over : Bool) (s : State) (old mid : PassValue) (w v : Option (List ℕ)) (on : IsOn bytes rest over s old mid w v) (u : Option (List ℕ)) (kept : Keeps v u) where
-    -- the lines so far, with these outcomes behind
+    -- the lines so far, with these outcomes left for later
     abbrev front : (later : List Outcome) → (before : List (List ℕ)) × (cut bytes ≡ before ++ cut rest)
         × (behind_lines config (begun (on.0 ++ later)) before ≡ record { state = s; outcomes = later; calls = on.1; text = on.2 })
     front later =
         let come = on.5 later in
         (come.4.0, come.4.1, sym (as_texts (begun (on.0 ++ later)) come.4.0 come.4.2) ∙ sym come.4.4)
 
-    -- these texts more
+    -- and over these further texts
     abbrev pub on_further : (new : PassValue) (z : Option (List ℕ)) (t : State) (texts : List (List ℕ)) (later : List ℕ) (over_now : Bool) → AreFirstLines rest texts over_now (λ r. r ≡ later) → (over ≡ true → over_now ≡ true)
         → AreAnswered config s texts t mid new (Appends u z) → IsOn bytes later over_now t old new w z
     on_further new z t texts later over_now first stays done =
@@ -108,7 +108,7 @@ module _ (config : Rig) where
               (come_over (begun (on.0 ++ (taken.given ++ more))) bytes from rest over_now texts later come first))),
         )
 
-    -- just the lines so far
+    -- exactly the lines so far
     abbrev so_far : Talked config (front []).0 old mid
     so_far = record { outcomes = on.0 ++ []; state = s; made = on.1; said = on.2; session = (front []).2; pass = on.3 }
 
@@ -121,7 +121,7 @@ module _ (config : Rig) where
         let all : cut bytes ≡ (front []).0 = (front []).1 ∙ ap (λ r. (front []).0 ++ cut r) none ∙ append-nil (front []).0 in
         subst (TalkedInto config old mid (Appends w u)) (sym all) so_far_into
 
-    -- a line that is no text
+    -- a line that is too long or not UTF-8
     pub bad_taken : s ≢ ended → HasFirstLine rest (λ line. text_of_line line ≡ None) → (z : Option (List ℕ)) → Appends u z (written bye_bad_line)
         → (t : Talked config (cut bytes) old mid) × Appends w z t.said × (t.state ≡ ended)
     bad_taken other bad z grown =
@@ -162,11 +162,11 @@ module _ (config : Rig) where
     pub over_into : s ≡ ended → (t : Talked config (cut bytes) old mid) × Appends w u t.said × (t.state ≡ ended)
     over_into is = (over_taken is, Appends-kept w v u on.2 on.4 kept, refl)
 
-    -- the lines down to here
+    -- the lines up to here
     pub down_to : (before : List (List ℕ)) × (behind : List (List ℕ)) × (cut bytes ≡ before ++ behind) × Talked config before old mid
     down_to = ((front []).0, cut rest, (front []).1, so_far)
 
-    -- just the lines that came whole
+    -- exactly the complete lines
     whole_taken : (remaining : Option (List ℕ)) → over ≢ true → HasNoWholeLine rest remaining → TookWholeLines bytes remaining (TalkedInto config old mid (Appends w u))
     whole_taken None more none = absurd none
     whole_taken (Some left) more none = by (on.5 []).4.5
@@ -194,7 +194,7 @@ module _ (config : Rig) where
     end_cut Written remaining = ((front []).0, cut rest, (front []).1, so_far)
 
 module _ (config : Rig) (bytes rest : List ℕ) (over : Bool) (s : State) (old mid : PassValue) (w v : Option (List ℕ)) (on : IsOn config bytes rest over s old mid w v) where
-  -- the same, and nothing is said of what was written
+  -- the same, with nothing promised about the bytes written
   abbrev unwritten : IsOn config bytes rest over s old mid None None
   unwritten = (on.0, on.1, on.2, on.3, tt, on.5)
 
@@ -218,7 +218,7 @@ pub kept_here : (known : Option (List ℕ)) → Keeps known known
 kept_here None = tt
 kept_here (Some xs) = refl
 
--- behind the texts of the next lines
+-- after the texts of the next lines
 pub batch_on : (config : Rig) (bytes rest : List ℕ) (over : Bool) (s : State) (old mid : PassValue) (w v u z : Option (List ℕ)) → IsOn config bytes rest over s old mid w v → Keeps v u
     → (texts : List (List ℕ)) (over_now : Bool) (Then : List ℕ → Type 0) → AreFirstLines rest texts over_now Then → (over ≡ true → over_now ≡ true) → (t : State) (new : PassValue) → AreAnswered config s texts t mid new (Appends u z)
     → (later : List ℕ) × Then later × IsOn config bytes later over_now t old new w z
@@ -226,7 +226,7 @@ batch_on config bytes rest over s old mid w v u z on kept texts over_now Then fi
     let at = behind_first rest texts over_now Then first in
     (at.0, at.1, on_further config bytes rest over s old mid w v on u kept new z t texts at.0 over_now at.2 stays done)
 
--- what was read, by how many reads gave bytes
+-- the bytes that were read, by the number of reads that gave bytes
 pub few_read : (r : Result Unit TalkFault) (known after : Option (List ℕ)) (count : ℕ) → AreCounted 0 count known after → count ≤ MAX_READS → (r ≡ Err Turns → MAX_READS ≤ count) → AreFewRead r known after
 few_read r None after count counted few many = tt
 few_read r (Some bytes) None count counted few many = absurd counted
@@ -236,7 +236,7 @@ few_read r (Some bytes) (Some more) count counted few many =
     let most = taken.3 in
     (taken.0, taken.1, omega (arith, most, few), λ is. let enough = many is in omega (arith, least, enough))
 
--- who finds too many reads
+-- only `Turns` of the lines becomes `Turns` of the session
 pub lines_turns : (fault : LinesFault) → fault_of_lines fault ≡ Turns → fault ≡ lines.Turns
 lines_turns lines.Read is = absurd (cc)
 lines_turns lines.Write is = absurd (cc)
@@ -252,12 +252,12 @@ unanswered_no_turns config from texts old new (Desk f) failed is = cc
 pub same_fault : {T : Type 0} (r : Result T TalkFault) (fault : TalkFault) → r ≡ Err fault → r ≡ Err Turns → fault ≡ Turns
 same_fault r fault one other = let same = sym one ∙ other in cc
 
--- where only a write can fail
+-- if only a write can fail
 pub write_no_turns : {T : Type 0} (r : Result T TalkFault) → IfErr r (λ f. f ≡ Write) → r ≡ Err Turns → ⊥
 write_no_turns (Ok x) failed is = cc
 write_no_turns (Err f) failed is = cc
 
--- the calls that texts made, where they weren't all answered
+-- the calls that texts made, if they weren't all answered
 pub unanswered_calls : (config : Rig) (from : State) (texts : List (List ℕ)) (old new : PassValue) (fault : TalkFault) → AreUnanswered config from texts old new fault → (made : List Call) × (new.calls ≡ old.calls ++ made)
 unanswered_calls config from texts old new Read failed = absurd failed
 unanswered_calls config from texts old new Turns failed = absurd failed

@@ -1,4 +1,4 @@
-//! Who takes the calls of a session.
+//! The trait that takes the calls of a session.
 
 ghost use Rattle.locked_book.specs.Books.{AreCalled};
 ghost use Rattle.std.specs.Prelude.{◌≡◌, [], ◌∷◌, ◌++◌, IfOk, OnErr};
@@ -13,12 +13,12 @@ use rig_model::lines::replies::Reply;
 use std::alloc::Global;
 use std::sync::Wait;
 
-/// Who takes the calls of a session.
+/// Takes the calls of a session.
 pub trait Calls<N: Naming> {
-    /// A call of a pass: a tenant's command, and its reply, with which it stands on the pass then.
+    /// A call of a pass: a tenant's command, and its reply. The call is then the last on the pass.
     ///
     /// # Errors
-    /// As those of a desk. The pass stays as it was then.
+    /// Those of a desk. The pass is unchanged then.
     fn call<R: Wait>(
         &self,
         rt: &R,
@@ -30,11 +30,11 @@ pub trait Calls<N: Naming> {
         ensures seat { pass.new.seat ≡ pass.old.seat }
         ensures refused { OnErr result (pass.new ≡ pass.old) };
 
-    /// Calls of a pass, one behind the other: these commands of a tenant, down to the first that is refused. Each stands on the pass
-    /// then, with its reply.
+    /// Makes calls of a pass, one after the other: these commands of a tenant, up to the first that is refused. Each call is then on the
+    /// pass, with its reply.
     ///
     /// # Errors
-    /// As those of `call`, of the first command that is refused.
+    /// Those of `call`, for the first command that is refused.
     fn call_all<R: Wait>(
         &self,
         rt: &R,

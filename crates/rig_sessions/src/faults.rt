@@ -1,13 +1,13 @@
-//! Why a session ends before its input does.
+//! Faults that end a session before its input ends.
 
 use locked_book::faults::DeskFault;
 use text_lines::faults::LinesFault;
 use thiserror::Error;
 
-/// Why a session ended before its input did.
+/// The reason why a session ended before its input did.
 #[derive(Clone, Copy, Debug, PartialEq, Eq, Error)]
 pub enum TalkFault {
-    /// A read failed, or there was want of memory for a line.
+    /// A read failed, or there was no memory for a line.
     #[error("reading the input failed")]
     Read,
     /// A write failed.
@@ -16,7 +16,7 @@ pub enum TalkFault {
     /// The input had not ended after 1,048,576 reads.
     #[error("the input had not ended after 1048576 reads")]
     Turns,
-    /// Whoever takes the calls refused one: its pass is full or isn't known.
+    /// A call was refused: the pass is full or isn't known.
     #[error("a call was refused: {0}")]
     Desk(DeskFault),
 }

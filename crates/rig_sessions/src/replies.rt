@@ -1,10 +1,10 @@
-//! What a session answers by itself.
+//! Replies that a session gives without a call.
 
 ghost use Rattle.std.specs.Prelude.{◌≡◌};
 ghost use Rattle.rig_model.specs.Sessions.{written};
 ghost use Rattle.rig_sessions.specs.inner.Steps.{text_of_own};
 
-/// What a session answers by itself, without a call.
+/// A reply that a session gives without a call.
 #[derive(Clone, Copy, Debug, PartialEq, Eq)]
 pub enum OwnReply {
     /// `ok hello`: the tenant is greeted.

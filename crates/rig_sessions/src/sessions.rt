@@ -1,4 +1,4 @@
-//! A session, line by line: who was greeted, and what a line is.
+//! A session, line by line: which tenant was greeted, and what a line does.
 
 ghost use Rattle.std.specs.Prelude.{◌≡◌, ◌↔◌, Some, None, if◌then◌else◌, IsTrue, IfOk, OnErr, IsErr, is_some};
 ghost use Rattle.std.specs.Option.{option_map};
@@ -17,20 +17,20 @@ use rig_model::text::name_bytes::is_name;
 use std::alloc::{AllocError, Global};
 use std::marker::Model;
 
-/// What a line is.
+/// What a line does.
 #[derive(Drop)]
 pub enum Step {
-    /// A blank line, which has no reply, or a line behind the end.
+    /// Nothing: the line is blank, or comes after the end of the session.
     Quiet,
-    /// The session answers by itself.
+    /// The session replies without a call.
     Say(OwnReply),
-    /// A command of the tenant that was greeted.
+    /// A command of the greeted tenant.
     Call(TenantId, Command),
     /// The session ends: `bye`.
     End,
 }
 
-// Who speaks in a session.
+// The state of a session: which tenant was greeted, if any.
 #[derive(Clone, Copy, Debug)]
 enum Party {
     Stranger,
@@ -38,7 +38,7 @@ enum Party {
     Ended,
 }
 
-/// A session with one client: the configuration, and who was greeted.
+/// A session with one client: the configuration, and which tenant was greeted.
 #[derive(Drop)]
 pub struct Session<'a> {
     config: &'a Config,
@@ -54,7 +54,7 @@ impl<'a> Model for Session<'a> {
 }
 
 impl<'a> Session<'a> {
-    /// A session in which no tenant was greeted yet. Takes no memory.
+    /// A session in which no tenant was greeted yet. Allocates nothing.
     pub fn new(config: &'a Config) -> Session<'a>
         ensures { result ≡ record { config = config.entry.now; state = stranger } }
     {
@@ -64,10 +64,10 @@ impl<'a> Session<'a> {
         }
     }
 
-    /// What a line is: blank, `hello NAME KEY`, `quit`, or a command. Behind the end every line is quiet.
+    /// Reads a line: blank, `hello NAME KEY`, `quit`, or a command. After the end of the session every line is quiet.
     ///
     /// # Errors
-    /// Want of memory for the text of a `load` or a `replace` of the tenant that was greeted. The session stays as it was then.
+    /// Out of memory for the text of a `load` or a `replace` of the greeted tenant. The session is unchanged then.
     pub fn line(&mut self, alloc: Global, line: &str) -> Result<Step, AllocError>
         ensures step { IfOk result (λ step. IsStep step self.old self.new (text_step self.old.config self.old.state line.now)) }
         ensures refused { OnErr result (self.new ≡ self.old) }
@@ -93,7 +93,7 @@ impl<'a> Session<'a> {
         matches!(self.party, Party::Ended)
     }
 
-    // The step of `hello` with these words behind it.
+    // The step of `hello`, given the words after it.
     fn hello(&mut self, rest: &str) -> Step
         ensures { IsStep result self.old self.new (form_step self.old.config self.old.state (hello_of (words_of rest.now))) }
     {
@@ -110,7 +110,7 @@ impl<'a> Session<'a> {
         self.greet(words::first_word(rest), words::first_word(behind))
     }
 
-    // The step of a `hello` with this name and this key, where no tenant was greeted.
+    // The step of a `hello` with this name and this key, if no tenant was greeted.
     fn greet(&mut self, name: &str, key: &str) -> Step
         requires { self.old.state ≡ stranger }
         ensures { IsStep result self.old self.new (hello_step self.old.config (greeted self.old.config name.now key.now)) }
@@ -124,7 +124,7 @@ impl<'a> Session<'a> {
         }
     }
 
-    // The step of `quit` with these words behind it.
+    // The step of `quit`, given the words after it.
     fn quit(&mut self, rest: &str) -> Step
         ensures { IsStep result self.old self.new (form_step self.old.config self.old.state (quit_of (words_of rest.now))) }
     {
@@ -157,7 +157,7 @@ impl<'a> Session<'a> {
     }
 }
 
-// What is answered to a line that begins with neither `hello` nor `quit`, where no tenant was greeted.
+// The reply to a line that begins with neither `hello` nor `quit`, if no tenant was greeted.
 fn unasked(alloc: Global, line: &str) -> OwnReply
     ensures { text_of_own result ≡ (if is_some (command_of_line line.now) then err_not_greeted else err_bad_command) }
 {
@@ -170,7 +170,7 @@ fn unasked(alloc: Global, line: &str) -> OwnReply
     }
 }
 
-// Whether these words behind `hello` are the name of a tenant and a key.
+// Whether these words, which come after `hello`, are the name of a tenant and a key.
 fn is_hello(rest: &str) -> bool
     ensures { hello_of (words_of rest.now) ≡ (if result then Some (hello (first_word_of rest.now) (first_word_of (behind_first_word rest.now))) else None) }
 {

@@ -23,16 +23,18 @@ use std::io::{Read, Write};
 use std::sync::Wait;
 use text_lines::lines::{Behind, Lines};
 
-/// Answers the lines of a client, in their order, until its input or the session ends: by itself, or by a call of the pass, which comes
-/// back with the new calls at its end. A line that is too long or no text is answered `bye bad-line`, and what stands behind the end
-/// isn't read. Want of memory for a line's command, its call or its reply's text is answered `err memory`, and the session goes on.
+/// Answers the lines of a client, in their order, until its input or the session ends. The session replies by itself or makes a call of the
+/// pass. The pass is returned with the new calls at its end. The reply to a line that is too long or not UTF-8 is `bye bad-line`. Lines after
+/// the end aren't answered. If there is no memory for a line's command, its call or its reply's text, the reply is `err memory`, and the
+/// session goes on.
 ///
 /// The writer is flushed before each read and at the end.
 ///
 /// # Errors
-/// `Read`, `Write` and `Turns` as `Lines::next_line`, and `Read` also where a line found no memory: just the lines before were answered.
-/// `Desk` where a call is refused since the pass is full or isn't known: `bye pass-full` or `bye strange` is the last that is written,
-/// and the fault is the same where that write fails.
+/// - `Read`, `Write` and `Turns` as in `Lines::next_line`. `Read` also if there is no memory for a line; exactly the lines before it were
+///   answered.
+/// - `Desk` if a call is refused because the pass is full or isn't known. `bye pass-full` or `bye strange` is written last. The fault is the
+///   same if that write fails.
 pub fn talk<N: Naming, R: Wait, D: Calls<N>, I: Read, W: Write>(
     rt: &R,
     alloc: Global,
@@ -54,7 +56,7 @@ pub fn talk<N: Naming, R: Wait, D: Calls<N>, I: Read, W: Write>(
     (pass, answer)
 }
 
-// The same with a pass that is lent.
+// The same with a borrowed pass.
 fn converse<N: Naming, R: Wait, D: Calls<N>, I: Read, W: Write>(
     rt: &R,
     alloc: Global,
@@ -89,7 +91,7 @@ fn converse<N: Naming, R: Wait, D: Calls<N>, I: Read, W: Write>(
     }
 }
 
-// Answers these lines, one behind the other. Short calls that follow one another are made together.
+// Answers these lines, one after the other. Short calls that follow one another are made together.
 fn answer_all<N: Naming, R: Wait, D: Calls<N>, W: Write>(
     rt: &R,
     desk: &D,
@@ -151,7 +153,7 @@ fn answer<N: Naming, R: Wait, D: Calls<N>, W: Write>(
     }
 }
 
-// Makes a call and writes what comes of it.
+// Makes a call and writes its reply, or the reason why there is none.
 fn request<N: Naming, R: Wait, D: Calls<N>, W: Write>(
     rt: &R,
     desk: &D,

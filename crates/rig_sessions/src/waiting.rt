@@ -1,4 +1,4 @@
-//! Calls that wait for one another: short ones that follow one another are made together, so that who takes them is asked once.
+//! Calls that wait: short calls that follow one another are made together, so that the desk is asked once.
 
 ghost use Rattle.std.specs.Prelude.{◌≡◌, ◌⊎◌, Option, ℕ, ◌+◌, ◌<◌, ◌≤◌, List, [], ◌∷◌, ◌++◌, drop, length, take, IfErr, IfOk, OnErr, OnOk};
 ghost use Rattle.std.specs.Io.KnownBytes.{Appends};
@@ -21,12 +21,12 @@ use std::io::Write;
 use std::sync::Wait;
 use text_lines::lines::MOST_LINES;
 
-/// What a session has at hand while it answers lines.
+/// What a session needs while it answers lines.
 #[derive(Drop)]
 pub(crate) struct Work {
-    // A reply, put together; what stood there before is gone.
+    // A buffer for a reply. It is overwritten for each.
     pub(crate) text: String,
-    // Commands that were asked for and aren't called yet, all of one tenant.
+    // Commands of one tenant that were asked for and aren't called yet.
     tenant: TenantId,
     waiting: Vec<Command>,
 }
@@ -42,8 +42,8 @@ impl Work {
         }
     }
 
-    /// Lets a tenant's command wait for others, to be called with them: a short one, where there is room for it. Another one is handed
-    /// back.
+    /// Adds a tenant's command to those that wait, to be called with them, if it is short and there is space for it. Else returns the
+    /// command.
     pub(crate) fn wait(&mut self, tenant: TenantId, command: Command) -> Result<(), Command>
         ensures waits { OnOk result ((self.new.waiting.items ≡ self.old.waiting.items ++ command ∷ []) × (self.new.tenant ≡ tenant)) }
         ensures back { IfErr result (λ c. c ≡ command) }
@@ -70,7 +70,7 @@ fn is_short(command: &Command) -> bool {
     }
 }
 
-/// Makes the calls that wait, and writes what comes of each.
+/// Makes the waiting calls, and writes the reply to each, or the reason why there is none.
 pub(crate) fn call_waiting<N: Naming, R: Wait, D: Calls<N>, W: Write>(
     rt: &R,
     desk: &D,
@@ -102,7 +102,7 @@ pub(crate) fn call_waiting<N: Naming, R: Wait, D: Calls<N>, W: Write>(
     Ok(())
 }
 
-/// Makes the calls that wait, writes what comes of each, and then these bytes.
+/// Makes the waiting calls, writes the reply to each, and then these bytes.
 pub(crate) fn call_and_say<N: Naming, R: Wait, D: Calls<N>, W: Write>(
     rt: &R,
     desk: &D,
@@ -122,7 +122,7 @@ pub(crate) fn call_and_say<N: Naming, R: Wait, D: Calls<N>, W: Write>(
     say(writer, bytes)
 }
 
-// Makes the first of these calls of a tenant, and writes what comes of each. How many: at least one.
+// Makes the first of these calls of a tenant, and writes the reply to each. Returns their number, which is at least one.
 fn call_some<N: Naming, R: Wait, D: Calls<N>, W: Write>(
     rt: &R,
     desk: &D,
@@ -157,7 +157,7 @@ fn call_some<N: Naming, R: Wait, D: Calls<N>, W: Write>(
     }
 }
 
-// All but the first so many.
+// The elements after the first `count`.
 fn behind<T>(all: &[T], count: usize) -> &[T]
     requires { count ≤ length all.now }
     ensures { result.now ≡ drop count all.now }
@@ -165,7 +165,7 @@ fn behind<T>(all: &[T], count: usize) -> &[T]
     &all[count..]
 }
 
-// Writes the replies to these calls, or that there is no memory for the text of one.
+// Writes the replies to these calls. If there is no memory for the text of one, writes that in its place.
 fn say_replies<W: Write>(
     writer: &mut W,
     calls: &[KeptCall],

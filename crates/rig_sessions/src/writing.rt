@@ -28,7 +28,7 @@ pub(crate) fn say_reply<W: Write>(
     }
 }
 
-// Puts a reply as it is written into a text, in place of what stood there.
+// Replaces a text with a reply, as it is written.
 fn reply_line(text: &mut String, reply: &Reply) -> Result<(), AllocError>
     ensures { OnOk result (string_bytes text.new ≡ written (text_of_reply reply.now)) }
 {
@@ -37,7 +37,7 @@ fn reply_line(text: &mut String, reply: &Reply) -> Result<(), AllocError>
     text.push_str("\n")
 }
 
-/// Tells why a call was refused, also where that can't be written.
+/// Writes why a call was refused, and returns that fault, even if the write fails.
 pub(crate) fn refuse<W: Write>(writer: &mut W, fault: DeskFault) -> TalkFault
     ensures { result ≡ TalkFault.Desk fault }
 {
@@ -58,7 +58,7 @@ fn say_refusal<W: Write>(writer: &mut W, fault: DeskFault) -> Result<(), TalkFau
     flush(writer)
 }
 
-/// Writes that a line is too long or no text.
+/// Writes that a line is too long or not UTF-8.
 pub(crate) fn say_bad_line<W: Write>(writer: &mut W) -> Result<(), TalkFault>
     ensures written { OnOk result (Appends (W.contents writer.old) (W.contents writer.new) (written bye_bad_line)) }
     ensures fault { IfErr result (λ fault. fault ≡ TalkFault.Write) }

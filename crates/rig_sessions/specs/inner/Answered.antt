@@ -1,4 +1,4 @@
--- What lines do to a session, to its pass and to its writer.
+-- The effect of lines on a session, its pass and its writer.
 use Rattle.std.specs.Prelude.{◌≡◌, ◌≢◌, ◌⊎◌, ℕ, List, [], ◌∷◌, ◌++◌}
 use Rattle.rig_model.specs.config.Roster.{Rig}
 use Rattle.rig_model.specs.declared.lines.commands.Command.{Command}
@@ -10,12 +10,12 @@ use Rattle.rig_sessions.specs.Talks.{outcome_of}
 use Rattle.rig_sessions.specs.declared.faults.TalkFault.{TalkFault}
 use Rattle.rig_sessions.specs.declared.faults.TalkFault.TheVariants.{Read, Write, Turns, Desk}
 
--- A step takes these outcomes, makes these calls and writes these bytes, whatever stood before it and comes behind; and who speaks then.
+-- A step takes these outcomes, makes these calls, writes these bytes and results in this state, whatever came before and comes after it.
 abbrev pub Takes : Step → List Outcome → List Call → List ℕ → State → Type 0
 Takes step given made said s = (from : State) (later : List Outcome) (calls : List Call) (text : List ℕ)
     → behind_step (record { state = from; outcomes = given ++ later; calls = calls; text = text }) step ≡ record { state = s; outcomes = later; calls = calls ++ made; text = text ++ said }
 
--- a step was taken to this state, with its calls on the pass
+-- a step was taken, which resulted in this state, with its calls on the pass
 pub record IsTaken (step : Step) (s : State) (old new : PassValue) : Type 0 where
   pub given : List Outcome
   pub made : List Call
@@ -27,14 +27,14 @@ pub record IsTaken (step : Step) (s : State) (old new : PassValue) : Type 0 wher
 abbrev pub IsAnswered : Step → State → PassValue → PassValue → (List ℕ → Type 0) → Type 0
 IsAnswered step s old new Written = (t : IsTaken step s old new) × Written t.said
 
--- A step wasn't answered: a write failed, when it was taken; or its call was refused.
+-- A step wasn't answered: it was taken, and a write failed; or its call was refused.
 abbrev pub IsUnanswered : Step → PassValue → PassValue → TalkFault → Type 0
 IsUnanswered step old new Read = ⊥
 IsUnanswered step old new Turns = ⊥
 IsUnanswered step old new Write = (s : State) × IsTaken step s old new
 IsUnanswered step old new (Desk fault) = (t : IsTaken step ended old new) × (t.given ≡ outcome_of fault ∷ []) × (fault ≢ desk.Memory)
 
--- a session behind these texts
+-- a session after these texts
 abbrev pub behind_texts : Rig → Session → List (List ℕ) → Session
 behind_texts config s [] = s
 behind_texts config s (x ∷ xs) = behind_texts config (behind_step s (text_step config s.state x)) xs
@@ -52,7 +52,7 @@ pub record AreTaken (config : Rig) (from : State) (texts : List (List ℕ)) (s :
 abbrev pub AreAnswered : Rig → State → List (List ℕ) → State → PassValue → PassValue → (List ℕ → Type 0) → Type 0
 AreAnswered config from texts s old new Written = (t : AreTaken config from texts s old new) × Written t.said
 
--- Texts weren't all answered: a write failed, when the first of them were taken; or a call was refused, which ended the session.
+-- Texts weren't all answered: the first of them were taken, and a write failed; or a call was refused, which ended the session.
 abbrev pub AreUnanswered : Rig → State → List (List ℕ) → PassValue → PassValue → TalkFault → Type 0
 AreUnanswered config from texts old new Read = ⊥
 AreUnanswered config from texts old new Turns = ⊥
@@ -75,7 +75,7 @@ pub record IsUnderWay (config : Rig) (from : State) (texts : List (List ℕ)) (s
   pub answered : AreAnswered config from front s old new Written
   pub waits : AreWaiting config s t back waiting
 
--- these outcomes are the replies to these calls, told or untold, and this is their text
+-- these outcomes are the replies to these calls, each `replied` or `untold`, and this is their text
 abbrev pub AreTold : List Call → List Outcome → List ℕ → Type 0
 AreTold [] os said = (os ≡ []) × (said ≡ [])
 AreTold (c ∷ cs) os said =

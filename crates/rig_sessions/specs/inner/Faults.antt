@@ -4,7 +4,7 @@ use Rattle.rig_sessions.specs.declared.faults.TalkFault.TheVariants.{Read, Write
 use Rattle.text_lines.specs.declared.faults.LinesFault.{LinesFault}
 use Rattle.text_lines.specs.declared.faults.LinesFault.TheVariants as lines
 
--- a line that finds no memory isn't read
+-- if there is no memory for a line, the line isn't read
 abbrev pub fault_of_lines : LinesFault → TalkFault
 fault_of_lines lines.Read = Read
 fault_of_lines lines.Write = Write

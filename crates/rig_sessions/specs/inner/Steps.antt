@@ -1,4 +1,4 @@
--- What the steps and replies of the code are in the definitions.
+-- The steps and replies of the code, as those of the definitions.
 use Rattle.std.specs.Prelude.{◌≡◌, ℕ, true, List}
 use Rattle.rig_model.specs.config.Roster.{Rig}
 use Rattle.rig_model.specs.declared.lines.commands.Command.{Command}
@@ -23,7 +23,7 @@ state_of Stranger = stranger
 state_of (Tenant t) = tenant t
 state_of Ended = ended
 
--- a session: its configuration, and who speaks in it
+-- a session: its configuration, and its state
 pub record SessionValue : Type 0 where
   pub config : Rig
   pub state : State
@@ -38,6 +38,6 @@ act_of End = say bye
 abbrev pub IsStep : Step → SessionValue → SessionValue → SessionStep → Type 0
 IsStep step old new taken = (taken ≡ record { act = act_of step; state = new.state }) × (new.config ≡ old.config)
 
--- a step is a call with a text, and the same one speaks behind it
+-- a step is a call with a text, and the state after it is the same
 abbrev pub IsCallWithText : SessionStep → State → Type 0
 IsCallWithText step s = (t : ℕ) × (c : Command) × (step ≡ record { act = call t c; state = s }) × (has_text c ≡ true)

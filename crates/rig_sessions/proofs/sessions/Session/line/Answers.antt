@@ -9,7 +9,7 @@ use Rattle.rig_sessions.specs.inner.Steps.{IsStep, IsCallWithText}
 use Rattle.rig_sessions.proofs.SessionLines.{blank_line, hello_line, quit_line, other_line, form_blank, no_byte, some_word}
 use Rattle.rig_sessions.proofs.sessions.Session.line.Goals as goal
 
--- two words that the test tells apart
+-- two words for which the test is false are different
 differ : (x y : List ℕ) → false ≡ same_name x y → x ≡ y → ⊥
 differ x y other is = false≢true (other ∙ ap (same_name x) (sym is) ∙ same_name_self x)
 
