@@ -1,4 +1,4 @@
-//! What is wrong with files of programs, configurations and scripts.
+//! Checks of files of programs, configurations and scripts.
 
 ghost use Rattle.std.specs.Prelude.{◌≡◌, true, false, IsOk, Err};
 
@@ -19,13 +19,16 @@ use script_checks::scripts::check_script;
 use std::alloc::{AllocError, Global};
 use std::{fs, io};
 
-/// Checks the files, in their order. What is wrong stands on standard output, and so does what they have; where the text of programs is
-/// wanted, what is wrong stands on standard error, and nothing else is written unless all are good. What can't be read is told on standard
-/// error. Where something is wrong with the configuration's own file, that is told as of a file that is checked, and no file is.
+/// Checks the files, in their order, and reports what is wrong with them and what they have.
+///
+/// Reports go to standard output. If the text of programs is requested, what is wrong is written to standard error, and the texts to
+/// standard output only if all files are good. A file that can't be read is reported on standard error. If something is wrong with the
+/// configuration's own file, it is reported like a checked file, and no file is checked.
 ///
 /// # Errors
-/// The arguments, where a name is no tenant's, or the text of what is no program is wanted; the faults of the configuration; `Unread` where a
-/// file can't be read or isn't UTF-8, and else `Faulty` where something is wrong with one.
+/// - Faults of arguments, if a name is no tenant's, or the text of a file that is no program is requested.
+/// - The faults of the configuration.
+/// - `Unread` if a file can't be read or isn't UTF-8, and else `Faulty` if something is wrong with one.
 pub fn check_files(rt: &impl System, request: &CheckRequest<'_>) -> Result<(), SubcommandFault> {
     let wish = wish_of(request);
     let config = configuration_of(rt, request.config, wish)?;
@@ -65,7 +68,7 @@ fn check_within(
     outcome(all_read, all_good)
 }
 
-// What files are checked against, and what is wanted of them.
+// What files are checked against, and what is printed of them.
 #[derive(Clone, Copy)]
 struct Check<'a> {
     config: &'a Config,
@@ -73,7 +76,7 @@ struct Check<'a> {
     wish: Wish<'a>,
 }
 
-// Whether all files were read, and whether all that were are good. The texts that are wanted of programs are added to `texts`.
+// Checks each file. Returns whether all files were read, and whether all that were read are good. Adds the requested texts to `texts`.
 fn check_each(
     rt: &impl System,
     check: &Check<'_>,
@@ -93,7 +96,7 @@ fn check_each(
     Ok((all_read, all_good))
 }
 
-// What is wanted of a good program.
+// What is printed of a good program.
 fn wish_of<'a>(request: &CheckRequest<'a>) -> Wish<'a> {
     match request.load {
         Some(name) => Wish::Load(name),
@@ -103,7 +106,7 @@ fn wish_of<'a>(request: &CheckRequest<'a>) -> Wish<'a> {
     }
 }
 
-// The configuration for which files are checked. Where something is wrong with its file, that is told in whole.
+// The configuration for which files are checked. If something is wrong with its file, all of it is reported.
 fn configuration_of(
     rt: &impl System,
     path: Option<&str>,
@@ -117,7 +120,7 @@ fn configuration_of(
         Ok(config) => Ok(config),
         Err(fault) => {
             if fault != ConfigFault::Memory {
-                // where it can't be told in whole, the line of standard error and the status tell
+                // if the report fails, the line of standard error and the status still say it
                 let _ = tell_configuration(rt, path, text.as_str(), wish);
             }
             Err(SubcommandFault::Configuration(ConfigurationFault::Refused(fault)))
@@ -125,7 +128,7 @@ fn configuration_of(
     }
 }
 
-// Tells what is wrong with the file of a configuration.
+// Reports what is wrong with the file of a configuration.
 fn tell_configuration(
     rt: &impl System,
     path: &str,
@@ -136,7 +139,7 @@ fn tell_configuration(
     write_report(rt, report.text.as_str(), wish)
 }
 
-// How the check of files ends of which all were read, and all are good.
+// The result of a check, by whether all files were read, and all are good.
 fn outcome(all_read: bool, all_good: bool) -> Result<(), SubcommandFault>
     ensures good { IsOk result → (all_read ≡ true) × (all_good ≡ true) }
     ensures unread { result ≡ Err SubcommandFault.Unread → all_read ≡ false }
@@ -151,7 +154,7 @@ fn outcome(all_read: bool, all_good: bool) -> Result<(), SubcommandFault>
     Ok(())
 }
 
-// Tells a report: what was wanted of a program is kept until all are known.
+// Writes a report. The requested text of a good program is kept until all files are checked.
 fn tell(
     rt: &impl System,
     texts: &mut String,
@@ -165,17 +168,17 @@ fn tell(
     write_report(rt, text, wish)
 }
 
-// Writes a report to standard output, or to standard error where standard output is for the text of programs.
+// Writes a report to standard output, or to standard error if standard output is for the text of programs.
 fn write_report(rt: &impl System, text: &str, wish: Wish) -> Result<(), SubcommandFault> {
     if wish == Wish::Summary {
         return Ok(print(rt, text)?);
     }
-    // where standard error is closed, the status alone tells
+    // if standard error is closed, only the status says it
     let _ = eprint!(rt; "{text}");
     Ok(())
 }
 
-// What a file is, by its name.
+// The kind of a file, by its name.
 #[derive(Clone, Copy, Debug, PartialEq, Eq)]
 enum Kind {
     Program,
@@ -193,7 +196,7 @@ fn kind_of(path: &str) -> Kind {
     }
 }
 
-// What is told of a file; nothing where it can't be read, which was told then.
+// The report on a file. `None` if it can't be read, which is then reported already.
 fn check_file(
     rt: &impl System,
     check: &Check<'_>,
@@ -235,7 +238,7 @@ fn check_text(
     }
 }
 
-// Tells that a file can't be read.
+// Reports that a file can't be read.
 fn unread(
     rt: &impl System,
     path: &str,
@@ -246,12 +249,12 @@ fn unread(
         io::ErrorKind::InvalidData => "isn't UTF-8",
         _ => "can't be read",
     };
-    // where standard error is closed, the status alone tells
+    // if standard error is closed, only the status says it
     let _ = eprintln!(rt; "{path}: {why}");
     Ok(None)
 }
 
-// The tenant against whose budgets programs are held: the one that is named, or the one that is to load them.
+// The tenant whose budgets programs are checked against: the one that is named, or the one that loads them.
 fn tenant_of<'a>(
     alloc: Global,
     config: &'a Config,

@@ -14,7 +14,7 @@ use std::{fmt, fs, io};
 pub enum ConfigurationFault {
     /// The file isn't there, can't be read, or isn't UTF-8.
     Unreadable,
-    /// The file's text describes no configuration, or there is want of memory.
+    /// The file's text is no configuration, or memory ran out.
     Refused(ConfigFault),
 }
 
@@ -56,10 +56,10 @@ impl From<io::Error> for ConfigurationFault {
     }
 }
 
-/// The configuration in the file of this path, or the built-in one where there is no path.
+/// Returns the configuration in the file at this path, or the built-in one if there is no path.
 ///
 /// # Errors
-/// Each fault of the file or of its text, and want of memory.
+/// Each fault of the file or of its text, and out of memory.
 pub fn read_configuration(
     rt: &impl System,
     path: Option<&str>,
@@ -76,10 +76,10 @@ pub fn read_configuration(
     Ok(read_config(rt.alloc(), text.as_str())?)
 }
 
-/// The text of the file of this path.
+/// Returns the text of the file at this path.
 ///
 /// # Errors
-/// `Unreadable`, and want of memory.
+/// `Unreadable`, and out of memory.
 pub(crate) fn read_text(rt: &impl System, path: &str) -> Result<String, ConfigurationFault> {
     Ok(fs::read_to_string(rt, path)?)
 }

@@ -1,4 +1,4 @@
-//! How a subcommand ends that doesn't end well: what is said of it on standard error, and the exit status.
+//! How a subcommand fails: its message on standard error, and its exit status.
 
 ghost use Rattle.std.specs.Prelude.{◌≡◌, ◌≢◌};
 ghost use Rattle.std.specs.IoError.{error_kind};
@@ -23,28 +23,28 @@ use std::{fmt, io};
 /// Why a subcommand ends with another status than 0. Its `Display` is for standard error.
 #[derive(Drop)]
 pub enum SubcommandFault {
-    /// The arguments are wrong, in the way that the text says.
+    /// The arguments are wrong; the text says how.
     Arguments(clap::Error),
     /// There is no configuration.
     Configuration(ConfigurationFault),
-    /// Reading, writing or want of memory, of the script or before it.
+    /// Reading or writing failed, or memory ran out, in the script or before it.
     Script(ScriptFault),
-    /// A file of a picture.
+    /// A file of a picture can't be read or written.
     Picture(PictureFault),
-    /// A file of a run.
+    /// Something is wrong with a file of a run.
     Run(RunFileFault),
-    /// Something is wrong with files, as was told.
+    /// Something is wrong with files, which is already reported.
     Faulty,
-    /// A file can't be read, as was told.
+    /// A file can't be read, which is already reported.
     Unread,
-    /// What went wrong in a script.
+    /// Something went wrong in a script; the report says what.
     Told(Report),
-    /// What is told of a script says less than it seems to.
+    /// A report about a script says less than it seems to.
     Short(Shortfall),
 }
 
 impl SubcommandFault {
-    /// The words of the subcommand are wrong in the way that the text says; or memory ran out.
+    /// Returns the fault that the subcommand's arguments are wrong, with this text, or that memory ran out.
     pub fn wrong(alloc: Global, subcommand: Subcommand, text: &str) -> SubcommandFault {
         match subcommand.error(alloc, text) {
             Ok(error) => SubcommandFault::Arguments(error),
@@ -52,7 +52,7 @@ impl SubcommandFault {
         }
     }
 
-    /// An argument can't be read as text; or memory ran out.
+    /// Returns the fault that an argument isn't UTF-8, or that memory ran out.
     pub fn unreadable(alloc: Global) -> SubcommandFault {
         match unreadable(alloc) {
             Ok(error) => SubcommandFault::Arguments(error),
@@ -60,7 +60,7 @@ impl SubcommandFault {
         }
     }
 
-    /// What is told of a file that can't be read: this fault, or that memory ran out.
+    /// Returns the fault for a file that can't be read: this one, or that memory ran out.
     pub fn of_unread(self, error: &io::Error) -> SubcommandFault
         ensures memory { error_kind error.now ≡ OutOfMemory → result ≡ Script Memory }
         ensures unreadable { error_kind error.now ≢ OutOfMemory → result ≡ self }
@@ -71,7 +71,7 @@ impl SubcommandFault {
         }
     }
 
-    /// The exit status: 2 for arguments, 1 for the configuration, 4 where something is wrong with what was read, and 3 for the rest.
+    /// The exit status: 2 for arguments, 1 for the configuration, 4 if something is wrong with what was read, and 3 for the rest.
     pub fn status(&self) -> ExitCode
         ensures { exit_status result ≡ status_of self.now }
     {

@@ -1,11 +1,11 @@
-//! What the subcommands `check`, `script`, `timeline`, `retest` and `trial` do: they read files and standard input, and need no network.
+//! The subcommands `check`, `script`, `timeline`, `retest` and `trial`, which read files and standard input, and need no network.
 //!
 //! ```text
 //! run_script(&rt, &request)?;
 //! ```
 //!
-//! Each takes what its arguments ask for and ends as its [`faults::SubcommandFault`] says, which also gives the exit status. [`configuration`]
-//! reads the file of `--config`.
+//! Each takes the request of its arguments. It ends well or with a [`faults::SubcommandFault`], which also gives the exit status.
+//! [`configuration`] reads the file of `--config`.
 #![tactic(auto)]
 
 mod checks;

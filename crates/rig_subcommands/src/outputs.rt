@@ -1,4 +1,4 @@
-//! Where texts are written: to files, or to standard output where a `-` stands for the file. A file that is read isn't written.
+//! Where texts are written: to files, or to standard output if the file is `-`. A file that is read isn't overwritten.
 
 ghost use Rattle.std.specs.Option.{option_map};
 ghost use Rattle.std.specs.Prelude.{◌≡◌, codes};
@@ -14,14 +14,14 @@ use std::io::Write;
 use std::path::PathBuf;
 use std::{fs, io};
 
-/// Whether a FILE that is to be written stands for standard output.
+/// Whether the path of an output file means standard output.
 pub fn is_standard(path: &str) -> bool
     ensures { result ≡ same_name path.now (codes "-") }
 {
     path == "-"
 }
 
-/// Writes a text to a file, or to standard output where the path stands for that. `fault` is what is said where the file can't be written.
+/// Writes a text to a file, or to standard output if the path means that. Returns `fault` if the file can't be written.
 ///
 /// # Errors
 /// `fault`, and `Write` for standard output.
@@ -55,10 +55,10 @@ pub fn print(rt: &impl System, text: &str) -> Result<(), ScriptFault> {
     }
 }
 
-/// Looks that a file that is to be written isn't one of those that are read.
+/// Checks that an output file isn't one of the files that are read.
 ///
 /// # Errors
-/// `Arguments` where it is one of them, by its path as given or by the path to which the system resolves it; want of memory.
+/// `Arguments` if it is one of them, by its path as given or by the path to which the system resolves it; out of memory.
 pub fn check_output(
     rt: &impl System,
     subcommand: Subcommand,
@@ -81,14 +81,14 @@ pub fn check_output(
     Ok(())
 }
 
-// Whether the file that is to be written is this one, which is read.
+// Whether the output file is this input file.
 fn is_read(rt: &impl System, input: &str, output: &str) -> bool {
     let read = resolved(rt, input);
     let written = resolved(rt, output);
     is_same_file(input, output, text_of(&read), text_of(&written))
 }
 
-// The path to which the system resolves this one; none where there is no such file.
+// The path to which the system resolves this one; `None` if there is no such file.
 fn resolved(rt: &impl System, path: &str) -> Option<PathBuf> {
     fs::canonicalize(rt, path).ok()
 }
@@ -118,7 +118,7 @@ fn is_same_file(
     }
 }
 
-// The fault of arguments by which a file that is read would be written.
+// The fault of arguments that would overwrite a file that is read.
 fn overwritten(
     rt: &impl System,
     subcommand: Subcommand,

@@ -1,4 +1,4 @@
-//! The files of pictures: a value change dump of a script, and a timeline of one tenant; and what is said where one can't be read or written.
+//! The files of pictures: a value change dump of a script, and a timeline of one tenant; and the faults of these files.
 
 ghost use Rattle.std.specs.Prelude.{◌≡◌};
 ghost use Rattle.rig_subcommands.specs.inner.Faults.{text_of_fault};
@@ -43,11 +43,12 @@ impl PictureFault {
     }
 }
 
-/// Answers the script on standard input, and writes its value change dump to this path; where that is standard output, the dump stands
-/// there in place of the replies.
+/// Answers the script on standard input, and writes its value change dump to this path.
+///
+/// If the path is standard output, the dump is written there instead of the replies.
 ///
 /// # Errors
-/// As the script, and `Dump` where the file can't be written. Nothing was written to it where the script ended by a fault.
+/// As the script, and `Dump` if the file can't be written. If the script ended by a fault, nothing is written to the file.
 pub(crate) fn write_dump(
     rt: &impl System,
     config: &Config,
@@ -72,7 +73,8 @@ pub(crate) fn write_dump(
 /// Draws the run of a tenant in a script, or that of the first tenant that loads a program.
 ///
 /// # Errors
-/// Faults of arguments, of the configuration and of the script; `Script` and `Timeline` where a file can't be read or written.
+/// Faults of arguments, of the configuration and of the script; `Script` if the script can't be read, and `Timeline` if the picture can't be
+/// written.
 pub fn run_timeline(
     rt: &impl System,
     request: &TimelineRequest<'_>,

@@ -1,4 +1,4 @@
-//! Whose tests have to be run again: the table of a script, its graph, and the trial of one tenant.
+//! Which tenants need a retest: the table of a script, its graph, and the trial of one tenant.
 
 ghost use Rattle.std.specs.Prelude.{◌≡◌, ◌↔◌, true, IsOk, None};
 
@@ -15,12 +15,14 @@ use rig_retests::courses::Course;
 use rig_retests::tables::{Retests, retests_of};
 use rig_retests::{TrialForm, graph_of_retests, text_of_retests, text_of_trial};
 
-/// Prints whose change calls for whose retest in the script on standard input, and writes it as a graph, if that is asked for; where the
-/// graph goes to standard output, it stands there in place of the table.
+/// Prints the table of retests of the script on standard input, and writes it as a graph, if that is requested.
+///
+/// If the graph goes to standard output, it is written there instead of the table.
 ///
 /// # Errors
-/// Faults of arguments and of the configuration; as the script, and `Graph` where the file can't be written. Nothing was written to it where
-/// the script ended by a fault. `Short` where the script was cut off, or no line was a tenant's.
+/// - Faults of arguments and of the configuration.
+/// - As the script, and `Graph` if the file can't be written. If the script ended by a fault, nothing is written to the file.
+/// - `Short` if the script was cut off, or no line was a tenant's.
 pub fn run_retest(rt: &impl System, request: &RetestRequest<'_>) -> Result<(), SubcommandFault> {
     check_output(rt, Subcommand::Retest, &[request.config], request.graph)?;
     let config = read_configuration(rt, request.config)?;
@@ -55,7 +57,7 @@ fn print_retests(
 /// Prints the trial of the script on standard input for a tenant.
 ///
 /// # Errors
-/// Faults of arguments and of the configuration; as the script. `Short` where the script was cut off, or no line was a tenant's.
+/// Faults of arguments and of the configuration; as the script. `Short` if the script was cut off, or no line was a tenant's.
 pub fn run_trial(rt: &impl System, request: &TrialRequest<'_>) -> Result<(), SubcommandFault> {
     let config = read_configuration(rt, request.config)?;
     let tenant = place_of(
@@ -75,7 +77,7 @@ pub fn run_trial(rt: &impl System, request: &TrialRequest<'_>) -> Result<(), Sub
     verdict(trial.course)
 }
 
-// Whether what was told of a script says all that it seems to.
+// Whether a report about a script says all that it seems to.
 fn verdict(course: Course) -> Result<(), SubcommandFault>
     ensures { IsOk result ↔ ((course.bad_line ≡ None) × (course.has_tenant ≡ true)) }
 {

@@ -1,4 +1,4 @@
-//! The scripts on standard input, and those of runs: what is asked for, and what is told of them.
+//! The scripts on standard input and those of runs: how they are answered, and the reports about them.
 
 ghost use Rattle.std.specs.Prelude.{◌≡◌, ◌↔◌, [], IsOk, IsErr};
 
@@ -26,7 +26,7 @@ use std::{fmt, fs, io};
 pub enum RunFileFault {
     /// The run isn't there, can't be read, or isn't UTF-8.
     Unreadable,
-    /// The line of this number is a reply, and no line of the script stands right above it.
+    /// The line with this number is a reply, and no line of the script is right above it.
     NoLine(usize),
     /// The suite can't be written.
     Suite,
@@ -45,11 +45,12 @@ impl fmt::Display for RunFileFault {
     }
 }
 
-/// Answers a script as it is asked for.
+/// Answers a script in the requested way.
 ///
 /// # Errors
-/// Faults of arguments, where a file would be overwritten that is read; those of the configuration and of the script; `Told` and `Faulty`
-/// where something went wrong in the script.
+/// - Faults of arguments, if a file that is read would be overwritten.
+/// - Faults of the configuration and of the script.
+/// - `Told` and `Faulty` if something went wrong in the script.
 pub fn run_script(rt: &impl System, request: &ScriptRequest<'_>) -> Result<(), SubcommandFault> {
     refuse_overwriting(rt, request)?;
     match request.way {
@@ -60,7 +61,7 @@ pub fn run_script(rt: &impl System, request: &ScriptRequest<'_>) -> Result<(), S
     }
 }
 
-// Looks that no file is written that is read.
+// Checks that no file that is read is overwritten.
 fn refuse_overwriting(
     rt: &impl System,
     request: &ScriptRequest<'_>,
@@ -81,7 +82,7 @@ fn run_plain(rt: &impl System, config: &Config) -> Result<(), ScriptFault> {
     script(rt.alloc(), &mut rt.reader(), &mut writer, config)
 }
 
-// Answers the script on standard input, and tells what went wrong in it.
+// Answers the script on standard input, and reports what went wrong in it.
 fn run_strict(rt: &impl System, config: &Config) -> Result<(), SubcommandFault> {
     let Ok(mut writer) = BufWriter::new(rt.alloc(), io::writer(rt)) else {
         return Err(SubcommandFault::Script(ScriptFault::Memory));
@@ -90,7 +91,7 @@ fn run_strict(rt: &impl System, config: &Config) -> Result<(), SubcommandFault> 
     verdict(report)
 }
 
-// What is told where a report has a line.
+// The fault with this report, if the report has a line.
 fn verdict(report: Report) -> Result<(), SubcommandFault>
     ensures { IsOk result ↔ report ≡ [] }
 {
@@ -127,7 +128,7 @@ fn lines_of(alloc: Global, text: &str) -> Result<Vec<RunLine>, SubcommandFault> 
     }
 }
 
-// Compares the replies on a rig with the configuration of this path.
+// Compares the replies on a rig with the configuration at this path.
 fn compare_within(
     rt: &impl System,
     config: Option<&str>,
@@ -139,7 +140,7 @@ fn compare_within(
     compare(rt, &config, expected, lines)
 }
 
-// Prints what differs in the replies to these lines, and writes the suite.
+// Answers these lines, prints what differs in the replies, and writes the suite.
 fn compare(
     rt: &impl System,
     config: &Config,
@@ -171,7 +172,7 @@ fn tell_differences(
     }
 }
 
-// Writes what was compared into the file of this path, as a suite of tests.
+// Writes what was compared into the file at this path, as a suite of tests.
 fn write_suite(
     rt: &impl System,
     path: &str,

@@ -1,4 +1,4 @@
-//! What subcommands need of the machine.
+//! What subcommands need from the machine.
 
 use std::rt::Files;
 

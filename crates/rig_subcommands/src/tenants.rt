@@ -5,10 +5,12 @@ use rig_arguments::subcommands::Subcommand;
 use rig_model::config::{Config, TenantId};
 use std::alloc::{AllocError, Global};
 
-/// The place of the tenant of this name in the configuration of `--config`, whose path is `file`, or in the built-in one.
+/// Returns the place of the tenant with this name in the configuration.
+///
+/// `file` is the path of `--config`; it is `None` for the built-in configuration.
 ///
 /// # Errors
-/// `Arguments` where the configuration has no such tenant; want of memory.
+/// `Arguments` if the configuration has no such tenant; out of memory.
 pub fn place_of(
     alloc: Global,
     subcommand: Subcommand,
@@ -25,7 +27,7 @@ pub fn place_of(
     }
 }
 
-// That the configuration has no tenant of this name, and which it has; and what may be missing where it is the built-in one.
+// The text that the configuration has no tenant with this name, and which it has. If it is the built-in one, `--config` may be missing.
 fn text_of_none(
     alloc: Global,
     config: &Config,

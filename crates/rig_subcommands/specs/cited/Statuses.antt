@@ -3,7 +3,7 @@ use Rattle.std.specs.Prelude.{ℕ}
 use Rattle.rig_subcommands.specs.declared.faults.SubcommandFault.{SubcommandFault}
 use Rattle.rig_subcommands.specs.declared.faults.SubcommandFault.TheVariants.{Arguments, Configuration, Script, Picture, Run, Faulty, Unread, Told, Short}
 
--- 2 for arguments, 1 for the configuration, 4 where something is wrong with what was read, 3 for the rest
+-- 2 for arguments, 1 for the configuration, 4 if something is wrong with what was read, 3 for the rest
 abbrev pub status_of : SubcommandFault → ℕ
 status_of (Arguments error) = 2
 status_of (Configuration fault) = 1
