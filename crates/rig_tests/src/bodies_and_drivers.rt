@@ -1,4 +1,4 @@
-//! When the code of bodies and drivers is refused, which no contract says.
+//! When the code of bodies and drivers is refused: no contract says it.
 
 use giotto_tasks::bodies::{Body, Expr, Primary, Stmt};
 use giotto_tasks::code::driver::DriverCode;
@@ -10,7 +10,7 @@ use giotto_tasks::operators::BinaryOperator;
 use std::alloc::Global;
 use std::process::Abort;
 
-// 1 + (1 + .. (1 + 1)), with so many operators.
+// 1 + (1 + .. (1 + 1)), with this number of operators.
 fn ones(rt: &impl Abort, alloc: Global, operators: u64) -> Expr {
     let mut e = Expr::Number(1);
     for _operator in 0..operators {
@@ -24,7 +24,7 @@ fn no_names(alloc: Global) -> List<Name> {
     List::from_vec(Vec::new(alloc))
 }
 
-// Why there is no body with a block that branches on so many operators inside one another.
+// The fault of a body with a block that branches on this number of nested operators.
 fn body_fault(rt: &impl Abort, alloc: Global, operators: u64) -> Option<CodeFault> {
     let branch = Stmt::If(ones(rt, alloc, operators), Vec::new(alloc), Vec::new(alloc));
     let mut block = Vec::new(alloc);
@@ -33,7 +33,7 @@ fn body_fault(rt: &impl Abort, alloc: Global, operators: u64) -> Option<CodeFaul
     Body::new(alloc, none, no_names(alloc), no_names(alloc), block).err()
 }
 
-// Why there is no code for a driver with so many operators inside one another.
+// The fault of a driver with this number of nested operators.
 fn driver_fault(rt: &impl Abort, alloc: Global, operators: u64) -> Option<CodeFault> {
     let e = ones(rt, alloc, operators);
     let names = Index::new(alloc, Vec::new(alloc)).expect(rt, "memory");

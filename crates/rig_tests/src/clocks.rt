@@ -1,4 +1,4 @@
-//! Instants at the end of the clock, to which no script comes.
+//! Instants at the end of the clock, which no script reaches.
 
 use crate::fixtures::new_host;
 use host_core::hosts::TickFault;

@@ -1,4 +1,4 @@
-//! Completions of a release before a new start, and of another host's job: one that differs, and one that is just its own.
+//! Completions of a release before a new start, and of another host's job: one that differs, and one that is the same as the host's own.
 
 use crate::fixtures::{ADDER, ALPHA, BETA, load, new_host, release};
 use host_core::hosts::{Counted, Host};
@@ -9,13 +9,13 @@ use std::alloc::Global;
 use std::process::Abort;
 use tenant_jobs::jobs::{Job, run_job};
 
-// What the tenant is answered to this command.
+// The reply to the tenant's command.
 pub(crate) fn told(rt: &impl Abort, host: &mut Host, tenant: TenantId, command: Command) -> Reply {
     assert!(rt; tenant < host.config().tenants().len());
     host.command(tenant, command)
 }
 
-// The tenant runs this program.
+// Has the tenant load and start this program.
 pub(crate) fn run(
     rt: &impl Abort,
     alloc: Global,
@@ -27,7 +27,7 @@ pub(crate) fn run(
     drop(told(rt, host, tenant, Command::Start));
 }
 
-// The first job that an instant with this reading releases, which is this tenant's release of T at this tick.
+// The first job that an instant with this reading releases. It is the tenant's job of T at this tick.
 fn released(rt: &impl Abort, host: &mut Host, tenant: TenantId, tick: u64, reading: i64) -> Job {
     let mut jobs = host.tick(&[reading]).expect(rt, "an instant");
     let job = jobs.take().expect(rt, "a release");
@@ -36,13 +36,13 @@ fn released(rt: &impl Abort, host: &mut Host, tenant: TenantId, tick: u64, readi
     job
 }
 
-// Whether this becomes of the job's completion, and so many jobs are outstanding after it.
+// Whether the job's completion is counted in this way, and this number of jobs is outstanding after it.
 fn becomes(host: &mut Host, job: Job, counted: Counted, outstanding: usize) -> bool {
     let became = host.done(run_job(job));
     became == counted && host.outstanding() == outstanding
 }
 
-// A tenant's job of a host where it runs alone, released with this reading.
+// A job of a tenant that runs alone on a host, released with this reading.
 fn job_of(rt: &impl Abort, alloc: Global, tenant: TenantId, reading: i64) -> Job {
     let mut host = new_host(rt, alloc, 0);
     run(rt, alloc, &mut host, tenant, ADDER);
@@ -51,7 +51,7 @@ fn job_of(rt: &impl Abort, alloc: Global, tenant: TenantId, reading: i64) -> Job
     job
 }
 
-// Whether alpha is answered this to a command.
+// Whether the reply to alpha's command is this text.
 pub(crate) fn is_answered(
     rt: &impl Abort,
     alloc: Global,
@@ -65,7 +65,7 @@ pub(crate) fn is_answered(
     printed.as_str() == text
 }
 
-// Whether alpha's mode, ports and records are those behind a first instant with the reading 5.
+// Whether alpha's mode, ports and records are those after a first instant with the reading 5.
 fn is_behind_its_first_instant(rt: &impl Abort, alloc: Global, host: &mut Host) -> bool {
     is_answered(rt, alloc, host, Command::ShowMode, "ok mode running m 1")
         && is_answered(
@@ -109,7 +109,7 @@ fn completion_of_another_hosts_job_counts(rt: HostRuntime) {
     drop(host);
 }
 
-// The other host's job has the name of alpha's own. It changes nothing, alpha's own counts, and two more instants give the sum.
+// The other host's job has the id of alpha's own. It changes nothing. Alpha's own counts, and two more instants give the sum.
 #[test]
 fn completion_of_another_hosts_job_with_other_inputs_is_late(rt: HostRuntime) {
     let alloc = rt.alloc();

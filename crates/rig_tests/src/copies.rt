@@ -56,7 +56,7 @@ fn copies_replies(rt: HostRuntime) {
     assert!(rt; copy_has(&rt, alloc, one_row(&rt, alloc), "ok rows offer:a:beta"));
 }
 
-// The same with nothing to list.
+// A reply to `show all` with nothing to list.
 fn no_port(alloc: Global) -> Reply {
     Reply::All(List::from_vec(Vec::new(alloc)))
 }
@@ -109,7 +109,7 @@ fn is_completion(event: &Event) -> bool {
     }
 }
 
-// Whether that one's copy is.
+// Whether the copy of such an event is one too.
 fn copies_the_completion(rt: &impl Abort, alloc: Global) -> bool {
     let event = Event::Done(release(rt, BETA, 7));
     let copy = event.copy(alloc).expect(rt, "memory");

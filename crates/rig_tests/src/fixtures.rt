@@ -1,4 +1,4 @@
-//! What tests begin with: programs, names and hosts of the built-in configuration. What fails here ends the test at once.
+//! Fixtures of tests: programs, names and hosts of the built-in configuration. A failure here ends the test at once.
 
 ghost use Rattle.std.specs.Prelude.{◌≡◌, [], ◌∷◌};
 
@@ -16,7 +16,7 @@ pub(crate) const ALPHA: TenantId = 0;
 
 pub(crate) const BETA: TenantId = 1;
 
-// No tenant of the built-in configuration.
+// A place without a tenant in the built-in configuration.
 pub(crate) const NOBODY: TenantId = 2;
 
 // Reads a sensor, adds 1, and drives an actuator with the sum, with a period of 2 ticks.
@@ -35,7 +35,7 @@ pub(crate) fn name(rt: &impl Abort, text: &str) -> Name
     Name::new(text).expect(rt, "a name")
 }
 
-// A list of this alone.
+// A list of this one item.
 pub(crate) fn one<T: Drop>(rt: &impl Abort, alloc: Global, item: T) -> List<T>
     ensures { result ≡ item ∷ [] }
 {
@@ -44,7 +44,7 @@ pub(crate) fn one<T: Drop>(rt: &impl Abort, alloc: Global, item: T) -> List<T>
     List::from_vec(items)
 }
 
-// The load of this program.
+// The command that loads this program.
 pub(crate) fn load(rt: &impl Abort, alloc: Global, program: &str) -> Command {
     Command::Load(Text::from_str(alloc, program).expect(rt, "memory"))
 }
@@ -54,7 +54,7 @@ pub(crate) fn frame(rt: &impl Abort, alloc: Global, reading: i64) -> List<i64> {
     List::from_vec(Vec::from_slice(alloc, &[reading]).expect(rt, "memory"))
 }
 
-// A tenant's release of T at this tick.
+// The id of a tenant's job of T that was released at this tick.
 pub(crate) fn release(rt: &impl Abort, tenant: TenantId, tick: u64) -> JobId {
     JobId {
         tenant,

@@ -1,4 +1,4 @@
-//! A value that a supplier offers and a consumer is bound to: what both are answered, worked out by hand from the definitions.
+//! A value that a supplier offers and a consumer is bound to: the replies to both, worked out by hand from the definitions.
 
 use crate::steps::{are_answered, granted_run};
 

@@ -1,4 +1,4 @@
-//! Greetings of the built-in configuration, of which no line of a script makes one.
+//! Greetings with the built-in configuration: no line of a script makes one.
 
 use crate::fixtures::rig;
 

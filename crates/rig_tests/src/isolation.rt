@@ -1,5 +1,6 @@
-//! Replies to one tenant beside others: nothing of their keys, of their programs, or of how much the host has to do for them. Worked out
-//! by hand from the definitions.
+//! Replies to one tenant next to others: they show nothing of the others' keys and programs, or of how much the host does for them.
+//!
+//! The replies are worked out by hand from the definitions.
 
 use host_core::hosts::Host;
 use rig_model::config::{Config, read_config};
@@ -21,7 +22,7 @@ offers = 1
 binds = 1
 ";
 
-// Each command of beta, in each state and with each kind of reply. Alpha offers nothing that beta is bound to.
+// Each command of beta, in each state and with each kind of reply. Alpha offers none of the actuators that beta binds.
 const LINES: [&str; 65] = [
     "beta show mode",
     "beta show all",
@@ -90,7 +91,7 @@ const LINES: [&str; 65] = [
     "beta quit",
 ];
 
-// What beta is answered to these.
+// The replies to these lines of beta.
 const REPLIES: &str = "beta ok mode empty
 beta err not-loaded
 beta err not-loaded
@@ -152,7 +153,7 @@ beta err bad-command
 beta err bad-command
 ";
 
-// Alpha's two jobs have their entries in the host's table before any of beta's and until the end, and what it offers nobody is bound to.
+// Alpha's two jobs are in the host's table before any of beta's, and stay until the end. Nobody is bound to what alpha offers.
 const BUSY: [&str; 9] = [
     "alpha load sensor qqqqs := 77 line 0; actuator qqqqa := 4242; output qqqqo := 0; output qqqqp := 0; task qqqqT(qqqqi) output qqqqo { qqqqo := qqqqi * 1000; } task qqqqU(qqqqj) output qqqqp { qqqqp := qqqqj * 2000; } mode qqqqm period 8 { actfreq 1 do qqqqa := qqqqo; taskfreq 1 do qqqqT(qqqqs); taskfreq 1 do qqqqU(qqqqs); } start qqqqm;",
     "alpha offer qqqqa to beta",
@@ -165,7 +166,7 @@ const BUSY: [&str; 9] = [
     "alpha load qqqq",
 ];
 
-// Alpha has an actuator of the name to which beta is bound, and doesn't offer it.
+// Alpha has an actuator with the name to which beta is bound, and doesn't offer it.
 const QUIET: [&str; 1] = ["alpha load actuator a := 9; mode m period 1 { } start m;"];
 
 fn add_tenant(rt: &impl Abort, alloc: Global, text: &mut String, name: &str, key: &str) {
@@ -176,7 +177,7 @@ fn add_tenant(rt: &impl Abort, alloc: Global, text: &mut String, name: &str, key
     text.push_str(FIELDS).expect(rt, "memory");
 }
 
-// A rig of alpha, beta and gamma, with these keys of alpha and gamma.
+// A rig of alpha, beta and gamma, with these keys for alpha and gamma.
 fn rig(rt: &impl Abort, alloc: Global, alpha: &str, gamma: &str) -> Config {
     let mut text = String::from_str(alloc, "version = 1\nlines = 1\n").expect(rt, "memory");
     add_tenant(rt, alloc, &mut text, "alpha", alpha);
@@ -185,14 +186,14 @@ fn rig(rt: &impl Abort, alloc: Global, alpha: &str, gamma: &str) -> Config {
     read_config(alloc, text.as_str()).expect(rt, "a configuration")
 }
 
-// What a line is answered.
+// The reply to a line.
 fn reply_of(rt: &impl Abort, alloc: Global, host: &mut Host, line: &str) -> String {
     let mut text = String::new(alloc);
     host.answer(alloc, line, &mut text).expect(rt, "memory");
     text
 }
 
-// What beta is answered to these lines, before each of which one of the others is answered as long as there is one.
+// The replies to these lines that are beta's. Before each line, one of the others is answered, as long as there are any.
 fn replies_to(
     rt: &impl Abort,
     alloc: Global,
@@ -213,7 +214,7 @@ fn replies_to(
     text
 }
 
-// What beta is answered in a rig with these keys, beside others that are given these lines.
+// The replies to beta in a rig with these keys, next to tenants with these other lines.
 fn answered(rt: &impl Abort, alloc: Global, alpha: &str, gamma: &str, others: &[&str]) -> String {
     let config = rig(rt, alloc, alpha, gamma);
     let mut host = Host::new(alloc, &config, 0).expect(rt, "memory");
@@ -223,7 +224,7 @@ fn answered(rt: &impl Abort, alloc: Global, alpha: &str, gamma: &str, others: &[
     replies
 }
 
-// Whether these are the replies to beta, and have nothing of a key or of another tenant's program.
+// Whether these are the replies to beta, and contain nothing of a key or of another tenant's program.
 fn are_its_own(replies: &str) -> bool {
     replies == REPLIES && !replies.contains("kkkk") && !replies.contains("qqqq")
 }

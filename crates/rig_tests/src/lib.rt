@@ -1,7 +1,11 @@
-//! Tests of what only a call shows, on values from outside. What the built program shows by its lines stands in `runs/`. They stand here, and those of desks, workers and sessions in desk_tests, so that no library is proved a second time for its tests.
+//! Tests of what only a call shows, on values from outside.
 //!
-//! A test is proved like any function, and takes longer the more it holds where it can end. So where something fails that a test doesn't
-//! ask about, `expect` or `assert!` ends the test at once, and nothing has to be dropped there. What it asks about comes back as a `bool`.
+//! Tests of what the built program shows by its lines are in `runs/`, and those of desks, workers and sessions in desk_tests. All are
+//! separate from the libraries, so that no library is proved a second time for its tests.
+//!
+//! A test is proved like any function, and its proof takes longer the more values it holds at a point where it can end. So if something
+//! fails that the test isn't about, `expect` or `assert!` ends the test at once, and nothing has to be dropped. What the test is about is
+//! returned as a `bool`.
 #![tactic(auto)]
 
 #[cfg(test)]

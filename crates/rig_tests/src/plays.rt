@@ -1,4 +1,4 @@
-//! A list of events, what alpha is answered, and an event that can't come: worked out by hand from the definitions.
+//! A list of events, the replies to alpha, and an event that can't happen: worked out by hand from the definitions.
 
 use crate::fixtures::{ADDER, ALPHA};
 use crate::steps::{Step, are_answered, played};

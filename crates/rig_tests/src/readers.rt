@@ -1,4 +1,4 @@
-//! Scripts whose bytes come one by one, a read that fails in mid-line, and want of memory for a reply.
+//! Scripts whose bytes come one by one, a read that fails in the middle of a line, and no memory for a reply.
 
 use crate::fixtures::rig;
 use rig_script::answers::{Answers, answer_lines};
@@ -10,7 +10,7 @@ use std::io;
 use std::io::Read;
 use std::process::Abort;
 
-// Gives one byte a read. Then it says once that it has ended, where it ends, and each read behind that fails.
+// Gives one byte in each read. After the last byte, it ends once if `ends` is set, and each read after that fails.
 #[derive(Drop)]
 pub(crate) struct OneByOne<'a> {
     pub(crate) left: &'a [u8],
@@ -34,7 +34,7 @@ impl<'a> Read for OneByOne<'a> {
     }
 }
 
-// How a script ends whose bytes come one by one, and what is written for it.
+// How a script ends whose bytes come one by one, and the bytes written for it.
 fn answer(
     rt: &impl Abort,
     alloc: Global,
@@ -70,7 +70,7 @@ fn lines_before_a_failing_read_are_answered(rt: HostRuntime) {
 // Has no memory for any reply.
 #[derive(Drop)]
 struct NoMemory {
-    // Who is to be told.
+    // The speaker of the line, who gets the refusal.
     speaker: Speaker,
 }
 
@@ -90,7 +90,7 @@ impl Answers for NoMemory {
     }
 }
 
-// Whether a script without memory for a reply ends so, with this written.
+// Whether a script without memory for a reply ends with this fault, after these bytes are written.
 fn ends_without_memory(alloc: Global, speaker: Speaker, expected: &[u8]) -> bool {
     let mut written = Vec::new(alloc);
     let mut reader = b"\talpha start\nbeta start\n".as_slice();

@@ -1,4 +1,4 @@
-//! Lists of events as they are written here, and what alpha and beta are answered for one.
+//! Lists of events, as tests write them, and the replies to alpha and beta for such a list.
 
 use crate::fixtures::{ADDER, ALPHA, BETA, LISTENER, frame, load, release, rig};
 use host_core::events::Event;
@@ -9,7 +9,7 @@ use rig_model::lines::texts::Text;
 use std::alloc::Global;
 use std::process::Abort;
 
-// An event as it is written here.
+// An event, as tests write it.
 #[derive(Clone, Copy)]
 pub(crate) enum Step<'a> {
     // A tenant's load of this program.
@@ -42,7 +42,7 @@ pub(crate) fn events_of(rt: &impl Abort, alloc: Global, steps: &[Step]) -> Vec<E
     events
 }
 
-// What each tenant of the built-in configuration is answered for a list.
+// The replies to each tenant of the built-in configuration for a list.
 pub(crate) fn played(
     rt: &impl Abort,
     alloc: Global,
@@ -56,7 +56,7 @@ pub(crate) fn played(
     played
 }
 
-// Whether alpha and beta are answered these.
+// Whether these are the replies to alpha and beta.
 pub(crate) fn are_answered(
     rt: &impl Abort,
     alloc: Global,
@@ -77,7 +77,7 @@ fn are_texts(texts: &[Text], alpha: &str, beta: &str) -> bool {
     }
 }
 
-// A supplier whose sum is granted, until it takes its offer back.
+// A supplier whose sum is granted, until the supplier takes its offer back.
 pub(crate) fn granted_run<'a>() -> [Step<'a>; 14] {
     [
         Step::Load(ALPHA, ADDER),

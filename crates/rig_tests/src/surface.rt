@@ -1,6 +1,8 @@
-//! Each public call of the libraries once, with ample memory, lowest crate first: `programs` for giotto_tasks, giotto_read and giotto_check,
-//! `rigs` for rig_config and tenant_grants, `tenants` for tenant_state and instant_engine, `hosts` for host_core; `surface` of
-//! desk_tests for locked_book and rig_sessions. Expected values come from worked examples, never from the program.
+//! Each public call of the libraries once, with ample memory, lowest crate first.
+//!
+//! `programs` is for giotto_tasks, giotto_read and giotto_check, `rigs` for rig_config and tenant_grants, `tenants` for tenant_state and
+//! instant_engine, and `hosts` for host_core. `surface` of desk_tests is for locked_book and rig_sessions. Expected values come from worked
+//! examples, never from the program.
 //!
 //! Other tests, here and in desk_tests, make these calls with the same arguments:
 //!

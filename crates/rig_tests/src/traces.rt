@@ -1,4 +1,4 @@
-//! Traces with ample memory: one that keeps the last of its records, and that of a tenant.
+//! Traces with ample memory: one that keeps its last records, and that of a tenant.
 
 use crate::completions::{is_answered, run};
 use crate::fixtures::{ALPHA, name, new_host};
@@ -8,7 +8,7 @@ use rig_model::trace::traces::Trace;
 use std::alloc::Global;
 use std::process::Abort;
 
-// A trace of two records, to which three were given.
+// A trace of two records that got three.
 fn last_two_of_three(rt: &impl Abort, alloc: Global) -> Trace {
     let mut trace = Trace::new(alloc, 2).expect(rt, "memory");
     trace.push(Record {

@@ -1,4 +1,4 @@
-//! What a tenant is answered for a list of events and for what is kept of it: worked out by hand from the definitions.
+//! The replies to a tenant for a list of events and for its kept part: worked out by hand from the definitions.
 
 use crate::fixtures::{ADDER, ALPHA, BETA, LISTENER, NOBODY, rig};
 use crate::steps::{Step, events_of, granted_run};
@@ -33,14 +33,14 @@ fn are_left_out(stays: &[bool], places: &[usize]) -> bool {
     true
 }
 
-// Whether the tenant is answered this for both lists, and the events at these places are left out.
+// Whether the tenant gets this text for both lists, and the events at these places are left out.
 fn is_given(outcome: &TrialOutcome, text: &str, places: &[usize]) -> bool {
     outcome.whole.as_str() == text
         && outcome.kept.as_str() == text
         && are_left_out(outcome.stays.as_slice(), places)
 }
 
-// Whether this is what a trial gives, which keeps or leaves out each event.
+// Whether a trial gives this text and leaves out the events at these places. It keeps or leaves out each event.
 fn gives(
     rt: &impl Abort,
     alloc: Global,
@@ -56,7 +56,7 @@ fn gives(
     is_given
 }
 
-// Why there is no trial.
+// The fault for which there is no trial.
 fn refusal(rt: &impl Abort, alloc: Global, steps: &[Step], tenant: TenantId) -> Option<PlayFault> {
     tried(rt, alloc, steps, tenant).err()
 }
@@ -78,7 +78,7 @@ fn consumer_keeps_its_supplier_and_the_supplier_keeps_itself(rt: HostRuntime) {
     );
 }
 
-// The bind stands at the first instant alone, and the supplier starts behind that one.
+// The bind exists only at the first instant, and the supplier starts after it.
 fn bind_at_the_first_instant<'a>() -> [Step<'a>; 9] {
     [
         Step::Load(ALPHA, ADDER),
@@ -149,7 +149,7 @@ fn own_completions_stay_and_those_of_others_go(rt: HostRuntime) {
     assert!(rt; gives(&rt, rt.alloc(), &strangers(), BETA, beta, &[0, 2, 5]));
 }
 
-// The supplier overruns at the third instant, and its completion comes behind that one.
+// The supplier overruns at the third instant, and its completion comes after that.
 fn late_supplier<'a>() -> [Step<'a>; 12] {
     [
         Step::Load(ALPHA, ADDER),

@@ -40,7 +40,7 @@ const EXTREMES: &str =
 const TOO_MANY: &str =
     "task T(a, b, c, d, e, f, g, h, i, j, k, l, m, n, o, p, q) { } mode m period 1 { } start m;";
 
-// 33 parentheses inside one another.
+// 33 nested parentheses.
 const TOO_DEEP: &str = "(((((((((((((((((((((((((((((((((";
 
 // giotto_tasks
@@ -110,7 +110,7 @@ fn is_printed(rt: &impl Abort, alloc: Global, program: &Program, text: &str) -> 
     printed.as_str() == text
 }
 
-// Whether the program of this text is printed as the other one.
+// Whether the program with this text is printed as the other text.
 fn is_read(rt: &impl Abort, alloc: Global, text: &str, printed: &str) -> bool {
     let program = read(alloc, text).expect(rt, "a program");
     let is_read = is_printed(rt, alloc, &program, printed);
@@ -141,7 +141,7 @@ fn checked(rt: &impl Abort, alloc: Global, text: &str) -> Checked {
         .expect(rt, "a well-formed program")
 }
 
-// Why the program of this text is refused.
+// The fault for which the program with this text is refused.
 fn check_fault(rt: &impl Abort, alloc: Global, text: &str) -> CheckFault {
     let program = read(alloc, text).expect(rt, "a program");
     let (program, fault) = check(alloc, program).err().expect(rt, "a broken rule");

@@ -32,7 +32,7 @@ fn config_fault(alloc: Global, text: &str) -> Option<ConfigFault> {
     read_config(alloc, text).err()
 }
 
-// Why this configuration is refused.
+// The fault for which this configuration is refused.
 fn rig_fault(rt: &impl Abort, alloc: Global, version: u64, other: &str) -> Option<ConfigFault> {
     config_fault(alloc, rig_text(rt, alloc, version, other).as_str())
 }
@@ -96,7 +96,7 @@ pub(crate) fn no_rows(rt: &impl Abort, alloc: Global, roster: ArrayVec<Name, 16>
     Grants::new(alloc, ALPHA, roster, 4, 4).expect(rt, "memory")
 }
 
-// Rows of alpha, where beta is the other tenant: none yet.
+// Rows of alpha in a roster with beta: none yet.
 pub(crate) fn alphas_rows(rt: &impl Abort, alloc: Global) -> Grants {
     let mut roster = ArrayVec::new();
     roster.push(name(rt, "alpha"));

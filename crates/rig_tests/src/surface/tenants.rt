@@ -15,7 +15,7 @@ use tenant_state::{
     Command, Done, Finished, Job, Jobs, LineFault, command_of, print_reply, run_job,
 };
 
-// Adds 1 to what it is granted, at each tick.
+// Adds 1 to its granted value, at each tick.
 const GRANTED_ADDER: &str =
     "sensor g := -1 grant; actuator a := 0; output o := 0; task T(i) output o { o := i + 1; } mode m period 1 { actfreq 1 do a := o; taskfreq 1 do T(g); } start m;";
 
@@ -33,7 +33,7 @@ fn tenant_with(rt: &impl Abort, alloc: Global, rows: Grants) -> Tenant
     Tenant::new(alloc, budgets, rows, 0).expect(rt, "memory")
 }
 
-// Whether this is the reply to a command. The tasks that it ends are in no table.
+// Whether this is the reply to a command. The tasks that the command ends are in no table.
 fn answers_command(
     rt: &impl Abort,
     alloc: Global,
@@ -163,7 +163,7 @@ fn first_done(rt: &impl Abort, alloc: Global) -> Done {
     run_job(goes_through(rt, alloc, job))
 }
 
-// The job, put and taken.
+// The job, after it was put into a list and taken out.
 fn goes_through(rt: &impl Abort, alloc: Global, job: Job) -> Job {
     let mut jobs = Jobs::with_room(alloc, 1).expect(rt, "memory");
     jobs.put(job);
