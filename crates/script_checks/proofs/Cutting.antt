@@ -1,4 +1,4 @@
--- The lines of some bytes, one line on.
+-- The lines of some bytes, one line further.
 use Rattle.std.proofs.Common.{◌≡◌, ◌+◌, ◌<◌, ◌==◌, ◌∙◌, ℕ, suc, Bool, true, false, List, Bor, [], ◌∷◌, ◌++◌, length, take, drop, map, refl, sym, ap, append_assoc, arith}
 use Rattle.std.proofs.lemmas.List.{map-append}
 use Rattle.std.specs.List.{position_or_len}
@@ -8,7 +8,7 @@ use Rattle.rig_model.specs.TextLines.{cut}
 abbrev pub line_end : List ℕ → ℕ
 line_end bytes = position_or_len (λ c. c == 10) bytes
 
--- what stands before the first LF is the first line, and the others stand behind it
+-- what comes before the first LF is the first line, and the other lines come after it
 cut_once : (bytes : List ℕ) → 0 < length bytes → cut bytes ≡ take (line_end bytes) bytes ∷ cut (drop (line_end bytes + 1) bytes)
 cut_once [] some = absurd (omega (arith, some))
 cut_once (c ∷ []) some = by (c == 10) refl
@@ -30,7 +30,7 @@ cut_once (c ∷ d ∷ ds) some = by (c == 10) refl (cut_once (d ∷ ds) (omega a
 pub pushed : (before after : List (Bor (List ℕ))) (x : Bor (List ℕ)) → after ≡ before ++ x ∷ [] → map (λ (p : Bor (List ℕ)). p.now) after ≡ map (λ (p : Bor (List ℕ)). p.now) before ++ x.now ∷ []
 pushed before after x grown = ap (map (λ (p : Bor (List ℕ)). p.now)) grown ∙ map-append (λ (p : Bor (List ℕ)). p.now) before (x ∷ [])
 
--- a line more
+-- one more line
 pub cut_further : (before : List (List ℕ)) (rest line behind : List ℕ) (all : List (List ℕ)) → 0 < length rest → line ≡ take (line_end rest) rest → behind ≡ drop (line_end rest + 1) rest
     → before ++ cut rest ≡ all → (before ++ line ∷ []) ++ cut behind ≡ all
 cut_further before rest line behind all some is later h =

@@ -1,4 +1,4 @@
--- The lines at fault, one line on.
+-- The lines at fault, one line further.
 use Rattle.std.proofs.Common.{◌≡◌, ◌+◌, ◌-◌, ◌<◌, ◌==◌, ◌∙◌, ℕ, Bool, true, false, if◌then◌else◌, List, [], ◌∷◌, ◌++◌, Option, Some, None, IfSome, is_some, Result, Ok, Err, length, drop, get_or, slice_get, map, refl, sym, ap, subst, append_assoc, arith}
 use Rattle.std.proofs.Common.{Bor}
 use Rattle.std.proofs.lemmas.Bool.{ltb-false, ltb-true}
@@ -54,7 +54,7 @@ module _ (config : Rig) (lines : List (List ℕ)) (place : ℕ) (there : place <
       let more : map told_of after ≡ map told_of before ++ told_of faulty ∷ [] = ap (map told_of) grown ∙ map-append told_of before (faulty ∷ []) in
       ap (λ l. l ++ later) more ∙ append_assoc (map told_of before) (told_of faulty ∷ []) later ∙ (sym (ap (λ l. map told_of before ++ l) here) ∙ h)
 
--- what was found tells of the faults, and of one more
+-- what was found reports the faults, with one more
 found_more : (config : Rig) (lines : List (List ℕ)) (fs : List FaultyLine) (f : FaultyLine) → AreFound config lines fs → TellLine config (line_at lines f.number) f.found → AreFound config lines (fs ++ f ∷ [])
 found_more config lines [] f are tells = (tells, are)
 found_more config lines (g ∷ gs) f are tells = (are.0, found_more config lines gs f are.1 tells)
@@ -66,7 +66,7 @@ told_further config lines place before after faulty line is tells some number gr
     let told : TellLine config line faulty.found = subst (λ (o : Option Found). IfSome o (TellLine config line)) some tells in
     subst (λ (fs : List FaultyLine). AreFound config lines fs) (sym grown) (found_more config lines before faulty are (subst (λ (l : List ℕ). TellLine config l faulty.found) at told))
 
--- an operator's line is at fault for no program
+-- the fault of an operator's line is never that of a program
 pub operator_other : (config : Rig) (line : Option OperatorLine) → fault_of_operator config line ≡ Some Program → ⊥
 operator_other config None e = absurd (cc)
 operator_other config (Some (tick values)) e = by (length values == config.lines) e
@@ -90,7 +90,7 @@ refused_text budgets text refused = by (program_of text) refl
     by (Err refusal) is = rw is refl
     by (Ok p) is = absurd (refused (text_of_program text p is))
 
--- a program that is over a budget
+-- a program that exceeds a budget
 pub over_text : (budgets : Budgets) (text : List ℕ) (p : GiottoProgram) (budget : Budget) → parsed text ≡ Ok p → first_broken_rule p ≡ None → broken_budget budgets (length text) p ≡ Some budget → Some Program ≡ fault_of_program budgets text
 over_text budgets text p budget is none over = rw (program_of_text text p is none, over) refl
 
@@ -99,7 +99,7 @@ pub told_by_tenant : (config : Rig) (line text : List ℕ) (t : ℕ) (tenant : T
     → fault_of_line config line ≡ fault_of_command tenant.budgets (command_of_line (behind_first_word text))
 told_by_tenant config line text t tenant is speaks there = rw (is, speaks, there) refl
 
--- what a look-up in a slice lends
+-- what a lookup in a slice returns
 pub copied_at : {X : Type 0} (xs : List X) (k : ℕ) (found : Option (Bor X)) → IsItemAt xs k found → option_copied found ≡ slice_get xs k
 copied_at xs k None h = sym (slice_get_past xs k (ltb-false k (length xs) (sym h.0)))
 copied_at xs k (Some x) h = sym (slice_get_read xs (length xs) k x.now refl (ltb-true k (length xs) (sym h.0)) h.1)

@@ -1,4 +1,4 @@
--- What is said of grants, one line on.
+-- The commands that have to do with grants, one line further.
 use Rattle.std.proofs.Common.{◌≡◌, ◌+◌, ◌<◌, ◌∙◌, ℕ, List, [], ◌∷◌, ◌++◌, Some, None, Result, Ok, Err, length, drop, get_or, refl, sym, ap, append_assoc}
 use Rattle.std.proofs.lemmas.List.{drop_more}
 use Rattle.program_checks.specs.reports.Reports.{IsWellFormed}
@@ -23,7 +23,7 @@ nothing_loaded text refused = by (program_of text) refl
     by (Err refusal) is = rw is refl
     by (Ok p) is = absurd (refused (text_of_program text p is))
 
--- a loop over lines, one on
+-- a loop over lines, one line further
 pub said_further : (config : Rig) (lines : List (List ℕ)) (place : ℕ) (line : List ℕ) (before after all : List Said) → place < length lines → get_or lines place [] ≡ line
     → after ≡ before ++ said_in_line config (place + 1) line → before ++ said_from config (place + 1) (drop place lines) ≡ all
     → after ++ said_from config (place + 1 + 1) (drop (place + 1) lines) ≡ all

@@ -1,4 +1,4 @@
--- Findings at lines that are told one by one.
+-- Findings in lines that are shown one by one.
 use Rattle.std.proofs.Common.{◌≡◌, ◌+◌, ◌<◌, ◌==◌, ℕ, Bool, false, List, [], ◌∷◌, ◌++◌, length, map, take, get_or, refl, sym, ap, subst, ◌∙◌, append_assoc, append-nil, arith, string_bytes}
 use Rattle.std.specs.List.{flat_map}
 use Rattle.std.proofs.lemmas.Bool.Decides.{nat_tests}
@@ -35,7 +35,7 @@ module _ (file : List ℕ) where
       → Adds file ((place, f) ∷ []) before after
   adds_one place f before part after begins grown = (part, (part, [], sym (append-nil part), begins, refl), grown)
 
-  -- a loop over findings, one on
+  -- a loop over findings, one finding further
   pub finding_further : (place : Finding → Place) (fs : List Finding) (i : ℕ) (f : Finding) (first before part after : List ℕ)
       → Adds file (map (λ (g : Finding). (place g, g)) (take i fs)) first before → i < length fs → f ≡ get_or fs i f → BeginsWith (head_at f file (place f)) part → after ≡ before ++ part
       → Adds file (map (λ (g : Finding). (place g, g)) (take (i + 1) fs)) first after
@@ -46,7 +46,7 @@ module _ (file : List ℕ) where
       subst (λ (found : List (Place × Finding)). Adds file found first after) more
       (adds_both (map at (take i fs)) (at f ∷ []) first before after so_far (adds_one (place f) f before part after begins grown))
 
-  -- a loop over lines at fault, one on
+  -- a loop over lines at fault, one line further
   pub line_further : {X : Type 0} (at : X → List (Place × Finding)) (xs : List X) (i : ℕ) (x : X) (first before after : List ℕ) → Adds file (flat_map at (take i xs)) first before
       → i < length xs → x ≡ get_or xs i x → Adds file (at x) before after → Adds file (flat_map at (take (i + 1) xs)) first after
   line_further at xs i x first before after so_far within item here =
@@ -54,7 +54,7 @@ module _ (file : List ℕ) where
       let more : flat_map at (take i xs) ++ at x ≡ flat_map at (take (i + 1) xs) = flat_map_more at [] (take i xs) x ∙ ap (flat_map at) taken in
       subst (λ (found : List (Place × Finding)). Adds file found first after) more (adds_both (flat_map at (take i xs)) (at x) first before after so_far here)
 
--- a script that is told: first how many lines it has, then what was found, then the notes
+-- the report on a script: first how many lines it has, then what was found, then the notes
 pub told_all : (config : Rig) (file bytes : List ℕ) (lines : List (List ℕ)) (faulty : List FaultyLine) (count : ℕ) (good : Bool) (first more told : List ℕ)
     → lines ≡ cut bytes → count ≡ length lines → AreTold faulty (faults_from config 1 lines) → AreFound config lines faulty → good ≡ is_good (faults_of config bytes) → first ≡ told_first file count good
     → Adds file (findings_of lines faulty) first more → AddsNotes file (notes_of config lines) more told → IsToldOf config file bytes told
@@ -84,7 +84,7 @@ notes_both : (file : List ℕ) (xs ys : List Told) (a b c : List ℕ) → AddsNo
 notes_both file xs ys a b c first second =
     (first.0 ++ second.0, map-append told_at first.0 second.0 ∙ (ap (λ (l : List Told). l ++ map told_at second.0) first.1 ∙ ap (λ (l : List Told). xs ++ l) second.1), adds_both file first.0 second.0 a b c first.2 second.2)
 
--- a loop over commands, one on
+-- a loop over commands, one command further
 pub command_further : {X : Type 0} (file : List ℕ) (at : X → List Told) (xs : List X) (i : ℕ) (x : X) (first before after : List ℕ) → AddsNotes file (flat_map at (take i xs)) first before
     → i < length xs → x ≡ get_or xs i x → AddsNotes file (at x) before after → AddsNotes file (flat_map at (take (i + 1) xs)) first after
 command_further file at xs i x first before after so_far within item here =
@@ -92,7 +92,7 @@ command_further file at xs i x first before after so_far within item here =
     let more : flat_map at (take i xs) ++ at x ≡ flat_map at (take (i + 1) xs) = flat_map_more at [] (take i xs) x ∙ ap (flat_map at) taken in
     subst (λ (told : List Told). AddsNotes file told first after) more (notes_both file (flat_map at (take i xs)) (at x) first before after so_far here)
 
--- whether lines at fault were found is whether there are some
+-- no lines at fault were found exactly if there are none
 pub good_of : (faulty : List FaultyLine) (faults : List (ℕ × LineFault)) → AreTold faulty faults → (length faulty == 0) ≡ is_good faults
 good_of [] faults are = ap is_good are
 good_of (f ∷ fs) faults are = let some : (length (f ∷ fs) == 0) ≡ false = grind (arith, nat_tests) in some ∙ ap is_good are

@@ -1,4 +1,4 @@
--- What was found at a line tells of its fault.
+-- What was found in a line reports its fault.
 use Rattle.std.proofs.Common.{◌≡◌, ℕ, List, Option, Some, None, Result, Ok, Err, IfOk, IfSome, slice_get, refl, sym, subst}
 use Rattle.rig_model.specs.config.Roster.{Rig}
 use Rattle.rig_model.specs.declared.config.TenantConfig.{TenantConfig}

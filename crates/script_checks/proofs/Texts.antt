@@ -7,7 +7,7 @@ use Rattle.std.specs.Str.{is_utf8}
 use Rattle.rig_model.specs.TextLines.{text_of_line, without_last_cr}
 use Rattle.rig_model.specs.declared.limits.TheConstants.{MAX_LINE}
 
--- a line ends with a CR, or is as it is without one
+-- a line ends with a CR, or stays as it is without one
 pub cr_or_same : (xs : List ℕ) → (xs ≡ without_last_cr xs ++ 13 ∷ []) ⊎ (xs ≡ without_last_cr xs)
 cr_or_same [] = inr refl
 cr_or_same (c ∷ []) = by (c == 13) refl
@@ -17,7 +17,7 @@ cr_or_same (c ∷ []) = by (c == 13) refl
     by false e = inr (rw e refl)
 cr_or_same (c ∷ d ∷ cs) = elim (cr_or_same (d ∷ cs)) [ inl e ↦ inl (ap (λ l. c ∷ l) e) | inr e ↦ inr (ap (λ l. c ∷ l) e) ]
 
--- the last byte of a text, or 0 where there is none
+-- the last byte of a text, or 0 if there is none
 abbrev pub last_of : List ℕ → ℕ
 last_of xs = get_or xs (length xs - 1) 0
 
@@ -29,7 +29,7 @@ front_before : (ys : List ℕ) → take (length ys) (ys ++ 13 ∷ []) ≡ ys
 front_before [] = refl
 front_before (y ∷ ys) = ap (λ l. y ∷ l) (front_before ys)
 
--- without it nothing stands at the end but what stood before it
+-- without the CR at its end, a text has the bytes before the CR
 no_other : (xs : List ℕ) → xs ≡ without_last_cr xs ++ 13 ∷ [] → (last_of xs ≡ 13) × (take (length xs - 1) xs ≡ without_last_cr xs)
 no_other xs e =
     let ys = without_last_cr xs in
@@ -51,7 +51,7 @@ ends_so (c ∷ d ∷ cs) some is same =
 pub taken_off : (xs : List ℕ) → 0 < length xs → last_of xs ≡ 13 → take (length xs - 1) xs ≡ without_last_cr xs
 taken_off xs some is = elim (cr_or_same xs) [ inl e ↦ (no_other xs e).1 | inr e ↦ absurd (ends_so xs some is e) ]
 
--- a text that doesn't
+-- a text that doesn't end with a CR
 pub left_as_it_is : (xs : List ℕ) → (last_of xs ≡ 13 → ⊥) → xs ≡ without_last_cr xs
 left_as_it_is xs other = elim (cr_or_same xs) [ inl e ↦ absurd (other (no_other xs e).0) | inr e ↦ e ]
 

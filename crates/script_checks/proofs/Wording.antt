@@ -1,4 +1,4 @@
--- Words of commands that are none.
+-- The words about lines that are not commands.
 use Rattle.std.proofs.Common.{◌≡◌, ◌++◌, ◌==◌, ℕ, Bool, true, false, List, [], ◌∷◌, length, codes, refl, sym}
 use Rattle.std.specs.Cmp.Lexicographic.{same_text}
 use Rattle.giotto_tasks.specs.Names.{same_name}

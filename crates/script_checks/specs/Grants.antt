@@ -1,4 +1,4 @@
--- Offers and binds of a script that grant nothing in it.
+-- Notes on offers and binds of a script that grant nothing in it.
 use Rattle.std.specs.Prelude.{◌≡◌, ℕ, ◌+◌, ◌==◌, Bool, true, false, not, ◌&&◌, if◌then◌else◌, List, [], ◌∷◌, ◌++◌, map, Option, Some, None, Result, Ok, Err, codes, string_bytes}
 use Rattle.std.specs.List.{flat_map, list_any}
 use Rattle.giotto_faults.specs.declared.findings.Finding.{Finding}
@@ -27,7 +27,7 @@ use Rattle.script_checks.specs.declared.binds.Said.{Said}
 use Rattle.script_checks.specs.declared.binds.What.{What}
 use Rattle.script_checks.specs.declared.binds.What.TheVariants.{Program, Grants}
 
--- the well-formed program that a text spells, if it does
+-- the well-formed program that a text spells, if it spells one
 abbrev pub loaded : List ℕ → Option What
 loaded text = by (program_of text)
   where
@@ -35,7 +35,7 @@ loaded text = by (program_of text)
     by (Ok p) = Some (Program p)
     by (Err refusal) = None
 
--- what a tenant's command has to do with grants: it loads a program, or is about them
+-- what a tenant's command has to do with grants: it loads a program, or is about grants
 abbrev pub what_of : Option Command → Option What
 what_of None = None
 what_of (Some (command.Load text)) = loaded text
@@ -66,7 +66,7 @@ said_in_line config number line = by_text (text_of_line line)
     by_text None = []
     by_text (Some text) = by_speaker text (speaker_of config text)
 
--- those of these lines, of which the first has this number
+-- the commands of these lines, the first of which has this number
 abbrev pub said_from : Rig → ℕ → List (List ℕ) → List Said
 said_from config number [] = []
 said_from config number (line ∷ lines) = said_in_line config number line ++ said_from config (number + 1) lines
@@ -75,7 +75,7 @@ abbrev pub is_grant : Source → Bool
 is_grant from_grant = true
 is_grant (from_line k) = false
 
--- a sensor has this name, and has its values by a grant, or else of a line
+-- a sensor has this name, and takes its values from a grant, or else from a line
 abbrev pub takes : Bool → Name → SensorDeclaration → Bool
 takes granted name s = same_name s.name name && (if is_grant s.source then granted else not granted)
 
@@ -116,7 +116,7 @@ offers t actuator to one = (one.tenant == t) && by one.what
 abbrev pub words_of_nobody : Name → List ℕ
 words_of_nobody name = codes "no tenant has the name `" ++ (name ++ codes "`, so nothing is granted")
 
--- what is noted of a bind's sensor: that its programs read it from a line, or have none of that name
+-- the note on a bind's sensor: that the tenant's programs read it from a line, or have no sensor with that name
 abbrev pub note_of_sensor : List Said → ℕ → Name → Option (List ℕ)
 note_of_sensor said t sensor =
     if list_any (loads_sensor true t sensor) said then None
@@ -132,7 +132,7 @@ words_of_no_actuator supplier name = codes "no program that `" ++ (supplier ++ (
 abbrev pub words_of_no_offer : Name → Name → Name → List ℕ
 words_of_no_offer supplier name to = codes "`" ++ (supplier ++ (codes "` doesn't offer `" ++ (name ++ (codes "` to `" ++ (to ++ codes "` here")))))
 
--- what is noted of the supplier of a bind, at this place: that its programs have no such actuator, or that it doesn't offer it
+-- the note on a bind's supplier, which is at this place: that its programs have no such actuator, or that it doesn't offer it
 abbrev pub note_of_supplier : Rig → List Said → ℕ → ℕ → Name → Option (List ℕ)
 note_of_supplier config said t supplier actuator =
     if not (list_any (loads_actuator supplier actuator) said) then Some (words_of_no_actuator (name_at config supplier) actuator)
@@ -144,17 +144,18 @@ abbrev pub first_of : Option (List ℕ) → Option (List ℕ) → Option (List �
 first_of (Some note) other = Some note
 first_of None other = other
 
--- what is noted of an offer to the tenant of this name, which is at this place
+-- the note on an offer to the tenant with this name, which is at this place
 abbrev pub note_of_offer : Name → Option ℕ → Option (List ℕ)
 note_of_offer name None = Some (words_of_nobody name)
 note_of_offer name (Some place) = None
 
--- what is noted of the bind of a tenant's sensor to an actuator of the tenant of this name, which is at this place
+-- the note on the bind of a tenant's sensor to an actuator of the tenant with this name, which is at this place
 abbrev pub note_of_bind : Rig → List Said → ℕ → Name → Name → Name → Option ℕ → Option (List ℕ)
 note_of_bind config said t sensor name actuator None = Some (words_of_nobody name)
 note_of_bind config said t sensor name actuator (Some supplier) = first_of (note_of_sensor said t sensor) (note_of_supplier config said t supplier actuator)
 
--- what is noted of a command among those of a script: of an offer to nobody, or a bind by which nothing is ever granted
+-- the note on a command among those of a script: on an offer to a tenant that doesn't exist, or on a bind that never grants
+-- anything
 abbrev pub note_of : Rig → List Said → Said → Option (List ℕ)
 note_of config said one = by one.what
   where
@@ -169,7 +170,7 @@ note_of config said one = by one.what
     by (Program p) = None
     by (Grants grants) = by_grants grants
 
--- a place, how grave it is what is told there, and its words
+-- a place, the severity of what is reported there, and its words
 abbrev pub Told : Type 0
 Told = Place × (Severity × List ℕ)
 
@@ -177,7 +178,7 @@ Told = Place × (Severity × List ℕ)
 abbrev pub told_at : Place × Finding → Told
 told_at found = (found.0, (found.1.severity, string_bytes found.1.message))
 
--- where a note on a line with this number is shown: at the command, behind who speaks
+-- where a note on a line with this number is shown: at the command, after the speaker
 abbrev pub place_of_note : ℕ → List ℕ → Place
 place_of_note number line = place_in number line (offset_of_word (text_or_none line) (behind_first_word (text_or_none line)))
 
@@ -193,6 +194,6 @@ note_on config lines said one = by (note_of config said one)
 abbrev pub notes_of : Rig → List (List ℕ) → List Told
 notes_of config lines = flat_map (note_on config lines (said_from config 1 lines)) (said_from config 1 lines)
 
--- just these are told
+-- the findings report exactly these
 abbrev pub AreNotes : List Told → List (Place × Finding) → Type 0
 AreNotes told findings = map told_at findings ≡ told

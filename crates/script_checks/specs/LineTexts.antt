@@ -1,4 +1,4 @@
--- In which words a fault of a line of a script is told, and where.
+-- The words with which a fault of a script's line is reported, and where it is shown.
 use Rattle.std.specs.Prelude.{◌≡◌, ℕ, ◌-◌, min, Bool, if◌then◌else◌, List, [], ◌∷◌, ◌++◌, length, Option, Some, None, codes, string_bytes}
 use Rattle.std.specs.Fmt.{decimal}
 use Rattle.program_checks.specs.faults.Places.{place_of}
@@ -21,7 +21,7 @@ words_of_nobody name = codes "no tenant has the name `" ++ (name ++ codes "`")
 abbrev pub words_of_frame : Rig → List ℕ
 words_of_frame config = codes "a tick has a value for each rig line, and these are " ++ decimal config.lines
 
--- the words behind `op` with which lines begin that have forms, and those behind a tenant's name; `load` and `replace` take any text
+-- the words after `op` that begin lines with known forms, and those after a tenant's name; `load` and `replace` take any text
 abbrev pub words_of_operator : List (List ℕ)
 words_of_operator = codes "tick" ∷ codes "work" ∷ codes "lines" ∷ []
 
@@ -31,7 +31,7 @@ words_of_tenants = codes "start" ∷ codes "stop" ∷ codes "trace" ∷ codes "r
 abbrev pub has_forms : List ℕ → List ℕ → Bool
 has_forms speaker word = if same_name speaker operator then is_among words_of_operator word else is_among words_of_tenants word
 
--- what is said of a line that is no command, by who speaks and the word behind
+-- the message about a line that is not a command, by its speaker and the word after the speaker
 abbrev pub words_of_command : List ℕ → List ℕ → List ℕ
 words_of_command speaker [] = codes "there is no command behind `" ++ (speaker ++ codes "`")
 words_of_command speaker (c ∷ cs) =
@@ -41,7 +41,7 @@ words_of_command speaker (c ∷ cs) =
 abbrev pub words_of_bad_command : List ℕ → List ℕ
 words_of_bad_command text = words_of_command (first_word_of text) (first_word_of (behind_first_word text))
 
--- what is wrong with a line of this text, in words; of a program its own findings tell
+-- what is wrong with a line of this text, in words; the fault of a program is reported by the program's findings
 abbrev pub words_of_fault : Rig → List ℕ → LineFault → List ℕ
 words_of_fault config text TooLong = codes "the line has more than 16384 bytes, and ends the script for all"
 words_of_fault config text NotText = codes "the line isn't UTF-8, and ends the script for all"
@@ -51,11 +51,12 @@ words_of_fault config text BadFrame = words_of_frame config
 words_of_fault config text BadCommand = words_of_bad_command text
 words_of_fault config text Program = []
 
--- where the first word of what a text ends with begins: the text without what stands behind that word, and without the word
+-- the offset at which the first word of `end`, the end of a text, begins: the length of the text without that word and what comes
+-- after it
 abbrev pub offset_of_word : List ℕ → List ℕ → ℕ
 offset_of_word text end = length text - length (behind_first_word end) - length (first_word_of end)
 
--- what stands behind who speaks, where that is a word at least, or else the line
+-- what comes after the speaker, if there is a word in it, or else the whole line
 abbrev pub end_with_command : List ℕ → List ℕ
 end_with_command text = by (first_word_of (behind_first_word text))
   where
@@ -66,7 +67,8 @@ end_with_command text = by (first_word_of (behind_first_word text))
 abbrev pub offset_of_command : List ℕ → ℕ
 offset_of_command text = offset_of_word text (end_with_command text)
 
--- where the fault of a line of this text is shown: at the word that is wrong, or of the line as a whole at its front
+-- where the fault of a line of this text is shown: at the wrong word, or at the start of the line if the fault is that of the
+-- whole line
 abbrev pub offset_of_fault : List ℕ → LineFault → ℕ
 offset_of_fault text TooLong = 0
 offset_of_fault text NotText = 0
@@ -76,11 +78,11 @@ offset_of_fault text BadFrame = offset_of_word text (behind_first_word text)
 offset_of_fault text BadCommand = offset_of_command text
 offset_of_fault text Program = 0
 
--- an error at this offset, in these words
+-- an error at this offset, with these words
 abbrev pub IsErrorAt : ℕ → List ℕ → Finding → Type 0
 IsErrorAt offset words f = (f.severity ≡ Error) × (f.offset ≡ offset) × (string_bytes f.message ≡ words)
 
--- the text of a line, and none of it where it is no text
+-- the text of a line, or nothing if the line is too long or not UTF-8
 abbrev pub text_or_none : List ℕ → List ℕ
 text_or_none line = by (text_of_line line)
   where
@@ -92,6 +94,6 @@ text_or_none line = by (text_of_line line)
 abbrev pub column_in : List ℕ → ℕ → ℕ
 column_in line offset = (place_of (text_or_none line) (min offset (length (text_or_none line)))).column
 
--- the place of that byte, where this is the line's number
+-- the place of that byte in the line with this number
 abbrev pub place_in : ℕ → List ℕ → ℕ → Place
 place_in number line offset = record { line = number; column = column_in line offset }

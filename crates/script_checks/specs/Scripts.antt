@@ -52,7 +52,7 @@ fault_of_operator config (Some work) = None
 fault_of_operator config (Some (work_of name)) = if is_some (place_of config name) then None else Some UnknownTenant
 fault_of_operator config (Some line_values) = None
 
--- what is wrong with the text of a line, by who speaks in it
+-- what is wrong with the text of a line, by its speaker
 abbrev pub fault_of_speech : Rig → List ℕ → Speaker → Option LineFault
 fault_of_speech config text Nobody = None
 fault_of_speech config text Operator = fault_of_operator config (operator_line_of (words_of (behind_first_word text)))
@@ -80,7 +80,7 @@ faults_from config n (line ∷ lines) = by (fault_of_line config line) (faults_f
 abbrev pub faults_of : Rig → List ℕ → List (ℕ × LineFault)
 faults_of config bytes = faults_from config 1 (cut bytes)
 
--- what was found at a line is this fault, if there is one
+-- what was found in a line is this fault, if there is one
 abbrev pub IsFound : Option Found → Option LineFault → Type 0
 IsFound found fault = option_map (λ (f : Found). f.fault) found ≡ fault
 
@@ -88,7 +88,7 @@ IsFound found fault = option_map (λ (f : Found). f.fault) found ≡ fault
 abbrev pub told_of : FaultyLine → ℕ × LineFault
 told_of line = (line.number, line.found.fault)
 
--- just these are told
+-- these lines report exactly these faults
 abbrev pub AreTold : List FaultyLine → List (ℕ × LineFault) → Type 0
 AreTold lines faults = map told_of lines ≡ faults
 

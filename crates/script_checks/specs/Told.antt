@@ -1,4 +1,4 @@
--- What is found at the lines at fault of a script, and how it is shown.
+-- What is found in the lines at fault of a script, and how it is shown.
 use Rattle.std.specs.Prelude.{◌≡◌, ◌≢◌, ◌⊎◌, ℕ, ◌+◌, ◌-◌, List, [], ◌∷◌, ◌++◌, length, get_or, slice_get, map, Option, Some, None}
 use Rattle.std.specs.List.{flat_map}
 use Rattle.giotto_faults.specs.declared.findings.Finding.{Finding}
@@ -21,7 +21,7 @@ use Rattle.script_checks.specs.declared.scripts.Found.{Found}
 use Rattle.script_checks.specs.declared.scripts.LineFault.{LineFault}
 use Rattle.script_checks.specs.declared.scripts.LineFault.TheVariants.{TooLong, NotText, UnknownSpeaker, BadCommand, BadFrame, UnknownTenant, Program}
 
--- the text of a program that a command brings
+-- the text of the program that a command passes
 abbrev pub program_in : Option Command → Option (List ℕ)
 program_in (Some (Load text)) = Some text
 program_in (Some (Replace text)) = Some text
@@ -34,7 +34,7 @@ program_in (Some Trace) = None
 program_in (Some (Grants command)) = None
 program_in None = None
 
--- of the fault of a program the first, and of any other the second
+-- the first type for the fault of a program, and the second for any other fault
 abbrev pub of_fault : LineFault → Type 0 → Type 0 → Type 0
 of_fault Program program other = program
 of_fault TooLong program other = other
@@ -44,22 +44,23 @@ of_fault BadCommand program other = other
 of_fault BadFrame program other = other
 of_fault UnknownTenant program other = other
 
--- just one finding, an error where the fault of a line with this text is, in its words
+-- exactly one finding: an error at the place of the fault of a line with this text, in the fault's words
 abbrev pub IsOneFinding : Rig → List ℕ → Found → Type 0
 IsOneFinding config text found =
     (found.fault ≢ Program) × (found.before ≡ 0)
     × ((f : Finding) × (found.findings.items ≡ f ∷ []) × IsErrorAt (offset_of_fault text found.fault) (words_of_fault config text found.fault) f)
 
--- the findings tell why the host refuses a tenant this program, with which the text of a line ends: it isn't well-formed, or is over a budget
+-- the findings say why the host refuses this program, with which the text of a line ends, to a tenant: it isn't well-formed, or
+-- it exceeds a budget
 abbrev pub TellProgram : TenantConfig → List ℕ → List ℕ → Found → Type 0
 TellProgram tenant text program found =
     (found.fault ≡ Program) × (found.before ≡ length text - length program) × (TellWhy program found.findings.items ⊎ TellOver tenant Summary program found.findings.items)
 
--- the same of the program that a tenant's line with this text brings
+-- the same for the program that a tenant's line with this text passes
 abbrev pub TellBrought : TenantConfig → List ℕ → Found → Type 0
 TellBrought tenant text found = (program : List ℕ) × (program_in (command_of_line (behind_first_word text)) ≡ Some program) × TellProgram tenant text program found
 
--- what was found at a line tells of its fault; it is a tenant who brings a program
+-- what was found in a line reports its fault; only a tenant's line passes a program
 abbrev pub TellLine : Rig → List ℕ → Found → Type 0
 TellLine config line found =
     of_fault found.fault ((t : ℕ) × (tenant : TenantConfig) × (speaker_of config text ≡ Tenant t) × (slice_get config.tenants t ≡ Some tenant) × TellBrought tenant text found) (IsOneFinding config text found)
@@ -67,20 +68,20 @@ TellLine config line found =
     text : List ℕ
     text = text_or_none line
 
--- the line with this number of these, of which the first has the number 1
+-- the line with this number among these, the first of which has the number 1
 abbrev pub line_at : List (List ℕ) → ℕ → List ℕ
 line_at lines number = get_or lines (number - 1) []
 
--- what was found tells of the fault of each of these lines
+-- what was found reports the fault of each of these lines
 abbrev pub AreFound : Rig → List (List ℕ) → List FaultyLine → Type 0
 AreFound config lines [] = Unit {0}
 AreFound config lines (faulty ∷ others) = TellLine config (line_at lines faulty.number) faulty.found × AreFound config lines others
 
--- findings about what a line ends with, each with its place
+-- findings about the end of a line, each with its place
 abbrev pub findings_in : ℕ → List ℕ → ℕ → List Finding → List (Place × Finding)
 findings_in number line before findings = map (λ (f : Finding). (place_in number line (before + f.offset), f)) findings
 
--- what was found at these lines, each finding with its place
+-- what was found in these lines, each finding with its place
 abbrev pub findings_of : List (List ℕ) → List FaultyLine → List (Place × Finding)
 findings_of lines faulty = flat_map (λ (f : FaultyLine). findings_in f.number (line_at lines f.number) f.found.before f.found.findings.items) faulty
 

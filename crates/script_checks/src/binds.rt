@@ -1,4 +1,4 @@
-//! Offers and binds of a script that never grant anything in it.
+//! Notes on offers and binds of a script that never grant anything in it.
 
 ghost use Rattle.std.specs.Prelude.{◌≡◌, ◌++◌, ◌∷◌, [], IfOk, OnOk, map, option_map, string_bytes};
 ghost use Rattle.std.specs.List.{flat_map, list_any};
@@ -41,11 +41,11 @@ pub(crate) enum What {
     Grants(GrantCommand),
 }
 
-/// Adds a note for each `bind` of these lines that grants nothing in them, and for each `offer` and `bind` to or from nobody, with the
-/// line's number.
+/// Adds a note for each `bind` in these lines that grants nothing in them, and for each `offer` or `bind` that names a tenant
+/// that doesn't exist. Each note has the line's number.
 ///
 /// # Errors
-/// Want of memory.
+/// Out of memory.
 pub(crate) fn add_notes(
     alloc: Global,
     text: &mut String,
@@ -64,7 +64,7 @@ pub(crate) fn add_notes(
     add_notes_on(alloc, text, file, &script, script.said)
 }
 
-// The lines of a script, and what is said of grants in them.
+// The lines of a script, and those of its commands that have to do with grants.
 #[derive(Clone, Copy)]
 struct Script<'a> {
     config: &'a Config,
@@ -147,7 +147,7 @@ fn note_at(line: &[u8], message: String) -> Finding
     }
 }
 
-// The commands of these lines that load programs or are about grants, each whole.
+// The commands in these lines that load programs or are about grants.
 fn said_in(alloc: Global, lines: &[&[u8]], config: &Config) -> Result<Vec<Said>, AllocError>
     ensures { IfOk result (λ said. said.items ≡ said_from config.now 1 (map (λ line. line.now) lines.now)) }
 {
@@ -211,7 +211,7 @@ fn loaded(alloc: Global, text: &str) -> Result<Option<What>, AllocError>
     }
 }
 
-// What is noted of a command, if anything.
+// The note on a command, if there is one.
 fn note_of(
     alloc: Global,
     config: &Config,
@@ -233,7 +233,7 @@ fn note_of(
     }
 }
 
-// An offer to a tenant of this name.
+// The note on an offer to a tenant with this name, if there is one.
 fn note_of_offer(
     alloc: Global,
     config: &Config,
@@ -254,7 +254,7 @@ fn words_of_nobody(alloc: Global, tenant: &Name) -> Result<String, AllocError>
     format!(in alloc; "no tenant has the name `{name}`, so nothing is granted")
 }
 
-// A bind of a tenant, of a sensor to a tenant's actuator.
+// The note on a tenant's bind of a sensor to an actuator of the supplier, if there is one.
 fn note_of_bind(
     alloc: Global,
     config: &Config,
@@ -274,7 +274,7 @@ fn note_of_bind(
     }
 }
 
-// Whether the tenant loads a program with this sensor, and with `grant`.
+// The note if the tenant loads no program that declares this sensor with `grant`.
 fn note_of_sensor(
     alloc: Global,
     said: &[Said],
@@ -295,7 +295,7 @@ fn note_of_sensor(
     Ok(Some(format!(in alloc; "no program that this tenant loads here has a sensor `{name}`")?))
 }
 
-// Whether the supplier at a place loads a program with this actuator, and offers it to the tenant.
+// The note if the supplier at a place loads no program with this actuator, or doesn't offer it to the tenant.
 fn note_of_supplier(
     alloc: Global,
     config: &Config,
@@ -337,7 +337,7 @@ fn words_of_no_offer(
     format!(in alloc; "`{supplier}` doesn't offer `{name}` to `{to}` here")
 }
 
-// Whether the tenant at a place loads a program with this sensor, with `grant`, or else with a line.
+// Whether the tenant at a place loads a program with this sensor: declared with `grant` if `granted`, or else with a line.
 fn has_sensor(said: &[Said], granted: bool, tenant: TenantId, sensor: &Name) -> bool
     ensures { result ≡ list_any (loads_sensor granted tenant sensor.now) said.now }
 {
@@ -433,7 +433,7 @@ fn is_among_actuators(actuators: &[Actuator], actuator: &Name) -> bool
     false
 }
 
-// Whether the tenant at a place offers this actuator to the tenant of this name.
+// Whether the tenant at a place offers this actuator to the tenant with this name.
 fn has_offer(said: &[Said], tenant: TenantId, actuator: &Name, to: &str) -> bool
     ensures { result ≡ list_any (offers tenant actuator.now to.now) said.now }
 {

@@ -1,11 +1,11 @@
-//! What is told of a script before it runs: the lines that nobody can answer, programs at fault, and binds that grant nothing.
+//! Checks a script before it runs: lines that can't be answered, faulty programs, and binds that grant nothing.
 //!
 //! ```text
 //! let report = check_script(alloc, "rig.script", bytes, &config)?;
 //! ```
 //!
-//! [`scripts`] has the lines at fault. Who speaks in a line, and whether it is a command, is asked of the functions by which the host
-//! answers it; `specs/Scripts.antt` says which lines are told.
+//! [`scripts`] finds the lines at fault. Who speaks in a line, and whether it is a command, is decided by the same functions with
+//! which the host answers the line. `specs/Scripts.antt` says which lines are reported.
 #![tactic(auto)]
 
 mod binds;

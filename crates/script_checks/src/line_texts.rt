@@ -1,4 +1,4 @@
-//! What is told of lines of a script, in the form of a compiler's messages.
+//! Findings about lines of a script, in the form of a compiler's messages.
 
 ghost use Rattle.std.specs.Prelude.{◌≡◌, ◌≢◌, ◌+◌, IfOk, is_some, min, string_bytes};
 ghost use Rattle.program_checks.specs.faults.Findings.{BeginsWith, head_at};
@@ -14,13 +14,14 @@ use rig_model::lines::words;
 use std::alloc::{AllocError, Global};
 use unicode_width::UnicodeWidthStr;
 
-// How many bytes of a long line are shown on each side of what is told.
+// How many bytes of a long line are shown on each side of the place of a finding.
 const SIDE: usize = 60;
 
-/// What is told of a fault of a line of this text; that it is no text is told of the line as a whole.
+/// The finding that reports a fault of a line with this text. If the line is too long or not UTF-8, the finding is about the line
+/// as a whole.
 ///
 /// # Errors
-/// Want of memory.
+/// Out of memory.
 pub(crate) fn one_finding(
     alloc: Global,
     config: &Config,
@@ -47,7 +48,7 @@ pub(crate) fn one_finding(
     }
 }
 
-// A finding at the front of a line.
+// A finding at the start of a line.
 fn whole(alloc: Global, message: &str) -> Result<Finding, AllocError>
     ensures { IfOk result (IsErrorAt 0 message.now) }
 {
@@ -61,7 +62,7 @@ fn whole(alloc: Global, message: &str) -> Result<Finding, AllocError>
     })
 }
 
-// A finding at the first word of what a line ends with.
+// A finding at the first word of `end`, with which the line ends.
 fn at_word(line: &str, end: &str, message: String, help: Option<String>) -> Finding
     ensures { IsErrorAt (offset_of_word line.now end.now) (string_bytes message) result }
 {
@@ -75,7 +76,7 @@ fn at_word(line: &str, end: &str, message: String, help: Option<String>) -> Find
     }
 }
 
-/// Where the first word of what a line ends with begins.
+/// The offset of the first word of `end`, with which the line ends.
 pub(crate) fn offset_of_word(line: &str, end: &str) -> usize
     ensures { result ≡ offset_of_word line.now end.now }
 {
@@ -85,7 +86,7 @@ pub(crate) fn offset_of_word(line: &str, end: &str) -> usize
         .saturating_sub(word.len())
 }
 
-// The first word of what a line ends with is no tenant's name.
+// The finding if the first word of `end`, with which the line ends, is not a tenant's name.
 fn unknown_name(
     alloc: Global,
     config: &Config,
@@ -100,7 +101,7 @@ fn unknown_name(
     Ok(at_word(line, end, message, Some(names)))
 }
 
-// A tick has another number of values.
+// The finding if a tick has the wrong number of values.
 fn bad_frame(alloc: Global, config: &Config, line: &str) -> Result<Finding, AllocError>
     ensures { IfOk result (IsErrorAt (offset_of_word line.now (behind_first_word line.now)) (words_of_frame config.now)) }
 {
@@ -109,7 +110,7 @@ fn bad_frame(alloc: Global, config: &Config, line: &str) -> Result<Finding, Allo
     Ok(at_word(line, words::behind_first_word(line), message, None))
 }
 
-// Who may speak.
+// Lists who may speak.
 fn names(alloc: Global, config: &Config) -> Result<String, AllocError> {
     let mut text = String::from_str(alloc, "the tenants are ")?;
     for (place, tenant) in config.tenants().iter().enumerate() {
@@ -120,7 +121,7 @@ fn names(alloc: Global, config: &Config) -> Result<String, AllocError> {
     Ok(text)
 }
 
-// A line that has no form of a command.
+// The finding about a line that has none of the forms of a command.
 fn bad_command(alloc: Global, line: &str) -> Result<Finding, AllocError>
     ensures { IfOk result (IsErrorAt (offset_of_command line.now) (words_of_bad_command line.now)) }
 {
@@ -132,7 +133,7 @@ fn bad_command(alloc: Global, line: &str) -> Result<Finding, AllocError>
     Ok(at_word(line, end_with_command(line, rest), message, Some(help)))
 }
 
-// What stands behind the first word, where there is a word, or else the line.
+// What comes after the first word, if there is a word in it, or else the whole line.
 fn end_with_command<'a>(line: &'a str, rest: &'a str) -> &'a str
     requires { rest.now ≡ behind_first_word line.now }
     ensures { result.now ≡ end_with_command line.now }
@@ -144,7 +145,7 @@ fn end_with_command<'a>(line: &'a str, rest: &'a str) -> &'a str
     }
 }
 
-// What is said of a command that begins with this word, where `is_known` is whether its forms are.
+// The message about a command that begins with this word. `is_known` says whether the word's forms are known.
 fn words_of_command(
     alloc: Global,
     speaker: &str,
@@ -164,7 +165,7 @@ fn words_of_command(
     }
 }
 
-// How a command is mended: the forms of its word, or else the words that there are.
+// How to fix a command: the forms of its word, or else the words that exist.
 fn help_on_forms(
     alloc: Global,
     speaker: &str,
@@ -183,7 +184,7 @@ fn help_on_forms(
     }
 }
 
-// The forms of a command of who speaks that begins with this word.
+// The forms of this speaker's commands that begin with this word.
 fn forms_of(speaker: &str, word: &str) -> Option<&'static str>
     ensures { is_some result ≡ has_forms speaker.now word.now }
 {
@@ -221,7 +222,7 @@ fn forms_of_operator(word: &str) -> Option<&'static str>
     }
 }
 
-// The text of a line as it is shown. Where it isn't UTF-8, a `?` stands for each byte that isn't ASCII.
+// The text of a line as it is shown. If it isn't UTF-8, each byte that isn't ASCII is shown as `?`.
 fn lossy(alloc: Global, line: &[u8]) -> Result<String, AllocError> {
     if let Ok(text) = std::str::from_utf8(line) {
         return String::from_str(alloc, text.trim_end_matches('\r'));
@@ -233,22 +234,22 @@ fn lossy(alloc: Global, line: &[u8]) -> Result<String, AllocError> {
     Ok(text)
 }
 
-/// The end of a line of a script, about which findings are.
+/// The end of a line of a script, which findings are about.
 #[derive(Clone, Copy)]
 pub(crate) struct LineEnd<'a> {
     /// The line's number, counted from 1.
     pub(crate) number: usize,
     /// The line's bytes.
     pub(crate) line: &'a [u8],
-    /// How many bytes of its text stand before.
+    /// How many bytes of the line's text come before this end.
     pub(crate) before: usize,
 }
 
-/// A finding about the end of a line as text: the file, the line's number and the column, what is found, and the line with carets below,
-/// or what of a long line stands around it.
+/// A finding about the end of a line as text. It has the file, the line's number and the column, what is found, and the line with
+/// carets below. Of a long line, only the part around the place is shown.
 ///
 /// # Errors
-/// Want of memory.
+/// Out of memory.
 pub(crate) fn shown_in_line(
     alloc: Global,
     file: &str,
@@ -277,7 +278,7 @@ fn head_of(
     format!(in alloc; "{file}:{number}:{column}: {severity}: {message}\n")
 }
 
-// The column of a byte of a line, so many bytes behind these.
+// The column of the byte of a line that comes `offset` bytes after the first `before` bytes.
 fn column_of(line: &[u8], before: usize, offset: usize) -> usize
     ensures { result ≡ column_in line.now (before + offset) }
 {
@@ -285,14 +286,14 @@ fn column_of(line: &[u8], before: usize, offset: usize) -> usize
     Place::of(text, offset_within(before, offset, text.len())).column
 }
 
-// So many bytes behind these, and within this length.
+// The sum of `before` and `offset`, but at most `len`.
 fn offset_within(before: usize, offset: usize, len: usize) -> usize
     ensures { result ≡ min (before + offset) len }
 {
     before.saturating_add(offset).min(len)
 }
 
-/// The text of a line; none of it where it is no text.
+/// The text of a line. It is empty if the line is too long or not UTF-8.
 pub(crate) fn text_or_none(line: &[u8]) -> &str
     ensures { result.now ≡ text_or_none line.now }
 {
@@ -302,7 +303,7 @@ pub(crate) fn text_or_none(line: &[u8]) -> &str
     }
 }
 
-// What stands below it: the line with carets, the rule and the help.
+// The lines below it: the line with carets, the rule and the help.
 fn below(alloc: Global, end: &LineEnd, finding: &Finding) -> Result<String, AllocError> {
     let number = format!(in alloc; "{}", end.number)?;
     let margin = repeated(alloc, " ", number.len())?;
@@ -312,7 +313,7 @@ fn below(alloc: Global, end: &LineEnd, finding: &Finding) -> Result<String, Allo
     Ok(text)
 }
 
-// The line, and carets below.
+// The line, and the carets below it.
 fn marked(
     alloc: Global,
     end: &LineEnd,
@@ -330,7 +331,7 @@ fn marked(
     format!(in alloc; "{margin} |\n{number} | {excerpt}\n{margin} | {carets}\n")
 }
 
-// The carets below what is told, where the line is shown from a byte on.
+// The carets for the finding, below a line that is shown from the byte `begin` on.
 fn carets_of(
     alloc: Global,
     line: &str,
@@ -360,7 +361,7 @@ fn add_remark(
     Ok(())
 }
 
-// From which byte on a line is shown.
+// The byte from which on a line is shown.
 fn begin_of(line: &str, offset: usize) -> usize {
     if offset <= SIDE.saturating_add(SIDE) {
         return 0;
@@ -380,7 +381,7 @@ fn boundary_at(line: &str, place: usize) -> usize {
     0
 }
 
-// What of a line is shown from a byte on, with dots where it goes on.
+// The part of a line that is shown from the byte `begin` on, with dots where the line goes on.
 fn excerpt_of(
     alloc: Global,
     line: &str,
@@ -394,7 +395,7 @@ fn excerpt_of(
     format!(in alloc; "{before}{}{behind}", part.as_str())
 }
 
-// How many carets show what is told: one at least.
+// How many carets mark a finding: at least one, and at most `SIDE`.
 fn width_of(line: &str, offset: usize, len: usize) -> usize {
     let end = offset.saturating_add(len).min(line.len());
     let piece = line.get(offset..end).unwrap_or("");

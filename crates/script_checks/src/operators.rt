@@ -11,10 +11,10 @@ use rig_model::lines::words;
 use rig_model::text::name_bytes::is_name;
 use std::alloc::{AllocError, Global};
 
-/// What is wrong with the operator's line that stands behind `op`, if anything is.
+/// What is wrong with the operator's line that comes after `op`, if anything is.
 ///
 /// # Errors
-/// Want of memory.
+/// Out of memory.
 pub(crate) fn fault_of_operator(
     alloc: Global,
     config: &Config,
@@ -31,7 +31,7 @@ pub(crate) fn fault_of_operator(
     }
 }
 
-// `rest` stands behind `tick`.
+// `rest` is what comes after `tick`.
 fn fault_of_tick(
     alloc: Global,
     config: &Config,
@@ -49,7 +49,7 @@ fn fault_of_tick(
     }
 }
 
-// `rest` stands behind `work`.
+// `rest` is what comes after `work`.
 fn fault_of_work(config: &Config, rest: &str) -> Option<LineFault>
     ensures { result ≡ fault_of_operator config.now (operator_line_of (codes "work" ∷ words_of rest.now)) }
 {
@@ -63,7 +63,7 @@ fn fault_of_work(config: &Config, rest: &str) -> Option<LineFault>
     Some(LineFault::BadCommand)
 }
 
-// The jobs of the tenant of this name are to be run.
+// What is wrong with running the jobs of the tenant with this name, if anything is.
 fn fault_of_name(config: &Config, name: &str) -> Option<LineFault>
     ensures { result ≡ fault_of_operator config.now (Some (work_of name.now)) }
 {
@@ -73,7 +73,7 @@ fn fault_of_name(config: &Config, name: &str) -> Option<LineFault>
     }
 }
 
-// `rest` stands behind `lines`.
+// `rest` is what comes after `lines`.
 fn fault_of_lines(config: &Config, rest: &str) -> Option<LineFault>
     ensures { result ≡ fault_of_operator config.now (operator_line_of (codes "lines" ∷ words_of rest.now)) }
 {

@@ -1,4 +1,4 @@
-//! Which lines of a script are at fault, whatever comes of the others.
+//! Which lines of a script are at fault, each judged by its text alone.
 
 ghost use Rattle.std.specs.Prelude.{◌≡◌, ◌≢◌, ◌==◌, ◌+◌, ◌-◌, ◌<◌, ◌≤◌, true, false, Some, IfOk, IfSome, OnOk, drop, get_or, length, map, option_map, string_bytes, take};
 ghost use Rattle.std.specs.List.{position_or_len};
@@ -35,19 +35,19 @@ pub enum LineFault {
     UnknownSpeaker,
     /// It has none of the forms of a command, or of an operator's line.
     BadCommand,
-    /// A tick has another number of values than the rig has lines.
+    /// A tick has more or fewer values than the rig has lines.
     BadFrame,
-    /// It names a tenant whose jobs are to be completed, and there is none of that name.
+    /// It names a tenant whose jobs are to be completed, and no tenant has that name.
     UnknownTenant,
-    /// The text of a `load` or a `replace` spells no well-formed program, or one that is over a budget of the tenant.
+    /// The text of a `load` or a `replace` spells no well-formed program, or one that exceeds a budget of the tenant.
     Program,
 }
 
-/// What was found at a line.
+/// What was found in a line.
 #[derive(Drop)]
 pub struct Found {
     pub fault: LineFault,
-    /// How many bytes of the line's text stand before what the findings are about, from which their offsets count.
+    /// How many bytes of the line's text come before what the findings are about. Their offsets count from there.
     pub before: usize,
     /// In their order.
     pub findings: Vec<Finding>,
@@ -61,11 +61,13 @@ pub struct FaultyLine {
     pub found: Found,
 }
 
-/// What is told of a script's file with this name and these bytes: each line at fault, with its number and where in the line; and behind
-/// these a note for each bind that grants nothing in this script. It is good where no line is at fault.
+/// The report on a script's file with this name and these bytes. It is good exactly if no line is at fault.
+///
+/// The report has each line at fault, with its number and the place in the line. After these, it has a note for each bind that
+/// grants nothing in this script.
 ///
 /// # Errors
-/// Want of memory.
+/// Out of memory.
 pub fn check_script(
     alloc: Global,
     file: &str,
@@ -84,7 +86,7 @@ pub fn check_script(
     Ok(Report { is_good, text })
 }
 
-// How many lines a script has, where none is at fault.
+// Says how many lines a script has, if no line is at fault.
 fn told_first(alloc: Global, file: &str, lines: usize, is_good: bool) -> Result<String, AllocError>
     ensures { IfOk result (λ text. string_bytes text ≡ told_first file.now lines is_good) }
 {
@@ -95,7 +97,7 @@ fn told_first(alloc: Global, file: &str, lines: usize, is_good: bool) -> Result<
     }
 }
 
-// Adds what was found at lines at fault.
+// Adds what was found in the lines at fault.
 fn add_faults(
     alloc: Global,
     text: &mut String,
@@ -126,7 +128,7 @@ pub(crate) fn line_at<'a>(lines: &[&'a [u8]], number: usize) -> &'a [u8]
     }
 }
 
-// Adds findings about what a line ends with.
+// Adds findings about the end of a line.
 fn add_findings(
     alloc: Global,
     text: &mut String,
@@ -143,10 +145,10 @@ fn add_findings(
     Ok(())
 }
 
-/// Those of these lines of a script that are at fault, in their order. The first line has the number 1.
+/// The lines at fault among these lines of a script, in their order. The first line has the number 1.
 ///
 /// # Errors
-/// Want of memory.
+/// Out of memory.
 pub fn faulty_lines(
     alloc: Global,
     config: &Config,
@@ -168,10 +170,10 @@ pub fn faulty_lines(
     Ok(faulty)
 }
 
-/// The lines of these bytes: what stands before each LF, and what stands behind the last one, unless that is nothing.
+/// The lines of these bytes: what comes before each LF, and what comes after the last LF unless that is empty.
 ///
 /// # Errors
-/// Want of memory.
+/// Out of memory.
 pub fn lines_of(alloc: Global, bytes: &[u8]) -> Result<Vec<&[u8]>, AllocError>
     ensures { IfOk result (λ lines. map (λ line. line.now) lines.items ≡ cut bytes.now) }
 {
@@ -185,7 +187,7 @@ pub fn lines_of(alloc: Global, bytes: &[u8]) -> Result<Vec<&[u8]>, AllocError>
     Ok(lines)
 }
 
-// How many bytes stand before the first LF, or in all where there is none.
+// How many bytes come before the first LF, or how many bytes there are if there is no LF.
 #[tactic(auto, using(crate::proofs::Prefixes::prefix_more, crate::proofs::Prefixes::prefix_end))]
 fn line_len(bytes: &[u8]) -> usize
     ensures len { result ≡ position_or_len (λ c. c == 10) bytes.now }
@@ -199,7 +201,7 @@ fn line_len(bytes: &[u8]) -> usize
     bytes.len()
 }
 
-// The first so many bytes.
+// The first `len` bytes.
 fn first_line(bytes: &[u8], len: usize) -> &[u8]
     requires { len ≤ length bytes.now }
     ensures { result.now ≡ take len bytes.now }
@@ -207,7 +209,7 @@ fn first_line(bytes: &[u8], len: usize) -> &[u8]
     &bytes[..len]
 }
 
-// What stands behind a line of so many bytes and its LF.
+// What comes after a line of `len` bytes and its LF.
 fn behind_line(bytes: &[u8], len: usize) -> &[u8]
     ensures rest { result.now ≡ drop (len + 1) bytes.now }
     ensures shorter { 0 < length bytes.now → length result.now < length bytes.now }
@@ -219,10 +221,10 @@ fn behind_line(bytes: &[u8], len: usize) -> &[u8]
     }
 }
 
-/// What is wrong with a line, by its text alone, if anything is.
+/// What is wrong with a line, judged by its text alone, if anything is.
 ///
 /// # Errors
-/// Want of memory.
+/// Out of memory.
 pub fn examine_line(
     alloc: Global,
     config: &Config,
@@ -255,7 +257,7 @@ pub fn examine_line(
     }
 }
 
-/// The text of a line, if it is text of at most 16,384 bytes, without one CR at its end.
+/// The text of a line without one CR at its end, if the line is UTF-8 and has at most 16,384 bytes.
 pub fn text_of_line(line: &[u8]) -> Option<&str>
     ensures { option_map (λ text. text.now) result ≡ text_of_line line.now }
 {
@@ -268,7 +270,7 @@ pub fn text_of_line(line: &[u8]) -> Option<&str>
     }
 }
 
-// One CR at the end taken off.
+// The text without one CR at its end.
 fn without_last_cr(text: &str) -> &str
     ensures { result.now ≡ without_last_cr text.now }
 {
@@ -287,7 +289,7 @@ fn ends_with_cr(text: &[u8]) -> bool
     len > 0 && text[len - 1] == b'\r'
 }
 
-// What is wrong with the line of this tenant.
+// What is wrong with the line of this tenant, if anything is.
 fn examine_command(
     alloc: Global,
     config: &Config,
@@ -310,7 +312,7 @@ fn examine_command(
     }
 }
 
-// What is wrong with the program of the text with which a line ends.
+// What is wrong with the program in the text with which a line ends, if anything is.
 #[tactic(auto, using(crate::proofs::Deciding::refused_text, crate::proofs::Deciding::over_text))]
 fn examine_program(
     alloc: Global,
@@ -337,7 +339,7 @@ fn examine_program(
     }
 }
 
-// The findings of the text with which a line ends.
+// The findings about the text with which a line ends.
 fn found_behind(line: &str, text: &str, findings: Vec<Finding>) -> Found
     ensures { result ≡ record { fault = LineFault.Program; before = length line.now - length text.now; findings = findings } }
 {
@@ -348,7 +350,7 @@ fn found_behind(line: &str, text: &str, findings: Vec<Finding>) -> Found
     }
 }
 
-// This fault of a line, with what is told of it.
+// This fault of a line, with the finding that reports it.
 fn one_found(
     alloc: Global,
     config: &Config,
