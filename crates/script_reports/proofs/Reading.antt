@@ -1,16 +1,16 @@
--- The lines of a run, one line of the file on.
+-- The lines of a run, one line of the file further.
 use Rattle.std.proofs.Common.{◌≡◌, ◌+◌, ◌<◌, ◌≤◌, ◌==◌, Bool, true, false, if◌then◌else◌, List, [], ◌∷◌, ◌++◌, length, drop, get_or, suc, Bor, map, Result, Ok, Err, ℕ, refl, sym, ap, ◌∙◌, append_assoc, arith}
 use Rattle.std.proofs.lemmas.Bool.{eqb-true}
 use Rattle.std.proofs.lemmas.List.{drop_more, get_or-drop, map-append}
 use Rattle.std.specs.List.{after_first, before_first, position_or_len}
 use Rattle.script_reports.specs.cited.Runs.{RunEntry, is_reply, is_remark, reply_in, parts_of, entries_from, with_entry}
 
--- these entries in front, where there is no fault behind
+-- these entries in front of the others, if there is no fault after them
 abbrev pub with_entries : List RunEntry → Result (List RunEntry) ℕ → Result (List RunEntry) ℕ
 with_entries before (Ok entries) = Ok (before ++ entries)
 with_entries before (Err number) = Err number
 
--- four blanks stand in front of a reply
+-- a reply begins with four blanks
 pub blanks_in_front : (part : List ℕ) → is_reply part ≡ true → (4 ≤ length part) × (get_or part 3 0 ≡ 32)
 blanks_in_front [] e = absurd (cc)
 blanks_in_front (a ∷ []) e = absurd (cc)
@@ -32,7 +32,7 @@ no_feed_in_front c cs e = rw e (omega arith)
 feed_in_front : (c : ℕ) (cs : List ℕ) → (c == 10) ≡ true → position_or_len (λ d. d == 10) (c ∷ cs) ≡ 0
 feed_in_front c cs e = rw e refl
 
--- what is cut at the first LF
+-- a text cut at its first LF
 pub cut_at_first : (text : List ℕ) → position_or_len (λ c. c == 10) text < length text → parts_of text ≡ before_first (λ c. c == 10) text ∷ parts_of (after_first (λ c. c == 10) text)
 cut_at_first [] within = absurd (omega (arith, within))
 cut_at_first (c ∷ cs) within = by (c == 10) refl (cut_at_first cs)
@@ -47,7 +47,7 @@ cut_at_first (c ∷ cs) within = by (c == 10) refl (cut_at_first cs)
         let next : suc k + 1 ≡ suc (k + 1) = omega arith in
         rw (place, next, e, rest) refl
 
--- where there is none
+-- a text without an LF
 pub uncut : (text : List ℕ) → position_or_len (λ c. c == 10) text ≡ length text → parts_of text ≡ text ∷ []
 uncut [] ended = refl
 uncut (c ∷ cs) ended = by (c == 10) refl (uncut cs)
@@ -56,7 +56,7 @@ uncut (c ∷ cs) ended = by (c == 10) refl (uncut cs)
     by true e later = let none = feed_in_front c cs e in absurd (omega (arith, none, ended))
     by false e later = let place = no_feed_in_front c cs e in let rest = later (omega (arith, place, ended)) in rw (e, rest) refl
 
--- one line of the file more
+-- one more line of the file
 pub parts_further : (before : List (List ℕ)) (rest part behind : List ℕ) (all : List (List ℕ)) → position_or_len (λ c. c == 10) rest < length rest → part ≡ before_first (λ c. c == 10) rest → behind ≡ after_first (λ c. c == 10) rest
     → before ++ parts_of rest ≡ all → (before ++ part ∷ []) ++ parts_of behind ≡ all
 parts_further before rest part behind all within first later h =
@@ -84,7 +84,7 @@ module _ (parts : List (List ℕ)) (place : ℕ) (awaited : Bool) (there : place
       let next : get_or (drop (place + 1) parts) 0 [] ≡ get_or parts (place + 1) [] = get_or-drop (place + 1) parts 0 [] ∙ ap (λ n. get_or parts n []) same in
       rw (front, other, no_remark, next) refl
 
--- what stands behind is the same, one line of the file on
+-- the rest is the same, one line of the file further
 pub same_behind : (before : List RunEntry) (r s all : Result (List RunEntry) ℕ) → r ≡ s → with_entries before r ≡ all → with_entries before s ≡ all
 same_behind before r s all is h = sym (ap (with_entries before) is) ∙ h
 
@@ -92,13 +92,13 @@ with_one_more : (before : List RunEntry) (entry : RunEntry) (r : Result (List Ru
 with_one_more before entry (Ok entries) = ap (λ (l : List RunEntry). Ok l) (append_assoc before (entry ∷ []) entries)
 with_one_more before entry (Err number) = refl
 
--- an entry more
+-- one more entry
 pub one_more : (before after : List RunEntry) (entry : RunEntry) (r s all : Result (List RunEntry) ℕ) → r ≡ with_entry entry s → after ≡ before ++ entry ∷ [] → with_entries before r ≡ all → with_entries after s ≡ all
 one_more before after entry r s all is grown h = ap (λ (l : List RunEntry). with_entries l s) grown ∙ (with_one_more before entry s ∙ (sym (ap (with_entries before) is) ∙ h))
 
 pub pushed : (before after : List (Bor (List ℕ))) (x : Bor (List ℕ)) → after ≡ before ++ x ∷ [] → map (λ (p : Bor (List ℕ)). p.now) after ≡ map (λ (p : Bor (List ℕ)). p.now) before ++ x.now ∷ []
 pushed before after x grown = ap (map (λ (p : Bor (List ℕ)). p.now)) grown ∙ map-append (λ (p : Bor (List ℕ)). p.now) before (x ∷ [])
 
--- behind the last LF
+-- after the last LF
 pub parts_at_end : (before now : List (List ℕ)) (rest : List ℕ) (all : List (List ℕ)) → position_or_len (λ c. c == 10) rest ≡ length rest → now ≡ before ++ rest ∷ [] → before ++ parts_of rest ≡ all → now ≡ all
 parts_at_end before now rest all ended grown h = grown ∙ (sym (ap (λ l. before ++ l) (uncut rest ended)) ∙ h)

@@ -1,4 +1,4 @@
--- What a report has behind one line more, and where a line is cut.
+-- What a report has after one more line, and where a line is cut.
 use Rattle.std.proofs.Common.{◌≡◌, ◌+◌, ◌-◌, take, get_or, ◌<◌, ℕ, zero, suc, Bool, true, false, ◌==◌, ◌||◌, nat_lt, nat_le, List, ◌++◌, ◌∷◌, [], length, slice_index, Result, Ok, Err, OnOk, refl, sym, ap, ◌∙◌, arith}
 use Rattle.std.proofs.lemmas.Bool.Decides.{nat_tests}
 use Rattle.std.proofs.lemmas.List.{flat_map_more, take_more}
@@ -31,14 +31,14 @@ untested text i none = by (is_boundary text i) refl
     by false e = refl
     by true e = absurd (none (grind (arith, nat_tests, e)))
 
--- a loop that writes what stands for each element, one element on
+-- a loop that writes a text for each element, one element further
 pub written_more : {X : Type 0} (f : X → List ℕ) (xs : List X) (i : ℕ) (x : X) (before after told : List ℕ) → before ≡ flat_map f (take i xs) → told ≡ f x → x ≡ get_or xs i x → i < length xs → after ≡ before ++ told
     → after ≡ flat_map f (take (i + 1) xs)
 written_more f xs i x before after told all is item within grown =
     let next : take i xs ++ x ∷ [] ≡ take (i + 1) xs = ap (λ y. take i xs ++ y ∷ []) item ∙ sym (take_more xs i x within) in
     grown ∙ (ap (λ t. before ++ t) is ∙ (ap (λ t. t ++ f x) all ∙ (flat_map_more f [] (take i xs) x ∙ ap (flat_map f) next)))
 
--- one place further to the front, where no character begins here
+-- one place further to the front, if no character begins here
 pub boundary_before : (text : List ℕ) (i : ℕ) → 0 < i → ¬ (IsCharBoundary text i) → last_boundary text i ≡ last_boundary text (i - 1)
 boundary_before text zero some none = absurd (omega (arith, some))
 boundary_before text (suc i) some none = let same : suc i - 1 ≡ i = omega arith in rw (untested text (suc i) none, same) refl

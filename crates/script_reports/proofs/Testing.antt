@@ -1,4 +1,4 @@
--- The tests of a run, one line on.
+-- The tests of a run, one line further.
 use Rattle.std.proofs.Common.{◌≡◌, ◌+◌, ◌<◌, ℕ, suc, true, false, List, [], ◌∷◌, ◌++◌, length, take, get_or, Result, Ok, Err, IfOk, String, Global, string_bytes, refl, sym, ap, subst, ◌∙◌, append_assoc, append-nil, arith}
 use Rattle.std.proofs.lemmas.List.{take_more, length-take-le}
 use Rattle.giotto_tasks.specs.Names.{same_name}
@@ -7,7 +7,7 @@ use Rattle.script_reports.specs.cited.Told.{first_words}
 use Rattle.script_reports.specs.inner.Differences.{failures_from, text_of_changes}
 use Rattle.script_reports.specs.inner.Suites.{AreTests, IsEscaped, IsSuite, IsTest, failed_test, passed_test, suite_of}
 
--- the test of a line with the reply that it should get, and with another one
+-- the test of a line with the reply that it should get, and with a different one
 module _ {E : Type 0} (r : Result (String Global) E) (suite came words : List ℕ) (line : RunEntry) (escaped : IsEscaped (first_words line.text) words) where
   pub passes : same_name line.reply came ≡ true → IfOk r (λ text. string_bytes text ≡ passed_test suite line.number words) → IfOk r (λ text. IsTest suite line came (string_bytes text))
   passes same = by r

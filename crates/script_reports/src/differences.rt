@@ -1,4 +1,4 @@
-//! What differs between the replies that a run should get and those that came, as `diff -U0` tells it.
+//! What differs between the replies that a run should get and those that came, in the form of `diff -U0`.
 
 ghost use Rattle.std.specs.Prelude.{◌≡◌, [], ◌∷◌, IfOk, get_or, map, string_bytes};
 ghost use Rattle.script_reports.specs.inner.Differences.{change, hunk, hunks_from, lines_in, range, text_of_changes, text_of_differences};
@@ -7,12 +7,14 @@ use crate::runs::RunLine;
 use crate::told::first_words;
 use std::alloc::{AllocError, Global};
 
-/// What differs, in the form of `diff -U0`: behind two lines with the name of the run a hunk for each line of the script whose reply isn't
-/// the one that it should get, with the line behind the `@@`. No byte where nothing differs. `replies` are those that came, without LF;
-/// where the script was cut off, lines are left without.
+/// What differs, in the form of `diff -U0`. It is empty if nothing differs.
+///
+/// After two lines with the name of the run, there is a hunk for each line of the script whose reply isn't the one that it should
+/// get. The hunk has the line after the `@@`. `replies` are those that came, without LF. If the script was cut off, some lines
+/// have no reply.
 ///
 /// # Errors
-/// Want of memory.
+/// Out of memory.
 pub fn text_of_differences(
     alloc: Global,
     name: &str,
@@ -51,7 +53,7 @@ fn text_of_hunks(alloc: Global, lines: &[RunLine], replies: &[String]) -> Result
     Ok(text)
 }
 
-/// The reply that came to the line at this place; no byte where there is none.
+/// The reply that came to the line at this place. It is empty if there is none.
 pub(crate) fn reply_at(replies: &[String], place: usize) -> &str
     ensures { result.now ≡ get_or (map string_bytes replies.now) place [] }
 {
@@ -61,14 +63,14 @@ pub(crate) fn reply_at(replies: &[String], place: usize) -> &str
     }
 }
 
-// How many lines a reply is.
+// How many lines a reply has.
 fn count(reply: &str) -> usize
     ensures { result ≡ lines_in reply.now }
 {
     if reply.is_empty() { 0 } else { 1 }
 }
 
-// The hunk of a line that stands at this place where the replies are as they came.
+// The hunk of a line. `at` is the number that the line has in the run with the replies that came.
 fn hunk(alloc: Global, line: &RunLine, came: &str, at: usize) -> Result<String, AllocError>
     ensures { IfOk result (λ text. string_bytes text ≡ hunk line.now came.now at) }
 {
@@ -80,7 +82,7 @@ fn hunk(alloc: Global, line: &RunLine, came: &str, at: usize) -> Result<String, 
     format!(in alloc; "@@ -{old} +{new} @@ {words}\n{changes}")
 }
 
-// Where a reply stands below the line at this place.
+// The range of a reply below the line at this place.
 fn range(alloc: Global, place: usize, reply: &str) -> Result<String, AllocError>
     ensures { IfOk result (λ text. string_bytes text ≡ range place reply.now) }
 {
@@ -91,10 +93,10 @@ fn range(alloc: Global, place: usize, reply: &str) -> Result<String, AllocError>
     format!(in alloc; "{below}")
 }
 
-/// The reply that should come and the one that came, each as it stands in a run, behind `-` and `+`.
+/// The wanted reply after `-`, and the reply that came after `+`, each as it is written in a run.
 ///
 /// # Errors
-/// Want of memory.
+/// Out of memory.
 pub(crate) fn text_of_changes(alloc: Global, wanted: &str, came: &str) -> Result<String, AllocError>
     ensures { IfOk result (λ text. string_bytes text ≡ text_of_changes wanted.now came.now) }
 {
@@ -103,7 +105,7 @@ pub(crate) fn text_of_changes(alloc: Global, wanted: &str, came: &str) -> Result
     format!(in alloc; "{wanted}{came}")
 }
 
-// A reply as it stands in a run, behind this sign; no byte where there is none.
+// A reply as it is written in a run, after this sign. It is empty if there is no reply.
 fn change(alloc: Global, sign: &str, reply: &str) -> Result<String, AllocError>
     ensures { IfOk result (λ text. string_bytes text ≡ change sign.now reply.now) }
 {

@@ -1,13 +1,13 @@
-//! What is told of a script: its refusals, its overruns and where it was cut off, and what differs from the replies that it should get.
+//! Reports on a script: its refusals, its overruns, where it was cut off, and what differs from the replies that it should get.
 //!
 //! ```text
 //! let run = read_run(alloc, text)?;
 //! let differences = text_of_differences(alloc, "adder.run", run.lines(), replies.as_slice())?;
 //! ```
 //!
-//! Whoever is told the lines of a script as they are answered is one of the [`listeners`]. A [`told::Report`] has what went wrong in
-//! them, line by line. In [`runs`] a script stands with its replies, [`differences`] compares them with those that came, and [`suites`]
-//! writes what was compared for a server that builds and tests.
+//! [`listeners`] are passed the lines of a script as they are answered. A [`told::Report`] has what went wrong in the lines, line
+//! by line. [`runs`] reads a script with the replies that it should get. [`differences`] compares these with the replies that
+//! came, and [`suites`] writes the comparison for a CI server.
 #![tactic(auto)]
 
 pub mod differences;

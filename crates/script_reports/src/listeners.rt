@@ -1,4 +1,4 @@
-//! Who is told the lines of a script, as they are answered.
+//! Listeners, which are passed the lines of a script as they are answered.
 
 ghost use Rattle.std.specs.Prelude.{◌∷◌, [], List, OnOk};
 ghost use Rattle.script_reports.specs.cited.Heard.{HeardLine, IsHeard};
@@ -6,23 +6,23 @@ ghost use Rattle.script_reports.specs.cited.Heard.{HeardLine, IsHeard};
 use giotto_tasks::names::Name;
 use std::alloc::{AllocError, Global};
 
-/// A tenant that was stopped at an instant, since this task missed its deadline.
+/// A tenant that was stopped at an instant because this task missed its deadline.
 #[derive(Drop)]
 pub struct Overrun {
     pub tenant: Name,
     pub task: Name,
 }
 
-/// Who is told the lines of a script, as they are answered.
+/// A listener, which is passed the lines of a script as they are answered.
 pub trait Listener {
-    // it was told these lines, the oldest first
+    // the listener has received these lines, the oldest first
     ghost heard: { Self → List HeardLine → Type 0 };
 
-    /// Takes a line that was answered: its number, counted from 1, its text, its reply with LF, and the overruns at the instant that it
-    /// gave. The reply has no byte where there is none.
+    /// Takes a line that was answered: its number, counted from 1, its text, its reply with LF, and the overruns at the instant
+    /// that it gave. The reply is empty if there is none.
     ///
     /// # Errors
-    /// Want of memory.
+    /// Out of memory.
     fn hear(
         &mut self,
         alloc: Global,

@@ -12,10 +12,10 @@ use thiserror::Error;
 /// What is wrong with the text of a run.
 #[derive(Clone, Copy, Debug, PartialEq, Eq, Error)]
 pub enum RunFault {
-    /// The line of this number is a reply, and no line of the script stands right above it.
+    /// The line with this number is a reply, and no line of the script is right above it.
     #[error("a reply stands below no line of the script")]
     NoLine(usize),
-    /// Want of memory.
+    /// Out of memory.
     #[error("no memory for the run")]
     Memory,
 }
@@ -31,7 +31,7 @@ impl From<AllocError> for RunFault {
     }
 }
 
-/// A line of a script with the reply that it should get. Contracts see it as the place, the text and the reply.
+/// A line of a script with the reply that it should get. Contracts see it as its number, its text and the reply.
 #[derive(Drop)]
 pub struct RunLine {
     number: usize,
@@ -63,7 +63,7 @@ impl RunLine {
         self.text.as_str()
     }
 
-    /// The reply, without LF; no byte where there should be none.
+    /// The reply, without LF. It is empty if there should be none.
     pub fn reply(&self) -> &str
         ensures { result.now ≡ self.now.reply }
     {
@@ -71,11 +71,13 @@ impl RunLine {
     }
 }
 
-/// Reads a run. A line that begins with four blanks and has more than these is the reply to the line of the script right above it; one that
-/// begins with `#`, and one with no byte, mean nothing; each other one is a line of the script.
+/// Reads a run.
+///
+/// A line that begins with four blanks and has more bytes after them is the reply to the line of the script right above it. An
+/// empty line, and a line that begins with `#`, mean nothing. Each other line is a line of the script.
 ///
 /// # Errors
-/// `NoLine` with the first reply that stands below no line of the script; `Memory`.
+/// `NoLine` with the number of the first reply that isn't right below a line of the script; `Memory`.
 pub fn read_run(alloc: Global, text: &str) -> Result<Vec<RunLine>, RunFault>
     ensures { IsReadAs (entries_of text.now) result }
 {
@@ -131,7 +133,7 @@ fn has_feed(text: &str) -> bool
     }
 }
 
-// What stands before the first LF.
+// What comes before the first LF.
 fn before_feed(text: &str) -> &str
     ensures { position_or_len (λ c. c == 10) text.now < length text.now → result.now ≡ before_first (λ c. c == 10) text.now }
 {
@@ -141,7 +143,7 @@ fn before_feed(text: &str) -> &str
     }
 }
 
-// What stands behind the first LF.
+// What comes after the first LF.
 fn behind_feed(text: &str) -> &str
     ensures { result.now ≡ after_first (λ c. c == 10) text.now }
 {
@@ -161,7 +163,7 @@ fn reply_at<'a>(parts: &[&'a str], place: usize) -> &'a str
     }
 }
 
-// The reply that a line of a file is, without its blanks; no byte where it is none.
+// The reply that a line of a file is, without its blanks. It is empty if the line is not a reply.
 fn reply_in(part: &str) -> &str
     ensures { result.now ≡ reply_in part.now }
 {
@@ -197,7 +199,7 @@ fn run_line(alloc: Global, number: usize, text: &str, reply: &str) -> Result<Run
     })
 }
 
-// Whether a line of a file is a reply: it begins with four blanks, and has more than these.
+// Whether a line of a file is a reply: it begins with four blanks, and has more bytes after them.
 fn is_reply(part: &str) -> bool
     ensures { result ≡ is_reply part.now }
 {
@@ -214,7 +216,7 @@ fn is_remark(part: &str) -> bool
 /// The lines of the script, each with LF.
 ///
 /// # Errors
-/// Want of memory.
+/// Out of memory.
 pub fn script_of(alloc: Global, lines: &[RunLine]) -> Result<String, AllocError>
     ensures { IfOk result (λ text. string_bytes text ≡ script_of lines.now) }
 {
@@ -237,7 +239,8 @@ pub fn configuration_of(text: &str) -> Option<&str>
     Some(path.trim())
 }
 
-/// The replies to the lines of a script, without LF; no byte where there is none. Contracts see it as their list.
+/// The replies to the lines of a script, without LF. A reply is empty if there is none. Contracts see it as the list of the
+/// replies.
 #[derive(Drop)]
 pub struct Replies {
     replies: Vec<String>,
@@ -252,7 +255,7 @@ impl Model for Replies {
 }
 
 impl Replies {
-    /// None.
+    /// No replies.
     pub fn new(alloc: Global) -> Replies
         ensures { result ≡ [] }
     {
@@ -268,10 +271,10 @@ impl Replies {
         self.replies.as_slice()
     }
 
-    /// Takes the reply to one more line, up to its LF.
+    /// Adds the reply to one more line, up to its LF.
     ///
     /// # Errors
-    /// Want of memory.
+    /// Out of memory.
     pub fn add(&mut self, alloc: Global, reply: &str) -> Result<(), AllocError>
         ensures { OnOk result (self.new ≡ self.old ++ line_in reply.now ∷ []) }
     {
@@ -281,7 +284,7 @@ impl Replies {
     }
 }
 
-// What stands before an LF.
+// What comes before an LF.
 fn line_in(reply: &str) -> &str
     ensures { result.now ≡ line_in reply.now }
 {

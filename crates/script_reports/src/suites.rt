@@ -1,4 +1,4 @@
-//! What was compared, as a suite of tests in the form of JUnit, for a server that builds and tests.
+//! The comparison of a run as a suite of tests in the form of JUnit, for a CI server.
 
 ghost use Rattle.std.specs.Prelude.{◌≡◌, ◌++◌, IfOk, OnOk, map, string_bytes};
 ghost use Rattle.script_reports.specs.inner.Differences.{failures_from};
@@ -9,11 +9,11 @@ use crate::runs::RunLine;
 use crate::told::first_words;
 use std::alloc::{AllocError, Global};
 
-/// The suite of a run in XML: a test for each line of its script, named by its number and first words, which fails where its reply isn't
-/// the one that it should get.
+/// The suite of a run in XML: a test for each line of its script. A test is named by the line's number and first words, and it
+/// fails if the line's reply isn't the one that it should get.
 ///
 /// # Errors
-/// Want of memory.
+/// Out of memory.
 pub fn text_of_suite(
     alloc: Global,
     name: &str,
@@ -47,7 +47,7 @@ fn text_of_tests(
     Ok(text)
 }
 
-// How many lines have another reply than they should get.
+// How many lines have a different reply from the one that they should get.
 fn failures(lines: &[RunLine], replies: &[String]) -> usize
     ensures { result ≡ failures_from (map string_bytes replies.now) 0 lines.now }
 {
@@ -82,7 +82,8 @@ fn text_of_test(
     )
 }
 
-// A text as it may stand in XML: what has a meaning there by its entity, and a control character but LF by `?`.
+// A text as it may be written in XML: a character that has a meaning there as its entity, and a control character except LF as
+// `?`.
 fn escaped(alloc: Global, text: &str) -> Result<String, AllocError>
     ensures { IfOk result (λ shown. IsEscaped text.now (string_bytes shown)) }
 {
@@ -93,7 +94,7 @@ fn escaped(alloc: Global, text: &str) -> Result<String, AllocError>
     Ok(shown)
 }
 
-// Writes a character as it may stand in XML.
+// Writes a character as it may be written in XML.
 fn push_escaped(shown: &mut String, c: char) -> Result<(), AllocError>
     ensures { OnOk result (string_bytes shown.new ≡ string_bytes shown.old ++ escaped_character c) }
 {

@@ -1,4 +1,4 @@
-//! What is told of the lines of a script: which were refused, at which a tenant was stopped by an overrun, and which ended it.
+//! The report on the lines of a script: which were refused, at which a tenant was stopped by an overrun, and which ended it.
 
 ghost use Rattle.std.specs.Prelude.{◌≡◌, ◌++◌, ◌==◌, [], ℕ, IfOk, OnOk, List, string_bytes};
 ghost use Rattle.std.specs.List.{flat_map};
@@ -9,11 +9,11 @@ use crate::listeners::{Listener, Overrun};
 use std::alloc::{AllocError, Global};
 use std::marker::Model;
 
-/// How many bytes of a line are shown at most.
+/// At most this many bytes of a line are shown.
 pub const SHOWN: usize = 40;
 
-/// What is told of the lines of a script: a line of text for each refusal, for each overrun, and for the one that ended the script.
-/// Contracts see it as its bytes.
+/// The report on the lines of a script: a line of text for each refusal, for each overrun, and for the line that ended the
+/// script. Contracts see it as its bytes.
 #[derive(Drop)]
 pub struct Report {
     text: String,
@@ -28,7 +28,7 @@ impl Model for Report {
 }
 
 impl Report {
-    /// Of no line.
+    /// A report on no lines.
     pub fn new(alloc: Global) -> Report
         ensures { result ≡ [] }
     {
@@ -37,17 +37,17 @@ impl Report {
         }
     }
 
-    /// The lines of the report, each with LF; no byte where nothing went wrong.
+    /// The lines of the report, each with LF. It is empty if nothing went wrong.
     pub fn as_str(&self) -> &str
         ensures { result.now ≡ self.now }
     {
         self.text.as_str()
     }
 
-    /// Tells that the line of this number was too long or no text, and ended the script.
+    /// Adds that the line with this number was too long or not UTF-8, and ended the script.
     ///
     /// # Errors
-    /// Want of memory.
+    /// Out of memory.
     pub fn tell_end(&mut self, alloc: Global, number: u64) -> Result<(), AllocError>
         ensures { OnOk result (self.new ≡ self.old ++ told_of_end number) }
     {
@@ -57,7 +57,7 @@ impl Report {
         self.add(end.as_str())
     }
 
-    // Writes a text behind what stands there.
+    // Adds a text at the end of the report.
     fn add(&mut self, told: &str) -> Result<(), AllocError>
         ensures { OnOk result (self.new ≡ self.old ++ told.now) }
     {
@@ -86,7 +86,7 @@ impl Listener for Report {
     }
 }
 
-// What a reply says, behind who is answered.
+// What a reply says, after the word for the speaker who is answered.
 fn answer_in(reply: &str) -> &str
     ensures { result.now ≡ answer_in reply.now }
 {
@@ -103,7 +103,7 @@ fn is_refusal(answer: &str) -> bool
     matches!(answer.as_bytes(), [b'e', b'r', b'r', b' ', ..])
 }
 
-// What is told of a reply to a line.
+// What is reported about a reply to a line.
 fn told_of_reply(alloc: Global, number: u64, line: &str, reply: &str) -> Result<String, AllocError>
     ensures { IfOk result (λ told. string_bytes told ≡ told_of_reply number line.now reply.now) }
 {
@@ -114,7 +114,7 @@ fn told_of_reply(alloc: Global, number: u64, line: &str, reply: &str) -> Result<
     told_of(alloc, number, line, answer)
 }
 
-// What is told of the overruns at the instant that a line gave.
+// What is reported about the overruns at the instant that a line gave.
 fn told_of_overruns(
     alloc: Global,
     number: u64,
@@ -131,7 +131,7 @@ fn told_of_overruns(
     Ok(text)
 }
 
-// What is told of an overrun at the instant that a line gave.
+// What is reported about an overrun at the instant that a line gave.
 fn told_of_overrun(
     alloc: Global,
     number: u64,
@@ -144,7 +144,7 @@ fn told_of_overrun(
     told_of(alloc, number, line, what.as_str())
 }
 
-// What is told of a line, behind its number and its first words.
+// What is reported about a line, after its number and its first words.
 fn told_of(alloc: Global, number: u64, line: &str, what: &str) -> Result<String, AllocError>
     ensures { IfOk result (λ told. string_bytes told ≡ told_of number line.now what.now) }
 {
@@ -152,7 +152,7 @@ fn told_of(alloc: Global, number: u64, line: &str, what: &str) -> Result<String,
     format!(in alloc; "{number}: {words}: {what}")
 }
 
-// That a tenant was stopped by an overrun.
+// Says that a tenant was stopped by an overrun.
 fn text_of_overrun(alloc: Global, overrun: &Overrun) -> Result<String, AllocError>
     ensures { IfOk result (λ text. string_bytes text ≡ text_of_overrun overrun.now) }
 {
@@ -161,10 +161,11 @@ fn text_of_overrun(alloc: Global, overrun: &Overrun) -> Result<String, AllocErro
     format!(in alloc; "{tenant} stopped, overrun {task}\n")
 }
 
-/// The first words of a line: its first 40 bytes, or less where a character would be cut, with ` ..` behind them where it is longer.
+/// The first words of a line: its first 40 bytes, or fewer if a character would be cut. They are followed by ` ..` if the line is
+/// longer.
 ///
 /// # Errors
-/// Want of memory.
+/// Out of memory.
 pub fn first_words(alloc: Global, line: &str) -> Result<String, AllocError>
     ensures { IfOk result (λ words. string_bytes words ≡ first_words line.now) }
 {
@@ -175,7 +176,7 @@ pub fn first_words(alloc: Global, line: &str) -> Result<String, AllocError>
     format!(in alloc; "{front} ..")
 }
 
-// The last place at which a character begins, or the text ends, and that isn't behind this one.
+// The last place, up to `most`, at which a character begins or the text ends.
 fn last_boundary(text: &str, most: usize) -> usize
     ensures place { result ≡ last_boundary text.now most }
     ensures boundary { IsCharBoundary text.now result }

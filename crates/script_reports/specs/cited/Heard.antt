@@ -1,4 +1,4 @@
--- The lines of a script, as they are told to who listens.
+-- The lines of a script, as they are passed to a listener.
 use Rattle.std.specs.Prelude.{ℕ, List, [], ◌∷◌, ◌++◌}
 use Rattle.script_reports.specs.declared.listeners.Overrun.{Overrun}
 
@@ -9,6 +9,6 @@ pub record HeardLine : Type 0 where
   pub reply : List ℕ
   pub overruns : List Overrun
 
--- who was told some lines was told this one behind them
+-- a listener that had received some lines has now received this one after them
 abbrev pub IsHeard : (List HeardLine → Type 0) → (List HeardLine → Type 0) → HeardLine → Type 0
 IsHeard Before After line = (lines : List HeardLine) → Before lines → After (lines ++ line ∷ [])

@@ -6,7 +6,7 @@ use Rattle.std.specs.declared.alloc.Global.{Global}
 use Rattle.script_reports.specs.declared.runs.RunFault.{RunFault}
 use Rattle.script_reports.specs.declared.runs.RunFault.TheVariants.{NoLine, Memory}
 
--- a line of a script, with its number in the file and the reply that it should get; no byte where there should be none
+-- a line of a script, with its number in the file and the reply that it should get; the reply is empty if there should be none
 pub record RunEntry : Type 0 where
   pub number : ℕ
   pub text : List ℕ
@@ -21,22 +21,22 @@ abbrev pub is_reply : List ℕ → Bool
 is_reply (a ∷ b ∷ c ∷ d ∷ e ∷ more) = if a == 32 then (if b == 32 then (if c == 32 then d == 32 else false) else false) else false
 is_reply part = false
 
--- nothing, or `#` in front
+-- an empty line, or one that begins with `#`
 abbrev pub is_remark : List ℕ → Bool
 is_remark [] = true
 is_remark (c ∷ cs) = c == 35
 
--- the reply that a line of a file is
+-- the reply that a line of a file is, without its blanks; nothing if the line is not a reply
 abbrev pub reply_in : List ℕ → List ℕ
 reply_in part = if is_reply part then drop 4 part else []
 
--- this entry in front, where there is no fault behind
+-- this entry in front of the others, if there is no fault after it
 abbrev pub with_entry : RunEntry → Result (List RunEntry) ℕ → Result (List RunEntry) ℕ
 with_entry entry (Ok entries) = Ok (entry ∷ entries)
 with_entry entry (Err number) = Err number
 
--- The lines of the script among the lines of a file from a place on, or the number of the first reply that stands below none. A reply
--- is awaited behind a line of the script.
+-- The lines of the script among the lines of a file from a place on, or the number of the first reply that is right below none of
+-- them. A reply is awaited after a line of the script.
 abbrev pub entries_from : Bool → ℕ → List (List ℕ) → Result (List RunEntry) ℕ
 entries_from awaited place [] = Ok []
 entries_from awaited place (part ∷ parts) =
@@ -47,7 +47,7 @@ entries_from awaited place (part ∷ parts) =
 abbrev pub entries_of : List ℕ → Result (List RunEntry) ℕ
 entries_of text = entries_from false 0 (parts_of text)
 
--- these lines were read, or this fault told; want of memory says nothing
+-- these lines were read, or this fault was reported; nothing is said if an allocation fails
 abbrev pub IsReadAs : Result (List RunEntry) ℕ → Result (Vec RunEntry Global) RunFault → Type 0
 IsReadAs wanted (Ok lines) = wanted ≡ Ok lines.items
 IsReadAs wanted (Err (NoLine number)) = wanted ≡ Err number

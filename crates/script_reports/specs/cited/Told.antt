@@ -1,4 +1,4 @@
--- What is told of the lines of a script.
+-- What is reported about the lines of a script.
 use Rattle.std.specs.Prelude.{ℕ, zero, suc, ◌==◌, nat_le, nat_lt, nat_eq, ◌||◌, ◌&&◌, if◌then◌else◌, Bool, List, ◌++◌, [], ◌∷◌, take, length, slice_index, codes}
 use Rattle.std.specs.Fmt.{decimal}
 use Rattle.std.specs.List.{after_first, flat_map, starts_with}
@@ -10,12 +10,12 @@ use Rattle.script_reports.specs.cited.Heard.{HeardLine}
 abbrev pub is_boundary : List ℕ → ℕ → Bool
 is_boundary text i = (i == length text) || (nat_lt i (length text) && (nat_lt (slice_index text i) 128 || nat_le 192 (slice_index text i)))
 
--- the last such place that isn't behind this one
+-- the last such place that isn't after this one
 abbrev pub last_boundary : List ℕ → ℕ → ℕ
 last_boundary text zero = zero
 last_boundary text (suc i) = if is_boundary text (suc i) then suc i else last_boundary text i
 
--- the first words of a line: its first 40 bytes or a little less, with ` ..` behind them where it is longer
+-- the first words of a line: its first 40 bytes or a little less, followed by ` ..` if the line is longer
 abbrev pub first_words : List ℕ → List ℕ
 first_words line = if nat_le (length line) SHOWN then line else take (last_boundary line SHOWN) line ++ codes " .."
 
@@ -23,7 +23,7 @@ first_words line = if nat_le (length line) SHOWN then line else take (last_bound
 abbrev pub told_of : ℕ → List ℕ → List ℕ → List ℕ
 told_of number line what = decimal number ++ (codes ": " ++ (first_words line ++ (codes ": " ++ what)))
 
--- what a reply says, behind who is answered
+-- what a reply says, after the word for the speaker who is answered
 abbrev pub answer_in : List ℕ → List ℕ
 answer_in reply = after_first (λ c. c == 32) reply
 
@@ -31,7 +31,7 @@ answer_in reply = after_first (λ c. c == 32) reply
 abbrev pub is_refusal : List ℕ → Bool
 is_refusal reply = starts_with nat_eq (answer_in reply) (codes "err ")
 
--- of a refused line its reply, of another nothing
+-- for a refused line its reply, for any other line nothing
 abbrev pub told_of_reply : ℕ → List ℕ → List ℕ → List ℕ
 told_of_reply number line reply = if is_refusal reply then told_of number line (answer_in reply) else []
 
@@ -46,10 +46,10 @@ told_of_overrun number line o = told_of number line (text_of_overrun o)
 abbrev pub told_of_line : HeardLine → List ℕ
 told_of_line line = told_of_reply line.number line.text line.reply ++ flat_map (told_of_overrun line.number line.text) line.overruns
 
--- what is told of these lines
+-- what is reported about these lines
 abbrev pub told_of_lines : List HeardLine → List ℕ
 told_of_lines lines = flat_map told_of_line lines
 
--- what is told of a line that is too long or no text
+-- what is reported about a line that is too long or not UTF-8
 abbrev pub told_of_end : ℕ → List ℕ
 told_of_end number = decimal number ++ codes ": longer than 16384 bytes or no text: it ends the script\n"

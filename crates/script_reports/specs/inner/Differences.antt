@@ -9,12 +9,12 @@ use Rattle.script_reports.specs.cited.Told.{first_words}
 abbrev pub plus : ℕ → ℕ → ℕ
 plus m n = min (m + n) (2 ^ 64 - 1)
 
--- how many lines a reply is
+-- how many lines a reply has
 abbrev pub lines_in : List ℕ → ℕ
 lines_in [] = 0
 lines_in (c ∷ cs) = 1
 
--- a reply as it stands in a run, behind a sign; nothing where there is none
+-- a reply as it is written in a run, after a sign; nothing if there is no reply
 abbrev pub change : List ℕ → List ℕ → List ℕ
 change sign [] = []
 change sign (c ∷ cs) = sign ++ (codes "    " ++ (c ∷ cs ++ 10 ∷ []))
@@ -23,18 +23,18 @@ change sign (c ∷ cs) = sign ++ (codes "    " ++ (c ∷ cs ++ 10 ∷ []))
 abbrev pub text_of_changes : List ℕ → List ℕ → List ℕ
 text_of_changes wanted came = change (codes "-") wanted ++ change (codes "+") came
 
--- where a reply stands below the line of this number: "NUMBER,0" where there is none
+-- the range of a reply below the line with this number: "NUMBER,0" if there is no reply
 abbrev pub range : ℕ → List ℕ → List ℕ
 range number [] = decimal number ++ codes ",0"
 range number (c ∷ cs) = decimal (plus number 1)
 
--- the hunk of a line that has this number where the replies are as they came
+-- the hunk of a line that has this number in the run with the replies that came
 abbrev pub hunk : RunEntry → List ℕ → ℕ → List ℕ
 hunk line came at =
     codes "@@ -" ++ (range line.number line.reply ++ (codes " +" ++ (range at came ++ (codes " @@ " ++ (first_words line.text ++ (10 ∷ text_of_changes line.reply came))))))
 
--- Lines of a run from a place on, with the replies that came to all lines; in the hunks before there are so many lines that came, and so
--- many that should have come. A hunk for each whose reply isn't the one that it should get.
+-- The hunks of the lines of a run from a place on: one for each line whose reply isn't the one that it should get. `replies` are
+-- those that came to all lines. The hunks before have `came` lines that came, and `wanted` lines that should have come.
 module _ (replies : List (List ℕ)) where
   abbrev pub hunks_from : ℕ → ℕ → ℕ → List RunEntry → List ℕ
   hunks_from place came wanted [] = []
@@ -43,13 +43,13 @@ module _ (replies : List (List ℕ)) where
       else hunk line (get_or replies place []) (plus line.number came - wanted)
       ++ hunks_from (place + 1) (plus came (lines_in (get_or replies place []))) (plus wanted (lines_in line.reply)) lines
 
--- how many lines of a run, from a place on, have another reply than they should get
+-- how many lines of a run, from a place on, have a different reply from the one that they should get
 abbrev pub failures_from : List (List ℕ) → ℕ → List RunEntry → ℕ
 failures_from replies place [] = 0
 failures_from replies place (line ∷ lines) =
     if same_name (get_or replies place []) line.reply then failures_from replies (place + 1) lines else 1 + failures_from replies (place + 1) lines
 
--- the name of the run, and the hunks of its lines; nothing where there is none
+-- the name of the run, and the hunks of its lines; nothing if there are no hunks
 abbrev pub text_of_differences : List ℕ → List RunEntry → List (List ℕ) → List ℕ
 text_of_differences name lines replies = by (hunks_from replies 0 0 0 lines)
   where
