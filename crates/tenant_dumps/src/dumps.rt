@@ -24,7 +24,7 @@ pub struct Dump {
 }
 
 impl Dump {
-    /// Of no tenant.
+    /// A dump without tenants.
     pub fn new(alloc: Global) -> Dump {
         Dump {
             scopes: Vec::new(alloc),
@@ -34,19 +34,19 @@ impl Dump {
         }
     }
 
-    /// Adds a tenant behind the others. Each has to be there before the first stamp.
+    /// Adds a tenant after the others. Add all tenants before the first stamp.
     ///
     /// # Errors
-    /// Want of memory.
+    /// Out of memory.
     pub fn add_tenant(&mut self, alloc: Global, name: &Name) -> Result<(), AllocError> {
         self.scopes.push(Scope::new(alloc, name))?;
         Ok(())
     }
 
-    /// Writes what changed to these views, behind the next stamp.
+    /// Adds the next stamp, with what changed since the last one. `views` are the tenants' present views.
     ///
     /// # Errors
-    /// Want of memory.
+    /// Out of memory.
     pub fn stamp(&mut self, alloc: Global, views: &[View]) -> Result<(), AllocError> {
         if self.stamps == 0 {
             write_changes(alloc, &mut self.first, &mut self.scopes, views, true)?;
@@ -62,7 +62,7 @@ impl Dump {
     /// The whole dump.
     ///
     /// # Errors
-    /// Want of memory.
+    /// Out of memory.
     pub fn text(&self, alloc: Global) -> Result<String, AllocError> {
         let mut text = String::from_str(alloc, HEAD)?;
         for scope in &self.scopes {
@@ -79,7 +79,7 @@ impl Dump {
     }
 }
 
-// Writes what changed to these views.
+// Writes what changed since the last stamp.
 fn write_changes(
     alloc: Global,
     text: &mut String,

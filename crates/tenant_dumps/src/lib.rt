@@ -7,8 +7,8 @@
 //! let text = dump.text(alloc)?;
 //! ```
 //!
-//! [`views`] has what a tenant shows, and [`dumps`] writes down what changed from one stamp to the next, tenant by tenant.
-//! `specs/inner/Lines.antt` says what the line of a value is.
+//! [`views`] has what a tenant shows. [`dumps`] writes what changed from one stamp to the next, tenant by tenant.
+//! `specs/inner/Lines.antt` defines the line of a value.
 #![tactic(auto)]
 
 pub mod dumps;

@@ -1,4 +1,4 @@
-//! The variables of one tenant in a dump, each with what was last written of it.
+//! The variables of one tenant in a dump, each with the value that was written last.
 
 ghost use Rattle.std.specs.Prelude.{◌≡◌, IfOk, string_bytes};
 ghost use Rattle.tenant_dumps.specs.inner.Lines.{line_of_value, variable_of, word_of_mode, word_of_state};
@@ -29,7 +29,7 @@ struct Signal {
 }
 
 impl Scope {
-    /// The variables of a tenant of whom nothing was written.
+    /// The variables of a tenant, of which none is written yet.
     pub fn new(alloc: Global, tenant: &Name) -> Scope {
         Scope {
             tenant: tenant.copy(),
@@ -40,10 +40,10 @@ impl Scope {
         }
     }
 
-    /// Writes what changed to this view. At the first stamp everything is written.
+    /// Writes what changed since the last stamp. At the first stamp, writes everything.
     ///
     /// # Errors
-    /// Want of memory.
+    /// Out of memory.
     pub fn write(
         &mut self,
         alloc: Global,
@@ -140,10 +140,10 @@ impl Scope {
         self.signals.iter().any(|it| is_same(&it.port, port))
     }
 
-    /// Writes the ports that weren't there at the first stamp, without a value.
+    /// Writes the ports that weren't there at the first stamp, each without a value.
     ///
     /// # Errors
-    /// Want of memory.
+    /// Out of memory.
     pub fn write_late(&self, alloc: Global, text: &mut String) -> Result<(), AllocError> {
         for signal in &self.signals {
             if signal.is_late {
@@ -157,7 +157,7 @@ impl Scope {
     /// Declares all variables.
     ///
     /// # Errors
-    /// Want of memory.
+    /// Out of memory.
     pub fn declare(&self, alloc: Global, text: &mut String) -> Result<(), AllocError> {
         let tenant = self.tenant.as_str();
         writeln!(text, "$scope module {tenant} $end")?;
@@ -173,7 +173,7 @@ impl Scope {
         text.push_str("$upscope $end\n")
     }
 
-    // Declares the inputs and states of tasks, those of each task in a scope of its own.
+    // Declares the inputs and states of tasks, in a separate scope for each task.
     fn declare_tasks(&self, alloc: Global, text: &mut String) -> Result<(), AllocError> {
         let mut seen: Vec<Name> = Vec::new(alloc);
         for signal in &self.signals {
@@ -237,7 +237,7 @@ impl Signal {
         value_line(alloc, variable.as_str(), value)
     }
 
-    // Declares the variable, by its name in its scope.
+    // Declares the variable with its name in its scope.
     fn declare(&self, text: &mut String, tenant: &str) -> Result<(), AllocError> {
         let port = &self.port;
         let name = port.name.as_str();
@@ -245,7 +245,7 @@ impl Signal {
     }
 }
 
-// Whether it is an input or a state of this task.
+// Whether the port is an input or a state of this task.
 fn is_of(port: &PortName, task: &Name) -> bool {
     match &port.task {
         Some(owner) => *owner == *task,
@@ -269,7 +269,7 @@ fn value_of(ports: &[PortValue], port: &PortName) -> Option<i64> {
         .map(|it| it.value)
 }
 
-// A state as a word: that of `show mode`, and why a tenant is stopped.
+// A state as a word: that of `show mode`, with the reason if the tenant is stopped.
 fn state_of(alloc: Global, status: &Status) -> Result<String, AllocError>
     ensures { IfOk result (λ word. string_bytes word ≡ word_of_state status.now) }
 {
@@ -282,7 +282,7 @@ fn state_of(alloc: Global, status: &Status) -> Result<String, AllocError>
     }
 }
 
-// The mode that is shown, and `-` where none is.
+// The mode that is shown, or `-` if there is none.
 fn mode_of(status: &Status) -> &str
     ensures { result.now ≡ word_of_mode status.now }
 {
@@ -292,7 +292,7 @@ fn mode_of(status: &Status) -> &str
     }
 }
 
-// The mode time of the next instant, where the tenant runs.
+// The mode time of the next instant, if the tenant runs.
 fn time_of(status: &Status) -> Option<i64> {
     match status {
         Status::Running(_, time) => i64::try_from(*time).ok(),
@@ -300,10 +300,10 @@ fn time_of(status: &Status) -> Option<i64> {
     }
 }
 
-/// The line of a variable's value: all its bits, or `x` where there is none.
+/// The line of a variable's value: its bits without leading zeros, or `x` if there is no value.
 ///
 /// # Errors
-/// Want of memory.
+/// Out of memory.
 pub fn value_line(alloc: Global, variable: &str, value: Option<i64>) -> Result<String, AllocError>
     ensures { IfOk result (λ line. string_bytes line ≡ line_of_value variable.now value) }
 {

@@ -5,11 +5,11 @@ use giotto_tasks::names::Name;
 use tenant_lines::ports::PortValue;
 use tenant_lines::replies::Status;
 
-/// What a tenant is asked for: what `show mode` and `show all` answer.
+/// What a tenant shows: the answers to `show mode` and `show all`.
 #[derive(Drop)]
 pub struct View {
     pub status: Status,
-    /// In the order of `show all`; none where there is no program.
+    /// In the order of `show all`; empty if there is no program.
     pub ports: List<PortValue>,
 }
 
@@ -23,7 +23,7 @@ impl View {
             .map(|it| it.value)
     }
 
-    /// The value of the input or state of this name, of a task.
+    /// The value of a task's input or state of this name.
     pub fn own_value(&self, task: &Name, name: &Name) -> Option<i64> {
         self.ports
             .as_slice()
