@@ -1,4 +1,5 @@
--- What commands about grants do to the rows of tenant alpha, of the roster alpha, beta, which of them take memory, and what its sensors are granted, computed from the definitions.
+-- Examples of commands about grants, computed from the definitions. They show what commands do to the rows of tenant alpha, of
+-- the roster alpha, beta, which commands take memory, and what alpha's sensors are granted.
 use Rattle.std.proofs.Common.{◌≡◌, true, false, pos, [], ◌∷◌, Some, None, codes, refl}
 use Rattle.rig_model.specs.config.Intervals.{Interval, whole}
 use Rattle.rig_model.specs.grants.Grants.{GrantRows}
@@ -16,7 +17,7 @@ use Rattle.rig_model.specs.Granted.{granted_along}
 to_five : Interval
 to_five = record { low = pos 0; high = pos 5 }
 
--- one offer, one bind, and room for no more
+-- one offer, one bind, and budgets for no more
 alpha : GrantRows
 alpha = record {
   owner = record { place = 0; roster = codes "alpha" ∷ codes "beta" ∷ []; most_offers = 1; most_binds = 1; bounds = to_five };
@@ -32,7 +33,7 @@ offer_over_budget : grants_commanded (Offer (codes "b") (codes "beta") None) alp
 unfolding alpha
 offer_over_budget = refl
 
--- an offer that names no bounds has alpha's, and another its own
+-- an offer without bounds takes alpha's, and one with bounds keeps them
 offer_within_own_bounds : (grants_commanded (Offer (codes "a") (codes "beta") None) (record alpha { offers = [] })).rows.offers ≡ (record { actuator = codes "a"; tenant = codes "beta"; bounds = to_five }) ∷ []
 unfolding alpha
 offer_within_own_bounds = refl
@@ -42,7 +43,7 @@ offer_within_bounds : (grants_commanded (Offer (codes "a") (codes "beta") (Some 
 unfolding alpha
 offer_within_bounds = refl
 
--- an offer stands twice whatever its bounds
+-- an offer that exists is refused again, whatever its bounds
 other_bounds_twice : grants_commanded (Offer (codes "a") (codes "beta") (Some (record { low = pos 7; high = pos 9 }))) alpha ≡ record { rows = alpha; reply = reply.Refused Twice }
 unfolding alpha
 other_bounds_twice = refl
@@ -75,7 +76,7 @@ rows_listed : (grants_commanded Rows alpha).reply ≡ reply.Rows (row.Offer (rec
 unfolding alpha
 rows_listed = refl
 
--- and told in one line
+-- and printed in one line
 rows_told : text_of_reply (grants_commanded Rows alpha).reply ≡ codes "ok rows offer:a:beta bind:s:beta:x"
 unfolding alpha
 rows_told = refl
@@ -88,7 +89,7 @@ over_budget_told : text_of_reply (grants_commanded (Bind (codes "r") (codes "bet
 unfolding alpha
 over_budget_told = refl
 
--- listing rows takes memory, and listing none doesn't
+-- `rows` takes memory if there are rows, and none if there are none
 rows_take_memory : takes_memory Rows alpha ≡ true
 unfolding alpha
 rows_take_memory = refl
@@ -97,7 +98,7 @@ no_rows_take_none : takes_memory Rows (record alpha { offers = []; binds = [] })
 unfolding alpha
 no_rows_take_none = refl
 
--- a refused offer or bind takes none, and one whose row may be made does
+-- a refused offer or bind takes no memory, and one whose row may be made does
 refused_offer_takes_none : takes_memory (Offer (codes "a") (codes "beta") None) alpha ≡ false
 unfolding alpha
 refused_offer_takes_none = refl
@@ -118,7 +119,7 @@ bind_takes_memory : takes_memory (Bind (codes "r") (codes "beta") (codes "x")) (
 unfolding alpha
 bind_takes_memory = refl
 
--- a bind through which nothing is granted leaves its sensor out
+-- a bind that nothing is granted through leaves its sensor out
 one_missing : granted_along ((record { sensor = codes "r"; tenant = codes "beta"; actuator = codes "y" }) ∷ (record { sensor = codes "s"; tenant = codes "beta"; actuator = codes "x" }) ∷ []) (None ∷ Some (pos 7) ∷ [])
     ≡ (codes "s", pos 7) ∷ []
 one_missing = refl

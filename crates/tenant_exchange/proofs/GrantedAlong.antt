@@ -1,4 +1,4 @@
--- Values that are granted along binds, taken one after the other.
+-- Values that are granted through binds, taken one after the other.
 use Rattle.std.proofs.Common.{◌≡◌, ◌⊎◌, inl, inr, ℕ, zero, suc, ◌+◌, ◌<◌, ◌≤◌, Bool, true, false, ℤ, List, [], ◌∷◌, ◌++◌, length, take, get_or, set, Option, Some, None, IsSome, option_map, slice_get, refl, sym, ap, ◌∙◌, subst, arith}
 use Rattle.std.specs.List.{AllByRecursion, IsDistinct, filter_map, cons_option, zip}
 use Rattle.std.specs.Option.{option_and_then}
@@ -18,11 +18,11 @@ use Rattle.tenant_slots.specs.cited.Readings.{with_readings}
 use Rattle.tenant_slots.proofs.cited.Granted.{found_last, granted_more}
 use Rattle.rig_model.specs.Granted.{granted_along, granted_through}
 
--- what the first of these binds grant
+-- what the first `i` binds grant
 abbrev pub granted_before : ℕ → List Bind → List (Option ℤ) → Valuation
 granted_before i binds values = filter_map granted_through (take i (zip binds values))
 
--- all of them, where no place is left
+-- the first `i` binds are all of them, if no place is left
 granted_by_all : (i : ℕ) (binds : List Bind) (values : List (Option ℤ)) → (length binds ≤ i) ⊎ (length values ≤ i) → granted_before i binds values ≡ granted_along binds values
 granted_by_all zero [] values ends = refl
 granted_by_all (suc i) [] values ends = refl
@@ -33,7 +33,7 @@ granted_by_all zero (b ∷ bs) (v ∷ vs) (inr end) = absurd (omega (arith, end)
 granted_by_all (suc i) (b ∷ bs) (v ∷ vs) (inl end) = ap (cons_option (granted_through (b, v))) (granted_by_all i bs vs (inl (omega (arith, end))))
 granted_by_all (suc i) (b ∷ bs) (v ∷ vs) (inr end) = ap (cons_option (granted_through (b, v))) (granted_by_all i bs vs (inr (omega (arith, end))))
 
--- a bind through which nothing is granted
+-- a bind without a granted value
 granted_none : (i : ℕ) (binds : List Bind) (values : List (Option ℤ)) → get_or values i None ≡ None → granted_before (suc i) binds values ≡ granted_before i binds values
 granted_none zero [] values at = refl
 granted_none (suc i) [] values at = refl
@@ -43,7 +43,7 @@ granted_none zero (b ∷ bs) (None ∷ vs) at = refl
 granted_none zero (b ∷ bs) (Some z ∷ vs) at = cc
 granted_none (suc i) (b ∷ bs) (v ∷ vs) at = ap (cons_option (granted_through (b, v))) (granted_none i bs vs at)
 
--- a bind through which a value is granted
+-- a bind with a granted value
 granted_one : (i : ℕ) (binds : List Bind) (values : List (Option ℤ)) (b : Bind) (z : ℤ) → slice_get binds i ≡ Some b → get_or values i None ≡ Some z
     → granted_before (suc i) binds values ≡ granted_before i binds values ++ (b.sensor, z) ∷ []
 granted_one i [] values b z bound at = cc
@@ -60,7 +60,7 @@ granted_one (suc i) (c ∷ bs) (v ∷ vs) b z bound at = ap (cons_option (grante
     by None = refl
     by (Some y) = refl
 
--- of different sensors none is among those before it
+-- if the sensors are different, no earlier bind has the sensor of this one
 other_sensors : (c b : Bind) (bs : List Bind) (i : ℕ) → AllByRecursion (λ d. same_bind c d ≡ false) bs → slice_get bs i ≡ Some b → same_name c.sensor b.sensor ≡ false
 other_sensors c b [] i all bound = cc
 other_sensors c b (d ∷ bs) (suc i) all bound = other_sensors c b bs i all.1 bound
@@ -84,7 +84,7 @@ not_before zero (c ∷ bs) (v ∷ vs) b differ bound = refl
 not_before (suc i) (c ∷ bs) (None ∷ vs) b differ bound = not_before i bs vs b differ.1 bound
 not_before (suc i) (c ∷ bs) (Some z ∷ vs) b differ bound = rw (other_sensors c b bs i differ.0 bound) (not_before i bs vs b differ.1 bound)
 
--- the sensor of a bind by its place
+-- the sensor of a bind that is given with its place
 abbrev first_of : Option (Name × ℕ × Name) → Name
 first_of None = []
 first_of (Some t) = t.0
@@ -100,7 +100,7 @@ bind_of_sensor roster binds i x y u at = by (slice_get binds i) refl at
     by None is e = cc
     by (Some b) is e = (b, is, placed b (place_in roster b.tenant) e)
 
--- a place without one is behind all
+-- a place without a value is past the end
 pub none_past : {A : Type 0} (o : Option A) (i n : ℕ) → o ≡ None → (i < n → IsSome o) → n ≤ i
 none_past o i zero none found = omega arith
 none_past o (suc i) (suc n) none found = let rest : n ≤ i = none_past o i n none (λ h. found (omega (arith, h))) in omega (arith, rest)
@@ -110,11 +110,11 @@ none_past {A} o zero (suc n) none found = absurd (no o none (found (omega arith)
     no None none some = cc
     no (Some x) none some = cc
 
--- what a place tells is what stands there
+-- the value that is read at a place is the one stored there
 pub what_stands : (values now : List (Option ℤ)) (i : ℕ) (d v w : Option ℤ) → now ≡ values → i < length now → v ≡ get_or now i d → v ≡ w → get_or values i None ≡ w
 what_stands values now i d v w same lt told found = ap (λ vs. get_or vs i None) (sym same) ∙ sym (told ∙ get_or_default now i d None lt) ∙ found
 
--- and a place that is written as it stands changes nothing
+-- writing a place's own value changes nothing
 pub written_as_it_stands : (values now : List (Option ℤ)) (i : ℕ) (d v : Option ℤ) → now ≡ values → v ≡ get_or now i d → set now i v ≡ values
 written_as_it_stands values now i d v same told = ap (set now i) told ∙ set-get_or now i d ∙ same
 
@@ -126,7 +126,7 @@ module _ (p : GiottoProgram) (readings : Readings) (ports : Valuation) (binds : 
   pub nothing_taken : get_or values i None ≡ None → with_readings p readings (granted_before i binds values) ports ≡ with_readings p readings (granted_before (i + 1) binds values) ports
   nothing_taken at = ap (λ granted. with_readings p readings granted ports) (sym (granted_none i binds values at)) ∙ one_further
 
-  -- a value, taken by the sensor of its bind
+  -- a value to take, by the sensor of its bind
   pub value_taken : (roster : List Name) (x y : Name) (u : ℕ) (z : ℤ) → PortNamesDiffer p → IsDistinct same_bind binds → bind_at roster binds i ≡ Some (x, u, y) → get_or values i None ≡ Some z
       → with_granted p x z (with_readings p readings (granted_before i binds values) ports) ≡ with_readings p readings (granted_before (i + 1) binds values) ports
   value_taken roster x y u z different differ bound at =
@@ -137,6 +137,6 @@ module _ (p : GiottoProgram) (readings : Readings) (ports : Valuation) (binds : 
       ∙ ap (λ after. with_readings p readings after ports) (sym (granted_one i binds values it.0 z it.1 at))
       ∙ one_further)
 
-  -- all is taken
+  -- everything is taken
   pub all_taken : (length binds ≤ i) ⊎ (length values ≤ i) → with_readings p readings (granted_before i binds values) ports ≡ with_readings p readings (granted_along binds values) ports
   all_taken ends = ap (λ granted. with_readings p readings granted ports) (granted_by_all i binds values ends)

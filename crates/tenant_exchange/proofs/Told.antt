@@ -1,4 +1,4 @@
--- What a change of the rows leads to is told as the definitions say.
+-- The reply to a change of the rows is that of the definitions.
 use Rattle.std.proofs.Common.{◌≡◌, ◌≢◌, ℕ, Bool, true, false, if◌then◌else◌, nat_eq, nat_lt, List, [], ◌∷◌, ◌++◌, length, Option, Some, None, ok_or, Result, Ok, Err, IfOk, IfErr, IsOk, is_ok, refl, sym, ap, ◌∙◌}
 use Rattle.giotto_tasks.specs.declared.names.Name.{Name}
 use Rattle.rig_model.specs.config.Intervals.{Interval}
@@ -13,10 +13,11 @@ use Rattle.rig_model.specs.declared.lines.replies.Reply.{Reply}
 use Rattle.rig_model.specs.declared.lines.replies.Reply.TheVariants.{Refused}
 use Rattle.rig_model.specs.GrantCommands.{GrantOutcome, refusal_of_row}
 
--- An outcome that is this reply where a change is done, and else tells why it isn't: so does the answer to the change.
+-- If an outcome's reply is `said` for a change that is done, and the reason for one that isn't, the answer to the change is that
+-- reply.
 module _ {A : Type 0} (b : Budget) (said : Reply) (step : Result A GrantFault → GrantOutcome)
     (ok : (x : A) → (step (Ok x)).reply ≡ said) (err : (f : GrantFault) → (step (Err f)).reply ≡ Refused (refusal_of_row b f)) where
-  -- of a change that takes memory
+  -- for a change that takes memory
   pub more_told : (to : Result A GrantFault) (done : Result (Unit {0}) GrantFault) (r : Reply)
       → IfErr to (λ f. done ≡ Err f) → IfOk to (λ x. IfErr done (λ f. f ≡ fault.Memory))
       → IfOk done (λ u. r ≡ said) → IfErr done (λ f. r ≡ Refused (refusal_of_row b f)) → r ≢ Refused Memory → r ≡ (step to).reply
@@ -27,7 +28,7 @@ module _ {A : Type 0} (b : Budget) (said : Reply) (step : Result A GrantFault �
       let one : f ≡ g = cc in
       why ∙ ap (λ f. Refused (refusal_of_row b f)) one ∙ sym (err g)
 
-  -- of one that takes none
+  -- for a change that takes no memory
   pub less_told : (to : Result A GrantFault) (done : Result (Unit {0}) GrantFault) (P : A → Type 0) (r : Reply)
       → IfErr to (λ f. done ≡ Err f) → IfOk to (λ x. IsOk done × P x) → IfOk done (λ u. r ≡ said) → IfErr done (λ f. r ≡ Refused (refusal_of_row b f)) → r ≡ (step to).reply
   less_told (Ok x) (Ok u) P r refused changed is why = is ∙ sym (ok x)
@@ -37,7 +38,7 @@ module _ {A : Type 0} (b : Budget) (said : Reply) (step : Result A GrantFault �
       let one : f ≡ g = cc in
       why ∙ ap (λ f. Refused (refusal_of_row b f)) one ∙ sym (err g)
 
--- no row is refused for want of memory by the definitions
+-- the definitions refuse no row for lack of memory
 abbrev NotForMemory : {A : Type 0} → Result A GrantFault → Type 0
 NotForMemory r = IfErr r (λ f. f ≢ fault.Memory)
 
@@ -78,7 +79,7 @@ told_apart b fault.NotThere other = λ e. cc
 told_apart b fault.Budget other = λ e. cc
 told_apart b fault.Memory other = λ e. other refl
 
--- so where a row is refused, that is not told as want of memory
+-- so if the definitions refuse a row, the reply isn't a refusal for lack of memory
 pub refused_told : {A : Type 0} (b : Budget) (to : Result A GrantFault) (done : Result (Unit {0}) GrantFault) (r : Reply)
     → NotForMemory to → IfErr to (λ f. done ≡ Err f) → IfErr done (λ f. r ≡ Refused (refusal_of_row b f)) → is_ok to ≡ false → r ≢ Refused Memory
 refused_told b (Ok x) done r faults refused why none = cc

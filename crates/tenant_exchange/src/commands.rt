@@ -15,9 +15,9 @@ use rig_model::grants::grants::Grants;
 use rig_model::lines::grant_lines::GrantCommand;
 use rig_model::lines::replies::{Budget, Refusal, Reply};
 
-/// Carries out a command about grants on the rows of the tenant that gives it. A refusal changes nothing, want of memory included.
-/// Only `offer` and `bind` where the row may be made, and `rows` where there is a row, take memory; nothing else is refused for it.
-/// So where the definitions refuse a command, the reply is that very refusal.
+/// Carries out a command about grants, on the rows of the tenant that gives it. A refusal changes nothing, also one for lack of
+/// memory. Memory is only taken by `offer` and `bind` if the row may be made, and by `rows` if there is a row. No other command
+/// is refused for lack of memory. So if the definitions refuse a command, the reply is exactly that refusal.
 pub fn carry_out(grants: &mut Grants, command: GrantCommand) -> Reply
     ensures memory { result ≡ Reply.Refused Refusal.Memory → grants.new ≡ grants.old }
     ensures room { takes_memory command grants.old ≡ false → result ≢ Reply.Refused Refusal.Memory }
@@ -61,7 +61,7 @@ pub fn carry_out(grants: &mut Grants, command: GrantCommand) -> Reply
     }
 }
 
-// Offers an actuator to a tenant within these bounds, or within the owner's where there are none.
+// Offers an actuator to a tenant, within these bounds if there are any, else within those of the owner.
 fn offer(
     grants: &mut Grants,
     actuator: Name,
@@ -80,7 +80,7 @@ fn offer(
     grants.offer(actuator, tenant, bounds.low(), bounds.high())
 }
 
-// The reply to a change of the rows: that it is done, or why it isn't. The budget is that of such rows.
+// The reply to a change of the rows: that it is done, or why it isn't. `budget` is the budget for such rows.
 fn answer(done: Result<(), GrantFault>, reply: Reply, budget: Budget) -> Reply
     ensures done { IfOk done (λ u. result ≡ reply) }
     ensures refused { IfErr done (λ fault. result ≡ Reply.Refused (refusal_of_row budget fault)) }

@@ -13,9 +13,9 @@ use rig_model::grants::granted::Granted;
 use rig_model::grants::grants::Grants;
 use tenant_slots::sensors::{sense, take_granted};
 
-/// Writes what each sensor takes. `frame` has the input value of each line, and `granted` by its place what is granted through each
-/// bind, if something is; a place without a bind, and a bind without a place, grant nothing. Where a sensor that takes a value was found
-/// is noted there. Takes no memory.
+/// Writes the value that each sensor takes. `frame` has the input value of each line. `granted` has the value that is granted
+/// through each bind, if any, at the place of the bind. A place without a bind grants nothing, and neither does a bind without a
+/// place. If a sensor takes a granted value, the place where it was found is noted with that value. Takes no memory.
 pub fn read_sensors(
     checked: &Checked,
     budgets: &Budgets,
@@ -30,7 +30,7 @@ pub fn read_sensors(
     ensures granted { granted.new ≡ granted.old }
 {
     sense(checked, budgets, frame, values);
-    // Its ports stand once, and the binds are of different sensors.
+    // Port names are different, and so are the sensors of the binds.
     checked.known();
     grants.known();
     for i in 0..granted.len() {
