@@ -14,23 +14,23 @@ use Rattle.tenant_grants.specs.declared.tables.Sensor.{Sensor}
 use Rattle.tenant_grants.specs.declared.tables.Supplier.{Supplier}
 use Rattle.tenant_grants.specs.inner.Tables.{AreSuppliersPlaced, bind_of, placed}
 
--- what the tables of the toolchain leave of their keys is `without`
+-- the toolchain's tables remove a key as `without` does
 pub without_keys : {A : Type 0} (test : A → Bool) (xs : List A) → remove_key test xs ≡ without test xs
 without_keys test [] = refl
 without_keys test (x ∷ xs) = ap (λ ys. cond (test x) xs (x ∷ ys)) (without_keys test xs)
 
--- a sensor has an entry where it is bound
+-- a sensor has an entry if it is bound
 pub is_bound_entries : (x : Name) (es : List (Sensor × Supplier)) → is_some (lookup (λ (s : Sensor). same_name s.name x) es) ≡ list_any (is_bind_of x) (map bind_of es)
 is_bound_entries x [] = refl
 is_bound_entries x (e ∷ es) =
     elim (same_name e.0.name x) as (λ b. is_some (cond b (Some e.1) (lookup (λ (s : Sensor). same_name s.name x) es)) ≡ (b || list_any (is_bind_of x) (map bind_of es)))
     [ true ↦ refl | false ↦ is_bound_entries x es ]
 
--- one entry more is one bind more
+-- one more entry is one more bind
 pub binds_push : (es : List (Sensor × Supplier)) (e : Sensor × Supplier) → map bind_of (es ++ e ∷ []) ≡ map bind_of es ++ bind_of e ∷ []
 binds_push es e = map-append bind_of es (e ∷ [])
 
--- and none where it isn't
+-- and none if it isn't
 pub absent_entries : (x : Name) (es : List (Sensor × Supplier)) → list_any (is_bind_of x) (map bind_of es) ≡ false → lookup (λ (s : Sensor). same_name s.name x) es ≡ None
 absent_entries x es h = none_of (lookup (λ (s : Sensor). same_name s.name x) es) (is_bound_entries x es ∙ h)
   where
@@ -38,14 +38,14 @@ absent_entries x es h = none_of (lookup (λ (s : Sensor). same_name s.name x) es
     none_of None h = refl
     none_of (Some v) h = cc
 
--- the entries without a sensor's are the binds without it
+-- the entries without a sensor's entry are the binds without its bind
 pub without_entries : (x : Name) (es : List (Sensor × Supplier)) → map bind_of (remove_entry (λ (s : Sensor). same_name s.name x) es) ≡ without (is_bind_of x) (map bind_of es)
 without_entries x [] = refl
 without_entries x (e ∷ es) =
     elim (same_name e.0.name x) as (λ b. map bind_of (cond b es (e ∷ remove_entry (λ (s : Sensor). same_name s.name x) es)) ≡ cond b (map bind_of es) (bind_of e ∷ without (is_bind_of x) (map bind_of es)))
     [ true ↦ refl | false ↦ ap (λ bs. bind_of e ∷ bs) (without_entries x es) ]
 
--- a place that isn't the owner's is the place of the name
+-- a place on the other side is the place of the name
 place_other_side : (owner : Owner) (x : Name) (u : ℕ) → other_side owner x ≡ Ok u → place_in owner.roster x ≡ Some u
 place_other_side owner x u h = by (place_in owner.roster x) h
   where
@@ -73,7 +73,7 @@ module _ (P : Sensor × Supplier → Type 0) where
   all_without test (e ∷ es) all =
       elim (test e.0) as (λ b. AllByRecursion P (cond b es (e ∷ remove_entry test es))) [ true ↦ all.1 | false ↦ (all.0, all_without test es all.1) ]
 
-  -- and of all with one more for which it holds
+  -- and of all with one more of which it holds
   pub all_push : (es : List (Sensor × Supplier)) (e : Sensor × Supplier) → AllByRecursion P es → P e → AllByRecursion P (es ++ e ∷ [])
   all_push [] e all here = (here, tt)
   all_push (x ∷ es) e all here = (all.0, all_push es e all.1 here)

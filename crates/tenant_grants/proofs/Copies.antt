@@ -28,7 +28,7 @@ all_there P [] i x at all = cc
 all_there P (y ∷ ys) zero x at all = subst P (some_same y x at) all.0
 all_there P (y ∷ ys) (suc i) x at all = all_there P ys i x at all.1
 
--- of keys that differ, the next is none of those before it
+-- if keys differ, the next is none of those before it
 new_there : {X : Type 0} (same : X → X → Bool) → ((x y : X) → same x y ≡ same y x) → (xs : List X) → IsDistinct same xs → (i : ℕ) (x : X) → slice_get xs i ≡ Some x
     → list_any (same x) (take i xs) ≡ false
 unfolding IsDistinct
@@ -52,7 +52,7 @@ same_offer_turned o p = (λ k. same_name_turned p.actuator o.actuator k && same_
 same_bind_turned : (b c : Bind) → same_bind b c ≡ same_bind c b
 same_bind_turned b c = same_name_turned c.sensor b.sensor
 
--- one offer more is copied
+-- one more offer is copied
 pub offer_copied : (os before new : List Offer) (i : ℕ) (o : Offer) → IsDistinct same_offer os → slice_get os i ≡ Some o → before ≡ take i os
     → new ≡ insert_key same_offer before o → new ≡ take (i + 1) os
 offer_copied os before new i o differ at h p =
@@ -64,7 +64,7 @@ take_mapped f zero xs = refl
 take_mapped f (suc i) [] = refl
 take_mapped f (suc i) (x ∷ xs) = ap (λ ys. f x ∷ ys) (take_mapped f i xs)
 
--- the sensor of the next entry has none among those before it
+-- the sensor of the next entry has no entry among those before it
 pub sensor_absent : (es : List (Sensor × Supplier)) (i : ℕ) (e : Sensor × Supplier) → IsDistinct (λ (s t : Sensor). same_name t.name s.name) (keys_of es) → slice_get es i ≡ Some e
     → lookup (λ (s : Sensor). same_name s.name e.0.name) (take i es) ≡ None
 sensor_absent es i e differ at =

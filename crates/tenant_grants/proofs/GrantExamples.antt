@@ -14,7 +14,7 @@ first_offer : offered alpha [] (codes "a") (codes "beta") whole ≡ Ok ((record 
 unfolding alpha
 first_offer = refl
 
--- one actuator to another tenant is another offer, behind the first
+-- one actuator to another tenant is another offer, after the first
 second_offer : offered alpha ((record { actuator = codes "a"; tenant = codes "beta"; bounds = whole }) ∷ []) (codes "a") (codes "gamma") whole ≡ Ok ((record { actuator = codes "a"; tenant = codes "beta"; bounds = whole }) ∷ (record { actuator = codes "a"; tenant = codes "gamma"; bounds = whole }) ∷ [])
 unfolding alpha
 second_offer = refl
@@ -24,37 +24,37 @@ offered_twice : offered alpha ((record { actuator = codes "a"; tenant = codes "b
 unfolding alpha
 offered_twice = refl
 
--- that is told also where there is no room
+-- that is reported even if the offers are full
 twice_before_budget : offered alpha ((record { actuator = codes "a"; tenant = codes "beta"; bounds = whole }) ∷ (record { actuator = codes "a"; tenant = codes "gamma"; bounds = whole }) ∷ []) (codes "a") (codes "beta") whole ≡ Err Twice
 unfolding alpha
 twice_before_budget = refl
 
--- a third is over the budget
+-- a third offer is over the budget
 third_offer : offered alpha ((record { actuator = codes "a"; tenant = codes "beta"; bounds = whole }) ∷ (record { actuator = codes "a"; tenant = codes "gamma"; bounds = whole }) ∷ []) (codes "b") (codes "beta") whole ≡ Err Budget
 unfolding alpha
 third_offer = refl
 
--- no offer to a tenant that the roster has not, nor to itself
+-- no offer to a tenant that isn't in the roster
 offer_to_nobody : offered alpha ((record { actuator = codes "a"; tenant = codes "beta"; bounds = whole }) ∷ (record { actuator = codes "a"; tenant = codes "gamma"; bounds = whole }) ∷ []) (codes "a") (codes "Gamma") whole ≡ Err NoTenant
 unfolding alpha
 offer_to_nobody = refl
 
--- nor to itself, whatever stands
+-- nor to itself, whatever rows there are
 offer_to_itself : offered alpha ((record { actuator = codes "a"; tenant = codes "beta"; bounds = whole }) ∷ (record { actuator = codes "a"; tenant = codes "gamma"; bounds = whole }) ∷ []) (codes "a") (codes "alpha") whole ≡ Err Own
 unfolding alpha
 offer_to_itself = refl
 
--- an offer taken out
+-- an offer is removed
 taken_out : unoffered alpha ((record { actuator = codes "a"; tenant = codes "beta"; bounds = whole }) ∷ (record { actuator = codes "a"; tenant = codes "gamma"; bounds = whole }) ∷ []) (codes "a") (codes "beta") ≡ Ok ((record { actuator = codes "a"; tenant = codes "gamma"; bounds = whole }) ∷ [])
 unfolding alpha
 taken_out = refl
 
--- and made again stands last
+-- and is the last when it is made again
 made_again : offered alpha ((record { actuator = codes "a"; tenant = codes "gamma"; bounds = whole }) ∷ []) (codes "a") (codes "beta") whole ≡ Ok ((record { actuator = codes "a"; tenant = codes "gamma"; bounds = whole }) ∷ (record { actuator = codes "a"; tenant = codes "beta"; bounds = whole }) ∷ [])
 unfolding alpha
 made_again = refl
 
--- what doesn't stand isn't taken out
+-- an offer that doesn't exist isn't removed
 not_there : unoffered alpha ((record { actuator = codes "a"; tenant = codes "beta"; bounds = whole }) ∷ []) (codes "a") (codes "gamma") ≡ Err NotThere
 unfolding alpha
 not_there = refl
@@ -64,7 +64,7 @@ unoffer_itself : unoffered alpha ((record { actuator = codes "a"; tenant = codes
 unfolding alpha
 unoffer_itself = refl
 
--- a bind behind another
+-- a bind after another
 second_bind : bound alpha ((record { sensor = codes "s"; tenant = codes "beta"; actuator = codes "x" }) ∷ []) (codes "r") (codes "gamma") (codes "y") ≡ Ok ((record { sensor = codes "s"; tenant = codes "beta"; actuator = codes "x" }) ∷ (record { sensor = codes "r"; tenant = codes "gamma"; actuator = codes "y" }) ∷ [])
 unfolding alpha
 second_bind = refl
@@ -79,15 +79,15 @@ third_bind : bound alpha ((record { sensor = codes "s"; tenant = codes "beta"; a
 unfolding alpha
 third_bind = refl
 
--- a bind taken out leaves the other
+-- a removed bind leaves the other
 unbound_second : unbound ((record { sensor = codes "s"; tenant = codes "beta"; actuator = codes "x" }) ∷ (record { sensor = codes "r"; tenant = codes "gamma"; actuator = codes "y" }) ∷ []) (codes "r") ≡ Ok ((record { sensor = codes "s"; tenant = codes "beta"; actuator = codes "x" }) ∷ [])
 unbound_second = refl
 
--- what isn't bound isn't taken out
+-- a sensor that isn't bound has no bind to remove
 unbound_none : unbound ((record { sensor = codes "s"; tenant = codes "beta"; actuator = codes "x" }) ∷ []) (codes "r") ≡ Err NotThere
 unbound_none = refl
 
--- an actuator is offered to whom it is offered
+-- an actuator is offered to the tenant of its offer
 offered_to_beta : offers ((record { actuator = codes "a"; tenant = codes "beta"; bounds = whole }) ∷ []) (codes "a") (codes "beta") ≡ true
 offered_to_beta = refl
 

@@ -1,4 +1,4 @@
--- Each command keeps what rows keep.
+-- What holds of rows still holds after each command.
 use Rattle.std.proofs.Common.{◌≡◌, ◌+◌, ◌<◌, ◌≤◌, Bool, true, false, cond, List, [], ◌∷◌, ◌++◌, length, map, Ok, IsOk, refl, ap, ◌∙◌, arith, length-append, Result, Err}
 use Rattle.std.specs.List.{AllByRecursion, IsDistinct}
 use Rattle.std.specs.Result.{OnOk, OnErr}
@@ -17,7 +17,7 @@ use Rattle.tenant_grants.proofs.BindTables.{all_without, all_push, without_keys}
 use Rattle.tenant_grants.specs.inner.Held.{AreHeld}
 use Rattle.tenant_grants.specs.inner.Tables.{AreSuppliersPlaced, bind_of}
 
--- what holds of each holds of each with one more for which it holds
+-- what holds of each still does with one more of which it holds
 pub all_more : {A : Type 0} (P : A → Type 0) (xs : List A) (x : A) → AllByRecursion P xs → P x → AllByRecursion P (xs ++ x ∷ [])
 all_more P [] x all here = (here, tt)
 all_more P (y ∷ xs) x all here = (all.0, all_more P xs x all.1 here)
@@ -28,7 +28,7 @@ all_less P test [] all = all
 all_less P test (x ∷ xs) all =
     elim (test x) as (λ b. AllByRecursion P (cond b xs (x ∷ without test xs))) [ true ↦ all.1 | false ↦ (all.0, all_less P test xs all.1) ]
 
--- there are no more without one
+-- there aren't more without one
 pub length_less : {A : Type 0} (test : A → Bool) (xs : List A) → length (without test xs) ≤ length xs
 length_less test [] = omega arith
 length_less test (x ∷ xs) =
@@ -46,12 +46,12 @@ binds_differ_entries (e ∷ es) d = (each es d.0, binds_differ_entries es d.1)
     each [] h = h
     each (f ∷ fs) h = (h.0, each fs h.1)
 
--- suppliers with a place are other tenants
+-- suppliers with a place are other tenants than the owner
 pub binds_to_entries : (owner : Owner) (es : List (Sensor × Supplier)) → AreSuppliersPlaced owner es → AllByRecursion (λ (b : Bind). IsOk (other_side owner b.tenant)) (map bind_of es)
 binds_to_entries owner [] h = h
 binds_to_entries owner (e ∷ es) h = (rw (h.0) refl, binds_to_entries owner es h.1)
 
--- the tables' rows are kept
+-- what holds of the tables holds of their rows
 pub kept_rows : (owner : Owner) (os : List Offer) (es : List (Sensor × Supplier)) → AreHeld owner os es → AreKept (record { owner = owner; offers = os; binds = map bind_of es })
 kept_rows owner os es held = record {
   place = held.place;
@@ -63,7 +63,7 @@ kept_rows owner os es held = record {
   binds_to = binds_to_entries owner es held.placed;
 }
 
--- with an offer less
+-- with one offer less
 pub held_unoffered : (owner : Owner) (os new : List Offer) (es : List (Sensor × Supplier)) (test : Offer → Bool) → AreHeld owner os es
     → new ≡ remove_key test os → IsDistinct same_offer new → AreHeld owner new es
 held_unoffered owner os new es test held left differ =
@@ -78,7 +78,7 @@ held_unoffered owner os new es test held left differ =
       placed = held.placed;
     }
 
--- with a bind more, or as they were
+-- with one bind more, or unchanged
 pub held_bound : (owner : Owner) (os : List Offer) (es new : List (Sensor × Supplier)) (e : Sensor × Supplier) (r : Result (Unit {0}) GrantFault) → AreHeld owner os es
     → other_side owner e.1.tenant ≡ Ok e.1.place → length es < owner.most_binds → IsDistinct (λ (s t : Sensor). same_name t.name s.name) (keys_of new)
     → OnOk r (new ≡ es ++ e ∷ []) → OnErr r (new ≡ es) → AreHeld owner os new
@@ -99,7 +99,7 @@ length_without test (e ∷ es) =
     let rest : length (remove_entry test es) ≤ length es = length_without test es in
     elim (test e.0) as (λ b. length (cond b es (e ∷ remove_entry test es)) ≤ length (e ∷ es)) [ true ↦ omega arith | false ↦ omega arith ]
 
--- with a bind less
+-- with one bind less
 pub held_unbound : (owner : Owner) (os : List Offer) (es new : List (Sensor × Supplier)) (test : Sensor → Bool) → AreHeld owner os es
     → new ≡ remove_entry test es → IsDistinct (λ (s t : Sensor). same_name t.name s.name) (keys_of new) → AreHeld owner os new
 held_unbound owner os es new test held left differ = record {

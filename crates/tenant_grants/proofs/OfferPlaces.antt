@@ -13,7 +13,7 @@ use Rattle.tenant_grants.specs.Kept.{same_offer}
 use Rattle.tenant_grants.specs.declared.rows.Offer.{Offer}
 
 module _ (actuator tenant : Name) where
-  -- an offer that differs from one of this actuator to this tenant is another's
+  -- an offer that differs from the one of this actuator to this tenant is of another actuator or to another tenant
   other_offer : (p o : Offer) → is_offer_of actuator tenant o ≡ true → same_offer p o ≡ false → is_offer_of actuator tenant p ≡ false
   other_offer p o here differ = by (is_offer_of actuator tenant p) refl
     where
@@ -24,7 +24,7 @@ module _ (actuator tenant : Name) where
           let same : is_offer_of p.actuator p.tenant o ≡ is_offer_of actuator tenant o = (λ k. is_offer_of (same_name_is p.actuator actuator names.0 k) (same_name_is p.tenant tenant names.1 k) o) in
           sym here ∙ sym same ∙ differ
 
-  -- offers differ, so the one at a place is the one that is looked for, where it is of this actuator to this tenant
+  -- offers differ, so an offer at a place is the one that is looked for if it is of this actuator to this tenant
   pub offer_there : (os : List Offer) (k : ℕ) (o : Offer) → IsDistinct same_offer os → slice_get os k ≡ Some o → is_offer_of actuator tenant o ≡ true → offer_of os actuator tenant ≡ Some o
   unfolding IsDistinct
   offer_there [] k o differ at here = cc
@@ -39,7 +39,7 @@ module _ (actuator tenant : Name) where
       apart (q ∷ qs) zero all at = let one : q ≡ o = cc in rw (← one) all.0
       apart (q ∷ qs) (suc j) all at = apart qs j all.1 at
 
-  -- and so is the one at the first place that passes
+  -- and so is the offer at the first place that passes the test
   pub offer_placed : (os : List Offer) (k : ℕ) (o : Offer) → position (is_offer_of actuator tenant) os ≡ Some k → slice_get os k ≡ Some o → offer_of os actuator tenant ≡ Some o
   offer_placed os k o e at =
       let within = (position-Some (is_offer_of actuator tenant) os k o e).0 in

@@ -1,4 +1,4 @@
--- A roster of names beside that of a rig.
+-- A roster of names compared with that of a rig.
 use Rattle.std.proofs.Common.{◌≡◌, ℕ, Bool, not, List, [], ◌∷◌, map, position, slice_get, Option, Some, None, option_map, unwrap_or, refl}
 use Rattle.std.specs.List.{prefix_len}
 use Rattle.std.specs.Option.{option_map_or}
@@ -12,7 +12,7 @@ module _ {A B : Type 0} (f : A → B) where
   prefix_map p [] = refl
   prefix_map p (x ∷ xs) = rw (prefix_map p xs) refl
 
-  -- the first place of an element's image is that of the element
+  -- the first place that passes in a mapped list is the first whose image passes
   pub position_map : (p : B → Bool) (xs : List A) → position p (map f xs) ≡ position (λ x. p (f x)) xs
   position_map p xs = rw (prefix_map (λ y. not (p y)) xs, length-map xs f) refl
 

@@ -10,7 +10,7 @@ use Rattle.tenant_grants.specs.declared.rows.Row.TheVariants as row
 use Rattle.tenant_grants.specs.declared.tables.Sensor.{Sensor}
 use Rattle.tenant_grants.specs.declared.tables.Supplier.{Supplier}
 
--- behind the rows of the first i stands that of the next
+-- after the rows of the first i comes the row of the next
 pub row_pushed : {A : Type 0} (f : A → Row) (xs : List A) (i : ℕ) (x : A) (old before new : List Row) → slice_get xs i ≡ Some x
     → before ≡ old ++ map f (take i xs) → new ≡ before ++ f x ∷ [] → new ≡ old ++ map f (take (i + 1) xs)
 row_pushed f xs i x old before new at h p =

@@ -1,4 +1,4 @@
--- What a tenant's rows keep, whatever is done to them.
+-- What always holds of a tenant's rows.
 use Rattle.std.specs.Prelude.{◌<◌, ◌≤◌, Bool, length, IsOk}
 use Rattle.std.specs.List.{AllByRecursion, IsDistinct}
 use Rattle.tenant_grants.specs.Grants.{GrantRows, other_side, is_offer_of, is_bind_of}
@@ -13,8 +13,8 @@ same_offer o p = is_offer_of o.actuator o.tenant p
 abbrev pub same_bind : Bind → Bind → Bool
 same_bind b c = is_bind_of b.sensor c
 
--- What rows keep: the owner has a place in the roster, no list is longer than its budget, no row stands twice, and the other side of each
--- row is another tenant of the roster.
+-- What always holds of rows: the owner has a place in the roster, no list is longer than its budget, no row is there twice, and the
+-- other side of each row is another tenant of the roster.
 pub record AreKept (rows : GrantRows) : Type 0 where
   pub place : rows.owner.place < length rows.owner.roster
   pub offers_within : length rows.offers ≤ rows.owner.most_offers

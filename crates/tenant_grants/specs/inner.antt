@@ -1,3 +1,3 @@
--- What the proofs speak of, and no contract of a public call.
+-- What the proofs use, but no contract of a public call.
 pub mod Held
 pub mod Tables

@@ -1,9 +1,9 @@
-//! Why a row isn't made or taken out.
+//! Why a row isn't made or removed.
 
 use std::alloc::AllocFailed;
 use thiserror::Error;
 
-/// Why a row isn't made or taken out. Of several reasons the first in this order is told.
+/// Why a row isn't made or removed. If there are several reasons, the first in this order is reported.
 #[derive(Clone, Copy, Debug, PartialEq, Eq, Error)]
 pub enum GrantFault {
     /// The roster has no tenant of this name.
@@ -12,16 +12,16 @@ pub enum GrantFault {
     /// The tenant is the rows' owner.
     #[error("the tenant itself")]
     Own,
-    /// The row to be made stands already.
+    /// The row to be made exists already.
     #[error("the row stands already")]
     Twice,
-    /// The row to be taken out doesn't stand.
+    /// The row to be removed doesn't exist.
     #[error("no such row")]
     NotThere,
-    /// One row more is over the budget.
+    /// One more row is over the budget.
     #[error("over budget")]
     Budget,
-    /// Want of memory.
+    /// Out of memory.
     #[error("out of memory")]
     Memory,
 }

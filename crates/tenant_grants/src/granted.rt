@@ -5,7 +5,8 @@ ghost use Rattle.std.specs.Prelude.{◌≡◌, ◌≤◌, None, length};
 use arrayvec::ArrayVec;
 use std::marker::Model;
 
-/// What is granted through a bind, if something is, and where the names of the bind were found last. Contracts see it as the value.
+/// The value that is granted through a bind, if there is one, and the places where the bind's names were found last. Contracts see
+/// only the value.
 #[derive(Drop)]
 pub struct Granted {
     value: Option<i64>,
@@ -31,8 +32,8 @@ impl Default for Granted {
     }
 }
 
-/// Where the supplier's side of a bind was found last, each place counted from 0. Whoever takes a hint compares the name that stands
-/// there, and looks for the name where it is another one: so contracts say nothing of hints.
+/// The places where the supplier's side of a bind was found last, counted from 0. The caller that takes a hint compares the name at
+/// that place, and searches for the name if another one is there. So contracts say nothing about hints.
 #[derive(Clone, Copy)]
 pub struct Hints {
     /// The supplier's offer, among its offers.
@@ -57,7 +58,7 @@ impl Granted {
         }
     }
 
-    /// This is granted, and no name was found yet.
+    /// This value is granted, if there is one, and no name was found yet.
     pub fn of(value: Option<i64>) -> Granted
         ensures { result ≡ value }
     {
@@ -66,7 +67,7 @@ impl Granted {
         granted
     }
 
-    /// What is granted.
+    /// The granted value, if there is one.
     #[inline(always)]
     pub fn value(&self) -> Option<i64>
         ensures { result ≡ self.now }
@@ -89,7 +90,7 @@ impl Granted {
         self.hints = hints;
     }
 
-    /// Where the bound sensor was found last, among those of its program: a hint too.
+    /// Where the bound sensor was found last among the sensors of its program. This is a hint too.
     #[inline(always)]
     pub fn sensor_hint(&self) -> usize {
         self.sensor
@@ -104,7 +105,7 @@ impl Granted {
     }
 }
 
-/// What is granted through each bind, at most 64, in places of its own. Takes no memory.
+/// A `Granted` for each of these values, at most 64. Takes no memory.
 pub fn places_of(granted: &[Option<i64>]) -> ArrayVec<Granted, 64>
     requires { length granted.now ≤ 64 }
     ensures { result.items ≡ granted.now }
@@ -116,7 +117,9 @@ pub fn places_of(granted: &[Option<i64>]) -> ArrayVec<Granted, 64>
     places
 }
 
-/// A place for each of 1,024 binds, as many as 16 tenants with 64 each have, through which nothing is granted. Takes no memory.
+/// A `Granted` for each of 1,024 binds, through which nothing is granted. Takes no memory.
+///
+/// That is enough for 16 tenants with 64 binds each.
 pub fn empty_places() -> ArrayVec<Granted, 1024>
     ensures { length result.items ≡ 1024 }
 {

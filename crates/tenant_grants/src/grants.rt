@@ -28,7 +28,7 @@ use std::marker::Model;
 pub struct Grants {
     alloc: Global,
     own: TenantId,
-    // On the heap, so that the rows stay small to move.
+    // On the heap, so that the rows stay cheap to move.
     roster: Box<ArrayVec<Name, 16>>,
     most_offers: usize,
     most_binds: usize,
@@ -55,8 +55,8 @@ impl Model for Grants {
 }
 
 impl Grants {
-    /// No rows, of the tenant at this place of the roster, with the most offers and binds that it may have. An offer that names no bounds
-    /// has the whole range of `i64`, until [`Grants::with_own_bounds`] sets others.
+    /// The rows of the tenant at this place of the roster, without any offer or bind. It may have at most `most_offers` offers and
+    /// `most_binds` binds. An offer that names no bounds has the whole range of `i64`, until [`Grants::with_own_bounds`] sets others.
     ///
     /// # Errors
     /// Out of memory.
@@ -82,7 +82,7 @@ impl Grants {
         })
     }
 
-    /// The same rows, where an offer that names no bounds has these.
+    /// The same rows, with these bounds for an offer that names none.
     pub fn with_own_bounds(self, bounds: Bounds) -> Grants
         ensures { result ≡ record self { owner = record self.owner { bounds = bounds } } }
     {
@@ -91,7 +91,7 @@ impl Grants {
         grants
     }
 
-    /// The owner's place. Takes no memory, as no call that only looks but [`Grants::list`].
+    /// The owner's place. Takes no memory. Of the calls that change nothing, only [`Grants::list`] and [`Grants::copy`] take memory.
     #[inline(always)]
     pub fn own(&self) -> TenantId
         ensures place { result ≡ self.now.owner.place }
@@ -107,7 +107,7 @@ impl Grants {
         &self.bounds
     }
 
-    /// Opens what is known of the type, for a proof; does nothing.
+    /// Gives a proof what always holds of the type. Does nothing.
     #[inline(always)]
     pub fn known(&self)
         ensures { AreKept self.now }
@@ -126,12 +126,11 @@ impl Grants {
         }
     }
 
-    /// Offers an actuator to the tenant of this name, behind the other offers: what it grants lies from `low` to `high`.
+    /// Offers an actuator to the tenant of this name, after the other offers. The values that the offer grants are from `low` to `high`.
     ///
     /// # Errors
-    /// [`GrantFault::NoTenant`], [`GrantFault::Own`], [`GrantFault::Twice`] where the actuator is offered to the tenant already, whatever
-    /// the bounds,
-    /// [`GrantFault::Budget`], and last [`GrantFault::Memory`].
+    /// [`GrantFault::NoTenant`], [`GrantFault::Own`], [`GrantFault::Twice`] if the actuator is already offered to the tenant, whatever
+    /// the bounds, [`GrantFault::Budget`], and last [`GrantFault::Memory`].
     pub fn offer(
         &mut self,
         actuator: Name,
@@ -164,7 +163,7 @@ impl Grants {
         Ok(())
     }
 
-    /// Takes the offer of an actuator to the tenant of this name out; the others keep their order. Takes no memory.
+    /// Removes the offer of an actuator to the tenant of this name. The others keep their order. Takes no memory.
     ///
     /// # Errors
     /// [`GrantFault::NoTenant`], [`GrantFault::Own`], and last [`GrantFault::NotThere`].
@@ -182,8 +181,8 @@ impl Grants {
         Ok(())
     }
 
-    /// The offer of the actuator to the tenant of this name, where there is one, and its place among the offers, counted from 0. It is
-    /// looked for at `hint` first, where it may have been found before. Takes no memory.
+    /// The offer of the actuator to the tenant of this name, if there is one, and its place among the offers, counted from 0. Looks at
+    /// the place `hint` first, where the offer may have been found before. Takes no memory.
     #[inline(always)]
     pub fn offer_of(&self, actuator: &Name, tenant: &Name, hint: usize) -> Option<(usize, &Offer)>
         ensures offer { option_map (λ o. o.1.now) result ≡ offer_of self.now.offers actuator.now tenant.now }
@@ -202,7 +201,7 @@ impl Grants {
         self.bounds(actuator, tenant).is_some()
     }
 
-    /// The least and the greatest value of the offer of the actuator to the tenant at this place of the roster, where there is one. Takes
+    /// The least and the greatest value of the offer of the actuator to the tenant at this place of the roster, if there is one. Takes
     /// no memory.
     pub fn bounds(&self, actuator: &Name, tenant: TenantId) -> Option<(i64, i64)>
         ensures { result ≡ option_map (λ o. (o.bounds.low, o.bounds.high)) (offer_to self.now.owner.roster self.now.offers actuator.now tenant) }
@@ -220,10 +219,10 @@ impl Grants {
         self.roster.as_slice()
     }
 
-    /// Binds a sensor to an actuator of the tenant of this name, behind the other binds.
+    /// Binds a sensor to an actuator of the tenant of this name, after the other binds.
     ///
     /// # Errors
-    /// [`GrantFault::NoTenant`], [`GrantFault::Own`], [`GrantFault::Twice`] where the sensor is bound already, whatever it is bound to,
+    /// [`GrantFault::NoTenant`], [`GrantFault::Own`], [`GrantFault::Twice`] if the sensor is already bound, whatever it is bound to,
     /// [`GrantFault::Budget`], and last [`GrantFault::Memory`].
     #[tactic(auto, using(crate::proofs::BindTables::binds_push))]
     pub fn bind(&mut self, sensor: Name, tenant: Name, actuator: Name) -> Result<(), GrantFault>
@@ -247,7 +246,7 @@ impl Grants {
         add(&mut self.binds, Sensor { name: sensor }, supplier)
     }
 
-    /// Takes the bind of a sensor out; the others keep their order. Takes no memory.
+    /// Removes the bind of a sensor. The others keep their order. Takes no memory.
     ///
     /// # Errors
     /// [`GrantFault::NotThere`].
@@ -263,7 +262,7 @@ impl Grants {
         Ok(())
     }
 
-    /// How many binds there are.
+    /// The number of binds.
     #[inline(always)]
     pub fn bind_count(&self) -> usize
         ensures { result ≡ length self.now.binds }
@@ -284,7 +283,7 @@ impl Grants {
     /// All rows: the offers, then the binds, each in the order in which they were made.
     ///
     /// # Errors
-    /// Out of memory, only where there is a row.
+    /// Out of memory. Never if there are no rows.
     pub fn list(&self) -> Result<List<Row>, AllocError>
         ensures rows { IfOk result (λ rows. rows ≡ rows_of self.now.offers self.now.binds) }
         ensures memory { IsErr result → 0 < length self.now.offers + length self.now.binds }
@@ -344,7 +343,7 @@ fn copied_offers(alloc: Global, offers: &IndexSet<Offer>) -> Result<IndexSet<Off
     Ok(copies)
 }
 
-// An offer of this actuator to the tenant of this name, to be looked for: with which bounds doesn't matter.
+// An offer of this actuator to the tenant of this name, as the key of a lookup. Its bounds don't matter.
 fn whole_offer(actuator: Name, tenant: Name) -> Offer
     ensures { result ≡ record { actuator = actuator; tenant = tenant; bounds = whole } }
 {
@@ -392,7 +391,7 @@ fn place_in(roster: &[Name], tenant: &Name) -> Option<TenantId>
     roster.iter().position(|name| *name == *tenant)
 }
 
-// The offers as rows, behind these.
+// Appends the offers to these rows.
 fn push_offers(rows: &mut Vec<Row>, offers: &IndexSet<Offer>) -> Result<(), AllocError>
     ensures pushed { OnOk result (rows.new.items ≡ rows.old.items ++ map row.Offer offers.now.keys) }
     ensures memory { IsErr result → 0 < length offers.now.keys }
@@ -406,7 +405,7 @@ fn push_offers(rows: &mut Vec<Row>, offers: &IndexSet<Offer>) -> Result<(), Allo
     Ok(())
 }
 
-// The binds as rows, behind these.
+// Appends the binds to these rows.
 fn push_binds(rows: &mut Vec<Row>, binds: &BindTable) -> Result<(), AllocError>
     ensures pushed { OnOk result (rows.new.items ≡ rows.old.items ++ map (λ e. row.Bind (bind_of e)) binds.now.entries) }
     ensures memory { IsErr result → 0 < length (map bind_of binds.now.entries) }

@@ -8,8 +8,8 @@ ghost use Rattle.rig_config.specs.declared.TenantConfig.{TenantConfig};
 ghost use Rattle.tenant_grants.specs.Grants.{granted_value, name_of_place, offer_of, offers, place_in};
 ghost use Rattle.tenant_grants.specs.declared.rows.Offer.{Offer};
 
-/// An actuator is offered where there is an offer of it, and an offer grants a value of its bounds: the actuator's, where that lies
-/// within them.
+/// An actuator is offered if and only if there is an offer of it. An offer grants a value within its bounds. It grants the
+/// actuator's value if that is within them.
 pub fn granted_by_an_offer()
     ensures offered { (os : List Offer) (actuator tenant : Name) → offers os actuator tenant ≡ is_some (offer_of os actuator tenant) }
     ensures bounds { (o : Offer) (z : ℤ) → IsTrue (is_in_order o.bounds) → IsTrue (is_within o.bounds (granted_value o z)) }

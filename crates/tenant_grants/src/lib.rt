@@ -1,8 +1,10 @@
-//! The rows by which one tenant grants values to others, and takes values of others.
+//! The rows with which a tenant grants values to others, and takes values from others.
 //!
-//! An offer lets another tenant bind one of the owner's actuators; a bind gives one of the owner's sensors the value of another tenant's
-//! actuator. [`grants::Grants`] has the rows of one owner. It knows names and no programs, and looks at no other tenant's rows: whether a
-//! value passes is asked where both sides are at hand. What the four commands make of the rows is said in `specs/Grants.antt`;
+//! An offer lets another tenant bind one of the owner's actuators. A bind gives one of the owner's sensors the value of another
+//! tenant's actuator.
+//!
+//! [`grants::Grants`] has the rows of one owner. It knows names but no programs, and doesn't look at other tenants' rows. Whether a
+//! value passes is decided where both sides are available. `specs/Grants.antt` says how the four commands change the rows;
 //! `proofs/GrantExamples.antt` has examples.
 #![tactic(auto)]
 

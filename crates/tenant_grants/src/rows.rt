@@ -17,7 +17,7 @@ pub struct Offer {
     pub actuator: Name,
     /// The name of the tenant that may bind it.
     pub tenant: Name,
-    /// How far the values that it grants may go.
+    /// The bounds of the values that it grants.
     pub bounds: Bounds,
 }
 
@@ -80,7 +80,7 @@ impl Row {
     }
 }
 
-// Two offers are the same row where they offer the same actuator to the same tenant, whatever the bounds.
+// Two offers are the same row if they offer the same actuator to the same tenant, whatever the bounds.
 impl PartialEq for Offer {
     ghost eq = { λ o p. same_name p.actuator o.actuator && same_name p.tenant o.tenant };
 

@@ -1,4 +1,4 @@
-//! The table of binds: an entry for each, by its sensor.
+//! The table of binds, with an entry for each bound sensor.
 
 ghost use Rattle.std.specs.Prelude.{◌≡◌, ◌↔◌, ◌<◌, ◌++◌, [], ◌∷◌, IfErr, IfOk, IsSome, OnErr, OnOk, false, length, map, option_map, slice_get};
 ghost use Rattle.std.specs.Bool.{OnFalse};
@@ -29,7 +29,7 @@ pub(crate) struct Sensor {
 #[derive(Drop)]
 pub(crate) struct Supplier {
     pub tenant: Name,
-    /// The place of the tenant, so that it isn't looked for at each instant.
+    /// The place of the tenant, so that no instant has to search for it.
     pub place: TenantId,
     pub actuator: Name,
 }
@@ -71,7 +71,7 @@ pub(crate) fn is_bound(binds: &BindTable, sensor: &Name) -> bool
     })
 }
 
-/// One bind more, behind the others.
+/// Adds a bind at the end.
 pub(crate) fn add(
     binds: &mut BindTable,
     sensor: Sensor,
@@ -87,7 +87,7 @@ pub(crate) fn add(
     Ok(())
 }
 
-/// The binds without a sensor's; whether it was bound.
+/// Removes the bind of a sensor, and returns whether it was bound.
 #[tactic(auto, using(crate::proofs::BindTables::is_bound_entries))]
 pub(crate) fn take_out(binds: &mut BindTable, sensor: &Name) -> bool
     ensures found { result ≡ list_any (is_bind_of sensor.now) (map bind_of binds.old.entries) }
@@ -129,7 +129,7 @@ pub(crate) fn copied_binds(alloc: Global, binds: &BindTable) -> Result<BindTable
     Ok(copies)
 }
 
-/// The bind that an entry stands for.
+/// The bind of an entry.
 pub(crate) fn bind_of(sensor: &Sensor, supplier: &Supplier) -> Bind
     ensures { result ≡ bind_of (sensor.now, supplier.now) }
 {

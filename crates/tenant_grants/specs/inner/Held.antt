@@ -1,4 +1,4 @@
--- What the tables keep.
+-- What always holds of the tables.
 use Rattle.std.specs.Prelude.{◌<◌, ◌≤◌, List, length, IsOk}
 use Rattle.std.specs.List.{AllByRecursion, IsDistinct}
 use Rattle.std.specs.Map.{keys_of}
@@ -10,7 +10,7 @@ use Rattle.tenant_grants.specs.declared.tables.Sensor.{Sensor}
 use Rattle.tenant_grants.specs.declared.tables.Supplier.{Supplier}
 use Rattle.tenant_grants.specs.inner.Tables.{AreSuppliersPlaced}
 
--- what the two tables keep, as `AreKept` says it of the rows, and each supplier's place
+-- what always holds of the two tables: what `AreKept` says of the rows, and that each supplier's place is right
 pub record AreHeld (owner : Owner) (offers : List Offer) (entries : List (Sensor × Supplier)) : Type 0 where
   pub place : owner.place < length owner.roster
   pub offers_within : length offers ≤ owner.most_offers
