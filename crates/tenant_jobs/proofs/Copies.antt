@@ -7,7 +7,7 @@ some_is : {X : Type 0} (o : Option X) (x : X) → IsSomeAnd o (λ y. y ≡ x) �
 some_is None x h = absurd h
 some_is (Some y) x h = ap (λ z. Some z) h
 
--- where a copy of a value is equal to it, the copies of slots are the slots
+-- if copies of values are equal to the values, copied slots are equal to the slots
 pub same_slots : {X : Type 0} (slots copies : List (Option X)) → AllZip (IsSlotClone (λ x y. y ≡ x)) slots copies → copies ≡ slots
 same_slots [] [] h = refl
 same_slots [] (copy ∷ copies) h = absurd h

@@ -1,4 +1,4 @@
--- The values of a slab, and what a change of one slot makes of them.
+-- The values of a slab, and how they change with one slot.
 use Rattle.std.proofs.Common.{◌≡◌, ◌≢◌, ℕ, zero, suc, ◌+◌, List, [], ◌∷◌, ◌++◌, length, map, get_or, set, drop, Option, Some, None, is_some, count_by, cond, filter_map, option_to_list, refl, sym, ap, ◌∙◌, append_assoc, arith}
 use Rattle.std.proofs.lemmas.List.{set-get_or}
 use Rattle.std.proofs.lemmas.List.Sums.{sum_by-cons}
@@ -16,7 +16,7 @@ module _ {T : Type 0} where
   pub length-values : (s : Slab T) → length (values s) ≡ slab_len s
   length-values s = length-stored s.slots
 
-  -- a value that is written where it stands already
+  -- writing a value where it is already changes nothing
   pub written_back : (s : Slab T) (key : ℕ) (value : T) → get s key ≡ Some value → with_value s key value ≡ s
   written_back s key value at = ap (λ (slots : List (Option T)). record s { slots = slots }) (ap (set s.slots key) (sym at) ∙ set-get_or s.slots key None)
 
@@ -54,7 +54,7 @@ module _ {T : Type 0} where
   step_back whole rest first front back x y outer inner same =
       outer ∙ (ap (λ zs. first ++ zs) inner ∙ (sym (append_assoc first front (option_to_list x ++ back)) ∙ ap (λ (o : Option T). (first ++ front) ++ (option_to_list o ++ back)) same))
 
-  -- what two lists of slots store that differ in one slot at most
+  -- the values stored by two lists of slots that differ in at most one slot
   pub one_slot : (k : ℕ) (xs ys : List (Option T)) → ((other : ℕ) → other ≢ k → get_or ys other None ≡ get_or xs other None)
       → (front : List T) × (back : List T)
       × (stored xs ≡ front ++ (option_to_list (get_or xs k None) ++ back))

@@ -1,4 +1,4 @@
--- An entry that comes into the table, gets its result, or leaves.
+-- How the table changes when an entry is added, gets its result, or is removed.
 use Rattle.std.proofs.Common.{◌≡◌, ℕ, ◌+◌, ◌≤◌, Bool, true, false, cond, List, ◌∷◌, ◌++◌, length, Option, Some, None, count_by, find, is_some, option_to_list, refl, sym, ap, ◌∙◌, arith, subst, IsSomeAnd}
 use Rattle.std.proofs.lemmas.List.{length-append}
 use Rattle.std.proofs.lemmas.List.Sums.{count_by-le-length}
@@ -70,7 +70,7 @@ module _ (front back : List TableEntry) where
   length_with : (e : TableEntry) → length (front ++ e ∷ back) ≡ length (front ++ back) + 1
   length_with e = omega (arith, length-append front (e ∷ back), length-append front back)
 
--- a name that was not entered comes into an empty slot
+-- a name without an entry gets one, in an empty slot
 pub record IsEntered (old new : List TableEntry) (id : JobId) : Type 0 where
   pub differ : NamesDiffer new
   pub found : (j : JobId) → find (is_of j) new ≡ cond (same_job id j) (Some (entry j None)) (find (is_of j) old)
@@ -85,7 +85,7 @@ pub record IsAdded (old new : List TableEntry) (id : JobId) (done : JobResult) :
   pub bounded : count_by has_come old + 1 ≤ length old
   pub as_many : length new ≡ length old
 
--- an entry leaves
+-- an entry is removed
 pub record IsRemoved (old new : List TableEntry) (id : JobId) (result : Option JobResult) : Type 0 where
   pub differ : NamesDiffer new
   pub found : (j : JobId) → find (is_of j) new ≡ cond (same_job id j) None (find (is_of j) old)
@@ -93,7 +93,7 @@ pub record IsRemoved (old new : List TableEntry) (id : JobId) (result : Option J
   pub fewer : length new + 1 ≡ length old
 
 module _ (old new : Slab TableEntry) (key : ℕ) where
-  -- what the two store round the slot
+  -- the entries of both slabs before and after the slot
   around : (slot was : Option TableEntry) → Updates old new key slot → get old key ≡ was
       → (front : List TableEntry) × (back : List TableEntry) × (values old ≡ front ++ (option_to_list was ++ back)) × (values new ≡ front ++ (option_to_list slot ++ back))
   around slot was updates at =
@@ -167,7 +167,7 @@ is_added_under s key e id done differ at named not_yet =
     let updates = Updates-with_value s key (entry e.id (Some done)) (rw at refl) in
     subst (λ i. IsAdded (values s) (values (with_value s key (entry e.id (Some done)))) i done) (same_job_is e.id id same) (is_added_at s _ key e.id done updates empty differ)
 
--- the entry under a key leaves
+-- the entry under a key is removed
 pub is_removed_under : (old new : Slab TableEntry) (key : ℕ) (e : TableEntry) (id : JobId) → NamesDiffer (values old) → get old key ≡ Some e
     → IsSomeAnd (get old key) (λ d. same_job d.id id ≡ true) → Updates old new key None
     → (find (is_of id) (values old) ≡ Some e) × IsRemoved (values old) (values new) id e.result
@@ -177,12 +177,12 @@ is_removed_under old new key e id differ at named updates =
       subst (λ i. IsRemoved (values old) (values new) i e.result) (same_job_is e.id id same) (is_removed_at old new key e.id e.result updates at differ),
     )
 
--- what holds of a table with so many results counted, so many entries that wait to be used, and room for so many of these
+-- the invariant of a table with `results` results, `spare` spare entries, and capacity for `most` of these
 abbrev pub IsTable : Slab TableEntry → ℕ → ℕ → ℕ → Type 0
 IsTable s results spare most =
     NamesDiffer (values s) × (results ≡ count_by has_come (values s)) × (slab_len s + spare ≤ s.capacity) × (slab_len s + spare ≤ most)
 
--- it holds of one that was only given room
+-- the invariant holds again after capacity was reserved and spare entries were added, if both capacities suffice
 pub with_room : (was is : Slab TableEntry) (results spare most waiting : ℕ) (before : ℕ) → is ≡ record was { capacity = is.capacity } → IsTable was results waiting before
     → slab_len was + spare ≤ is.capacity → slab_len was + spare ≤ most → IsTable is results spare most
 with_room was is results spare most waiting before same table fits holds =

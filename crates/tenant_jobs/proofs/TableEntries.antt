@@ -1,4 +1,4 @@
--- The entry of a name in a list of entries where no two have one name.
+-- The entry of a name, in a list of entries with different names.
 use Rattle.std.proofs.Common.{◌≡◌, ℕ, ◌+◌, ◌≤◌, Bool, true, false, cond, List, [], ◌∷◌, ◌++◌, length, Option, Some, None, is_some, IsSomeAnd, count_by, find, option_to_list, refl, sym, ap, ◌∙◌, arith, nat_eq, ◌&&◌}
 use Rattle.std.proofs.lemmas.Bool.{eq-eqb, eqb-false, eqb-true, false_from_ne_true}
 use Rattle.std.proofs.lemmas.List.Sums.{sum_by-cons, sum_by-append, count_by-le-length}
@@ -56,7 +56,7 @@ module _ {X : Type 0} (p : X → Bool) where
         find_none (front ++ back) (omega (arith, one, here, middle)),
       )
 
--- the entry under a key is the one that is found by its name
+-- the entry under a key is the one found by its name
 pub found_at : (s : Slab TableEntry) (key : ℕ) (e : TableEntry) (j : JobId) → NamesDiffer (values s) → get s key ≡ Some e → same_job e.id j ≡ true → find (λ d. same_job d.id j) (values s) ≡ Some e
 found_at s key e j differ at same =
     let split = one_slot key s.slots s.slots (λ _ _. refl) in
@@ -64,15 +64,15 @@ found_at s key e j differ at same =
     let one : count_by (λ (d : TableEntry). same_job d.id j) (split.0 ++ e ∷ split.1) ≤ 1 = rw here at (differ j) in
     ap (find (λ (d : TableEntry). same_job d.id j)) here ∙ (find_middle (λ (d : TableEntry). same_job d.id j) e split.0 split.1 same one).0
 
--- the entry under a key that leads to this name is the one that is found by it
+-- the same, if the key is known to hold an entry of this name
 pub found_under : (s : Slab TableEntry) (key : ℕ) (e : TableEntry) (j : JobId) → NamesDiffer (values s) → get s key ≡ Some e → IsSomeAnd (get s key) (λ d. same_job d.id j ≡ true) → entry_in (values s) j ≡ Some e
 found_under s key e j differ at named = found_at s key e j differ at (rw at at named)
 
--- whether its result came is seen there
+-- whether its result came can be read from that entry
 pub has_result_under : (s : Slab TableEntry) (key : ℕ) (e : TableEntry) (j : JobId) → NamesDiffer (values s) → get s key ≡ Some e → IsSomeAnd (get s key) (λ d. same_job d.id j ≡ true) → has_result (values s) j ≡ is_some e.result
 has_result_under s key e j differ at named = rw (found_under s key e j differ at named) refl
 
--- where there are as many results as entries, each entry has its result
+-- if there are as many results as entries, each entry has its result
 pub all_came : (entries : List TableEntry) (j : JobId) → result_count entries ≡ length entries → has_result entries j ≡ is_entered entries j
 all_came [] j complete = refl
 all_came (e ∷ rest) j complete = by_first (all_came rest j) (is_some e.result) (same_job e.id j) refl refl
@@ -85,7 +85,7 @@ all_came (e ∷ rest) j complete = by_first (all_came rest j) (is_some e.result)
     by_first later true true came at = rw at came
     by_first later true false came at = rw at (later (omega (arith, complete, sum_by-cons weight e rest, weigh came)))
 
--- there are as many results as entries just where each entry has its result
+-- there are as many results as entries exactly if each entry has its result
 pub complete_is : (entries : List TableEntry) → nat_eq (result_count entries) (length entries) ≡ is_complete entries
 complete_is [] = refl
 complete_is (e ∷ rest) = by_first (complete_is rest) (is_some e.result) refl

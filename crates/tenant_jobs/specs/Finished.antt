@@ -12,7 +12,7 @@ pub record TableEntry : Type 0 where
 -- the active tasks
 pub record TaskTable : Type 0 where
   pub entries : List TableEntry
-  -- how many more there is room for
+  -- how many more entries fit
   pub room : ℕ
 
 -- the entry of this name, if there is one

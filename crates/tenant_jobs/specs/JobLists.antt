@@ -5,5 +5,5 @@ use Rattle.tenant_jobs.specs.Jobs.{JobValue}
 -- the jobs that wait to be computed, the oldest first
 pub record JobList : Type 0 where
   pub jobs : List JobValue
-  -- how many more there is room for
+  -- how many more jobs fit
   pub room : ℕ

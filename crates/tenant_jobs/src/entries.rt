@@ -12,7 +12,7 @@ use giotto_tasks::values::Values;
 use std::alloc::{AllocError, Global};
 use std::marker::Model;
 
-// What an entry holds. The result means nothing until it came.
+// The contents of an entry. `result` has no meaning unless `has_result` is set.
 #[derive(Drop)]
 struct Contents {
     id: JobId,
@@ -20,8 +20,8 @@ struct Contents {
     result: JobResult,
 }
 
-/// An entry: the name of an active task's job, and the job's result, if it came. It lies in memory of its own, so that the table moves
-/// no more than its address, and is used again for another task.
+/// An entry: the name of an active task's job, and the job's result, if it came. It has a separate allocation, so the table moves
+/// only its address. It is reused for other tasks.
 #[derive(Drop)]
 pub(crate) struct Entry {
     contents: Box<Contents>,
@@ -60,10 +60,10 @@ impl Clone for Entry {
 }
 
 impl Entry {
-    /// An entry that waits to be used.
+    /// Makes a spare entry, which belongs to no task yet.
     ///
     /// # Errors
-    /// Want of memory.
+    /// Out of memory.
     pub(crate) fn unused(alloc: Global) -> Result<Entry, AllocError> {
         let id = JobId {
             tenant: 0,
@@ -84,7 +84,7 @@ impl Entry {
         })
     }
 
-    /// Whether it is of this name.
+    /// Whether the entry has this name.
     #[inline(always)]
     pub(crate) fn is_named(&self, id: &JobId) -> bool
         ensures { result ≡ same_job self.now.id id.now }
@@ -111,7 +111,7 @@ impl Entry {
         }
     }
 
-    /// It is of this name from now on, and has no result.
+    /// Gives the entry this name, and removes its result.
     #[inline(always)]
     pub(crate) fn set_name(&mut self, id: JobId)
         ensures { self.new ≡ record { id = id; result = None } }
@@ -120,7 +120,7 @@ impl Entry {
         self.contents.has_result = false;
     }
 
-    /// These are its result from now on.
+    /// Sets the result of the entry.
     pub(crate) fn set_result(&mut self, outputs: &Values, states: &Values)
         ensures { self.new ≡ record self.old { result = Some (record { outputs = outputs.now; states = states.now }) } }
     {
@@ -130,7 +130,7 @@ impl Entry {
         self.contents.has_result = true;
     }
 
-    /// What this body gives, from these inputs and states, is its result from now on.
+    /// Computes the body on these inputs and states, and sets the result of the entry.
     pub(crate) fn compute(&mut self, body: &Body, inputs: &Values, states: &Values)
         requires inputs { length inputs.now ≡ length body.now.inputs }
         requires states { length states.now ≡ length body.now.states }

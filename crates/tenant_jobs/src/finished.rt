@@ -17,12 +17,13 @@ use slab::Slab;
 use std::alloc::{AllocError, Global};
 use std::marker::Model;
 
-/// The active tasks of all tenants of a host, with the results that came. Each is found by the name of its job, which no two have.
+/// The active tasks of all tenants of a host, with the results that came. An entry is found by the name of its job. No two
+/// entries have the same name.
 #[derive(Drop)]
 pub struct Finished {
     entries: Slab<Entry>,
     results: usize,
-    // Entries that wait to be used. The slab has room for them, and they have room for all that the slab holds.
+    // Spare entries. The slab has capacity for all of them, and this vector has capacity for all entries of the slab as well.
     spare: Vec<Entry>,
     alloc: Global,
 }
@@ -44,7 +45,7 @@ impl Model for Finished {
 }
 
 impl Finished {
-    /// No entry. Takes no memory.
+    /// An empty table. Takes no memory.
     pub fn new(alloc: Global) -> Finished
         ensures { result ≡ record { entries = []; room = 0 } }
     {
@@ -56,10 +57,10 @@ impl Finished {
         }
     }
 
-    /// Room for so many entries in all. The entries stay as they are, also after a refusal.
+    /// Reserves capacity for this many entries in total. The entries are unchanged, also after an error.
     ///
     /// # Errors
-    /// Want of memory. Never where there is that room already.
+    /// Out of memory. Never if there is that much capacity already.
     pub fn room(&mut self, entries: usize) -> Result<(), AllocError>
         ensures room { OnOk result (entries ≤ length self.new.entries + self.new.room) }
         ensures entries { self.new.entries ≡ self.old.entries }
@@ -77,7 +78,7 @@ impl Finished {
         add_spare(self.alloc, more, &mut self.spare)
     }
 
-    /// An entry of this name without a result. Gives its key. Takes no memory.
+    /// Adds an entry of this name, without a result, and returns its key. Takes no memory.
     #[inline(always)]
     pub fn enter_task(&mut self, id: JobId) -> Key
         requires room { 0 < self.old.room }
@@ -105,7 +106,7 @@ impl Finished {
         ensures count { length self.new.entries ≡ length self.old.entries }
         ensures room { self.new.room ≡ self.old.room }
     {
-        // The results are fewer than the entries, so that one more fits.
+        // There are fewer results than entries, so the count can grow by one.
         let _entries = self.entries.len();
         let Some(key) = entry_key(&self.entries, done.id(), done.job().key()) else {
             unreachable!()
@@ -114,8 +115,8 @@ impl Finished {
         self.results += 1;
     }
 
-    /// Computes the job of this name and puts the result into its entry, if none came yet. Whether none had come. The key tells nothing
-    /// but where to look first. Takes no memory.
+    /// Computes the job of this name and puts the result into its entry, if none came yet. Returns whether none had come. The key
+    /// is only a hint where to look first. Takes no memory.
     #[inline(always)]
     pub fn compute(
         &mut self,
@@ -135,7 +136,7 @@ impl Finished {
         ensures count { length self.new.entries ≡ length self.old.entries }
         ensures room { self.new.room ≡ self.old.room }
     {
-        // The results are fewer than the entries, so that one more fits.
+        // There are fewer results than entries, so the count can grow by one.
         let _entries = self.entries.len();
         let Some(place) = entry_key(&self.entries, id, key) else {
             unreachable!()
@@ -149,7 +150,7 @@ impl Finished {
         true
     }
 
-    /// Takes the entry of this name out, if there is one. The key tells nothing but where to look first.
+    /// Removes the entry of this name, if there is one. The key is only a hint where to look first.
     #[inline(always)]
     pub fn remove(&mut self, id: &JobId, key: &Key)
         ensures entries { (j : JobId) → entry_in self.new.entries j ≡ (if same_job id.now j then None else entry_in self.old.entries j) }
@@ -165,14 +166,14 @@ impl Finished {
         self.spare.push_reserved(entry);
     }
 
-    /// Whether the result of the same name came.
+    /// Whether the result with the name of `done` came.
     pub fn has(&self, done: &Done) -> bool
         ensures { result ≡ has_result self.now.entries done.now.id }
     {
         self.result(done.id(), done.job().key()).is_some()
     }
 
-    /// The result of this name, if it came. The key tells nothing but where to look first.
+    /// The result of this name, if it came. The key is only a hint where to look first.
     #[inline(always)]
     pub fn result(&self, id: &JobId, key: &Key) -> Option<&JobResult>
         ensures { option_copied result ≡ result_in self.now.entries id.now }
@@ -182,11 +183,11 @@ impl Finished {
                 return entry.result();
             }
         }
-        // A copy, so that no caller has to keep the name in memory for it.
+        // Passes a copy. A reference would force the caller to keep the name in memory.
         self.searched_result(id.copy())
     }
 
-    // The result of this name, if it came, from a search of the whole table.
+    // The result of this name, if it came. Searches the whole table.
     #[cold]
     #[inline(never)]
     fn searched_result(&self, id: JobId) -> Option<&JobResult>
@@ -210,7 +211,7 @@ impl Finished {
         self.results
     }
 
-    /// Whether the result of each entry came.
+    /// Whether every entry has its result.
     pub fn is_complete(&self) -> bool
         ensures exact { result ≡ is_complete self.now.entries }
         ensures each { OnTrue result ((j : JobId) → has_result self.now.entries j ≡ is_entered self.now.entries j) }
@@ -218,7 +219,7 @@ impl Finished {
         self.results == self.entries.len()
     }
 
-    /// Opens what is known of the type, for a proof; does nothing.
+    /// Makes the invariants of the type available to a proof. Does nothing at run time.
     #[inline(always)]
     pub fn known(&self)
         ensures differ { NamesDiffer self.now.entries }
@@ -227,7 +228,7 @@ impl Finished {
         let _entries = self.entries.len();
     }
 
-    /// An equal table.
+    /// Makes an equal table.
     ///
     /// # Errors
     /// Out of memory.
@@ -248,7 +249,7 @@ impl Finished {
     }
 }
 
-// Adds entries that wait to be used until there are so many.
+// Adds spare entries until there are `count`.
 fn add_spare(alloc: Global, count: usize, spare: &mut Vec<Entry>) -> Result<(), AllocError>
     requires fewer { length spare.old.items ≤ count }
     requires room { count ≤ vec_capacity spare.old }
@@ -263,7 +264,7 @@ fn add_spare(alloc: Global, count: usize, spare: &mut Vec<Entry>) -> Result<(), 
     Ok(())
 }
 
-// The key of the entry of this name: the hint, where the entry there is of this name.
+// The key of the entry of this name: the hint if the entry there has this name, else the result of a search.
 #[inline(always)]
 fn entry_key(entries: &Slab<Entry>, id: &JobId, hint: &Key) -> Option<usize>
     ensures found { IfSome result (λ key. IsSomeAnd (get entries.now key) (λ e. same_job e.id id.now ≡ true)) }
@@ -278,7 +279,7 @@ fn entry_key(entries: &Slab<Entry>, id: &JobId, hint: &Key) -> Option<usize>
     searched_key(entries, id.copy())
 }
 
-// The key of the entry of this name, from a search of the whole table.
+// The key of the entry of this name. Searches the whole table.
 #[cold]
 #[inline(never)]
 fn searched_key(entries: &Slab<Entry>, id: JobId) -> Option<usize>

@@ -17,8 +17,8 @@ use std::marker::{Brand, Model};
 use std::sync::Arc;
 use std::sync::ledger::{Blank, Ledger};
 
-/// Where the entry of an active task stands in the table. It is a hint, of which contracts see nothing: what it leads to is compared with
-/// the job's name.
+/// The place of an active task's entry in the table. It is only a hint: the entry found there is compared with the job's name.
+/// Contracts see nothing of it.
 #[derive(Drop)]
 pub struct Key(usize);
 
@@ -31,7 +31,7 @@ impl Model for Key {
 }
 
 impl Key {
-    /// No entry's.
+    /// A key that belongs to no entry.
     pub fn none() -> Key {
         Key(0)
     }
@@ -50,8 +50,8 @@ impl Key {
     }
 }
 
-/// A job: one computation of a task, with what the task was given at its release. It can be run
-/// anywhere and at any time until its deadline.
+/// A job: one computation of a task, with the task's inputs and states at its release. It can run anywhere, and at any time until
+/// its deadline.
 #[derive(Drop)]
 pub struct Job {
     id: JobId,
@@ -120,8 +120,9 @@ impl Model for Done {
 }
 
 impl Job {
-    /// The job of this name, with the key of its entry. Its inputs and states are as many as its body has, and its body is sound: at
-    /// most 16 inputs, outputs and states each, all of different names, and a block that reads only these and assigns only outputs and states.
+    /// Makes the job of this name, with the key of its entry. It has as many inputs and states as its body, and the body is
+    /// sound: at most 16 each of inputs, outputs and states, all with different names, and a block that reads only these and
+    /// assigns only outputs and states.
     pub fn new(id: JobId, body: Arc<Body, Global>, inputs: Values, states: Values, key: Key) -> Job
         requires { IsComputable (record { id = id; body = arc_value body; inputs = inputs; states = states }) }
         ensures { result ≡ record { id = id; body = arc_value body; inputs = inputs; states = states } }
@@ -199,7 +200,7 @@ impl Done {
     }
 }
 
-/// Runs a job. Takes no memory, and waits for nobody.
+/// Runs a job. Takes no memory, and doesn't block.
 pub fn run_job(job: Job) -> Done
     ensures { result ≡ job }
 {
@@ -218,7 +219,8 @@ pub fn run_job(job: Job) -> Done
     }
 }
 
-// Puts the new outputs and states of a body in place of what these held before. Its steps are counted by a counter that nobody reads.
+// Replaces `outputs` and `new_states` with the new outputs and states of a body. The steps are counted, but the count is never
+// read.
 pub fn put_results(
     body: &Body,
     inputs: &Values,
@@ -277,10 +279,10 @@ impl Model for Jobs {
 }
 
 impl Jobs {
-    /// No job, with room for this many.
+    /// Makes an empty list with capacity for this many jobs.
     ///
     /// # Errors
-    /// Want of memory. Never for no room.
+    /// Out of memory. Never if `room` is 0.
     pub fn with_room(alloc: Global, room: usize) -> Result<Jobs, AllocError>
         ensures jobs { IfOk result (λ jobs. jobs.jobs ≡ []) }
         ensures room { IfOk result (λ jobs. room ≤ jobs.room) }
@@ -297,7 +299,7 @@ impl Jobs {
         self.jobs.len()
     }
 
-    /// Adds a job behind the others. Takes no memory.
+    /// Adds a job at the end. Takes no memory.
     pub fn put(&mut self, job: Job)
         requires { 0 < self.old.room }
         ensures jobs { self.new.jobs ≡ self.old.jobs ++ job ∷ [] }

@@ -8,11 +8,11 @@ use Rattle.tenant_jobs.specs.Finished.{TableEntry, has_result}
 use Rattle.tenant_jobs.specs.cited.Finished.{is_entered, result_count, NamesDiffer}
 use Rattle.tenant_jobs.proofs.TableEntries.{all_came, count-middle, find_middle, find_other, weigh}
 
--- the entry with a result
+-- the same entry, with a result
 abbrev completed : TableEntry → TableEntry
 completed e = record { id = e.id; result = Some (record { outputs = []; states = [] }) }
 
--- an entry of a list without a result, and the list in which it has one
+-- a list with an entry that has no result, and the same list after the entry got one
 module _ (front back : List TableEntry) (e : TableEntry) (none : e.result ≡ None) (differ : NamesDiffer (front ++ e ∷ back)) where
   abbrev before : List TableEntry
   before = front ++ e ∷ back
@@ -65,7 +65,7 @@ module _ (front back : List TableEntry) (e : TableEntry) (none : e.result ≡ No
   same_length : length after ≡ length before
   same_length = length-append front (completed e ∷ back) ∙ sym (length-append front (e ∷ back))
 
--- a number of a table in which just these jobs are entered: none where each has its result, and one less with each result
+-- a number of a table in which exactly these jobs are entered. It is 0 if each has its result, and falls by one with each result.
 module _ (number : List TableEntry → ℕ) (entered : JobId → Bool)
     (none : (es : List TableEntry) → ((j : JobId) → has_result es j ≡ entered j) → number es ≡ 0)
     (less : (before after : List TableEntry) (j : JobId) → entered j ≡ true → has_result before j ≡ false
@@ -78,7 +78,7 @@ module _ (number : List TableEntry → ℕ) (entered : JobId → Bool)
       let same : result_count (front ++ []) ≡ result_count front = ap result_count (append-nil front) in
       omega (arith, all, weigh came, same, count-middle (λ (d : TableEntry). is_some d.result) e front [], length-append front (e ∷ []))
 
-  -- of the entries in front each has its result
+  -- each entry in `front` has its result
   rest_from : (back front : List TableEntry) → NamesDiffer (front ++ back) → ((j : JobId) → is_entered (front ++ back) j ≡ entered j) → result_count front ≡ length front → IsRest (front ++ back)
   rest_from [] front differ known all =
       let complete : result_count (front ++ []) ≡ length (front ++ []) = ap result_count (append-nil front) ∙ all ∙ sym (ap length (append-nil front)) in
@@ -102,6 +102,6 @@ module _ (number : List TableEntry → ℕ) (entered : JobId → Bool)
           less (front ++ e ∷ back) (front ++ completed e ∷ back) e.id (sym (known e.id) ∙ own_entered front back e missing differ) (no_result front back e missing differ) (one_result front back e missing differ) in
           omega (arith, rest, one, one_more_result front back e missing differ, same_length front back e missing differ)
 
-  -- it is the number of the entries that have no result
+  -- the number is that of the entries without a result
   pub entries_less_results : (es : List TableEntry) → NamesDiffer es → ((j : JobId) → is_entered es j ≡ entered j) → number es + result_count es ≡ length es
   entries_less_results es differ known = rest_from es [] differ known refl

@@ -1,4 +1,4 @@
--- What is known of the table of active tasks, and of jobs that are entered.
+-- What is known of the table of active tasks, and of jobs with an entry.
 use Rattle.std.specs.Prelude.{◌≤◌, ℕ, ℤ, Bool, List, Option, Some, is_some, if◌then◌else◌, count_by}
 use Rattle.std.specs.List.{list_all}
 use Rattle.giotto_tasks.specs.Meaning.{outputs_of, states_of}
@@ -9,15 +9,15 @@ use Rattle.tenant_jobs.specs.Finished.{TableEntry, entry_in}
 use Rattle.tenant_jobs.specs.Jobs.{JobValue}
 use Rattle.rig_model.specs.Jobs.{same_job}
 
--- what the computation of a body gives, from these inputs and states
+-- the result of a body's computation, from these inputs and states
 abbrev pub computed : TaskBody → List ℤ → List ℤ → JobResult
 computed body inputs states = record { outputs = outputs_of body inputs states; states = states_of body inputs states }
 
--- the result of a job: what its computation gives
+-- the result of a job, which is that of its computation
 abbrev pub result_of : JobValue → JobResult
 result_of j = computed j.body j.inputs j.states
 
--- the entry of this name behind a change: with this result where it is put in, and as it was where it isn't
+-- the entry of this name after a change: with this result if it is put in, else as before
 abbrev pub entry_put : Bool → JobId → Option JobResult → List TableEntry → Option TableEntry
 entry_put put j result entries = if put then Some (record { id = j; result = result }) else entry_in entries j
 
@@ -33,6 +33,6 @@ result_count entries = count_by (λ e. is_some e.result) entries
 abbrev pub is_complete : List TableEntry → Bool
 is_complete entries = list_all (λ e. is_some e.result) entries
 
--- no two entries have one name
+-- no two entries have the same name
 abbrev pub NamesDiffer : List TableEntry → Type 0
 NamesDiffer entries = (j : JobId) → count_by (λ e. same_job e.id j) entries ≤ 1

@@ -4,7 +4,7 @@ use Rattle.tenant_jobs.specs.Finished.{TableEntry}
 use Rattle.rig_model.specs.Jobs.{same_job}
 use Rattle.tenant_jobs.proofs.finished.searched_key.Given as goal
 
--- every entry left is the slab's, and the name is found where it is found among those left
+-- every entry left is one of the slab, and a search of the entries left gives the same result as a search of the slab
 abbrev pub invariant-loop-key : goal.invariant-loop-key
 invariant-loop-key l =
     (goal.iterator-loop-key).can_next l.key-iterator ×
