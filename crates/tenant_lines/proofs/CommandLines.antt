@@ -1,4 +1,4 @@
--- The command of a line, by its first word and what stands behind it.
+-- The command of a line, by its first word and what follows it.
 use Rattle.std.proofs.Common.{◌≡◌, ℕ, zero, suc, ◌<◌, ◌==◌, Bool, true, false, List, [], ◌∷◌, length, Some, None, codes, refl, ap, sym, ◌∙◌, arith}
 use Rattle.std.proofs.lemmas.Bool.{false≢true}
 use Rattle.std.proofs.lemmas.Bool.Decides.{nat_tests}
@@ -26,13 +26,13 @@ by_word line P none some = by (length (first_word_of line)) refl
     by zero e = rw (words_none line e) (none e)
     by (suc n) e = let first : 0 < length (first_word_of line) = omega (arith, e) in rw (words_first line first) (some first)
 
--- no word behind the command
+-- no word after the command
 pub alone_by_word : (c : Command) (rest : List ℕ) → alone c (words_of rest) ≡ then_some (length (first_word_of rest) == 0) c
 alone_by_word c rest = by_word rest (λ ws. alone c ws ≡ then_some (length (first_word_of rest) == 0) c)
     (λ none. rw none refl)
     (λ some. let not_none : (length (first_word_of rest) == 0) ≡ false = grind (arith, nat_tests, some) in rw not_none refl)
 
--- no name of a port behind "show port"
+-- no name of a port after "show port"
 pub no_port_shown : (rest : List ℕ) → port_of_word (first_word_of rest) ≡ None → port_shown_by (words_of rest) ≡ None
 no_port_shown rest bad = by_word rest (λ ws. port_shown_by ws ≡ None) (λ none. refl) (λ some. rw bad refl)
 
@@ -40,7 +40,7 @@ word_has_byte : (x : PortName) (w : List ℕ) → port_of_word w ≡ Some x → 
 word_has_byte x [] e = absurd (cc)
 word_has_byte x (c ∷ cs) e = omega arith
 
--- the name of a port, and what stands behind it
+-- the name of a port, and what follows it
 pub port_shown : (x : PortName) (rest : List ℕ) → port_of_word (first_word_of rest) ≡ Some x
     → port_shown_by (words_of rest) ≡ alone (ShowPort x) (words_of (behind_first_word rest))
 port_shown x rest is = rw (words_first rest (word_has_byte x (first_word_of rest) is), is) refl
@@ -57,17 +57,17 @@ not_same x y differ = by (same_name x y) refl
     by true e = absurd (differ (same_name_is x y e))
     by false e = e
 
--- two words that the test tells apart
+-- two words that the test finds different
 pub differ : (x y : List ℕ) → false ≡ same_name x y → x ≡ y → ⊥
 differ x y other is = false≢true (other ∙ ap (same_name x) (sym is) ∙ same_name_self x)
 
--- nothing else can be shown
+-- no other word follows "show"
 pub others_shown : (rest : List ℕ) → (first_word_of rest ≡ codes "mode" → ⊥) → (first_word_of rest ≡ codes "all" → ⊥) → (first_word_of rest ≡ codes "port" → ⊥)
     → shown_by (words_of rest) ≡ None
 others_shown rest no_mode no_all no_port = by_word rest (λ ws. shown_by ws ≡ None) (λ none. refl)
     (λ some. rw (not_same (first_word_of rest) (codes "mode") no_mode, not_same (first_word_of rest) (codes "all") no_all, not_same (first_word_of rest) (codes "port") no_port) refl)
 
--- what begins with another word is a command about grants, or none
+-- a line that begins with another word is a command about grants, or none
 pub other_words : (word rest : List ℕ)
     → (word ≡ codes "start" → ⊥) → (word ≡ codes "stop" → ⊥) → (word ≡ codes "show" → ⊥) → (word ≡ codes "trace" → ⊥)
     → command_of_words (words_from word rest) ≡ option_map Grants (grant_command_of_words (words_from word rest))
@@ -93,7 +93,7 @@ cut_words line = by_word line (λ ws. ws ≡ words_from (first_word_of line) (be
         by [] is = absurd (omega (arith, is))
         by (c ∷ cs) is = refl
 
--- what begins with neither word that a text follows is a command of words alone, or none
+-- a line that begins with neither "load" nor "replace" is a command without a text, or none
 pub words_alone : (line : List ℕ) → (first_word_of line ≡ codes "load" → ⊥) → (first_word_of line ≡ codes "replace" → ⊥)
     → command_of_line line ≡ command_of_words (words_of line)
 words_alone line no_load no_replace =

@@ -47,7 +47,7 @@ load_text = refl
 pub replace_text : command_of_line (codes "replace start m;") ≡ Some (Replace (codes "start m;"))
 replace_text = refl
 
--- the first blank stands between the word and the text, all others belong to the text
+-- the first blank separates the word from the text; all others belong to the text
 pub blanks_of_text : command_of_line (codes " replace  start m; \r") ≡ Some (Replace (codes " start m; \r"))
 blanks_of_text = refl
 
@@ -63,7 +63,7 @@ blank_alone = refl
 pub other_word : command_of_line (codes "replace;") ≡ None
 other_word = refl
 
--- a text takes memory, and none doesn't
+-- a text takes memory, and an empty one doesn't
 pub text_takes_memory : option_map has_text (command_of_line (codes "load start m;")) ≡ Some true
 text_takes_memory = refl
 

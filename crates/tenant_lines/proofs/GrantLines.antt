@@ -1,4 +1,4 @@
--- The command about grants of a line, by its first words and what stands behind them.
+-- The command about grants of a line, by its first words and what follows them.
 use Rattle.std.proofs.Common.{◌≡◌, ℕ, ℤ, ◌<◌, ◌==◌, ◌&&◌, Bool, true, false, List, [], ◌∷◌, length, if◌then◌else◌, Option, Some, None, codes, refl, sym, ap, ◌∙◌, arith}
 use Rattle.std.proofs.lemmas.Bool.Decides.{nat_tests}
 use Rattle.std.proofs.lemmas.List.{nil_from_length}
@@ -46,12 +46,12 @@ word_behind_is k line some is none =
     (λ no_word. sym (nil_from_length (first_word_of behind) no_word))
     (λ second. rw (words_none (behind_first_word behind) none) (two (first_word_of behind)))
 
--- whatever the test, None
+-- None, whatever the test says
 either : (b : Bool) (x : Option GrantCommand) → x ≡ None → (if b then x else None) ≡ None
 either true x none = none
 either false x none = refl
 
--- more than four words are a command only where the first is "offer"
+-- more than four words are a command only if the first is "offer"
 pub no_more : (v x w y z : List ℕ) (zs : List (List ℕ)) → same_name v (codes "offer") ≡ false → grant_command_of_words (v ∷ x ∷ w ∷ y ∷ z ∷ zs) ≡ None
 no_more v x w y z [] other = refl
 no_more v x w y z (a ∷ []) other = refl
@@ -122,7 +122,7 @@ no_high a t low = by (value_of_word low)
     by None = refl
     by (Some z) = refl
 
--- "offer NAME" by the words behind it
+-- "offer NAME" by the words after it
 offer_words : (x : List ℕ) (ws : List (List ℕ)) → grant_command_of_words (codes "offer" ∷ x ∷ ws) ≡ offer_by x ws
 offer_words x [] = sym (offer_nobody x None)
 offer_words x (w ∷ []) = sym (offer_nobody x None)
@@ -167,7 +167,7 @@ offered rest =
         either (same_name w (codes "to") && same_name k (codes "from")) (bounded_offer_command x t low (word_behind (codes "to") ws))
         (no_bounds x t (bounds_of_words low (word_behind (codes "to") ws)) none)
 
--- no third word behind the name
+-- no third word after the name
 pub offer_short : (a rest : List ℕ) → length (first_word_of (behind_first_word (behind_first_word rest))) ≡ 0
     → offer_by a (words_of rest) ≡ offer_command a (word_behind (codes "to") (words_of rest)) None
 offer_short a rest none =
@@ -264,7 +264,7 @@ rows_words x (w ∷ []) = refl
 rows_words x (w ∷ y ∷ []) = refl
 rows_words x (w ∷ y ∷ z ∷ zs) = no_more (codes "rows") x w y z zs refl
 
--- no word behind "rows"
+-- no word after "rows"
 pub rows_by : (rest : List ℕ) → grant_command_of_words (codes "rows" ∷ words_of rest) ≡ then_some (length (first_word_of rest) == 0) Rows
 rows_by rest = by_word rest (λ ws. grant_command_of_words (codes "rows" ∷ ws) ≡ then_some (length (first_word_of rest) == 0) Rows)
     (λ none. rw none refl)

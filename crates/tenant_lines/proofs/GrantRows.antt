@@ -103,7 +103,7 @@ rows_now = refl
 pub blank_line : spelled (codes " ") ≡ None
 blank_line = refl
 
--- to a tenant such a line is one of its commands
+-- for a tenant, such a line is one of its commands
 pub offer_commanded : command_of_line (codes "offer a to beta") ≡ Some (Grants (Offer (codes "a") (codes "beta") None))
 offer_commanded = refl
 

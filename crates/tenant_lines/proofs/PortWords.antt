@@ -1,4 +1,4 @@
--- The name of a port, by where its word has a dot.
+-- The name of a port, by the place of the dot in its word.
 use Rattle.std.proofs.Common.{◌≡◌, ℕ, ◌<◌, true, false, List, [], ◌∷◌, length, refl, arith}
 use Rattle.std.proofs.lemmas.Bool.Decides.{nat_tests}
 use Rattle.std.specs.List.{list_all, position_or_len, before_first, after_first}
@@ -14,7 +14,7 @@ no_dot : (cs : List ℕ) → list_all is_name_byte cs ≡ true → position_or_l
 no_dot [] e = refl
 no_dot (c ∷ cs) e = grind (arith, nat_tests, e, no_dot cs, dot_in_no_name c)
 
--- so a word with a dot is no name
+-- so a word with a dot isn't a name
 pub dotted_is_no_name : (w : List ℕ) → position_or_len is_dot w < length w → is_name w ≡ false
 dotted_is_no_name [] dot = refl
 dotted_is_no_name (c ∷ cs) dot = grind (arith, nat_tests, dot, no_dot cs, dot_in_no_name c)

@@ -1,4 +1,4 @@
--- The text of a trace and of rows, and what a copy of a trace takes, computed from the definitions.
+-- The text of a trace and of rows, and whether a copy of a trace takes memory, computed from the definitions.
 use Rattle.std.proofs.Common.{◌≡◌, false, pos, neg_ℤ, [], ◌∷◌, codes, refl}
 use Rattle.std.specs.Fmt.{digits}
 use Rattle.tenant_trace.specs.declared.records.Happening.TheVariants.{Start, Mode, Act, Out, Asked, Overrun, Replaced}
@@ -25,7 +25,7 @@ pub other_records :
 unfolding digits
 other_records = refl
 
--- all values aren't told as bounds
+-- if all values are within an offer's bounds, they aren't printed
 pub rows_told :
     text_of_reply (Rows (row.Offer (record { actuator = codes "a"; tenant = codes "beta"; bounds = whole }) ∷ row.Offer (record { actuator = codes "b"; tenant = codes "beta"; bounds = record { low = neg_ℤ (pos 1); high = pos 5 } })
     ∷ row.Bind (record { sensor = codes "g"; tenant = codes "beta"; actuator = codes "a" }) ∷ []))

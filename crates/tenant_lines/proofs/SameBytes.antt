@@ -3,7 +3,7 @@ use Rattle.std.proofs.Common.{◌≡◌, ℕ, zero, suc, ◌+◌, ◌<◌, ◌�
 use Rattle.std.proofs.lemmas.List.{drop_all}
 use Rattle.std.specs.Cmp.Lexicographic.{pointwise}
 
--- the bytes from a place on, by the byte there and those behind it
+-- the bytes from a place on: the byte there and those after it
 pub same_at : (xs ys : List ℕ) (i : ℕ) → i < length xs → i < length ys
     → pointwise nat_eq (drop i xs) (drop i ys) ≡ (nat_eq (get_or xs i 0) (get_or ys i 0) && pointwise nat_eq (drop (i + 1) xs) (drop (i + 1) ys))
 same_at [] ys i lt less = absurd (omega arith)
@@ -18,7 +18,7 @@ same_at (x ∷ xs) (y ∷ ys) (suc i) lt less =
 pub none_left : (xs ys : List ℕ) (i : ℕ) → length xs ≤ i → length ys ≤ i → pointwise nat_eq (drop i xs) (drop i ys) ≡ true
 none_left xs ys i le less = rw (drop_all i xs le, drop_all i ys less) refl
 
--- lists of other lengths differ
+-- lists of different lengths differ
 pub other_lengths : (xs ys : List ℕ) → (length xs ≡ length ys → ⊥) → pointwise nat_eq xs ys ≡ false
 other_lengths [] [] e = absurd (e refl)
 other_lengths [] (y ∷ ys) e = refl

@@ -1,4 +1,4 @@
--- The command of a line that asks for a port of no task, its words one blank apart.
+-- The command of a line that asks for a port without a task, with one blank between its words.
 use Rattle.std.proofs.Common.{◌≡◌, ℕ, ◌&&◌, Bool, true, false, if◌then◌else◌, List, [], ◌∷◌, ◌++◌, Option, Some, None, IfSome, take, drop, codes, refl, ap, sym, ◌∙◌, arith}
 use Rattle.std.proofs.lemmas.Bool.{and_parts}
 use Rattle.std.proofs.lemmas.Bool.Decides.{nat_tests}
@@ -35,7 +35,7 @@ name_alone (c ∷ cs) e =
     let bytes = and_parts (is_letter c) (list_all is_name_byte cs) all.0 in
     one_word c cs (letter_in_word c bytes.0) bytes.1
 
--- the words "show" and "port" and a name, one blank apart
+-- the words "show" and "port" and a name, with one blank between them
 pub port_asked : (line name : List ℕ) → from_first_word line ≡ codes "show port " ++ name → is_name name ≡ true
     → command_of_line line ≡ Some (ShowPort (record { task = None; name = name }))
 port_asked line name begins is =
@@ -45,7 +45,7 @@ port_asked line name begins is =
     words_begin line (codes "show") first (omega arith) ∙ ap (λ rest. codes "show" ∷ words_of rest) behind ∙ ap (λ ws. codes "show" ∷ codes "port" ∷ ws) (name_alone name is) in
     rw (first, words, is) refl
 
--- a line that was cut behind those words
+-- a line that was cut after those words
 pub port_named : (line from words name : List ℕ) (named : Option (List ℕ)) → from ≡ from_first_word line → words ≡ take 10 from → name ≡ drop 10 from
     → true ≡ same_name words (codes "show port ") → named ≡ (if is_name name then Some name else None)
     → IfSome named (λ x. command_of_line line ≡ Some (ShowPort (record { task = None; name = x })))

@@ -1,4 +1,4 @@
--- What std's `parse` reads of a word is the word's value.
+-- What std's `parse` reads from a word is the word's value.
 use Rattle.std.proofs.Common.{◌≡◌, ℕ, ◌-◌, ◌^◌, ◌<◌, ◌≤◌, ◌==◌, ◌≢◌, ◌&&◌, Bool, true, false, nat_le, if◌then◌else◌, ℤ, pos, neg_ℤ, List, [], ◌∷◌, ◌++◌, length, get_or, Option, Some, None, is_some, IsSomeAnd, Result, Ok, Err, refl, sym, ap, ◌∙◌, subst, append_assoc, append-nil, arith, rules, w64}
 use Rattle.std.proofs.lemmas.Bool.{eqb-true}
 use Rattle.std.proofs.lemmas.Bool.Decides.{nat_tests}
@@ -12,7 +12,7 @@ use Rattle.giotto_text.specs.Bytes.{is_digit}
 use Rattle.tenant_lines.specs.Words.{digits_as, value_of_word, values_of_words, words_of, first_word_of, behind_first_word}
 use Rattle.tenant_lines.proofs.cited.WordLemmas.{words_first, words_none}
 
--- what parses decimal digits
+-- the model of decimal digits that `parse` reads
 decimal_digits : IsNumeralModel (λ ds. list_all is_digit ds ≡ true) (digits_value 10)
 decimal_digits = numerals_by_value _ (search rules)
 
@@ -38,14 +38,14 @@ digits_read (c ∷ cs) (Err e) bound f h = by (list_all is_digit (c ∷ cs)) ref
         let small : digits_value 10 (c ∷ cs) ≤ bound = grind (arith, nat_tests, within) in
         absurd (h (is, omega arith, small))
 
--- below 2 ^ 63 is at most 2 ^ 63 - 1
+-- a number below 2 ^ 63 is at most 2 ^ 63 - 1
 below : {E : Type 0} (cs : List ℕ) (r : Result ℤ E)
     → OkIff r ((list_all is_digit cs ≡ true) × (0 < length cs) × (digits_value 10 cs < 2 ^ 63)) (pos (digits_value 10 cs))
     → OkIff r ((list_all is_digit cs ≡ true) × (0 < length cs) × (digits_value 10 cs ≤ 2 ^ 63 - 1)) (pos (digits_value 10 cs))
 below cs (Ok x) h = ((h.0.0, h.0.1, omega (arith, h.0.2)), h.1)
 below cs (Err e) h = λ p. h (p.0, p.1, omega (arith, p.2))
 
--- a word that begins with no plus
+-- a word that doesn't begin with a plus
 pub value_parsed : {E : Type 0} (bs : List ℕ) (r : Result ℤ E) → get_or bs 0 0 ≢ 43 → ParsesSigned w64 10 bs r → result_ok r ≡ value_of_word bs
 value_parsed [] r plain h = digits_read [] r (2 ^ 63 - 1) pos (below [] r (parse_signed_plain decimal_digits w64 [] r h plain (omega arith)))
 value_parsed (c ∷ cs) r plain h = by (c == 45) refl
@@ -60,7 +60,7 @@ value_parsed (c ∷ cs) r plain h = by (c == 45) refl
 abbrev pub values_behind : List ℤ → Option (List ℤ) → Option (List ℤ)
 values_behind vs o = option_map (λ zs. vs ++ zs) o
 
--- one word more
+-- one more word
 value_joins : (vs : List ℤ) (z : ℤ) (w : List ℕ) (ws : List (List ℕ)) → value_of_word w ≡ Some z
     → values_behind vs (values_of_words (w ∷ ws)) ≡ values_behind (vs ++ z ∷ []) (values_of_words ws)
 value_joins vs z w ws is = by (values_of_words ws) refl
@@ -80,11 +80,11 @@ pub values_fault : (vs : List ℤ) (line : List ℕ) → 0 < length (first_word_
     → values_behind vs (values_of_words (words_of line)) ≡ None
 values_fault vs line some is = rw (words_first line some) (rw is refl)
 
--- whether all words are values: where there is none, they are
+-- if there is no word, all words are values
 pub are_values_end : (line : List ℕ) → length (first_word_of line) ≡ 0 → is_some (values_of_words (words_of line)) ≡ true
 are_values_end line none = rw (words_none line none) refl
 
--- by the first word, and the others
+-- all words are values if the first is one and the others are
 by_first : (w : List ℕ) (ws : List (List ℕ)) → is_some (values_of_words (w ∷ ws)) ≡ (is_some (value_of_word w) && is_some (values_of_words ws))
 by_first w ws = by (value_of_word w) refl (values_of_words ws) refl
   where
@@ -107,7 +107,7 @@ pub are_values_more : (line : List ℕ) → 0 < length (first_word_of line) → 
     → is_some (values_of_words (words_of line)) ≡ is_some (values_of_words (words_of (behind_first_word line)))
 are_values_more line some is = first_and_others line true some is
 
--- the values of one word at least are one at least
+-- at least one word has at least one value
 values_long : (w : List ℕ) (ws : List (List ℕ)) (zs : List ℤ) → values_of_words (w ∷ ws) ≡ Some zs → 0 < length zs
 values_long w ws (z ∷ zs) is = omega arith
 values_long w ws [] is = by (value_of_word w) refl (values_of_words ws) refl
@@ -117,7 +117,7 @@ values_long w ws [] is = by (value_of_word w) refl (values_of_words ws) refl
     by (Some z) e None f = let none : values_of_words (w ∷ ws) ≡ None = rw (e, f) refl in cc
     by (Some z) e (Some ys) f = let some : values_of_words (w ∷ ws) ≡ Some (z ∷ ys) = rw (e, f) refl in cc
 
--- where the words from one on are values, behind those of eight words before it at least: so are all, and more than eight
+-- if the words from one on are values, after at least eight values: all words are values, and more than eight
 pub all_values : (vs : List ℤ) (line rest : List ℕ) → 8 ≤ length vs → 0 < length (first_word_of rest)
     → values_behind vs (values_of_words (words_of rest)) ≡ values_of_words (words_of line) → is_some (values_of_words (words_of rest)) ≡ true
     → IsSomeAnd (values_of_words (words_of line)) (λ (values : List ℤ). 8 < length values)
@@ -131,7 +131,7 @@ all_values vs line rest full some so_far are = by (values_of_words (words_of res
         let all_long : 8 < length (vs ++ zs) = omega (arith, full, long, length-append vs zs) in
         subst (λ (o : Option (List ℤ)). IsSomeAnd o (λ (values : List ℤ). 8 < length values)) so all_long
 
--- where one of them is none, no list is that of all
+-- if one of them isn't a value, the line has no list of values
 pub no_values : (vs : List ℤ) (line rest : List ℕ)
     → values_behind vs (values_of_words (words_of rest)) ≡ values_of_words (words_of line) → is_some (values_of_words (words_of rest)) ≡ false
     → values_of_words (words_of line) ≡ None

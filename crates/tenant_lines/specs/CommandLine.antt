@@ -20,17 +20,17 @@ port_of_word w =
     if is_name w then Some (record { task = None; name = w })
     else own_port_of (before_first is_dot w) (after_first is_dot w)
 
--- the command, where no word stands behind it
+-- the command, if no word follows it
 abbrev pub alone : Command → List (List ℕ) → Option Command
 alone c [] = Some c
 alone c (w ∷ ws) = None
 
--- behind "show port": the name of a port
+-- after "show port": the name of a port
 abbrev pub port_shown_by : List (List ℕ) → Option Command
 port_shown_by [] = None
 port_shown_by (w ∷ ws) = option_and_then (λ x. alone (ShowPort x) ws) (port_of_word w)
 
--- behind "show": "mode", "all", or "port" and the name of a port
+-- after "show": "mode", "all", or "port" and the name of a port
 abbrev pub shown_by : List (List ℕ) → Option Command
 shown_by [] = None
 shown_by (w ∷ ws) =
@@ -39,7 +39,7 @@ shown_by (w ∷ ws) =
     else if same_name w (codes "port") then port_shown_by ws
     else None
 
--- "start", "stop", "show mode", "show all", "show port NAME", "show port TASK.NAME" or "trace", or else a command about grants
+-- "start", "stop", "show mode", "show all", "show port NAME", "show port TASK.NAME", "trace", or a command about grants
 abbrev pub command_of_words : List (List ℕ) → Option Command
 command_of_words [] = None
 command_of_words (w ∷ ws) =
@@ -49,11 +49,11 @@ command_of_words (w ∷ ws) =
     else if same_name w (codes "trace") then alone Trace ws
     else option_map Grants (grant_command_of_words (w ∷ ws))
 
--- the text of a command: all that follows the one blank behind its first word, or nothing
+-- the text of a command: all that follows the one blank after its first word, or nothing
 abbrev pub text_behind : List ℕ → List ℕ
 text_behind line = drop 1 (behind_first_word line)
 
--- "load TEXT" or "replace TEXT", or else another command by its words
+-- "load TEXT", "replace TEXT", or another command by its words
 abbrev pub command_of_line : List ℕ → Option Command
 command_of_line line =
     if same_name (first_word_of line) (codes "load") then Some (Load (text_behind line))

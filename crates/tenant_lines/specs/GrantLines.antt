@@ -1,4 +1,4 @@
--- The command by which a tenant grants a value, as a line spells it.
+-- The command about grants that a line spells.
 use Rattle.std.specs.Prelude.{ℕ, ◌&&◌, if◌then◌else◌, List, [], ◌∷◌, Option, Some, None, codes}
 use Rattle.std.specs.List.{before_first, after_first}
 use Rattle.std.specs.Option.{option_and_then}
@@ -9,7 +9,7 @@ use Rattle.tenant_lines.specs.declared.grant_lines.GrantCommand.TheVariants.{Off
 use Rattle.tenant_grants.specs.config.Intervals.{Interval, from_to}
 use Rattle.tenant_lines.specs.Words.{is_dot, value_of_word}
 
--- an actuator and a tenant to offer it to, where both have the shape of names, and the bounds of the offer, where it names them
+-- the offer of an actuator to a tenant, if both have the shape of names, with the bounds of the offer, if it has any
 abbrev pub offer_command : List ℕ → List ℕ → Option Interval → Option GrantCommand
 offer_command a t bounds = if is_name a && is_name t then Some (Offer a t bounds) else None
 
@@ -17,23 +17,23 @@ offer_command a t bounds = if is_name a && is_name t then Some (Offer a t bounds
 abbrev pub bounds_of_words : List ℕ → List ℕ → Option Interval
 bounds_of_words low high = option_and_then (λ l. option_and_then (from_to l) (value_of_word high)) (value_of_word low)
 
--- an actuator, a tenant to offer it to, and bounds
+-- the offer of an actuator to a tenant, with bounds
 abbrev pub bounded_offer_command : List ℕ → List ℕ → List ℕ → List ℕ → Option GrantCommand
 bounded_offer_command a t low high = option_and_then (λ bounds. offer_command a t (Some bounds)) (bounds_of_words low high)
 
--- an actuator and a tenant to offer it to no longer
+-- takes back the offer of an actuator to a tenant
 abbrev pub unoffer_command : List ℕ → List ℕ → Option GrantCommand
 unoffer_command a t = if is_name a && is_name t then Some (Unoffer a t) else None
 
--- a sensor to bind, and the tenant and its actuator whose value it is to have
+-- the bind of a sensor to the value of a tenant's actuator
 abbrev pub bind_command_to : List ℕ → List ℕ → List ℕ → Option GrantCommand
 bind_command_to s t a = if is_name s && is_name t && is_name a then Some (Bind s t a) else None
 
--- a sensor to bind, and TENANT.NAME, cut at its first dot
+-- the bind of a sensor to TENANT.NAME, cut at its first dot
 abbrev pub bind_command : List ℕ → List ℕ → Option GrantCommand
 bind_command s w = bind_command_to s (before_first is_dot w) (after_first is_dot w)
 
--- a sensor to bind no longer
+-- takes back the bind of a sensor
 abbrev pub unbind_command : List ℕ → Option GrantCommand
 unbind_command s = if is_name s then Some (Unbind s) else None
 

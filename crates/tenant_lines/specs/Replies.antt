@@ -32,7 +32,7 @@ word_of_budget Lines = codes "lines"
 word_of_budget Offers = codes "offers"
 word_of_budget Binds = codes "binds"
 
--- what stands behind "err "; a refusal with a number tells it in decimal
+-- what follows "err "; a number is in decimal
 abbrev pub text_of_refusal : Refusal → List ℕ
 text_of_refusal BadCommand = codes "bad-command"
 text_of_refusal (Syntax n) = codes "syntax " ++ decimal n
@@ -50,7 +50,7 @@ text_of_refusal NotThere = codes "not-there"
 text_of_refusal (OverBudget b) = codes "budget " ++ word_of_budget b
 text_of_refusal Memory = codes "memory"
 
--- the name of a port as it is shown: NAME, or TASK.NAME
+-- the name of a port as it is printed: NAME, or TASK.NAME
 abbrev pub text_of_port : PortName → List ℕ
 text_of_port x = option_map_or (λ t. own_port t x.name) x.task x.name
 
@@ -58,7 +58,7 @@ text_of_port x = option_map_or (λ t. own_port t x.name) x.task x.name
 abbrev pub text_of_value : PortValue → List ℕ
 text_of_value v = codes " " ++ (text_of_port v.port ++ (codes "=" ++ signed_decimal v.value))
 
--- what a record tells behind its tick
+-- what a record says after its tick
 abbrev pub text_of_happening : Happening → List ℕ
 text_of_happening (happening.Start m) = codes "start:" ++ m
 text_of_happening (happening.Mode m) = codes "mode:" ++ m
@@ -72,7 +72,7 @@ text_of_happening (happening.Replaced m) = codes "replaced:" ++ m
 abbrev pub text_of_record : Record → List ℕ
 text_of_record r = codes " " ++ (decimal r.tick ++ (codes ":" ++ text_of_happening r.happening))
 
--- ":LO:HI"; nothing where these are all values
+-- ":LO:HI"; nothing if all values are within these bounds
 abbrev pub text_of_bounds : Interval → List ℕ
 text_of_bounds i = if is_whole i then [] else codes ":" ++ (signed_decimal i.low ++ (codes ":" ++ signed_decimal i.high))
 
@@ -81,7 +81,7 @@ abbrev pub text_of_row : Row → List ℕ
 text_of_row (row.Offer o) = codes " offer:" ++ (o.actuator ++ (codes ":" ++ (o.tenant ++ text_of_bounds o.bounds)))
 text_of_row (row.Bind b) = codes " bind:" ++ (b.sensor ++ (codes ":" ++ (b.tenant ++ (codes ":" ++ b.actuator))))
 
--- what stands behind "ok mode "
+-- what follows "ok mode "
 abbrev pub text_of_status : Status → List ℕ
 text_of_status status.Empty = codes "empty"
 text_of_status (status.Loaded m) = codes "loaded " ++ m

@@ -1,4 +1,4 @@
-//! From the text of a line to a command.
+//! Reads the command that a line spells.
 
 ghost use Rattle.std.specs.Prelude.{◌≡◌, ◌<◌, true, IfOk, IfErr, IfSome, IsErr, if◌then◌else◌, Some, None, length};
 ghost use Rattle.std.specs.Option.{option_map};
@@ -21,24 +21,26 @@ use thiserror::Error;
 /// Why a line gives no command.
 #[derive(Clone, Copy, Debug, PartialEq, Eq, Error)]
 pub enum LineFault {
-    /// The line is none of the forms of a command.
+    /// The line has none of the forms of a command.
     #[error("the line has none of the forms of a command")]
     BadCommand,
-    /// Want of memory for the text of a `load` or a `replace`.
+    /// Out of memory for the text of a `load` or a `replace`.
     #[error("no memory for the text of the command")]
     Memory,
 }
 
-/// The command of a line, without the tenant's name: `load TEXT`, `replace TEXT`, `start`, `stop`, `show mode`, `show all`,
-/// `show port NAME`, `show port TASK.NAME` or `trace`, or a command about grants: `offer NAME to TENANT`, `unoffer NAME to TENANT`,
-/// `bind NAME from TENANT.NAME`, `unbind NAME` or `rows`. NAME, TASK and TENANT have the shape of a program's name.
+/// The command of a line, without the tenant's name.
 ///
-/// The text of `load` and of `replace` is all that follows the one blank behind the word, or nothing; it alone takes memory,
-/// and none where it is nothing. Words of the others are separated by one or more blanks.
+/// The forms are `load TEXT`, `replace TEXT`, `start`, `stop`, `show mode`, `show all`, `show port NAME`, `show port TASK.NAME`
+/// and `trace`, and the commands about grants: `offer NAME to TENANT`, `offer NAME to TENANT from LO to HI`,
+/// `unoffer NAME to TENANT`, `bind NAME from TENANT.NAME`, `unbind NAME` and `rows`. NAME, TASK and TENANT have the shape of a
+/// program's name.
+///
+/// The text of `load` and `replace` is all that follows the one blank after the word, and may be empty. Only this text takes
+/// memory; an empty one takes none. In the other commands, one or more blanks separate words.
 ///
 /// # Errors
-/// `BadCommand` for every other line, and `Memory` where there is want of memory for the text of a `load` or a `replace`
-/// that has one.
+/// `BadCommand` for every other line. `Memory` if memory runs out for the text of a `load` or a `replace`; never for an empty text.
 #[inline(always)]
 pub fn command_of(alloc: Global, line: &str) -> Result<Command, LineFault>
     ensures command { IfOk result (λ c. command_of_line line.now ≡ Some c) }
@@ -51,8 +53,10 @@ pub fn command_of(alloc: Global, line: &str) -> Result<Command, LineFault>
     }
 }
 
-/// The name in a line `show port NAME` with one blank between its words and nothing behind them, without a command that is made of it. This
-/// is asked most, so such a line isn't cut into words. `None` says nothing of the line.
+/// The name in a line `show port NAME`, without making a command of the line. Reads only lines with one blank between the words
+/// and nothing after the name. `None` says nothing about the line.
+///
+/// This command is the most frequent, so its line isn't cut into words.
 #[inline(always)]
 pub fn name_shown(line: &str) -> Option<Name>
     ensures { IfSome result (λ name. command_of_line line.now ≡ Some (Command.ShowPort (record { task = None; name = name }))) }
@@ -81,7 +85,7 @@ fn command_by_words(alloc: Global, line: &str) -> Result<Command, LineFault>
     command_of_words(word, rest).ok_or(LineFault::BadCommand)
 }
 
-// The text behind the first word. Takes no memory where nothing stands there.
+// The text after the first word. Takes no memory if nothing follows the word.
 fn text_of(alloc: Global, line: &str) -> Result<Text, LineFault>
     ensures text { IfOk result (λ text. text ≡ text_behind line.now) }
     ensures memory { IfErr result (λ fault. fault ≡ LineFault.Memory) }
@@ -90,7 +94,7 @@ fn text_of(alloc: Global, line: &str) -> Result<Text, LineFault>
     Text::from_str(alloc, text_behind(line)).map_err(|_| LineFault::Memory)
 }
 
-// What stands behind the first word and one blank.
+// What follows the first word and one blank.
 fn text_behind(line: &str) -> &str
     ensures { result.now ≡ text_behind line.now }
 {
@@ -98,7 +102,7 @@ fn text_behind(line: &str) -> &str
     if rest.is_empty() { rest } else { &rest[1..] }
 }
 
-// A command of words alone: this one, and those behind it.
+// The command of this first word and the words that follow it, if it is one without a text.
 fn command_of_words(word: &str, rest: &str) -> Option<Command>
     ensures { result ≡ command_of_words (words_from word.now rest.now) }
 {
@@ -117,14 +121,14 @@ fn command_of_words(word: &str, rest: &str) -> Option<Command>
     Some(Command::Grants(grant_command_of(word, rest)?))
 }
 
-// The command, where no word stands behind it.
+// The command, if no word follows it.
 fn alone(command: Command, rest: &str) -> Option<Command>
     ensures { result ≡ alone command (words_of rest.now) }
 {
     first_word(rest).is_empty().then_some(command)
 }
 
-// What stands behind `show`.
+// The command of `show` and what follows it.
 fn show(rest: &str) -> Option<Command>
     ensures { result ≡ shown_by (words_of rest.now) }
 {
@@ -141,7 +145,7 @@ fn show(rest: &str) -> Option<Command>
     None
 }
 
-// What stands behind `show port`.
+// The command of `show port` and what follows it.
 fn show_port(rest: &str) -> Option<Command>
     ensures { result ≡ port_shown_by (words_of rest.now) }
 {
@@ -173,7 +177,7 @@ fn own_port_of(task: &str, name: &str) -> Option<PortName>
     })
 }
 
-// The name that a word is, if it has the shape of one.
+// A word as a name, if it has the shape of one.
 pub(crate) fn name_of_word(word: &str) -> Option<Name>
     ensures { result ≡ (if is_name word.now then Some word.now else None) }
 {

@@ -11,31 +11,31 @@ use std::alloc::{AllocError, Global};
 /// A command, one variant for each form.
 #[derive(Drop)]
 pub enum Command {
-    /// `load TEXT`: takes a program text in place of the program that stands.
+    /// `load TEXT`: loads a program from its text. It takes the place of the tenant's program, if there is one.
     Load(Text),
-    /// `replace TEXT`: gives a program text that is to take the place of the running program.
+    /// `replace TEXT`: gives the text of a program that is to replace the running one.
     Replace(Text),
     /// `start`: runs the program from its beginning.
     Start,
     /// `stop`: stops the running program.
     Stop,
-    /// `show mode`: what the tenant is doing.
+    /// `show mode`: shows what the tenant is doing.
     ShowMode,
-    /// `show port NAME` or `show port TASK.NAME`: the value of a port.
+    /// `show port NAME` or `show port TASK.NAME`: shows the value of a port.
     ShowPort(PortName),
-    /// `show all`: the value of every port.
+    /// `show all`: shows the value of every port.
     ShowAll,
-    /// `trace`: the last records of the tenant, the oldest first.
+    /// `trace`: lists the last records of the tenant, the oldest first.
     Trace,
     /// `offer`, `unoffer`, `bind`, `unbind` or `rows`: the commands about grants.
     Grants(GrantCommand),
 }
 
 impl Command {
-    /// An equal command. Takes memory for the text of `load` and `replace` alone, and none where that text is empty.
+    /// An equal command. Takes memory only for the text of `load` and `replace`, and none if that text is empty.
     ///
     /// # Errors
-    /// Want of memory for that text, where it has a byte.
+    /// Out of memory for that text. Never if it is empty.
     pub fn copy(&self, alloc: Global) -> Result<Command, AllocError>
         ensures same { IfOk result (λ c. c ≡ self.now) }
         ensures memory { IsErr result → IsTrue (has_text self.now) }

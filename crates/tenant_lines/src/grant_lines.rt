@@ -1,4 +1,4 @@
-//! The commands by which tenants grant each other values, and the lines that spell them.
+//! The commands with which tenants grant values to each other, and the lines that spell them.
 
 ghost use Rattle.std.specs.Prelude.{◌≡◌, ◌&&◌, ◌<◌, codes, length};
 ghost use Rattle.giotto_tasks.specs.Names.{same_name};
@@ -12,15 +12,15 @@ use crate::words::{behind_first_word, cut, first_word, value_of_word};
 use giotto_tasks::names::Name;
 use tenant_grants::config::intervals::Bounds;
 
-/// A command about grants, one variant for each form. An *offer* lets another tenant read an actuator; a *bind* takes the
-/// value of an offered actuator for a sensor of one's own.
+/// A command about grants, one variant for each form. An *offer* lets another tenant read an actuator. A *bind* gives a
+/// sensor of the tenant the value of an offered actuator.
 #[derive(Drop)]
 pub enum GrantCommand {
     /// `offer NAME to TENANT` or `offer NAME to TENANT from LO to HI`: offers the value of an actuator to a tenant.
     Offer {
         actuator: Name,
         tenant: Name,
-        /// From LO to HI, where the command names them.
+        /// From LO to HI, if the command has them.
         bounds: Option<Bounds>,
     },
     /// `unoffer NAME to TENANT`: takes that offer back.
@@ -28,7 +28,7 @@ pub enum GrantCommand {
         actuator: Name,
         tenant: Name,
     },
-    /// `bind NAME from TENANT.NAME`: a sensor is to have the value of a tenant's actuator.
+    /// `bind NAME from TENANT.NAME`: binds a sensor to the value of a tenant's actuator.
     Bind {
         sensor: Name,
         tenant: Name,
@@ -38,7 +38,7 @@ pub enum GrantCommand {
     Unbind {
         sensor: Name,
     },
-    /// `rows`: what the tenant offers and binds.
+    /// `rows`: lists what the tenant offers and binds.
     Rows,
 }
 
@@ -88,11 +88,13 @@ fn copy_of(bounds: &Option<Bounds>) -> Option<Bounds>
     }
 }
 
-/// The command about grants that begins with this word and goes on so behind it, without the tenant's name: `offer NAME to TENANT`, `offer NAME to TENANT from LO to HI`,
-/// `unoffer NAME to TENANT`, `bind NAME from TENANT.NAME`, `unbind NAME` or `rows`. `None` for every other line.
+/// The command about grants of a line, given as its first word and what follows it, without the tenant's name.
 ///
-/// Words are separated by one or more blanks. NAME and TENANT have the shape of a program's name, keywords included;
-/// TENANT.NAME is cut at its first dot; LO and HI are i64s in decimal, and LO isn't above HI. Takes no memory.
+/// The forms are `offer NAME to TENANT`, `offer NAME to TENANT from LO to HI`, `unoffer NAME to TENANT`,
+/// `bind NAME from TENANT.NAME`, `unbind NAME` and `rows`. `None` for every other line.
+///
+/// Words are separated by one or more blanks. NAME and TENANT have the shape of a program's name; keywords are allowed.
+/// TENANT.NAME is cut at its first dot. LO and HI are i64s in decimal, and LO isn't above HI. Takes no memory.
 pub(crate) fn grant_command_of(word: &str, behind: &str) -> Option<GrantCommand>
     ensures { result ≡ grant_command_of_words (words_from word.now behind.now) }
 {
@@ -112,7 +114,7 @@ pub(crate) fn grant_command_of(word: &str, behind: &str) -> Option<GrantCommand>
     }
 }
 
-// The word behind this one, where a line has these two words alone; else no byte.
+// The second word of a line that has two words and begins with this one; empty for other lines.
 fn word_behind<'a>(word: &str, line: &'a str) -> &'a str
     requires { 0 < length word.now }
     ensures { result.now ≡ word_behind word.now (words_of line.now) }
@@ -127,7 +129,7 @@ fn word_behind<'a>(word: &str, line: &'a str) -> &'a str
     first_word(behind)
 }
 
-// `rest` is `to TENANT`, and `from LO to HI` behind it where the offer has bounds.
+// `rest` is `to TENANT`, or `to TENANT from LO to HI` if the offer has bounds.
 fn offer_by(actuator: &str, rest: &str) -> Option<GrantCommand>
     ensures { result ≡ offer_by actuator.now (words_of rest.now) }
 {
@@ -142,7 +144,7 @@ fn offer_by(actuator: &str, rest: &str) -> Option<GrantCommand>
     offer_within(actuator, first_word(behind), behind_first_word(more))
 }
 
-// Whether these are the words before a tenant and before bounds.
+// Whether these are `to`, the word before a tenant, and `from`, the word before bounds.
 fn lead_to_bounds(before_tenant: &str, before_bounds: &str) -> bool
     ensures { result ≡ (same_name before_tenant.now (codes "to") && same_name before_bounds.now (codes "from")) }
 {

@@ -1,13 +1,16 @@
-//! From a tenant's line to a command, and from a reply to a line.
+//! Reads commands from a tenant's lines, and prints replies as lines.
 //!
 //! ```text
 //! let command = command_of(alloc, "show port a")?;
 //! let text = print_reply(alloc, &reply)?;
 //! ```
 //!
-//! [`words`] cuts a line at its blanks, [`command_lines`] tells which command it spells, [`commands`] and [`replies`] have
-//! the commands and their replies, each with its text, and [`ports`] the ports in both. [`grant_lines`] has the
-//! commands about grants and their lines. `specs/Words.antt`, `CommandLine.antt`, `GrantLines.antt` and `Replies.antt` define them.
+//! - [`words`] cuts a line at its blanks, and [`command_lines`] returns the command that it spells.
+//! - [`commands`] and [`replies`] have the commands and their replies, each with its text.
+//! - [`ports`] has the ports in both.
+//! - [`grant_lines`] has the commands about grants and their lines.
+//!
+//! `specs/Words.antt`, `CommandLine.antt`, `GrantLines.antt` and `Replies.antt` define them.
 #![tactic(auto)]
 
 pub mod command_lines;

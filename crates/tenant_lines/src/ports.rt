@@ -1,4 +1,4 @@
-//! Ports, as commands and replies name them.
+//! Names and values of ports, as in commands and replies.
 
 ghost use Rattle.std.specs.Prelude.{◌≡◌};
 ghost use Rattle.std.specs.Fmt.{WritesOnOk};
@@ -10,7 +10,7 @@ use std::fmt;
 /// The name of a port: of a sensor, an actuator or an output, or of an input or a state of a task.
 #[derive(Drop)]
 pub struct PortName {
-    /// The task whose input or state it is.
+    /// The task, for an input or a state of a task.
     pub task: Option<Name>,
     pub name: Name,
 }
@@ -31,7 +31,7 @@ impl PortName {
     }
 }
 
-/// The name as it is shown: NAME, or TASK.NAME for an input or a state of a task.
+/// The name as it is printed: NAME, or TASK.NAME for an input or a state of a task.
 impl fmt::Display for PortName {
     ghost use Rattle.std.specs.Prelude.{Some};
     ghost use Rattle.tenant_lines.specs.Replies.{text_of_port};
@@ -61,7 +61,7 @@ pub struct PortValue {
 }
 
 impl PortValue {
-    /// An equal one.
+    /// An equal port with an equal value.
     pub fn copy(&self) -> PortValue
         ensures { result ≡ self.now }
     {

@@ -34,15 +34,15 @@ pub enum Budget {
 /// Why a command is refused.
 #[derive(Clone, Copy, Debug, PartialEq, Eq)]
 pub enum Refusal {
-    /// `err bad-command`: the line is none of the forms of a command.
+    /// `err bad-command`: the line has none of the forms of a command.
     BadCommand,
-    /// `err syntax N`: the text spells no program; N is the offset of the fault, in bytes of the text.
+    /// `err syntax N`: the text isn't a program; N is the offset of the fault, in bytes of the text.
     Syntax(usize),
     /// `err syntax deep`: parentheses and braces nest more than 32 deep.
     TooDeep,
     /// `err syntax many`: a task has more than 16 inputs, outputs or states.
     TooMany,
-    /// `err rule N`: the program breaks this rule, the first that it breaks.
+    /// `err rule N`: the program breaks rules; N is the first that it breaks.
     Rule(usize),
     /// `err running`: the tenant is running.
     Running,
@@ -54,15 +54,15 @@ pub enum Refusal {
     NoPort,
     /// `err no-tenant`: the roster has no tenant of this name.
     NoTenant,
-    /// `err own`: the tenant itself.
+    /// `err own`: the command names the tenant itself.
     Own,
-    /// `err twice`: the row stands already.
+    /// `err twice`: the row exists already.
     Twice,
     /// `err not-there`: there is no such row.
     NotThere,
-    /// `err budget WORD`: the program, or one row more, is over this budget.
+    /// `err budget WORD`: the program, or one more row, is over this budget.
     OverBudget(Budget),
-    /// `err memory`: want of memory.
+    /// `err memory`: out of memory.
     Memory,
 }
 
@@ -77,18 +77,18 @@ impl From<AllocError> for Refusal {
     }
 }
 
-/// What a tenant is doing, as `show mode` tells it.
+/// What a tenant is doing, as `show mode` reports it.
 #[derive(Drop)]
 pub enum Status {
     /// `empty`: it has no program.
     Empty,
     /// `loaded M`: its program hasn't been started, and will start in this mode.
     Loaded(Name),
-    /// `running M X`: it is in this mode, and this is the mode time of its next instant, in ticks.
+    /// `running M X`: it is in mode M; X is the mode time of its next instant, in ticks.
     Running(Name, u64),
     /// `stopped asked`: it was stopped by its own command.
     StoppedAsked,
-    /// `stopped overrun T`: it was stopped since this task was due and not completed.
+    /// `stopped overrun T`: it was stopped because task T was due and not completed.
     StoppedOverrun(Name),
 }
 
@@ -142,11 +142,11 @@ impl Status {
 }
 
 impl Reply {
-    /// An equal reply. Takes memory for the ports of `show all`, the records of `trace` and the rows of `rows` alone, and none
-    /// where there are none of them.
+    /// An equal reply. Takes memory only for the ports of `show all`, the records of `trace` and the rows of `rows`, and none if
+    /// the list is empty.
     ///
     /// # Errors
-    /// Want of memory for a list that isn't empty.
+    /// Out of memory for a list that isn't empty.
     pub fn copy(&self, alloc: Global) -> Result<Reply, AllocError>
         ensures same { IfOk result (λ r. r ≡ self.now) }
         ensures memory { IsErr result → IsTrue (has_list self.now) }
@@ -169,7 +169,7 @@ impl Reply {
         })
     }
 
-    /// Whether a command is refused for want of memory.
+    /// Whether the command is refused because memory ran out: `err memory`.
     pub fn is_memory(&self) -> bool
         ensures { IsTrue result ↔ (self.now ≡ Reply.Refused Refusal.Memory) }
     {
@@ -231,17 +231,17 @@ impl Budget {
 /// The text of a reply, without the name of the tenant and without LF.
 ///
 /// # Errors
-/// Want of memory.
+/// Out of memory.
 pub fn print_reply(alloc: Global, reply: &Reply) -> Result<String, AllocError>
     ensures { IfOk result (λ text. string_bytes text ≡ text_of_reply reply.now) }
 {
     reply.to_string(alloc)
 }
 
-/// Adds the text of a reply, without the name of the tenant and without LF.
+/// Appends the text of a reply, without the name of the tenant and without LF.
 ///
 /// # Errors
-/// Want of memory. Nothing is said of the text then.
+/// Out of memory. After an error the content of the text is unspecified.
 pub fn add_reply(text: &mut String, reply: &Reply) -> Result<(), AllocError>
     ensures { OnOk result (string_bytes text.new ≡ string_bytes text.old ++ text_of_reply reply.now) }
 {
@@ -251,10 +251,11 @@ pub fn add_reply(text: &mut String, reply: &Reply) -> Result<(), AllocError>
     }
 }
 
-/// Adds the text of the reply to `show port`, without the name of the tenant and without LF: part by part, which is the shorter way.
+/// Appends the text of the reply to `show port`, without the name of the tenant and without LF. Appends it part by part, which is
+/// shorter than formatting.
 ///
 /// # Errors
-/// Want of memory. Nothing is said of the text then.
+/// Out of memory. After an error the content of the text is unspecified.
 pub fn add_shown(text: &mut String, port: &PortName, value: i64) -> Result<(), AllocError>
     ensures { OnOk result (string_bytes text.new ≡ string_bytes text.old ++ text_of_reply (Reply.Port (record { port = port.now; value = value }))) }
 {
@@ -264,7 +265,7 @@ pub fn add_shown(text: &mut String, port: &PortName, value: i64) -> Result<(), A
     add_value(text, value)
 }
 
-// Adds a value in decimal.
+// Appends a value in decimal.
 fn add_value(text: &mut String, value: i64) -> Result<(), AllocError>
     ensures { OnOk result (string_bytes text.new ≡ string_bytes text.old ++ signed_decimal value) }
 {
@@ -272,7 +273,7 @@ fn add_value(text: &mut String, value: i64) -> Result<(), AllocError>
     text.push_str(digits.format(value))
 }
 
-// Adds the name of a port.
+// Appends the name of a port.
 fn add_port(text: &mut String, port: &PortName) -> Result<(), AllocError>
     ensures { OnOk result (string_bytes text.new ≡ string_bytes text.old ++ text_of_port port.now) }
 {
@@ -360,7 +361,7 @@ fn write_record<W: fmt::Write>(f: &mut fmt::Formatter<W>, record: &Record) -> fm
     write_happening(f, &record.happening)
 }
 
-// Writes what happened, as a record tells it.
+// Writes what happened, as a record has it.
 fn write_happening<W: fmt::Write>(f: &mut fmt::Formatter<W>, happening: &Happening) -> fmt::Result
     ensures { WritesOnOk W.write_str_gives f.old result (text_of_happening happening.now) f.new }
 {
@@ -410,7 +411,7 @@ fn write_row<W: fmt::Write>(f: &mut fmt::Formatter<W>, row: &Row) -> fmt::Result
     }
 }
 
-// Writes the bounds of an offer, as a row tells them: nothing where they are all values.
+// Writes the bounds of an offer, as a row has them. Writes nothing if all values are within them.
 fn write_bounds<W: fmt::Write>(f: &mut fmt::Formatter<W>, bounds: &Bounds) -> fmt::Result
     ensures { WritesOnOk W.write_str_gives f.old result (text_of_bounds bounds.now) f.new }
 {

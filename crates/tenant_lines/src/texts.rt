@@ -27,10 +27,10 @@ impl Text {
         Text { text }
     }
 
-    /// A text of these bytes. Takes memory for them; for no byte it takes none.
+    /// A text of these bytes. Takes memory for them, and none if there are no bytes.
     ///
     /// # Errors
-    /// Want of memory, where there is a byte.
+    /// Out of memory. Never if there are no bytes.
     pub fn from_str(alloc: Global, text: &str) -> Result<Text, AllocError>
         ensures text { IfOk result (λ t. t ≡ text.now) }
         ensures memory { IsErr result → 0 < length text.now }
@@ -47,10 +47,10 @@ impl Text {
         Text::from_string(String::new(alloc))
     }
 
-    /// An equal text, in memory of its own. That of an empty one takes none.
+    /// An equal text, in separate memory. A copy of an empty text takes none.
     ///
     /// # Errors
-    /// Want of memory, where the text has a byte.
+    /// Out of memory. Never for an empty text.
     pub fn copy(&self, alloc: Global) -> Result<Text, AllocError>
         ensures same { IfOk result (λ t. t ≡ self.now) }
         ensures memory { IsErr result → 0 < length self.now }
@@ -58,17 +58,17 @@ impl Text {
         Text::from_str(alloc, self.as_str())
     }
 
-    /// The text, read.
+    /// The text as a string slice.
     pub fn as_str(&self) -> &str
         ensures { result.now ≡ self.now }
     {
         self.text.as_str()
     }
 
-    /// Adds these bytes behind the text.
+    /// Appends these bytes.
     ///
     /// # Errors
-    /// Want of memory, where there is a byte to add. The text stays as it was then.
+    /// Out of memory. Never if there are no bytes to append. After an error the text is unchanged.
     pub fn push_str(&mut self, text: &str) -> Result<(), AllocError>
         ensures added { OnOk result (self.new ≡ self.old ++ text.now) }
         ensures refused { OnErr result (self.new ≡ self.old) }

@@ -1,4 +1,4 @@
-//! Lines as words: one or more blanks separate words, and mean nothing at the ends.
+//! Cuts lines into words. One or more blanks separate words; blanks at the ends mean nothing.
 
 ghost use Rattle.std.specs.Prelude.{◌≡◌, ◌≤◌, ◌<◌, IfOk, IsErr, IsSomeAnd, is_some, length, nat_eq};
 ghost use Rattle.std.specs.Cmp.Lexicographic.{pointwise};
@@ -13,8 +13,7 @@ use std::alloc::{AllocError, Global};
 /// The values of a line's words. Up to eight take no memory.
 pub type Values = SmallVec<i64, 8>;
 
-/// A line, cut behind its first word: that word, and what stands behind it, its blanks included. Neither has a byte where the line is
-/// blank.
+/// The first word of a line, and what follows it, blanks included. Both are empty if the line is blank.
 pub fn cut(line: &str) -> (&str, &str)
     ensures word { result.0.now ≡ first_word_of line.now }
     ensures rest { result.1.now ≡ behind_first_word line.now }
@@ -23,21 +22,21 @@ pub fn cut(line: &str) -> (&str, &str)
     rest.split_at(word_len(rest.as_bytes()))
 }
 
-/// The first word of a line, or no byte where the line is blank.
+/// The first word of a line. Empty if the line is blank.
 pub fn first_word(line: &str) -> &str
     ensures { result.now ≡ first_word_of line.now }
 {
     cut(line).0
 }
 
-/// What stands behind the first word of a line, its blanks included.
+/// What follows the first word of a line, blanks included.
 pub fn behind_first_word(line: &str) -> &str
     ensures { result.now ≡ behind_first_word line.now }
 {
     cut(line).1
 }
 
-/// Whether a word is this one.
+/// Whether two words are equal.
 #[inline(always)]
 pub fn is_word(word: &str, other: &str) -> bool
     ensures { result ≡ same_name word.now other.now }
@@ -69,8 +68,8 @@ fn is_blank(byte: u8) -> bool
     matches!(byte, b' ' | b'\t' | b'\r')
 }
 
-// The value of a word: an optional `-`, then digits, leading zeros allowed. `None` where the word has another shape,
-// or its value is no i64.
+// The value of a word: an optional `-`, then digits, leading zeros allowed. `None` if the word has another shape, or if its
+// value doesn't fit an i64.
 pub(crate) fn value_of_word(word: &str) -> Option<i64>
     ensures { result ≡ value_of_word word.now }
 {
@@ -83,10 +82,11 @@ pub(crate) fn value_of_word(word: &str) -> Option<i64>
     word.parse().ok()
 }
 
-/// The values of all words of a line, in their order, or `None` where a word has none. Takes memory for more than eight values alone.
+/// The values of all words of a line, in order. `None` if a word has no value. Only more than eight values take memory.
 ///
 /// # Errors
-/// Want of memory, where there are more than eight words and each has a value. Where one has none, that is answered, whatever memory did.
+/// Out of memory. Only if there are more than eight words and each has a value: if one has none, the result is `None`, even if an
+/// allocation failed.
 #[inline(always)]
 #[tactic(auto, using(crate::proofs::ValueLemmas::values_fault, crate::proofs::cited::WordLemmas::behind_shorter))]
 pub fn values_of_words(alloc: Global, line: &str) -> Result<Option<Values>, AllocError>
@@ -103,7 +103,7 @@ pub fn values_of_words(alloc: Global, line: &str) -> Result<Option<Values>, Allo
         let Some(value) = value_of_word(word) else {
             return Ok(None);
         };
-        // A word without a value is told, also where memory was refused before it.
+        // A word without a value is reported even if an allocation failed before it.
         if values.push(value).is_err() {
             return if are_values(rest) {
                 Err(AllocError)
@@ -140,7 +140,7 @@ pub(crate) fn skip_blanks(line: &str) -> &str
     &line[blank_len(line.as_bytes())..]
 }
 
-// How many blanks stand at the front.
+// The number of blanks at the front.
 #[tactic(auto, using(crate::proofs::cited::WordLemmas::prefix_more, crate::proofs::cited::WordLemmas::prefix_end))]
 fn blank_len(line: &[u8]) -> usize
     ensures len { result ≡ prefix_len is_blank_of_line line.now }
@@ -154,7 +154,7 @@ fn blank_len(line: &[u8]) -> usize
     line.len()
 }
 
-// How many bytes at the front are no blanks.
+// The number of bytes before the first blank; all bytes if there is none.
 #[tactic(auto, using(crate::proofs::cited::WordLemmas::prefix_more, crate::proofs::cited::WordLemmas::prefix_end))]
 fn word_len(line: &[u8]) -> usize
     ensures len { result ≡ prefix_len is_word_byte line.now }

@@ -1,4 +1,4 @@
--- The words of a line, by its first word and what stands behind it; and where a line may be cut.
+-- The words of a line, by its first word and what follows it; and where a line may be cut.
 use Rattle.std.proofs.Common.{◌≡◌, ℕ, suc, ◌+◌, ◌<◌, ◌≤◌, Bool, true, false, not, cond, List, [], ◌∷◌, length, get_or, drop, refl, sym, ◌∙◌, ap, arith, length-drop}
 use Rattle.std.proofs.lemmas.List.Sums.{prefix_len_stops}
 use Rattle.std.specs.List.{prefix_len, take_while}
@@ -18,7 +18,7 @@ prefix_end p xs i le = at_drop_all (prefix_len p) xs i le
 blank_is_ascii : (c : ℕ) → is_blank_of_line c ≡ true → c < 128
 blank_is_ascii c e = grind (arith, nat_tests)
 
--- a text may be cut behind its first blanks
+-- a text may be cut after the blanks at its front
 pub boundary_behind_blanks : (bs : List ℕ) → IsUtf8 bs → IsCharBoundary bs (prefix_len is_blank_of_line bs)
 boundary_behind_blanks [] utf8 = IsCharBoundary-start [] utf8
 boundary_behind_blanks (c ∷ cs) utf8 = by (is_blank_of_line c) refl (boundary_behind_blanks cs)
@@ -29,7 +29,7 @@ boundary_behind_blanks (c ∷ cs) utf8 = by (is_blank_of_line c) refl (boundary_
         let behind : IsCharBoundary (c ∷ cs) 1 = IsCharBoundary-after_ascii (c ∷ cs) 0 utf8 (omega arith) (blank_is_ascii c e) in
         IsCharBoundary-from_rest (c ∷ cs) 1 (prefix_len is_blank_of_line cs) behind.0 (rest (IsUtf8-drop (c ∷ cs) 1 utf8 behind))
 
--- and in front of the first blank
+-- and before the first blank
 pub boundary_at_blank : (bs : List ℕ) → IsCharBoundary bs (prefix_len is_word_byte bs)
 boundary_at_blank [] = (omega arith, λ lt. absurd (omega arith))
 boundary_at_blank (c ∷ cs) = by (is_blank_of_line c) refl (boundary_at_blank cs)
@@ -63,7 +63,7 @@ from_blank c cs e = let one : 1 + prefix_len is_blank_of_line cs ≡ suc (prefix
 from_word : (c : ℕ) (cs : List ℕ) → is_blank_of_line c ≡ false → from_first_word (c ∷ cs) ≡ c ∷ cs
 from_word c cs e = rw e refl
 
--- the words of a line: its first word, and those of what stands behind it
+-- the words of a line: its first word, and those of what follows it
 pub words_first : (line : List ℕ) → 0 < length (first_word_of line) → words_of line ≡ first_word_of line ∷ words_of (behind_first_word line)
 words_first [] some = absurd (omega arith)
 words_first (c ∷ cs) some = by (is_blank_of_line c) refl (words_first cs)
@@ -80,7 +80,7 @@ words_first (c ∷ cs) some = by (is_blank_of_line c) refl (words_first cs)
         let one : 1 + prefix_len is_word_byte cs ≡ suc (prefix_len is_word_byte cs) = omega arith in
         words_at_word c cs e ∙ sym (rw (from_word c cs e) (rw (e, one) refl))
 
--- and none where it has no first word
+-- and none if it has no first word
 pub words_none : (line : List ℕ) → length (first_word_of line) ≡ 0 → words_of line ≡ []
 words_none [] none = refl
 words_none (c ∷ cs) none = by (is_blank_of_line c) refl (words_none cs)
@@ -96,7 +96,7 @@ words_none (c ∷ cs) none = by (is_blank_of_line c) refl (words_none cs)
         let some : suc (length (take_while is_word_byte cs)) ≡ 0 = rw (e, one) at word in
         absurd (omega (arith, some))
 
--- what stands behind a word is shorter than the line
+-- what follows a word is shorter than the line
 pub behind_shorter : (line : List ℕ) → 0 < length (first_word_of line) → length (behind_first_word line) < length line
 behind_shorter line some =
     let rest = from_first_word line in
@@ -111,7 +111,7 @@ blank_behind line some =
     let stops : is_word_byte (get_or rest n 0) ≡ false = prefix_len_stops is_word_byte rest 0 (omega (arith, some, length-drop n rest)) in
     rw get_or-drop (grind (arith, stops))
 
--- a text may be cut behind that blank
+-- a text may be cut after that blank
 pub boundary_behind_blank : (line bs : List ℕ) → IsUtf8 bs → bs ≡ behind_first_word line → 0 < length bs → IsCharBoundary bs 1
 boundary_behind_blank line bs utf8 is some =
     let blank : is_blank_of_line (get_or bs 0 0) ≡ true = rw is (blank_behind line (rw is at some)) in

@@ -5,7 +5,7 @@ use Rattle.tenant_lines.specs.declared.commands.Command.TheVariants as command
 use Rattle.tenant_lines.specs.declared.replies.Reply.{Reply}
 use Rattle.tenant_lines.specs.declared.replies.Reply.TheVariants as reply
 
--- the commands that have a program's text, of one byte at least
+-- the commands with a program's text of at least one byte
 abbrev pub has_text : Command → Bool
 has_text (command.Load text) = nat_lt 0 (length text)
 has_text (command.Replace text) = nat_lt 0 (length text)
@@ -17,7 +17,7 @@ has_text command.ShowAll = false
 has_text command.Trace = false
 has_text (command.Grants about) = false
 
--- the replies to "show all", "trace" and "rows" that list one port, record or row at least
+-- the replies to "show all", "trace" and "rows" that list at least one port, record or row
 abbrev pub has_list : Reply → Bool
 has_list reply.Loaded = false
 has_list reply.Replaced = false

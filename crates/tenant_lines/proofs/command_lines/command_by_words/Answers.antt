@@ -5,7 +5,7 @@ use Rattle.tenant_lines.specs.inner.CutLines.{words_from}
 use Rattle.tenant_lines.proofs.CommandLines.{cut_words, differ, words_alone}
 use Rattle.tenant_lines.proofs.command_lines.command_by_words.Goals as goal
 
--- a line that was cut, and begins with neither word that a text follows
+-- a line that was cut, and begins with neither "load" nor "replace"
 by_words : (line word rest : List ℕ) → word ≡ first_word_of line → rest ≡ behind_first_word line → (word ≡ codes "load" → ⊥) → (word ≡ codes "replace" → ⊥)
     → command_of_line line ≡ command_of_words (words_from word rest)
 by_words line word rest is_word is_rest no_load no_replace =

@@ -11,7 +11,7 @@ of_ok : {T E Said : Type 0} (r : Result T E) → false ≡ is_err r → OnOk r S
 of_ok (Ok x) e said = said
 of_ok (Err f) e said = cc
 
--- what refuses one item more has no room
+-- if a push is refused, the capacity is used up
 no_room : {T E : Type 0} (r : Result T E) (len capacity : ℕ) → true ≡ is_err r → (len + 1 ≤ capacity → IsOk r) → capacity ≤ len
 no_room (Ok x) len capacity e succeeds = cc
 no_room (Err f) len capacity e succeeds = ⊎_elim (λ low. let no = succeeds (omega (arith, low)) in cc) (λ high. high) (cases_lt len capacity)
