@@ -24,7 +24,7 @@ use Rattle.rig_model.specs.declared.lines.ports.PortValue.{PortValue}
 use Rattle.rig_model.specs.Commands.{port_with_value}
 use Rattle.tenant_programs.specs.inner.ShownPorts.{name_of_port, with_its_value, name_of_own_port, name_of_shared_port}
 
--- names and values one after the other, at the place i
+-- names and values one after the other, from the place i
 module _ (names : List PortName) (values : List ℤ) (all : List PortValue) (i : ℕ) where
   pub pairs_more : (n : PortName) (v : ℤ) → i < length names → i < length values → ((d : PortName) → n ≡ get_or names i d) → ((d : ℤ) → v ≡ get_or values i d)
       → (all ++ with_its_value (n, v) ∷ []) ++ map with_its_value (zip (drop (i + 1) names) (drop (i + 1) values)) ≡ all ++ map with_its_value (zip (drop i names) (drop i values))
@@ -39,7 +39,7 @@ module _ (names : List PortName) (values : List ℤ) (all : List PortValue) (i :
       let none : length rest ≡ 0 = omega (arith, end, length-zip (drop i names) (drop i values), length-drop i names, length-drop i values) in
       ap (λ vs. all ++ map with_its_value vs) (nil_from_length rest none) ∙ append-nil all
 
--- the value of another name is not looked at
+-- the value of another name doesn't matter
 other_name : (n : Name) (v : ℤ) (values : Valuation) (x : ProgramPort) → same_name (shown_name x) n ≡ false → port_with_value ((n, v) ∷ values) x ≡ port_with_value values x
 other_name n v values x other = by (same_name n (shown_name x)) refl
   where
@@ -57,7 +57,7 @@ other_names n v values (x ∷ xs) none =
     neither false b e = (refl, e)
     neither true b e = absurd (false≢true e)
 
--- where no two are shown alike, each port stands with the value at its place
+-- if no two ports are shown alike, each port has the value at its place
 values_in_order : (ports : List ProgramPort) (values : List ℤ) → all_different (map shown_name ports) ≡ true → length values ≡ length ports
     → map with_its_value (zip (map name_of_port ports) values) ≡ map (port_with_value (zip (map shown_name ports) values)) ports
 values_in_order [] values different long = refl
@@ -74,7 +74,7 @@ pub shown_values : (p : GiottoProgram) (values : List ℤ) → all_different (po
     → map with_its_value (zip (map name_of_port (ports_of p)) values) ≡ map (port_with_value (valuation_of p values)) (ports_of p)
 shown_values p values different long = values_in_order (ports_of p) values different long
 
--- the names of ports, by the lists that the code has
+-- the names of ports, by the code's lists
 
 abbrev pub names_of_task : Task → List PortName
 names_of_task t = map name_of_port (ports_of_task (task_of t))

@@ -14,8 +14,8 @@ use std::alloc::Global;
 /// The well-formed program that a text spells.
 ///
 /// # Errors
-/// The first reason in this order: the text spells no program (`Syntax`, `TooDeep` or `TooMany`, as the reader says); the program
-/// breaks a rule, and the first is named (`Rule`). Want of memory is `Memory`, and comes at any time.
+/// The first reason in this order. `Syntax`, `TooDeep` or `TooMany`: the text spells no program, as the reader reports. `Rule`: the program
+/// breaks a rule, and the first such rule is named. `Memory` at any time, if memory runs out.
 pub fn read_program(alloc: Global, text: &str) -> Result<Checked, Refusal>
     ensures read { IfOk result (λ p. program_of text.now ≡ Ok p) }
     ensures refused { IfErr result (λ r. r ≢ Refusal.Memory → program_of text.now ≡ Err r) }

@@ -1,4 +1,4 @@
-//! The budgets of a tenant that a program must keep.
+//! The budgets of a tenant that apply to a program.
 
 ghost use Rattle.std.specs.Prelude.{◌≡◌};
 ghost use Rattle.std.specs.List.{list_all};
@@ -11,10 +11,10 @@ use rig_model::config::Budgets;
 use rig_model::lines::replies::Budget;
 use rig_model::text::programs::{Program, Source};
 
-/// The first budget that a program is over, of those that a program has, in this order: `Bytes`, the length of its text, which is
-/// `bytes` bytes with all blanks; `Ports`, all that it has, inputs and states of tasks included; `Tasks`; `Modes`; `Steps`, its
-/// greatest cost; `Lines`, where a sensor reads, or an actuator drives, a line that the tenant may not use so. `None` where it
-/// keeps all. The cost and the number of ports are known from the program's check, so nothing is costed here.
+/// The first budget that a program is over. `None` if it is within all. The budgets are checked in this order: `Bytes`, the length of its
+/// text, which is `bytes` bytes with all blanks; `Ports`, all its ports, with inputs and states of tasks; `Tasks`; `Modes`; `Steps`, its
+/// greatest cost; `Lines`, broken if a sensor reads a line that the tenant may not read, or an actuator drives one that it may not drive.
+/// The cost and the number of ports come from the program's check, so no cost is computed here.
 pub fn broken_budget(budgets: &Budgets, bytes: usize, checked: &Checked) -> Option<Budget>
     ensures { result ≡ broken_budget budgets.now bytes checked.now }
 {
@@ -36,7 +36,7 @@ pub fn broken_budget(budgets: &Budgets, bytes: usize, checked: &Checked) -> Opti
     }
 }
 
-// Whether the program's sensors read, and its actuators drive, only lines that the tenant may use so.
+// Whether the program's sensors read, and its actuators drive, only lines that the tenant may read or drive.
 fn uses_own_lines(budgets: &Budgets, program: &Program) -> bool
     ensures { result ≡ uses_own_lines budgets.now program.now }
 {

@@ -12,10 +12,10 @@ use rig_model::lines::replies::Refusal;
 use std::alloc::Global;
 use std::marker::Model;
 
-/// What a text reads as, where it was read: the well-formed program, or why there is none.
+/// The result of reading a text, if it was read: the well-formed program, or the reason why there is none.
 pub type Reading = Option<Result<Checked, Refusal>>;
 
-/// A command with what its text reads as, so that who carries it out needn't read the text. It is seen as the command.
+/// A command with the reading of its text, so that carrying it out needn't read the text. Contracts see it as the command.
 #[derive(Drop)]
 pub struct Prepared {
     command: Command,
@@ -41,7 +41,7 @@ impl Prepared {
         &self.command
     }
 
-    /// The command, and what its text reads as.
+    /// The command, and the reading of its text.
     pub fn into_parts(self) -> (Command, Reading)
         ensures command { result.0 ≡ self }
         ensures reading { IsRead self result.1 }
@@ -50,8 +50,8 @@ impl Prepared {
     }
 }
 
-/// The command, prepared: the text of `load` and `replace` is read and checked. Where memory is wanting for that, the text stays to be
-/// read where the command is carried out.
+/// Prepares a command: the text of `load` and `replace` is read and checked. If memory runs out, the text is read when the command is carried
+/// out.
 pub fn prepare(alloc: Global, command: Command) -> Prepared
     ensures { result ≡ command }
 {
@@ -62,10 +62,10 @@ pub fn prepare(alloc: Global, command: Command) -> Prepared
     Prepared { command, reading }
 }
 
-/// The well-formed program that a text spells, where this is what it reads as. It is read now where it wasn't.
+/// The well-formed program that a text spells, given its reading. Reads the text if it wasn't read before.
 ///
 /// # Errors
-/// As `read_program`, and never for want of memory where the text was read.
+/// As in `read_program`. If the text was read before, never for lack of memory.
 pub fn program_by_reading(alloc: Global, text: &str, reading: Reading) -> Result<Checked, Refusal>
     requires { IsReadingOf text.now reading }
     ensures read { IfOk result (λ p. program_of text.now ≡ Ok p) }
@@ -78,7 +78,7 @@ pub fn program_by_reading(alloc: Global, text: &str, reading: Reading) -> Result
     }
 }
 
-// What a text reads as; nothing where memory is wanting.
+// The reading of a text. `None` if memory runs out.
 fn reading_of(alloc: Global, text: &str) -> Reading
     ensures { IsReadingOf text.now result }
 {

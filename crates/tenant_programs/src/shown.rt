@@ -15,11 +15,11 @@ use rig_model::lines::ports::{PortName, PortValue};
 use rig_model::text::programs::Program;
 use std::alloc::{AllocError, Global};
 
-/// Each port of a program with its value, where these are the values of all ports by their slots: sensors, actuators, outputs,
-/// then for each task its inputs and its states, each in text order.
+/// Each port of a program with its value. The values are those of all ports by their slots: sensors, actuators, outputs, then for each
+/// task its inputs and its states, each in text order.
 ///
 /// # Errors
-/// Want of memory.
+/// Out of memory.
 pub fn port_values(
     alloc: Global,
     checked: &Checked,

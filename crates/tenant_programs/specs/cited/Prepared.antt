@@ -1,4 +1,4 @@
--- What the text of a command reads as, beside the command.
+-- The reading of a command's text, next to the command.
 use Rattle.std.specs.Prelude.{◌≡◌, ℕ, List, [], Option, Result, IfSome}
 use Rattle.rig_model.specs.text.Program.{GiottoProgram}
 use Rattle.rig_model.specs.declared.lines.commands.Command.{Command}
@@ -7,7 +7,7 @@ use Rattle.rig_model.specs.declared.lines.commands.Command.TheVariants as comman
 use Rattle.rig_model.specs.declared.lines.replies.Refusal.{Refusal}
 use Rattle.rig_model.specs.Admission.{program_of}
 
--- where a text was read, that is what it spells: a program, or why there is none
+-- if a text was read, the reading is what the text spells: a program, or the reason why there is none
 abbrev pub IsReadingOf : List ℕ → Option (Result GiottoProgram Refusal) → Type 0
 IsReadingOf text reading = IfSome reading (λ read. program_of text ≡ read)
 
@@ -23,6 +23,6 @@ text_of ShowAll = []
 text_of command.Trace = []
 text_of (Grants c) = []
 
--- where the text of a command was read, that is what it spells
+-- if the text of a command was read, the reading is what the text spells
 abbrev pub IsRead : Command → Option (Result GiottoProgram Refusal) → Type 0
 IsRead command reading = IsReadingOf (text_of command) reading
