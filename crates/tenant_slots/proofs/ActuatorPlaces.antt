@@ -1,4 +1,4 @@
--- The actuators' slots: each is that of its place among the actuators, behind those of the sensors.
+-- The actuators' slots: each is that of its place among the actuators, after those of the sensors.
 use Rattle.std.proofs.Common.{◌≡◌, ℕ, zero, suc, ◌+◌, ◌<◌, ◌≤◌, Bool, true, false, not, cond, ◌||◌, List, [], ◌∷◌, ◌++◌, length, map, drop, get_or, ⊎_elim, Some, None, refl, sym, ap, subst, ◌∙◌, arith}
 use Rattle.std.specs.Prelude.{slice_get}
 use Rattle.std.specs.List.{AllByRecursion, position_from}
@@ -29,7 +29,7 @@ module _ (x : Name) where
   abbrev is_it : Name → Bool
   is_it n = same_name n x
 
-  -- where a name is among the first list, its place is there
+  -- if a name is in the first list, its place is there
   pub place_among : (xs ys : List Name) (i k : ℕ) → is_among xs x ≡ true → position_from is_it i (xs ++ ys) ≡ Some k → (j : ℕ) × (k ≡ i + j) × (slice_get xs j ≡ Some x)
   place_among [] ys i k there e = absurd (false≢true there)
   place_among (n ∷ ns) ys i k there e = by (same_name n x) refl there e (place_among ns ys (i + 1) k)
@@ -39,7 +39,7 @@ module _ (x : Name) where
       by true is there e rest = let same : i ≡ k = cc in (0, omega arith, ap Some (same_name_is n x is))
       by false is there e rest = let found = rest there e in (suc found.0, omega (arith, found.1), found.2)
 
-  -- where it is not, its place is behind that list
+  -- if it isn't, its place is after that list
   pub place_past : (xs ys : List Name) (i k : ℕ) → is_among xs x ≡ false → position_from is_it i (xs ++ ys) ≡ Some k → position_from is_it (i + length xs) ys ≡ Some k
   place_past [] ys i k none e = let same : i + 0 ≡ i = omega arith in ap (λ n. position_from is_it n ys) same ∙ e
   place_past (n ∷ ns) ys i k none e = by (same_name n x) none e (place_past ns ys (i + 1) k)
@@ -49,7 +49,7 @@ module _ (x : Name) where
       by true none e rest = absurd (cc)
       by false none e rest = let same : i + suc (length ns) ≡ i + 1 + length ns = omega arith in ap (λ m. position_from is_it m ys) same ∙ rest none e
 
--- what holds of all holds of the first that is left
+-- what holds of all items holds of the first that is left
 fits_left : {X : Type 0} (P : X → Type 0) (xs : List X) (k : ℕ) (x : X) (rest : List X) → AllByRecursion P xs → drop k xs ≡ x ∷ rest → P x
 fits_left P [] zero x rest all e = absurd (cc)
 fits_left P [] (suc k) x rest all e = absurd (cc)
@@ -71,7 +71,7 @@ module _ (p : GiottoProgram) (fits : ProgramFits p) where
       let found = place_among x (actuator_names p) (output_names p) (0 + length (sensor_names p)) k there behind in
       (found.0, omega (arith, found.1, length-map p.sensors (λ s. s.name)), found.2)
 
-  -- the slot that an update's entry has
+  -- the slot in an update's entry
   pub entry_slot : (mode : ℕ) (m : ModeDeclaration) (k : ℕ) (u : ActuatorUpdate) (e : SlotUpdate) → slice_get p.modes mode ≡ Some m → drop k m.updates ≡ u ∷ drop (k + 1) m.updates → IsUpdate p m u e
       → (j : ℕ) × (e.actuator ≡ length p.sensors + j) × (slice_get (actuator_names p) j ≡ Some u.actuator)
   entry_slot mode m k u e at left is =
@@ -104,7 +104,7 @@ module _ (p : GiottoProgram) (fits : ProgramFits p) (x : Name) (items : List Act
   pub actuator_first : position_from (λ (a : Actuator). same_name a.name x) 0 items ≡ position_from has_name 0 p.actuators
   actuator_first = sym (place-map has_name actuator_of 0 items) ∙ ap (position_from has_name 0) all
 
-  -- one of this name is the first
+  -- an actuator of this name is the first one
   pub actuator_once : (k : ℕ) (a : Actuator) → slice_get items k ≡ Some a → same_name a.name x ≡ true → Some k ≡ position_from has_name 0 p.actuators
   actuator_once k a at named =
       let there : slice_get p.actuators k ≡ Some (actuator_of a) = ap (λ as'. slice_get as' k) (sym all) ∙ slice_get-map actuator_of items k ∙ ap (option_map actuator_of) at in

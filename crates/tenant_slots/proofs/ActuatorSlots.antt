@@ -1,4 +1,4 @@
--- The actuators' slots are next to one another, behind those of the sensors.
+-- The actuators' slots are consecutive, and come after those of the sensors.
 use Rattle.std.proofs.Common.{◌≡◌, ℕ, ◌+◌, ◌<◌, ℤ, List, [], ◌∷◌, ◌++◌, length, map, drop, set, get_or, Some, refl, sym, ap, ◌∙◌, append_assoc, arith}
 use Rattle.std.specs.Prelude.{slice_get}
 use Rattle.std.specs.List.{range_with_len, flat_map}
@@ -20,7 +20,7 @@ pub map_both : (as' : List Actuator) → map (λ (a : Actuator). a.initial) as' 
 map_both [] = refl
 map_both (a ∷ rest) = ap (λ zs. a.initial ∷ zs) (map_both rest)
 
--- one more of the values that go to slots next to one another
+-- one more of the values that go to consecutive slots
 pub next_slot : {X : Type 0} (value : X → ℤ) (xs : List X) (i first : ℕ) (x : X) (z : ℤ) (vs whole : List ℤ) → i < length xs → x ≡ get_or xs i x → z ≡ value x
     → with_slots vs (range_with_len (first + i) (length (drop i xs))) (map value (drop i xs)) ≡ whole
     → with_slots (set vs (first + i) z) (range_with_len (first + (i + 1)) (length (drop (i + 1) xs))) (map value (drop (i + 1) xs)) ≡ whole

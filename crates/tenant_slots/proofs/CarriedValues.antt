@@ -1,4 +1,4 @@
--- The values that ports keep: written one by one, they give what is carried over.
+-- Kept values of ports. Written one by one, they give the ports after a replacement.
 use Rattle.std.proofs.Common.{◌≡◌, ℕ, ◌+◌, ◌<◌, Bool, true, false, not, cond, ◌&&◌, ◌||◌, ℤ, pos, List, [], ◌∷◌, ◌++◌, length, map, filter, drop, set, get_or, Some, None, unwrap_or, refl, sym, ap, ◌∙◌, arith}
 use Rattle.std.specs.List.{list_all}
 use Rattle.std.specs.Cmp.Lexicographic.{nat_list_eq_equiv}
@@ -30,7 +30,7 @@ use Rattle.tenant_slots.proofs.InitialValues.{names_are}
 use Rattle.tenant_slots.proofs.cited.Numbered.{slot_within}
 use Rattle.tenant_slots.proofs.TaskValues.{all_written_at}
 
--- names that are given values stand where they stood, and each other name keeps its value
+-- names that are given values stay where they are in the map, and every other name keeps its value
 module _ (f : Name → ℤ) where
   abbrev given : List Name → Name × ℤ → Name × ℤ
   given names v = (v.0, cond (is_among names v.0) (f v.0) v.1)
@@ -115,7 +115,7 @@ value_there (v ∷ vs) x there = by (same_name v.0 x) there (value_there vs x)
     by false there rest = rest there
 
 module _ (old new : GiottoProgram) where
-  -- what keeps its value is a port of both
+  -- a port that keeps its value is a port of both programs
   pub in_both : (x : Name) → is_carried old new x ≡ true → (is_among (driver_ports old) x ≡ true) × (is_among (driver_ports new) x ≡ true)
   in_both x e = either (stands_in_both sensor_names old new x) (stands_in_both actuator_names old new x) ((is_among (driver_ports old) x ≡ true) × (is_among (driver_ports new) x ≡ true)) e
       (λ s.

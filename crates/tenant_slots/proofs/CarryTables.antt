@@ -1,4 +1,4 @@
--- The table of a replacement: what kind of port has a slot, and one entry more.
+-- The table of a replacement: what kind of port has a slot, and how an entry is added.
 use Rattle.std.proofs.Common.{◌≡◌, ℕ, zero, suc, ◌+◌, ◌-◌, ◌<◌, ◌≤◌, Bool, true, false, cond, nat_lt, nat_le, List, [], ◌∷◌, ◌++◌, length, map, filter, take, get_or, Some, None, refl, sym, ap, subst, ◌∙◌, append-nil, arith}
 use Rattle.std.specs.Prelude.{slice_get}
 use Rattle.std.specs.List.{AllByRecursion}
@@ -49,7 +49,7 @@ module _ (p : GiottoProgram) (x : Name) (k : ℕ) (at : slot_of p None x ≡ Som
       let found = actuator_slot p fits x k there at in
       (omega (arith, found.1), omega (arith, found.1, slice_get_within (actuator_names p) found.0 x found.2, length-map p.actuators (λ a. a.name)))
 
-  -- which is told by the slot
+  -- so the slot says which kind of port it is
   pub sensor_by_slot : (n : ℕ) → n ≡ length p.sensors → nat_lt k n ≡ is_among (sensor_names p) x
   sensor_by_slot n same = by (is_among (sensor_names p) x) refl
     where
@@ -74,7 +74,7 @@ module _ (p : GiottoProgram) (x : Name) (k : ℕ) (at : slot_of p None x ≡ Som
       by true e = absurd (omega (arith, (actuator_between fits e).0, sensors, lt))
       by false e = grind (arith, nat_tests, lt)
 
--- a driver's port stands at its slot
+-- the port of a driver has the slot of its place
 pub slot_of_place : (p : GiottoProgram) → ProgramFits p → (ports : List Name) → ports ≡ driver_ports p → (k : ℕ) (x : Name) → k < length ports → x ≡ get_or ports k x → slot_of p None x ≡ Some k
 slot_of_place p fits ports are k x lt is =
     let shared = map shared_port (driver_ports p) in
@@ -89,7 +89,7 @@ slot_of_place p fits ports are k x lt is =
     front (z ∷ xs) ys (suc k) at = front xs ys k at
 
 module _ (old new : GiottoProgram) where
-  -- one entry more
+  -- one more entry
   pub one_more : (names : List Name) (x : Name) (es : List Carried) (c : Carried) → AreCarried old new names es → slot_of old None x ≡ Some c.from → slot_of new None x ≡ Some c.to → AreCarried old new (names ++ x ∷ []) (es ++ c ∷ [])
   one_more names x es c are from to = record { from = joined old (λ (c : Carried). c.from) are.from from; to = joined new (λ (c : Carried). c.to) are.to to }
     where
@@ -106,7 +106,7 @@ module _ (old new : GiottoProgram) where
 
   module _ (old_fits : ProgramFits old) (new_fits : ProgramFits new) (ports : List Name) (are : ports ≡ driver_ports new) (i : ℕ) (x : Name) (lt : i < length ports) (is : x ≡ get_or ports i x) (es : List Carried)
       (so_far : AreCarried old new (filter (is_carried old new) (take i ports)) es) where
-    -- where it keeps its value there is one entry more
+    -- if the port keeps its value, there is one more entry
     pub entry_made : (from : ℕ) → slot_of old None x ≡ Some from → is_carried old new x ≡ true → AreCarried old new (filter (is_carried old new) (take (i + 1) ports)) (es ++ record { from = from; to = i } ∷ [])
     entry_made from at kept =
         let to : slot_of new None x ≡ Some i = slot_of_place new new_fits ports are i x lt is in

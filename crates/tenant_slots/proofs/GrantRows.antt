@@ -34,7 +34,7 @@ actuator_takes_nothing = refl
 pub no_port_takes_nothing : with_granted reader (codes "m") (pos 7) (ports (pos 1) (pos 2) (pos 3) (pos 4)) ≡ ports (pos 1) (pos 2) (pos 3) (pos 4)
 no_port_takes_nothing = refl
 
--- line 3 has 5, and g, a and s are granted values
+-- line 3 has the value 5, and values are granted to g, a and s
 
 abbrev frame : Readings
 frame = (3, pos 5) ∷ []

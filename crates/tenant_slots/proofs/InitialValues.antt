@@ -1,4 +1,4 @@
--- The values with which a program's ports begin, in the order of their slots.
+-- The values that a program's ports begin with, in the order of their slots.
 use Rattle.std.proofs.Common.{◌≡◌, ℕ, ◌+◌, ◌<◌, List, [], ◌∷◌, ◌++◌, map, length, take, drop, get_or, ℤ, pos, refl, sym, ap, ◌∙◌, arith, append_assoc, append-nil}
 use Rattle.std.specs.List.{flat_map, zip}
 use Rattle.std.proofs.lemmas.List.{map-append, length-map, length-append, take_more, drop_more}
@@ -43,7 +43,7 @@ named-append vs ws = map-append (λ (v : Name × ℤ). v.0) vs ws
 valued-append : (vs ws : Valuation) → values_in (vs ++ ws) ≡ values_in vs ++ values_in ws
 valued-append vs ws = map-append (λ (v : Name × ℤ). v.1) vs ws
 
--- what a task's own ports begin with: 0 for each input, then its states' values
+-- the initial values of a task's own ports: 0 for each input, then the values of its states
 pub own_values : (t : TaskDeclaration) → values_in (initial_of_task t) ≡ map (λ (x : Name). pos 0) t.inputs ++ values_in t.states
 own_values t =
     valued-append (map (λ x. (own_port t.name x, pos 0)) t.inputs) (map (λ (s : Name × ℤ). (own_port t.name s.0, s.1)) t.states)
@@ -59,7 +59,7 @@ zipped_values (x ∷ xs) (z ∷ zs) e = ap (λ ws. z ∷ ws) (zipped_values xs z
 abbrev pub values_of_task : Task → List ℤ
 values_of_task t = values_in (initial_of_task (task_of t))
 
--- those of a task of the code, and how many they are
+-- the initial values of a task of the code, and how many there are
 pub task_values : (t : Task) → values_of_task t ≡ map (λ (x : Name). pos 0) (task_of t).inputs ++ t.states
 task_values t = own_values (task_of t) ∙ ap (λ zs. map (λ (x : Name). pos 0) (task_of t).inputs ++ zs) (zipped_values _ t.states t.each_state)
 
@@ -69,7 +69,7 @@ task_long t =
     let long = length-append zeros t.states in
     omega (arith, length-map (initial_of_task (task_of t)) (λ (v : Name × ℤ). v.1), ap length (task_values t), long, length-map (task_of t).inputs (λ (x : Name). pos 0))
 
--- the map for which the values of all ports stand
+-- the map that the values of all ports represent
 pub names_are : (p : GiottoProgram) → port_names p ≡ names_in (initial_ports p)
 names_are p =
     let after : Valuation = map (λ (a : ActuatorDeclaration). (a.name, a.initial)) p.actuators ++ map (λ (o : OutputDeclaration). (o.name, o.initial)) p.outputs in
@@ -106,7 +106,7 @@ values_long p values e =
     let names = ap length (names_are p) in
     omega (arith, ap length e, length-map (initial_ports p) (λ (v : Name × ℤ). v.1), names, length-map (initial_ports p) (λ (v : Name × ℤ). v.0), length-map (ports_of p) shown_name)
 
--- the values of all ports, by the lists that the code has
+-- the values of all ports, from the lists that the code has
 pub all_values : (p : GiottoProgram) (ss : List Sensor) (us : List Actuator) (os : List Output) (ts : List Task) → map sensor_of ss ≡ p.sensors → map actuator_of us ≡ p.actuators → map output_of os ≡ p.outputs
     → map task_of ts ≡ p.tasks
     → ((map (λ (s : Sensor). s.initial) ss ++ map (λ (a : Actuator). a.initial) us) ++ map (λ (o : Output). o.initial) os) ++ flat_map values_of_task ts ≡ values_in (initial_ports p)
@@ -140,7 +140,7 @@ all_values p ss us os ts s a o t =
         ++ (valued-append (map (λ (a : ActuatorDeclaration). (a.name, a.initial)) p.actuators) (map (λ (o : OutputDeclaration). (o.name, o.initial)) p.outputs)
         ∙ (λ j. valued (λ (a : ActuatorDeclaration). a.name) (λ (a : ActuatorDeclaration). a.initial) p.actuators j ++ valued (λ (o : OutputDeclaration). o.name) (λ (o : OutputDeclaration). o.initial) p.outputs j)) k)
 
--- and how many they are
+-- and how many there are
 pub all_counted : (p : GiottoProgram) (ss : List Sensor) (us : List Actuator) (os : List Output) (ts : List Task) → map sensor_of ss ≡ p.sensors → map actuator_of us ≡ p.actuators → map output_of os ≡ p.outputs
     → map task_of ts ≡ p.tasks → length ss + length us + length os + length (flat_map values_of_task ts) ≡ slots_of p
 all_counted p ss us os ts s a o t =
@@ -153,7 +153,7 @@ all_counted p ss us os ts s a o t =
     let third = length-append ((sensors ++ actuators) ++ outputs) (flat_map values_of_task ts) in
     omega (arith, all, first, second, third, length-map ss (λ (s : Sensor). s.initial), length-map us (λ (a : Actuator). a.initial), length-map os (λ (o : Output). o.initial))
 
--- the next task's are behind those of the tasks before it, and before those of the tasks after it
+-- the next task's values come after those of the tasks before it, and before those of the tasks after it
 pub next_task : (ts : List Task) (i : ℕ) (t : Task) → i < length ts → t ≡ get_or ts i t
     → (flat_map values_of_task (take (i + 1) ts) ≡ flat_map values_of_task (take i ts) ++ values_of_task t)
     × (flat_map values_of_task (drop i ts) ≡ values_of_task t ++ flat_map values_of_task (drop (i + 1) ts))

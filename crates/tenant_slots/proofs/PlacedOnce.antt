@@ -1,4 +1,4 @@
--- What passes a test by its name, among things of different names: it is the first, wherever it stands.
+-- Among items of different names, an item that passes a test by its name is the first one, wherever it is.
 use Rattle.std.proofs.Common.{◌≡◌, ℕ, zero, suc, ◌+◌, Bool, true, false, not, cond, List, [], ◌∷◌, map, Some, refl, sym, ap, ◌∙◌, arith}
 use Rattle.std.specs.Prelude.{slice_get}
 use Rattle.std.specs.List.{position_from}
@@ -33,7 +33,7 @@ module _ {X : Type 0} (name : X → Name) where
           let same : name y ≡ name a = named y e ∙ sym (named a passes) in
           absurd (false≢true (sym (ap (λ n. not (is_among (map name ys) n)) same ∙ ap not (among_at ys k a at)) ∙ once))
 
-  -- from the first place on
+  -- the same, if the search begins at place 0
   pub placed_first : (test : X → Bool) (x : Name) → ((a : X) → test a ≡ true → name a ≡ x) → (xs : List X) (k : ℕ) (a : X) → all_different (map name xs) ≡ true → slice_get xs k ≡ Some a → test a ≡ true
       → position_from test 0 xs ≡ Some k
   placed_first test x named xs k a different at passes = let from : 0 + k ≡ k = omega arith in placed_once test x named 0 xs k a different at passes ∙ ap Some from

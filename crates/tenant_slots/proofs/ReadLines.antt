@@ -1,4 +1,4 @@
--- What a sensor reads: the value of its line, where the line may be read and the frame has it.
+-- What a sensor reads: the value of its line, if the line may be read and the frame has it.
 use Rattle.std.proofs.Common.{◌≡◌, ℕ, zero, suc, ◌+◌, Bool, true, false, cond, ◌||◌, nat_eq, ℤ, List, [], ◌∷◌, filter, length, Bor, Option, Some, None, refl, ap, sym, ◌∙◌, ⊎_elim, arith}
 use Rattle.std.specs.List.{slice_get, list_any, enumerate_from}
 use Rattle.std.specs.Option.{option_copied}
@@ -21,7 +21,7 @@ none_read reads (r ∷ rs) k e = by (may_use reads r.0) (nat_eq r.0 k) refl refl
     by true true e1 e2 h = absurd (false≢true (sym e ∙ ap (may_use reads) (sym (eqb-true r.0 k e2)) ∙ e1))
     by true false e1 e2 h = ap (λ b. cond b (Some r.1) (reading_of rest k)) e2 ∙ h
 
--- one that may be read has its place's value
+-- a line that may be read has the value at its place
 one_read : (reads : List ℕ) (frame : List ℤ) (n i : ℕ) → may_use reads (n + i) ≡ true
     → reading_of (filter (λ (r : ℕ × ℤ). may_use reads r.0) (enumerate_from n frame)) (n + i) ≡ slice_get frame i
 one_read reads [] n i e = refl
@@ -57,7 +57,7 @@ pub contained : (reads : List ℕ) (k : ℕ) → list_any (λ y. nat_eq y k) rea
 contained [] k = refl
 contained (r ∷ rs) k = ap (λ b. b || list_any (λ y. nat_eq y k) rs) (nat_eq_turned r k) ∙ ap (λ b. nat_eq k r || b) (contained rs k)
 
--- what `get` lends of a frame, as a copy
+-- the item of a frame that `get` borrows, as a copy
 pub copied_at : (xs : List ℤ) (i : ℕ) (r : Option (Bor ℤ)) → IsItemAt xs i r → option_copied r ≡ slice_get xs i
 copied_at xs i None h = sym (slice_get_past xs i (ltb-false i (length xs) (sym h.0)))
 copied_at xs i (Some b) h = sym (slice_get_read xs (length xs) i b.now refl (ltb-true i (length xs) (sym h.0)) h.1)

@@ -29,7 +29,7 @@ sensor_there p k s at =
     let own : slice_get (sensor_names p) k ≡ Some s.name = slice_get-map (λ (s : SensorDeclaration). s.name) p.sensors k ∙ ap (option_map (λ (s : SensorDeclaration). s.name)) at in
     ap (λ ns. slice_get ns k) (port_names_begin p) ∙ front_at (driver_ports p) _ k s.name (front_at (sensor_names p) (actuator_names p ++ output_names p) k s.name own)
 
--- the readings that are left, one step on
+-- the readings that are left after one more
 pub sensed_next : (p : GiottoProgram) (values : List ℤ) (taken : SensorDeclaration → ℤ) (items : List Sensor) (i : ℕ) (item : Sensor) (z : ℤ) (end : Valuation)
     → all_different (port_names p) ≡ true → length values ≡ slots_of p → map sensor_of items ≡ p.sensors → item ≡ get_or items i item → i < length items → z ≡ taken (sensor_of item)
     → with_values (valuation_of p values) (map (λ (s : SensorDeclaration). s.name) (map sensor_of (drop i items))) (map taken (map sensor_of (drop i items))) ≡ end

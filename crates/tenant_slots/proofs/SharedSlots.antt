@@ -51,7 +51,7 @@ module _ (q p : GiottoProgram) (same : q ≡ p) (x : Name) (sensors : List Senso
   many_outputs : length (output_names p) ≡ length outputs
   many_outputs = length-map p.outputs (λ d. d.name) ∙ ap length (sym all_outputs) ∙ length-map outputs output_of
 
-  -- they are no more than all ports
+  -- they are no more than there are ports
   pub shared_within : length sensors + length actuators + length outputs ≤ slots_of p
   shared_within = omega (
     arith,

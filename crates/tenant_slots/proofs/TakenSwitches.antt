@@ -30,14 +30,14 @@ use Rattle.tenant_slots.specs.inner.Switches.{slots_given, values_given}
 use Rattle.tenant_slots.proofs.cited.Numbered.{mode_fits_at}
 use Rattle.tenant_slots.proofs.TaskValues.{all_within, all_written_at}
 
--- what a search finds in a list with this front
+-- what a search finds in a list that begins with this item
 pub found_first : {X : Type 0} (test : X → Bool) (all xs : List X) (x : X) → all ≡ x ∷ xs → test x ≡ true → find test all ≡ Some x
 found_first test all xs x is e = ap (find test) is ∙ ap (λ b. cond b (Some x) (find test xs)) e
 
 pub found_later : {X : Type 0} (test : X → Bool) (all xs : List X) (x : X) → all ≡ x ∷ xs → test x ≡ false → find test all ≡ find test xs
 found_later test all xs x is e = ap (find test) is ∙ ap (λ b. cond b (Some x) (find test xs)) e
 
--- a switch can be taken where its exit is due and its guard holds
+-- a switch can be taken if its exit is due and its guard holds
 pub opens : (p : GiottoProgram) (m : ModeDeclaration) (time : ℕ) (s : ModeSwitch) (e : SlotExit) (values : List ℤ) (b : Bool) → IsExit p m s e
     → ((time % e.interval == 0) && holds s.guard (valuation_of p values)) ≡ b → is_open m time (valuation_of p values) s ≡ b
 opens p m time s e values b is h = ap (λ n. (time % n == 0) && holds s.guard (valuation_of p values)) (sym is.interval) ∙ h
@@ -47,7 +47,7 @@ pub some_that : {X : Type 0} (P : X → Type 0) (o : Option X) → IsSomeAnd o P
 some_that P None h = absurd h
 some_that P (Some x) h = (x, refl, h)
 
--- a number that is written last could have been written first, where no other stands at its slot
+-- a number that is written last could have been written first, if no other is written to its slot
 pub written_last : (values : List ℤ) (k : ℕ) (z : ℤ) (ks : List ℕ) (zs : List ℤ) → list_any (nat_eq k) ks ≡ false → set (with_slots values ks zs) k z ≡ with_slots (set values k z) ks zs
 written_last values k z [] zs none = refl
 written_last values k z (j ∷ ks) [] none = refl
@@ -99,7 +99,7 @@ module _ (p : GiottoProgram) where
       let none : list_any (nat_eq k) ks ≡ false = false_from_ne_true _ (λ there. false≢true (ap not (sym (among x k xs ks first rest there)) ∙ both.0)) in
       and_from _ _ (ap not none) (slots_once xs ks both.1 rest)
 
-  -- destinations by slots
+  -- the slots of destinations
   pub given_slots : (ds : List (Name × Expression)) (es : List SlotDestination) → AreEach (IsDestination p) ds es → map (slot_of p None) (map (λ (d : Name × Expression). d.0) ds) ≡ map Some (slots_given es)
   given_slots [] [] each = refl
   given_slots [] (e ∷ es) each = absurd each
@@ -132,18 +132,18 @@ module _ (p : GiottoProgram) where
         all_written_at p fits values long (destinations_of s) _ _ (given_slots s.destinations e.destinations.items is.destinations)
         ∙ ap (with_values (valuation_of p values) (destinations_of s)) (given_values values long s.destinations e.destinations.items is.destinations)
 
--- what is taken in a mode that fits, fits
+-- a switch that is taken in a well-formed mode is well-formed
 pub taken_fits : (p : GiottoProgram) (m : ModeDeclaration) (time : ℕ) (s : ModeSwitch) (values : List ℤ) → ModeFits p m → switch_taken m time (valuation_of p values) ≡ Some s → SwitchFits p m s
 taken_fits p m time s values f taken = found_has (SwitchFits p m) (is_open m time (valuation_of p values)) m.switches s f.switches taken
 
--- none of no exits is taken
+-- if there are no exits, none is taken
 pub none_there : {C : Type 0} (p : GiottoProgram) (time : ℕ) (values : List ℤ) (es : List SlotExit) (e : SlotExit) → length values ≡ slots_of p → es ≡ []
     → ((q : GiottoProgram) (m : ModeDeclaration) → AreEach (IsExit q m) m.switches es → length values ≡ slots_of q → IsSomeAnd (switch_taken m time (valuation_of q values)) (λ s. IsExit q m s e)) → C
 none_there p time values es e long none found =
     let idle : ModeDeclaration = record { name = []; period = 0; updates = []; switches = []; invocations = [] } in
     absurd (found p idle (subst (AreEach (IsExit p idle) []) (sym none) tt) long)
 
--- where an exit is taken, there is such a mode, and the exit is that of a switch that fits
+-- if an exit is taken, its mode exists, and the exit is that of a well-formed switch
 pub taken_there : (p : GiottoProgram) → ProgramFits p → (mode time : ℕ) (values : List ℤ) (es : List SlotExit) (e : SlotExit) → length values ≡ slots_of p
     → ((m : ModeDeclaration) → slice_get p.modes mode ≡ Some m → AreEach (IsExit p m) m.switches es) → (length p.modes ≤ mode → es ≡ [])
     → ((q : GiottoProgram) (m : ModeDeclaration) → AreEach (IsExit q m) m.switches es → length values ≡ slots_of q → IsSomeAnd (switch_taken m time (valuation_of q values)) (λ s. IsExit q m s e))

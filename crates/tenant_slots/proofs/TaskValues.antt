@@ -1,4 +1,4 @@
--- A task's ports by their slots: those of its inputs, and of its states, are next to one another.
+-- A task's ports by their slots. Those of its inputs are consecutive, and so are those of its states.
 use Rattle.std.proofs.Common.{◌≡◌, ℕ, zero, suc, ◌+◌, ◌-◌, ◌<◌, ℤ, List, [], ◌∷◌, length, map, take, drop, get_or, Some, None, sym, ap, subst, ◌∙◌, arith}
 use Rattle.std.specs.Prelude.{slice_get}
 use Rattle.std.specs.Arc.{arc_value}
@@ -41,7 +41,7 @@ outputs_named p items k d t all at =
     ap (λ (t : TaskDeclaration). t.outputs) (some_same _ t (sym here ∙ at))
 
 module _ (p : GiottoProgram) where
-  -- slots next to one another are slots
+  -- consecutive slots of a task are slots of the program
   pub row_within : (t : Name) (names : List Name) (first i : ℕ) → HaveSlotsFrom p t names first → i < length names → first + i < slots_of p
   row_within t [] first i slots lt = absurd (omega (arith, lt))
   row_within t (x ∷ xs) first zero slots lt =
@@ -51,7 +51,7 @@ module _ (p : GiottoProgram) where
       let rest : HaveSlotsFrom p t xs (first + 1) = cc in
       omega (arith, row_within t xs (first + 1) i rest (omega (arith, lt)))
 
-  -- so are those of outputs
+  -- so are the slots of outputs
   pub all_within : (n : ℕ) (names : List Name) (ks : List ℕ) → n ≡ slots_of p → map (slot_of p None) names ≡ map Some ks → AllByRecursion (λ k. k < n) ks
   all_within n [] [] long at = tt
   all_within n [] (k ∷ ks) long at = absurd (cc)
@@ -64,7 +64,7 @@ module _ (p : GiottoProgram) where
     names_long : length (port_names p) ≡ length values
     names_long = length-map (ports_of p) shown_name ∙ sym long
 
-    -- they are read, and changed
+    -- consecutive slots are read, and written
     pub row_read : (t : Name) (names : List Name) (first : ℕ) → HaveSlotsFrom p t names first → values_of (valuation_of p values) (own_ports t names) ≡ take (length names) (drop first values)
     row_read t names first slots =
         let count : first + length (own_ports t names) - first ≡ length names = omega (arith, length-map names (own_port t)) in
@@ -79,6 +79,6 @@ module _ (p : GiottoProgram) where
     pub all_written_at : (names : List Name) (ks : List ℕ) (zs : List ℤ) → map (slot_of p None) names ≡ map Some ks → valuation_of p (with_slots values ks zs) ≡ with_values (valuation_of p values) names zs
     all_written_at names ks zs at = sym (with_values_at_places (port_names p) values names ks zs fits.ports_once (names_at_slots p None names ks at ∙ ap (map Some) (shared_shown names)) names_long)
 
--- the slots of the task at a place, whichever way the task is given
+-- the slots of the task at a place, however the task is given
 pub of_task : (p : GiottoProgram) (k : ℕ) (t : TaskDeclaration) (entry : TaskSlots) → (u : TaskDeclaration) × (slice_get p.tasks k ≡ Some u) × AreTaskSlots p u entry → slice_get p.tasks k ≡ Some t → AreTaskSlots p t entry
 of_task p k t entry found at = subst (λ (u : TaskDeclaration). AreTaskSlots p u entry) (some_same found.0 t (sym found.1 ∙ at)) found.2

@@ -3,7 +3,7 @@ use Rattle.std.proofs.Common.{◌≡◌, ℕ, zero, suc, ◌+◌, ◌<◌, ◌�
 use Rattle.std.proofs.lemmas.List.{drop_more}
 use Rattle.giotto_check.specs.cited.Slots.{with_slots}
 
--- one more
+-- one more number
 pub next_written : (vs whole : List ℤ) (ks : List ℕ) (zs : List ℤ) (i k : ℕ) (z : ℤ) → i < length ks → i < length zs → get_or ks i k ≡ k → get_or zs i z ≡ z
     → with_slots vs (drop i ks) (drop i zs) ≡ whole → with_slots (set vs k z) (drop (i + 1) ks) (drop (i + 1) zs) ≡ whole
 next_written vs whole ks zs i k z left more slot number h =
@@ -15,7 +15,7 @@ none_given : (vs : List ℤ) (ks : List ℕ) → with_slots vs ks [] ≡ vs
 none_given vs [] = refl
 none_given vs (k ∷ ks) = refl
 
--- all
+-- all numbers
 pub all_written : (vs : List ℤ) (ks : List ℕ) (zs : List ℤ) (i : ℕ) → min (length ks) (length zs) ≤ i → with_slots vs (drop i ks) (drop i zs) ≡ vs
 all_written vs [] zs zero le = refl
 all_written vs (k ∷ ks) [] zero le = refl

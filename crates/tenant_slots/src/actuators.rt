@@ -37,8 +37,8 @@ pub fn reset_actuators(checked: &Checked, values: &mut [i64])
     }
 }
 
-/// Updates the actuators that are due in the mode at this place, at this mode time, and whose guards hold, in text order. The
-/// trace is told each update as it is made, at this tick. Where there is no such mode it leaves all as it is. Takes no memory.
+/// Makes the updates of the mode at this place that are due at this mode time and whose guards hold, in text order. Each update
+/// is recorded in the trace as it is made, at this tick. If there is no such mode, nothing changes. Takes no memory.
 #[inline(never)]
 pub fn update_due(
     checked: &Checked,
@@ -55,7 +55,7 @@ pub fn update_due(
         → trace.new ≡ noted tick (updates_happened m time m.updates (valuation_of checked.now values.old)) trace.old }
     ensures missing { length checked.now.modes ≤ mode → (values.new ≡ values.old) × (trace.new ≡ trace.old) }
 {
-    // Its frequencies are positive, and its ports stand once: the actuators' slots are behind those of the sensors.
+    // Frequencies are positive. Port names are different, and the slots of the actuators come after those of the sensors.
     let program = checked.program();
     let first = program.sensors().len();
     let actuators = program.actuators();
@@ -69,15 +69,15 @@ pub fn update_due(
     }
 }
 
-// Tells the trace that this actuator was updated to this value, at this tick.
+// Records in the trace that this actuator was updated to this value, at this tick.
 fn note_update(actuator: &Actuator, value: i64, tick: u64, trace: &mut Trace)
     ensures { trace.new ≡ pushed (record { tick = tick; happening = happening.Act actuator.now.name value }) trace.old }
 {
     trace.note(tick, Happening::Act(actuator.name.copy(), value));
 }
 
-/// The place of the actuator of this name, counted from 0; `None` where the program has none. It is looked for at `hint` first, where it
-/// may have been found before.
+/// The place of the actuator of this name, counted from 0. `None` if the program has none. Looks at `hint` first, which may be a
+/// place where the actuator was found before.
 #[inline(always)]
 pub fn actuator_place(checked: &Checked, name: &Name, hint: usize) -> Option<usize>
     ensures { result ≡ position_from (λ (a : ActuatorDeclaration). same_name a.name name.now) 0 checked.now.actuators }
@@ -89,7 +89,7 @@ pub fn actuator_place(checked: &Checked, name: &Name, hint: usize) -> Option<usi
     }
 }
 
-// The place of the first actuator of this name among these; `None` where none has it.
+// The place of the first of these actuators that has this name. `None` if there is none.
 #[inline(never)]
 fn first_place(actuators: &[Actuator], name: &Name) -> Option<usize>
     ensures { result ≡ position_from (λ (a : Actuator). same_name a.name name.now) 0 actuators.now }
@@ -97,7 +97,7 @@ fn first_place(actuators: &[Actuator], name: &Name) -> Option<usize>
     actuators.iter().position(|actuator| actuator.name == *name)
 }
 
-/// The name of the first of these actuators that drives this line; `None` where none does.
+/// The name of the first of these actuators that drives this line. `None` if none does.
 pub fn driver_name(actuators: &[Actuator], line: u64) -> Option<Name>
     ensures { result ≡ option_map (λ (a : Actuator). a.name) (find (λ (a : Actuator). drives line a.line) actuators.now) }
 {
@@ -109,7 +109,7 @@ pub fn driver_name(actuators: &[Actuator], line: u64) -> Option<Name>
     None
 }
 
-// Whether an actuator with this line, if any, drives the other.
+// Whether an actuator with the line `own`, if it has one, drives `line`.
 fn drives(own: Option<u64>, line: u64) -> bool
     ensures { result ≡ drives line own }
 {

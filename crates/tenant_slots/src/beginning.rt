@@ -1,4 +1,4 @@
-//! The values with which a program begins.
+//! The values that a program begins with.
 
 ghost use Rattle.std.specs.Prelude.{◌≡◌, ◌+◌, ◌≤◌, length, map, None, IfOk};
 ghost use Rattle.std.specs.Arc.{arc_value};
@@ -41,7 +41,7 @@ pub fn reset_ports(checked: &Checked, values: &mut [i64])
 /// The initial value of each port, by its slot.
 ///
 /// # Errors
-/// Want of memory.
+/// Out of memory.
 pub fn initial_values(alloc: Global, checked: &Checked) -> Result<Vec<i64>, AllocError>
     ensures long { IfOk result (λ values. length values.items ≡ slots_of checked.now) }
     ensures ports { IfOk result (λ values. valuation_of checked.now values.items ≡ initial_ports checked.now) }
@@ -51,7 +51,7 @@ pub fn initial_values(alloc: Global, checked: &Checked) -> Result<Vec<i64>, Allo
     Ok(values)
 }
 
-// Gives a task's inputs and states their initial values, from a slot on, and tells the slot behind them.
+// Gives a task's inputs and states their initial values, from slot `first` on. Returns the slot after them.
 fn reset_own(task: &Task, first: usize, values: &mut [i64]) -> usize
     requires { first + length (initial_of_task (task_of task.now)) ≤ length values.old }
     ensures end { result ≡ first + length (initial_of_task (task_of task.now)) }
@@ -65,10 +65,10 @@ fn reset_own(task: &Task, first: usize, values: &mut [i64]) -> usize
     end
 }
 
-/// A place for a share of each task's body, with none at hand.
+/// A place for a share of each task's body, all of them empty.
 ///
 /// # Errors
-/// Want of memory.
+/// Out of memory.
 pub fn no_shares(
     alloc: Global,
     tasks: &[Task],

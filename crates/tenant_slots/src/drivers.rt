@@ -10,7 +10,7 @@ ghost use Rattle.rig_model.specs.Ports.{holds};
 
 use giotto_check::timetables::{SlotExpr, slot_value};
 
-/// Whether a guard holds, where these are the values of all ports by their slots. No guard holds always. Takes no memory.
+/// Whether a guard holds, given the values of all ports by their slots. An absent guard always holds. Takes no memory.
 #[inline(always)]
 pub fn holds(guard: &Option<SlotExpr>, values: &[i64]) -> bool
     ensures { (p : GiottoProgram) (g : Option Expression) → IsGuard p g guard.now → length values.now ≡ slots_of p → result ≡ holds g (valuation_of p values.now) }

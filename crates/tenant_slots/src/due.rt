@@ -10,7 +10,8 @@ use giotto_check::Checked;
 use giotto_check::timetables::SlotInvocation;
 use std::marker::Model;
 
-/// A mode time, asked for what is due at it. The last answer is kept, as many lines of a timetable have one interval.
+/// A mode time, and the last answer about what is due at it. The answer is kept because many lines of a timetable have the same
+/// interval.
 #[derive(Drop)]
 pub struct Due {
     time: u64,
@@ -29,7 +30,7 @@ impl Model for Due {
 }
 
 impl Due {
-    /// This mode time.
+    /// Makes a `Due` for this mode time.
     pub fn at(time: u64) -> Due
         ensures { result ≡ time }
     {
@@ -40,7 +41,7 @@ impl Due {
         }
     }
 
-    /// Whether what has this interval, in ticks, is due.
+    /// Whether anything with this interval, in ticks, is due.
     pub fn is_due(&mut self, interval: u64) -> bool
         requires { 0 < interval }
         ensures due { result ≡ (self.old % interval == 0) }
@@ -54,13 +55,13 @@ impl Due {
     }
 }
 
-/// The next mode time at which something of the mode at this place is due, from this time on; the greatest number where there is no
-/// such mode, or nothing is due before it.
+/// The next mode time, from this one on, at which something of the mode at this place is due. It is the greatest 64-bit number if
+/// there is no such mode, or if nothing is due before that number.
 pub fn next_due(checked: &Checked, mode: usize, time: u64) -> u64
     ensures there { (m : ModeDeclaration) → IsModeAt checked.now mode m → IsNextDue m time result }
     ensures none { length checked.now.modes ≤ mode → result ≡ 2 ^ 64 - 1 }
 {
-    // Its frequencies are positive.
+    // Frequencies are positive.
     checked.known();
     let mut next = u64::MAX;
     for update in checked.updates(mode) {
@@ -84,7 +85,7 @@ pub fn next_due(checked: &Checked, mode: usize, time: u64) -> u64
     next
 }
 
-// The first multiple of the interval from this time on, or the greatest number where that comes first.
+// The first multiple of the interval from this time on, or `u64::MAX` if that comes first.
 fn next_multiple(time: u64, interval: u64) -> u64
     requires { 0 < interval }
     ensures from { time ≤ result }
@@ -97,7 +98,8 @@ fn next_multiple(time: u64, interval: u64) -> u64
     }
 }
 
-/// A mode time before which nothing is due, from the mode time behind an instant on; `next` is one from the instant's on.
+/// Returns a mode time before which nothing is due, from the mode time `behind` on. `time` is the mode time of an instant,
+/// `behind` the mode time after it, and `next` a mode time before which nothing is due from `time` on.
 pub fn due_behind(checked: &Checked, mode: usize, time: u64, behind: u64, next: u64) -> u64
     ensures { (m : ModeDeclaration) → IsModeAt checked.now mode m → IsQuietUntil m time next → IsQuietUntil m behind result }
 {
@@ -110,10 +112,10 @@ pub fn due_behind(checked: &Checked, mode: usize, time: u64, behind: u64, next: 
     next_due(checked, mode, behind)
 }
 
-/// How many tasks of a program, from its first on, have a place in the tables by task.
+/// How many tasks of a program have a place in the tables by task. These are the first ones.
 pub const TABLED_TASKS: usize = 64;
 
-/// Marks, for each of the tasks that have a place in tables, whether one of these invocations of it is due at this mode time.
+/// Marks which of the first `TABLED_TASKS` tasks are due at this mode time, by one of these invocations.
 pub fn mark_due(invocations: &[SlotInvocation], time: u64, marks: &mut [bool; TABLED_TASKS])
     requires { AllByRecursion (λ i. 0 < i.interval) invocations.now }
     ensures { MarksDue invocations.now time marks.new }

@@ -1,4 +1,4 @@
-//! Laws of granted values: taken one after the other behind the readings, they give what the readings with all of them give.
+//! Laws of granted values. Taken one after the other after the readings, they give the same ports as readings with all of them.
 //!
 //! The functions do nothing: each contract is a law.
 
@@ -13,9 +13,9 @@ ghost use Rattle.rig_model.specs.Readings.{Readings};
 ghost use Rattle.tenant_slots.specs.cited.Grants.{with_each_granted, with_granted};
 ghost use Rattle.tenant_slots.specs.cited.Readings.{with_readings};
 
-/// A value that is granted behind the readings is one more of those that were granted: the newest, whatever these are, and
-/// also the last, where none of these has its name. So values for different names, taken one after the other, give what the
-/// readings give with all of them.
+/// A value that is granted after the readings gives the same ports as readings with this value among those granted. It may be put
+/// before the others, whatever they are. It may also be put after them, if none of them has its name. So values for different
+/// names, taken one after the other, give the same ports as readings with all of them.
 pub fn granted_behind_readings()
     ensures newest { (p : GiottoProgram) (readings : Readings) (granted ports : Valuation) (x : Name) (z : ℤ) → PortNamesDiffer p
         → with_granted p x z (with_readings p readings granted ports) ≡ with_readings p readings ((x, z) ∷ granted) ports }

@@ -1,17 +1,17 @@
 //! The values of a program's ports, each by its slot, and what an instant does with them.
 //!
 //! One list has the value of every port of a checked program, in the order of its numbering. Contracts read it as the map
-//! `valuation_of` from names to values. [`beginning::initial_values`] begins it, [`beginning::reset_ports`] begins
-//! it anew in place, [`names::port_value`] reads a port by its name, and the others are steps of an instant: sensors are
-//! read, granted values taken, actuators updated or reset, a switch is taken, and tasks are given their inputs and write their
-//! results.
-//! Updates and outputs are recorded in the tenant's trace as they are made. [`replacement::carry_over`] gives a program the values
-//! that it keeps of the one that it replaces.
-//! [`due::Due`] tells what is due at a mode time, and [`due::next_due`] until when nothing is; [`periods::period_of`] how far apart
-//! a mode invokes a task.
+//! `valuation_of` from names to values. [`beginning::initial_values`] makes the initial list, [`beginning::reset_ports`] resets
+//! one in place, and [`names::port_value`] reads a port by its name. The other calls are steps of an instant: they read sensors,
+//! take granted values, update or reset actuators, take a switch, give tasks their inputs, and write their results. Updates and
+//! outputs are recorded in the tenant's trace as they are made. [`replacement::carry_over`] gives a program the values that it
+//! keeps of the one that it replaces.
 //!
-//! What each of these steps is, on the map from names to values, is defined in the crate `rig_model`, and which slot a port has in
-//! `giotto_check`.
+//! [`due::Due`] says what is due at a mode time, and [`due::next_due`] until when nothing is. [`periods::period_of`] returns how
+//! far apart a mode invokes a task.
+//!
+//! The crate `rig_model` defines what each of these steps does to the map from names to values. `giotto_check` defines which slot
+//! a port has.
 #![tactic(auto)]
 
 pub mod actuators;

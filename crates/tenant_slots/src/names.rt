@@ -1,4 +1,4 @@
-//! The names that commands and replies have, by slots and places.
+//! The names in commands and replies, by slots and places.
 
 ghost use Rattle.std.specs.Prelude.{◌≡◌, ◌<◌, None, length, slice_get, IsSomeAnd};
 ghost use Rattle.std.specs.List.{position_from};
@@ -18,8 +18,8 @@ use giotto_check::Checked;
 use giotto_tasks::names::Name;
 use rig_model::text::programs::{Actuator, Mode, Output, Sensor};
 
-/// The value of a port, where these are the values of all ports by their slots: of an input or a state of a task, if one is
-/// named, and else of a sensor, an actuator or an output. `None` where there is no such port. It goes over the program's names once.
+/// The value of a port, given the values of all ports by their slots. If a task is named, the port is one of its inputs or
+/// states, else a sensor, an actuator or an output. `None` if there is no such port. Goes through the program's names once.
 pub fn port_value(
     program: &Checked,
     task: Option<&Name>,
@@ -29,7 +29,7 @@ pub fn port_value(
     requires { length values.now ≡ slots_of program.now }
     ensures { result ≡ value_of_port program.now (valuation_of program.now values.now) (option_map (λ t. t.now) task.entry) name.now }
 {
-    // Its ports stand once.
+    // Port names are different.
     program.known();
     let slot = port_slot(program, task, name)?;
     values.get(slot).copied()
@@ -49,7 +49,7 @@ fn port_slot(program: &Checked, task: Option<&Name>, name: &Name) -> Option<usiz
 fn shared_slot(checked: &Checked, name: &Name) -> Option<usize>
     ensures { result ≡ slot_of checked.now None name.now }
 {
-    // They can be counted, so no sum below is too large.
+    // The ports can be counted in a `usize`, so no sum below overflows.
     checked.known();
     let program = checked.program();
     let sensors = program.sensors();

@@ -13,19 +13,19 @@ ghost use Rattle.tenant_slots.specs.cited.Places.{IsModeAt};
 use giotto_check::Checked;
 use giotto_check::timetables::SlotInvocation;
 
-/// How many ticks lie between two invocations of the task in the mode; both by their places, in text order from 0. `None` where the
-/// mode doesn't invoke the task, and where there is no such mode.
+/// The number of ticks between two invocations of a task in a mode, both given by their places, in text order from 0. `None` if
+/// the mode doesn't invoke the task, or if there is no such mode.
 pub fn period_of(checked: &Checked, mode: usize, task: usize) -> Option<u64>
     requires task { task < length checked.now.tasks }
     ensures there { (m : ModeDeclaration) → IsModeAt checked.now mode m → result ≡ period_of_task m (name_of_task checked.now task) }
     ensures none { length checked.now.modes ≤ mode → result ≡ None }
 {
-    // It is well-formed.
+    // The program is well-formed.
     checked.known();
     interval_of(checked.invocations(mode), task)
 }
 
-// The interval of the first of these invocations that is of the task at this place.
+// The interval of the first of these invocations that is for the task at this place.
 fn interval_of(invocations: &[SlotInvocation], task: usize) -> Option<u64>
     ensures { result ≡ option_map (λ i. i.interval) (find (λ i. nat_eq i.task task) invocations.now) }
 {
@@ -44,7 +44,7 @@ pub fn common_multiple(a: u64, b: u64) -> u64
     a / greatest_common_divisor(a, b) * b
 }
 
-// By Euclid's steps.
+// Euclid's algorithm.
 fn greatest_common_divisor(a: u64, b: u64) -> u64
     ensures { IsGcd a b result }
 {

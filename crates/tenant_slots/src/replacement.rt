@@ -1,5 +1,5 @@
-//! What a program keeps of the values of the one that it replaces: a sensor that of the sensor of its name, and an actuator that
-//! of the actuator.
+//! What a program keeps of the values of the one that it replaces. A sensor keeps the value of the old sensor of its name, and an
+//! actuator that of the old actuator of its name.
 
 ghost use Rattle.std.specs.Prelude.{◌≡◌, [], None, Some, length, IfOk, OnOk};
 ghost use Rattle.giotto_tasks.specs.declared.names.Name.{Name as AnyName};
@@ -20,7 +20,7 @@ use giotto_tasks::names::Name;
 use rig_model::rules::declarations::driver_ports;
 use std::alloc::{AllocError, Global};
 
-/// A value that goes from a slot of the program that is replaced to a slot of the one that replaces it.
+/// A value that is copied from a slot of the replaced program to a slot of the new one.
 #[derive(Drop)]
 pub struct Carried {
     pub from: usize,
@@ -30,7 +30,7 @@ pub struct Carried {
 /// The slots of those ports of the new program that keep the values of ports of the old one, in text order.
 ///
 /// # Errors
-/// Want of memory.
+/// Out of memory.
 pub fn carried_slots(
     alloc: Global,
     old: &Checked,
@@ -45,7 +45,8 @@ pub fn carried_slots(
     Ok(table)
 }
 
-// Adds the slots of the ports that keep their values to an empty table. The names of both programs' ports are given, by their slots.
+// Adds the slots of the ports that keep their values to an empty table. `running` and `ports` have the names of the old and new
+// ports, by their slots.
 fn add_carried(
     old: &Checked,
     running: &Index,
@@ -71,7 +72,7 @@ fn add_carried(
     Ok(())
 }
 
-/// Gives the ports of the new program, which are initial, the values that they keep of the old one. Takes no memory.
+/// Writes the values that are kept of the old program over the initial values of the new one. Takes no memory.
 pub fn carry_over(table: &[Carried], old_values: &[i64], new_values: &mut [i64])
     requires { (old : GiottoProgram) × (new : GiottoProgram) × IsCarryTable old new table.now
         × (length old_values.now ≡ slots_of old) × (length new_values.old ≡ slots_of new) }
@@ -84,7 +85,7 @@ pub fn carry_over(table: &[Carried], old_values: &[i64], new_values: &mut [i64])
     }
 }
 
-// Whether the ports with these slots are two sensors or two actuators.
+// Whether the ports with these slots are both sensors, or both actuators.
 fn is_one_kind(old: &Checked, from: usize, new: &Checked, to: usize) -> bool
     ensures { (x : AnyName) → slot_of old.now None x ≡ Some from → slot_of new.now None x ≡ Some to → result ≡ is_carried old.now new.now x }
 {
@@ -98,7 +99,7 @@ fn is_sensor(checked: &Checked, slot: usize) -> bool
     slot < checked.program().sensors().len()
 }
 
-// Whether it is an actuator.
+// Whether the port with this slot is an actuator.
 fn is_actuator(checked: &Checked, slot: usize) -> bool
     ensures { (x : AnyName) → slot_of checked.now None x ≡ Some slot → result ≡ is_among (actuator_names checked.now) x }
 {

@@ -27,10 +27,12 @@ pub fn sense(checked: &Checked, budgets: &Budgets, frame: &[i64], values: &mut [
     }
 }
 
-/// Takes a value that is granted to a sensor of this name: the `grant` sensor of the name has it, and where there is none the
-/// values stay as they are. The sensor is looked for at `hint` first, where it may have been found before; where it is found is told, or
-/// `hint` where it isn't. Takes no memory. Behind [`sense`], values granted to different names give what the law
-/// [`granted_behind_readings`](crate::laws::granted_behind_readings) says.
+/// Writes a value that is granted to a sensor of this name, if the program has a `grant` sensor of that name. If not, the values
+/// are unchanged. Looks at `hint` first, which may be a place where the sensor was found before. Returns the place where the
+/// sensor was found, or `hint` if there is none. Takes no memory.
+///
+/// The law [`granted_behind_readings`](crate::laws::granted_behind_readings) says what values granted to different names give
+/// after [`sense`].
 #[inline(always)]
 pub fn take_granted(
     checked: &Checked,
@@ -42,7 +44,7 @@ pub fn take_granted(
     requires { length values.old ≡ slots_of checked.now }
     ensures { valuation_of checked.now values.new ≡ with_granted checked.now sensor.now value (valuation_of checked.now values.old) }
 {
-    // Its ports stand once.
+    // Port names are different.
     checked.known();
     let Some(place) = granted_place(checked, sensor, hint) else {
         return hint;
@@ -51,7 +53,7 @@ pub fn take_granted(
     place
 }
 
-// The place of the sensor that takes what is granted to this name; `None` where none does.
+// The place of the sensor that takes what is granted to this name. `None` if there is none.
 #[inline(always)]
 fn granted_place(checked: &Checked, name: &Name, hint: usize) -> Option<usize>
     ensures { result ≡ position_from (takes_granted name.now) 0 checked.now.sensors }
@@ -63,7 +65,7 @@ fn granted_place(checked: &Checked, name: &Name, hint: usize) -> Option<usize>
     }
 }
 
-// The place of the first of these sensors that takes what is granted to this name; `None` where none does.
+// The place of the first of these sensors that takes what is granted to this name. `None` if there is none.
 #[inline(never)]
 fn first_granted(sensors: &[Sensor], name: &Name) -> Option<usize>
     ensures { result ≡ position_from (λ (s : Sensor). takes_granted name.now (sensor_of s)) 0 sensors.now }
@@ -81,7 +83,7 @@ fn takes_granted(sensor: &Sensor, name: &Name) -> bool
     matches!(sensor.source, Source::Grant) && sensor.name == *name
 }
 
-// A sensor's reading where nothing is granted: its line's value, if the tenant may read the line, or else its initial value.
+// The reading of a sensor if nothing is granted: its line's value if the tenant may read the line, else its initial value.
 fn reading(sensor: &Sensor, budgets: &Budgets, frame: &[i64]) -> i64
     ensures { result ≡ reading_taken (readings_within budgets.now.reads frame.now) [] (sensor_of sensor.now) }
 {

@@ -1,4 +1,4 @@
-//! Switches: which one is taken, and what its destinations get.
+//! Switches: which one is taken, and which values its destinations get.
 
 ghost use Rattle.std.specs.Prelude.{◌≡◌, ◌<◌, ◌≤◌, None, IsTrue, length};
 ghost use Rattle.std.specs.List.{AllByRecursion};
@@ -17,9 +17,9 @@ use crate::due::Due;
 use giotto_check::Checked;
 use giotto_check::timetables::{SlotDestination, SlotExit, slot_value};
 
-/// Takes the first switch of the mode at this place that is due at this mode time and whose guard holds, in text order: its
-/// destinations get their values. The place of the mode that it enters, in text order from 0; `None` where no switch is
-/// taken, and where there is no such mode; the values are then as they were. Takes no memory.
+/// Takes the first switch of the mode at this place, in text order, that is due at this mode time and whose guard holds. Its
+/// destinations get their values. Returns the place of the mode that the switch enters, in text order from 0. If no switch is
+/// taken, or if there is no such mode, returns `None` and leaves the values unchanged. Takes no memory.
 pub fn take_switch(checked: &Checked, mode: usize, time: u64, values: &mut [i64]) -> Option<usize>
     requires { length values.old ≡ slots_of checked.now }
     ensures target { (m : ModeDeclaration) → IsModeAt checked.now mode m → result ≡ place_entered checked.now m time (valuation_of checked.now values.old) }
@@ -27,7 +27,7 @@ pub fn take_switch(checked: &Checked, mode: usize, time: u64, values: &mut [i64]
     ensures ports { (m : ModeDeclaration) → IsModeAt checked.now mode m → valuation_of checked.now values.new ≡ ports_switched m time (valuation_of checked.now values.old) }
     ensures missing { length checked.now.modes ≤ mode → (result ≡ None) × (values.new ≡ values.old) }
 {
-    // It is well-formed.
+    // The program is well-formed.
     checked.known();
     let exit = first_open(checked.exits(mode), time, values)?;
     give(exit.destinations.as_slice(), values);
@@ -49,7 +49,7 @@ fn first_open<'a>(exits: &'a [SlotExit], time: u64, values: &[i64]) -> Option<&'
     None
 }
 
-// Gives these outputs, which are different, their values. All are taken, on the way down, before the first is written.
+// Gives these outputs, which are all different, their values. The recursion computes all values before it writes the first one.
 fn give(destinations: &[SlotDestination], values: &mut [i64])
     requires there { AllByRecursion (λ k. k < length values.old) (slots_given destinations.now) }
     requires once { IsTrue (all_different_numbers (slots_given destinations.now)) }

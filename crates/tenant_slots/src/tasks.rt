@@ -22,13 +22,14 @@ use giotto_tasks::values::Values;
 use rig_model::trace::records::Happening;
 use rig_model::trace::traces::Trace;
 
-/// Puts the values of an invocation's arguments, at most 16, into a list, in their order and in place of what it has. Takes no memory.
+/// Replaces the contents of a list with the values of an invocation's arguments, in their order. There are at most 16. Takes no
+/// memory.
 pub fn argument_values(arguments: &[SlotExpr], values: &[i64], given: &mut Values)
     requires few { length arguments.now ≤ 16 }
     ensures { (p : GiottoProgram) (es : List Expression) → AreEach (IsExpression p) es arguments.now → length values.now ≡ slots_of p
         → given.new ≡ map (λ e. value_of e (valuation_of p values.now)) es }
 {
-    // One value is written over another one, and nothing is emptied.
+    // A single value is written over the old one, without emptying the list first.
     if let [argument] = arguments {
         given.set(&[slot_value(argument, values)]);
         return;
@@ -61,8 +62,8 @@ pub fn write_inputs(checked: &Checked, task: usize, inputs: &Values, values: &mu
     write_range(slots_at(checked, task).inputs, inputs.as_slice(), values);
 }
 
-/// Gives the outputs and the states of the task at this place these values, one for each. The trace is told each output that is
-/// written, at this tick. Takes no memory.
+/// Gives the outputs and the states of the task at this place these values, one for each. Records each written output in the
+/// trace, at this tick. Takes no memory.
 pub fn write_results(
     checked: &Checked,
     task: usize,
@@ -93,12 +94,12 @@ fn slots_at(checked: &Checked, task: usize) -> &TaskSlots
     ensures fits { ProgramFits checked.now }
     ensures slots { (t : TaskDeclaration) × IsTaskAt checked.now task t × AreTaskSlots checked.now t result.now }
 {
-    // It is well-formed.
+    // The program is well-formed.
     checked.known();
     &checked.tasks()[task]
 }
 
-// Puts the numbers from a slot on, at most 16, into an empty list.
+// Puts `count` numbers, at most 16, from slot `first` on into an empty list.
 fn read_range(first: usize, count: usize, values: &[i64], taken: &mut Values)
     requires few { count ≤ 16 }
     requires there { (i : ℕ) → i < count → first + i < length values.now }
@@ -110,7 +111,7 @@ fn read_range(first: usize, count: usize, values: &[i64], taken: &mut Values)
     }
 }
 
-// Writes these numbers from a slot on.
+// Writes these numbers to consecutive slots, from `first` on.
 fn write_range(first: usize, numbers: &[i64], values: &mut [i64])
     requires { (i : ℕ) → i < length numbers.now → first + i < length values.old }
     ensures { values.new ≡ with_slots values.old (range_with_len first (length numbers.now)) numbers.now }
@@ -120,7 +121,7 @@ fn write_range(first: usize, numbers: &[i64], values: &mut [i64])
     }
 }
 
-// Tells the trace that these outputs were written at this tick, each with its number.
+// Records in the trace that these outputs were written at this tick, each with its number.
 fn note_outputs(names: &[Name], numbers: &[i64], tick: u64, trace: &mut Trace)
     ensures { trace.new ≡ noted tick (outputs_happened names.now numbers.now) trace.old }
 {
@@ -129,7 +130,7 @@ fn note_outputs(names: &[Name], numbers: &[i64], tick: u64, trace: &mut Trace)
     }
 }
 
-// Writes these numbers at these slots, each at its own.
+// Writes each of these numbers to its slot.
 fn write_each(slots: &[usize], numbers: &[i64], values: &mut [i64])
     requires { AllByRecursion (λ k. k < length values.old) slots.now }
     ensures { values.new ≡ with_slots values.old slots.now numbers.now }

@@ -1,4 +1,4 @@
--- Least common multiples: of two numbers by their greatest common divisor, of one number more, and by looking at each number in turn.
+-- Least common multiples: of two numbers by their greatest common divisor, of one more number, and by trying each number in turn.
 use Rattle.std.proofs.Common.{◌≡◌, ℕ, zero, suc, ◌+◌, ◌*◌, ◌/◌, ◌<◌, ◌≤◌, ◌%◌, ◌==◌, Bool, true, false, cond, List, [], ◌∷◌, ◌++◌, refl, sym, ap, subst, ◌∙◌, arith}
 use Rattle.std.proofs.Math.Nat.{dvd-mod_iff, dvd-mul_left, dvd-mul_right, dvd_of_mul-dvd-mul_right, div-mul_cancel, mul-dvd-mul_left, mul-dvd-mul_right, mod-lt, mul-pos, mul_comm, mul_assoc, pos_of_dvd_of_pos}
 use Rattle.std.specs.Int.{◌∣◌, IsGcd}
@@ -50,7 +50,7 @@ least_divides ks l n is e = dvd_of_mod-eq-zero l (none (n % l) refl)
 multiplied : (ks : List ℕ) (l n : ℕ) → l ∣ n → is_common_multiple ks l ≡ true → is_common_multiple ks n ≡ true
 multiplied ks l n d e = all_wider (λ k. l % k == 0) (λ k. n % k == 0) (λ k h. is_divided k n (dvd_trans k (divides k l h) d)) ks e
 
--- one number more
+-- the least common multiple with one more number
 pub of_more : (ks : List ℕ) (k other l : ℕ) → IsLeastCommonMultiple ks other → IsLeastCommonMultiple (other ∷ k ∷ []) l → IsLeastCommonMultiple (ks ++ k ∷ []) l
 of_more ks k other l before is = record {
   positive = is.positive;
@@ -62,7 +62,7 @@ of_more ks k other l before is = record {
       is.least n some (and_from _ _ (is_divided other n (least_divides ks other n before both.0)) both.1);
 }
 
--- looked for from a number on, it is found
+-- a search from a number on finds it
 found_from : (more n : ℕ) (ks : List ℕ) (l : ℕ) → IsLeastCommonMultiple ks l → 0 < n → n ≤ l → l < n + more → common_multiple_from more n ks ≡ l
 found_from zero n ks l is some from before = absurd (omega arith)
 found_from (suc more) n ks l is some from before = by (is_common_multiple ks n) refl (found_from more (n + 1) ks l is (omega arith))
@@ -76,7 +76,7 @@ found_from (suc more) n ks l is some from before = by (is_common_multiple ks n) 
 pub least_is : (period : ℕ) (ks : List ℕ) (l : ℕ) → IsLeastCommonMultiple ks l → l ≤ period → least_common_multiple period ks ≡ l
 least_is period ks l is le = let some = is.positive in found_from period 1 ks l is (omega arith) (omega (arith, some)) (omega arith)
 
--- any two numbers have a greatest common divisor, by Euclid's steps
+-- any two numbers have a greatest common divisor, by Euclid's algorithm
 greatest_divisor : (steps a b : ℕ) → b < steps → (g : ℕ) × IsGcd a b g
 greatest_divisor zero a b few = absurd (omega (arith, few))
 greatest_divisor (suc steps) a zero few = (a, IsGcd-from_zero a zero refl)
@@ -100,7 +100,7 @@ module _ (a b g : ℕ) (some : 0 < a) (other : 0 < b) (is : IsGcd a b g) where
   first_divides : a ∣ multiple
   first_divides = dvd_of_mul-dvd-mul_right a some_divisor (subst (λ n. a * g ∣ n) (sym whole) (mul-dvd-mul_left g a is.1))
 
-  -- a common multiple that divides their product: what it lacks of the product divides both
+  -- a common multiple that divides their product is a multiple of `multiple`: the quotient divides both
   divides_such : (d : ℕ) → d ∣ a * b → a ∣ d → b ∣ d → multiple ∣ d
   divides_such d of first second =
       let e = a * b / d in
@@ -110,7 +110,7 @@ module _ (a b g : ℕ) (some : 0 < a) (other : 0 < b) (is : IsGcd a b g) where
       let within : e * d ∣ g * d = mul-dvd-mul_right e (is.2 e of_first of_second) d in
       dvd_of_mul-dvd-mul_right multiple some_divisor (subst (λ n. n ∣ d * g) (product ∙ sym whole) (subst (λ n. e * d ∣ n) (mul_comm g d) within))
 
-  -- any common multiple: its greatest common divisor with the product is such a one
+  -- so is any common multiple, by its greatest common divisor with the product
   divides_each : (n : ℕ) → a ∣ n → b ∣ n → multiple ∣ n
   divides_each n first second =
       let d = greatest_divisor (a * b + 1) n (a * b) (omega arith) in

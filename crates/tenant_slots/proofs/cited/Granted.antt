@@ -1,4 +1,4 @@
--- Granted values, taken behind the readings.
+-- Granted values, taken after the readings.
 use Rattle.std.proofs.Common.{◌≡◌, ℕ, ◌+◌, ◌<◌, Bool, true, false, not, cond, ◌&&◌, ◌||◌, ℤ, List, [], ◌∷◌, ◌++◌, length, map, Some, None, unwrap_or, refl, sym, ap, ◌∙◌, append_assoc, arith}
 use Rattle.std.specs.Prelude.{slice_get, slice_set}
 use Rattle.std.specs.List.{list_any, position_from}
@@ -30,7 +30,7 @@ use Rattle.tenant_slots.specs.cited.Readings.{with_readings}
 use Rattle.tenant_slots.proofs.PlacedOnce.{placed_first}
 use Rattle.tenant_slots.proofs.SensedSlots.{sensor_there}
 
--- maps in which names get values
+-- maps in which names are given values
 
 twice_given : (m : Valuation) (x : Name) (a b : ℤ) → with_value (with_value m x a) x b ≡ with_value m x b
 twice_given [] x a b = ap (λ t. cond t ((x, b) ∷ []) ((x, a) ∷ (x, b) ∷ [])) (same_name_self x)
@@ -59,7 +59,7 @@ still_there (v ∷ vs) x y z there = by (same_name v.0 y) (still_there vs x y z)
         let on = is_among (names_in (with_value vs y z)) x in
         either (same_name v.0 x) (is_among (names_in vs) x) ((same_name v.0 x || on) ≡ true) there (λ e. or_left (same_name v.0 x) on e) (λ e. or_right (same_name v.0 x) on (rest e))
 
--- of two names of which one is there, either may be given its value first
+-- two names may be given their values in either order, if one of them is in the map
 turned : (m : Valuation) (x y : Name) (a b : ℤ) → is_among (names_in m) x ≡ true → same_name y x ≡ false → with_value (with_value m y b) x a ≡ with_value (with_value m x a) y b
 turned [] x y a b there other = absurd (false≢true there)
 turned (v ∷ vs) x y a b there other = by (same_name v.0 x) (same_name v.0 y) refl refl there (λ h. turned vs x y a b h other)
@@ -80,7 +80,7 @@ neither : (a b : Bool) → not (a || b) ≡ true → (a ≡ false) × (not b ≡
 neither true b h = absurd (false≢true h)
 neither false b h = (refl, h)
 
--- a name that is there is given a value before others as well as behind them
+-- a name in the map may be given its value before the others or after them
 before_others : (m : Valuation) (xs : List Name) (zs : List ℤ) (x : Name) (z : ℤ) → is_among (names_in m) x ≡ true → not (is_among xs x) ≡ true
     → with_value (with_values m xs zs) x z ≡ with_values (with_value m x z) xs zs
 before_others m [] zs x z there none = refl
@@ -89,9 +89,9 @@ before_others m (y ∷ ys) (v ∷ vs) x z there none =
     let apart = neither (same_name y x) (is_among ys x) none in
     before_others (with_value m y v) ys vs x z (still_there m x y v there) apart.1 ∙ ap (λ n. with_values n ys vs) (turned m x y z v there apart.0)
 
--- one value more among the granted ones
+-- one more value among the granted ones
 
--- behind values of other names it is found where it would be in front of them
+-- after values of other names it is found just as it would be before them
 pub found_last : (granted : Valuation) (x : Name) (z : ℤ) → is_among (names_in granted) x ≡ false → (n : Name) → value_at (granted ++ (x, z) ∷ []) n ≡ value_at ((x, z) ∷ granted) n
 found_last [] x z none n = refl
 found_last (g ∷ gs) x z none n = by (same_name g.0 n) (same_name x n) refl refl (found_last gs x z)
@@ -115,7 +115,7 @@ module _ (readings : Readings) (granted after : Valuation) (x : Name) (z : ℤ) 
   abbrev taken_after : SensorDeclaration → ℤ
   taken_after = reading_taken readings after
 
-  -- the sensor to which it is granted takes it
+  -- the sensor that it is granted to takes it
   takes_it : (s : SensorDeclaration) → takes_granted x s ≡ true → taken_after s ≡ z
   takes_it s e = by s.source e
     where
@@ -124,7 +124,7 @@ module _ (readings : Readings) (granted after : Valuation) (x : Name) (z : ℤ) 
       by from_grant e =
           ap (λ o. unwrap_or o s.initial) (one_more s.name) ∙ ap (λ t. unwrap_or (cond t (Some z) (value_at granted s.name)) s.initial) (nat_list_eq_equiv.symm x s.name ∙ e)
 
-  -- and any other takes what it took
+  -- and any other sensor takes what it took before
   takes_as_before : (s : SensorDeclaration) → takes_granted x s ≡ false → taken_after s ≡ taken s
   takes_as_before s e = by s.source e
     where
@@ -186,7 +186,7 @@ pub granted_more : (p : GiottoProgram) (readings : Readings) (granted after port
     → with_granted p x z (with_readings p readings granted ports) ≡ with_readings p readings after ports
 granted_more p readings granted after ports x z different one_more = all_taken readings granted after x z one_more ports p.sensors (sensors_differ p different)
 
--- one after the other
+-- values granted one after the other
 pub granted_in_order : (p : GiottoProgram) (readings : Readings) (before granted ports : Valuation) → PortNamesDiffer p → all_different (names_in (before ++ granted)) ≡ true
     → with_each_granted p granted (with_readings p readings before ports) ≡ with_readings p readings (before ++ granted) ports
 granted_in_order p readings before [] ports different names = ap (λ gs. with_readings p readings gs ports) (sym (append-nil before))
@@ -233,7 +233,7 @@ module _ (p : GiottoProgram) (x : Name) (different : PortNamesDiffer p) (items :
   pub granted_first : position_from (λ (s : Sensor). takes_granted x (sensor_of s)) 0 items ≡ position_from (takes_granted x) 0 p.sensors
   granted_first = sym (place-map (takes_granted x) sensor_of 0 items) ∙ ap (position_from (takes_granted x) 0) all
 
-  -- one that takes it is the first that does
+  -- a sensor that takes it is the first that does
   pub granted_once : (k : ℕ) (s : Sensor) → slice_get items k ≡ Some s → takes_granted x (sensor_of s) ≡ true → Some k ≡ position_from (takes_granted x) 0 p.sensors
   granted_once k s at takes =
       let there : slice_get p.sensors k ≡ Some (sensor_of s) = ap (λ ss. slice_get ss k) (sym all) ∙ slice_get-map sensor_of items k ∙ ap (option_map sensor_of) at in
@@ -251,13 +251,13 @@ module _ (p : GiottoProgram) (values : List ℤ) (x : Name) (different : PortNam
   pub granted_within : (k : ℕ) → position_from (takes_granted x) 0 p.sensors ≡ Some k → k < length values
   granted_within k e = omega (arith, slice_get_within (port_names p) k x (there k e), length-map (ports_of p) shown_name, long)
 
-  -- the first that takes it is given the value
+  -- the first sensor that takes it is given the value
   pub granted_at : (k : ℕ) (z : ℤ) → position_from (takes_granted x) 0 p.sensors ≡ Some k → valuation_of p (slice_set values k z) ≡ with_granted p x z (valuation_of p values)
   granted_at k z e =
       sym (with_value_at_place (port_names p) values k x z different (there k e) (length-map (ports_of p) shown_name ∙ sym long))
       ∙ sym (ap (λ b. cond b (with_value (valuation_of p values) x z) (valuation_of p values)) (first_takes (takes_granted x) p.sensors 0 k e))
 
-  -- where none does, nothing changes
+  -- if no sensor takes it, nothing changes
   pub granted_nowhere : (z : ℤ) → position_from (takes_granted x) 0 p.sensors ≡ None → valuation_of p values ≡ with_granted p x z (valuation_of p values)
   granted_nowhere z e =
       sym (ap (λ b. cond b (with_value (valuation_of p values) x z) (valuation_of p values)) (none_takes (takes_granted x) p.sensors 0 e))

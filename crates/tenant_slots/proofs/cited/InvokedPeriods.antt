@@ -19,7 +19,7 @@ use Rattle.giotto_check.specs.declared.timetables.SlotInvocation.{SlotInvocation
 use Rattle.tenant_slots.specs.Places.{name_of_task}
 use Rattle.tenant_slots.proofs.cited.Numbered.{same_task}
 
--- a task's period by the mode's first invocation of it
+-- a task's period, from the mode's first invocation of it
 not_invoked : (m : ModeDeclaration) (x : Name) → find (λ (i : TaskInvocation). same_name i.task x) m.invocations ≡ None → period_of_task m x ≡ None
 not_invoked m x e = rw e refl
 
@@ -65,7 +65,7 @@ module _ (p : GiottoProgram) (fits : ProgramFits p) (m : ModeDeclaration) (place
       → option_map (λ (e : SlotInvocation). e.interval) (find (λ (e : SlotInvocation). nat_eq e.task place) es) ≡ period_of_task m (name_of_task p place)
   period_at es each = intervals m.invocations es each ∙ its_period _ refl
 
--- a period is positive, and divides that of the mode
+-- a period is positive, and divides the mode's period
 pub period_divides : (p : GiottoProgram) (m : ModeDeclaration) → ModeFits p m → (x : Name) (k : ℕ) → period_of_task m x ≡ Some k → (0 < k) × (k ∣ m.period)
 period_divides p m fits x k e = by (find (λ (i : TaskInvocation). same_name i.task x) m.invocations) refl
   where

@@ -26,7 +26,7 @@ use Rattle.giotto_check.proofs.cited.PlaceLemmas.{found_there, place_within, pas
 use Rattle.rig_model.specs.Due.{is_due_at}
 use Rattle.tenant_slots.specs.Places.{name_of_task, name_of_mode}
 
--- what has a name of its own among others is found by it, at its place
+-- an item whose name is different from all others is found by its name, at its place
 module _ {A : Type 0} (name : A → Name) where
   named : (xs : List A) (k : ℕ) (a : A) → slice_get xs k ≡ Some a → is_among (map name xs) (name a) ≡ true
   named [] k a at = absurd (cc)
@@ -56,7 +56,7 @@ module _ {A : Type 0} (name : A → Name) where
       ap (λ b. cond b (Some i) (position_from (λ y. same_name (name y) (name a)) (i + 1) xs)) (apart x xs k a once at)
       ∙ place_by_name xs (i + 1) k a (and_parts (not (is_among (map name xs) (name x))) (all_different (map name xs)) once).1 at ∙ ap Some (omega arith)
 
--- the last of lists whose names are all different
+-- the second of two lists whose names are all different
 different_last : (xs ys : List Name) → all_different (xs ++ ys) ≡ true → all_different ys ≡ true
 different_last xs ys h = (and_parts (all_different ys) _ (and_parts (all_different xs) _ (sym (all_different-append xs ys) ∙ h)).1).0
 
@@ -88,13 +88,13 @@ module _ (p : GiottoProgram) (fits : ProgramFits p) where
   pub task_fits_at : (k : ℕ) (t : TaskDeclaration) → slice_get p.tasks k ≡ Some t → TaskFits p t
   task_fits_at k t at = found_has (TaskFits p) (λ (u : TaskDeclaration). same_name u.name (name_of_task p k)) p.tasks t fits.tasks (task_here k t at)
 
-  -- the task of this name stands at the place of the name
+  -- the task of this name is at the place of the name
   pub task_of_place : (x : Name) (k : ℕ) (t : TaskDeclaration) → place_of_task p x ≡ Some k → task_named p x ≡ Some t → slice_get p.tasks k ≡ Some t
   task_of_place x k t place found =
       let there = found_there (λ (t : TaskDeclaration). same_name t.name x) 0 p.tasks k t place found in
       ap (slice_get p.tasks) (omega (arith, there.1)) ∙ there.2
 
-  -- a task at a place has a name just where the place is that of the name
+  -- a task at a place has a name exactly if the place is that of the name
   pub same_task : (j k : ℕ) (t : TaskDeclaration) (x : Name) → slice_get p.tasks j ≡ Some t → place_of_task p x ≡ Some k → same_name (name_of_task p j) x ≡ nat_eq j k
   same_task j k t x at place = ap (λ n. same_name n x) (name_here j t at) ∙ same_answers (same_name t.name x) (nat_eq j k) there back
     where
@@ -111,7 +111,7 @@ module _ (p : GiottoProgram) (fits : ProgramFits p) where
           let same : found.1 ≡ t = some_same found.1 t (sym found.3 ∙ ap (slice_get p.tasks) here ∙ at) in
           subst (λ (u : TaskDeclaration). same_name u.name x ≡ true) same found.4
 
-  -- what a mode's lines have as intervals
+  -- the intervals of a mode's lines
   pub update_interval : (m : ModeDeclaration) (u : ActuatorUpdate) (e : SlotUpdate) → UpdateFits p m u → IsUpdate p m u e → 0 < e.interval
   update_interval m u e f is = subst (λ n. 0 < n) (sym is.interval) f.frequency.interval
 

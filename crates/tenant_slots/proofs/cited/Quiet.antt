@@ -1,4 +1,4 @@
--- Intervals of which none ends for a while.
+-- Intervals none of which ends for a while.
 use Rattle.std.proofs.Common.{◌≡◌, ℕ, ◌+◌, ◌<◌, ◌≤◌, ◌-◌, ◌^◌, ◌%◌, ◌==◌, Bool, false, List, [], ◌∷◌, ◌++◌, length, take, drop, get_or, Some, ⊎_elim, sym, ap, subst, ◌∙◌, arith}
 use Rattle.std.specs.Prelude.{min, slice_get}
 use Rattle.std.specs.List.{AllByRecursion}
@@ -17,7 +17,7 @@ use Rattle.rig_model.specs.Due.{is_due_at}
 use Rattle.tenant_slots.specs.cited.Due.{IsNextDue, IsQuietAt, IsQuietUntil}
 use Rattle.tenant_slots.proofs.cited.Numbered.{mode_fits_at, update_due, exit_due, invocation_due, update_intervals, exit_intervals, invocation_intervals}
 
--- from this time on and before the next
+-- none of these intervals ends from `time` on and before `next`
 abbrev pub AreQuiet : {E : Type 0} → (E → ℕ) → List E → ℕ → ℕ → Type 0
 AreQuiet interval es time next = (t : ℕ) → time ≤ t → t < next → AllByRecursion (λ e. (t % interval e == 0) ≡ false) es
 
@@ -32,7 +32,7 @@ all_front : {E : Type 0} (P : E → Type 0) (xs ys : List E) → AllByRecursion 
 all_front P [] ys all = tt
 all_front P (x ∷ xs) ys all = (all.0, all_front P xs ys all.1)
 
--- where none of them ends at the next, it is this last one
+-- if none of these intervals ends at `next`, it is `last`
 abbrev pub AreDue : {E : Type 0} → (E → ℕ) → List E → ℕ → ℕ → Type 0
 AreDue interval es last next = AllByRecursion (λ e. (next % interval e == 0) ≡ false) es → next ≡ last
 
@@ -46,17 +46,17 @@ due_more {E = E} interval es i x last next more least lt is due one small e quie
     (λ not_less. let same : least ≡ next = e ∙ min-eq_left not_less in same ∙ due (subst (λ t. AllByRecursion (P t) (take i es)) same (all_front (P least) (take i es) (x ∷ []) all)))
     (cases_lt more next)
 
--- what the first of them tell, all do
+-- what holds of the first of them holds of all
 pub due_front : {E : Type 0} (interval : E → ℕ) (es : List E) (n last next : ℕ) → AreDue interval (take n es) last next → AreDue interval es last next
 due_front {E = E} interval es n last next due all =
     let P : E → Type 0 = λ e. (next % interval e == 0) ≡ false in
     due (all_front P (take n es) (drop n es) (subst (AllByRecursion P) (sym (take-append-drop n es)) all))
 
--- nothing comes before this mode time, where something is due at it
+-- if something is due at this mode time, nothing comes before it
 pub due_now : (m : ModeDeclaration) (time : ℕ) → (IsQuietAt m time → time ≡ 2 ^ 64 - 1) → IsNextDue m time time
 due_now m time due = record { from = omega arith; quiet = λ t from before. absurd (omega (arith, from, before)); due = due }
 
--- entries are quiet where the lines of the mode are
+-- entries are quiet if the lines of the mode are
 pub quiet_entries : {L E : Type 0} (R : L → E → Type 0) (interval : E → ℕ) (due : L → Bool) (t : ℕ) → ((x : L) (e : E) → R x e → (t % interval e == 0) ≡ due x) → (xs : List L) (es : List E)
     → AreEach R xs es → AllByRecursion (λ x. due x ≡ false) xs → AllByRecursion (λ e. (t % interval e == 0) ≡ false) es
 quiet_entries R interval due t same [] [] each quiet = tt
@@ -64,7 +64,7 @@ quiet_entries R interval due t same [] (e ∷ es) each quiet = absurd each
 quiet_entries R interval due t same (x ∷ xs) [] each quiet = absurd each
 quiet_entries R interval due t same (x ∷ xs) (e ∷ es) each quiet = (same x e each.0 ∙ quiet.0, quiet_entries R interval due t same xs es each.1 quiet.1)
 
--- lines of a mode are quiet where their entries are
+-- lines of a mode are quiet if their entries are
 pub quiet_each : {L E : Type 0} (R : L → E → Type 0) (interval : E → ℕ) (due : L → Bool) (t : ℕ) → ((x : L) (e : E) → R x e → (t % interval e == 0) ≡ due x) → (xs : List L) (es : List E)
     → AreEach R xs es → AllByRecursion (λ e. (t % interval e == 0) ≡ false) es → AllByRecursion (λ x. due x ≡ false) xs
 quiet_each R interval due t same [] [] each quiet = tt
@@ -83,7 +83,7 @@ module _ (p : GiottoProgram) (fits : ProgramFits p) (mode : ℕ) where
     no_invocation = quiet_each (IsInvocation p m) (λ (e : SlotInvocation). e.interval) (λ (i : TaskInvocation). is_due_at t m i.frequency) t (invocation_due p fits t m) m.invocations is each_i (quiet_i t from before);
   }
 
-  -- where nothing of the mode is due at the end, it is the last
+  -- if nothing of the mode is due at `next`, it is the last mode time
   pub updates_due : (m : ModeDeclaration) (us : List SlotUpdate) (next : ℕ) → AreEach (IsUpdate p m) m.updates us → AreDue (λ (e : SlotUpdate). e.interval) us (2 ^ 64 - 1) next → IsQuietAt m next → next ≡ 2 ^ 64 - 1
   updates_due m us next each due quiet =
       due (quiet_entries (IsUpdate p m) (λ (e : SlotUpdate). e.interval) (λ (u : ActuatorUpdate). is_due_at next m u.frequency) next (update_due p fits next m) m.updates us each quiet.no_update)

@@ -18,7 +18,7 @@ use Rattle.rig_model.specs.Updates.{is_updated, updated, all_updated}
 use Rattle.rig_model.specs.Ports.{holds}
 use Rattle.tenant_slots.proofs.cited.Numbered.{slot_within, update_due}
 
--- the one that an entry stands for
+-- the item of the first list that an entry of the second represents
 pub each_item : {A B : Type 0} (R : A → B → Type 0) (xs : List A) (ys : List B) (k : ℕ) (y : B) → AreEach R xs ys → k < length ys → y ≡ get_or ys k y → (x : A) × (drop k xs ≡ x ∷ drop (k + 1) xs) × R x y
 each_item R xs ys k y all lt is = ⊎_elim
     (λ found. (found.0, drop_more xs k found.0 found.1 ∙ ap (λ z. z ∷ drop (k + 1) xs) found.3, each_at R xs ys k found.0 y all found.2 (slice_get-get_or ys k y lt ∙ ap Some (sym is))))

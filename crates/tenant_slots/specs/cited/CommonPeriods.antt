@@ -8,7 +8,7 @@ pub record IsLeastCommonMultiple (ks : List ℕ) (l : ℕ) : Type 0 where
   pub common : is_common_multiple ks l ≡ true
   pub least : (n : ℕ) → 0 < n → is_common_multiple ks n ≡ true → l ≤ n
 
--- the least common multiple of these periods, and none where there are none
+-- the least common multiple of these periods, or `None` if there are no periods
 abbrev pub IsCommonPeriod : List ℕ → Option ℕ → Type 0
 IsCommonPeriod [] o = o ≡ None
 IsCommonPeriod (k ∷ ks) o = IsSomeAnd o (IsLeastCommonMultiple (k ∷ ks))

@@ -16,7 +16,7 @@ pub record IsQuietAt (m : ModeDeclaration) (time : ℕ) : Type 0 where
 abbrev pub IsQuietUntil : ModeDeclaration → ℕ → ℕ → Type 0
 IsQuietUntil m time next = (t : ℕ) → time ≤ t → t < next → IsQuietAt m t
 
--- the next mode time, from this one on, at which something of the mode is due; or the greatest of 64 bits, where that comes first
+-- the next mode time, from this one on, at which something of the mode is due, or the greatest 64-bit number if that comes first
 pub record IsNextDue (m : ModeDeclaration) (time next : ℕ) : Type 0 where
   pub from : time ≤ next
   pub quiet : IsQuietUntil m time next

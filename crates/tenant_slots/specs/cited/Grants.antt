@@ -1,4 +1,4 @@
--- The ports behind granted values, which are taken behind the readings.
+-- The ports after granted values, which are taken after the readings.
 use Rattle.std.specs.Prelude.{Bool, true, false, ◌&&◌, if◌then◌else◌, ℤ, [], ◌∷◌}
 use Rattle.std.specs.List.{list_any}
 use Rattle.giotto_tasks.specs.declared.names.Name.{Name}
@@ -13,11 +13,11 @@ is_grant from_grant = true
 abbrev pub takes_granted : Name → SensorDeclaration → Bool
 takes_granted x s = is_grant s.source && same_name s.name x
 
--- the ports behind a value that is granted to this name: a `grant` sensor of the name has it, and all other ports are as they were
+-- the ports after a value is granted to this name: a `grant` sensor of the name has it, and all other ports are unchanged
 abbrev pub with_granted : GiottoProgram → Name → ℤ → Valuation → Valuation
 with_granted p x z ports = if list_any (takes_granted x) p.sensors then with_value ports x z else ports
 
--- the ports behind granted values, taken one after the other
+-- the ports after granted values, taken one after the other
 abbrev pub with_each_granted : GiottoProgram → Valuation → Valuation → Valuation
 with_each_granted p [] ports = ports
 with_each_granted p (g ∷ gs) ports = with_each_granted p gs (with_granted p g.0 g.1 ports)

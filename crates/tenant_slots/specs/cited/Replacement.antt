@@ -1,4 +1,4 @@
--- The slots of the ports that keep their values where a program replaces another.
+-- The slots of the ports that keep their values when a program replaces another.
 use Rattle.std.specs.Prelude.{Bool, ◌||◌, List, map, filter}
 use Rattle.giotto_tasks.specs.declared.names.Name.{Name}
 use Rattle.rig_model.specs.text.Program.{GiottoProgram}
@@ -17,7 +17,7 @@ pub record AreCarried (old new : GiottoProgram) (names : List Name) (entries : L
   pub from : HaveSlots old names (map (λ (c : Carried). c.from) entries)
   pub to : HaveSlots new names (map (λ (c : Carried). c.to) entries)
 
--- the table is for all ports that keep their values, in the order of the new program, and both programs are well-formed
+-- the table is for all ports that keep their values, in the order of the new program. Both programs are well-formed.
 pub record IsCarryTable (old new : GiottoProgram) (table : List Carried) : Type 0 where
   pub old_fits : ProgramFits old
   pub new_fits : ProgramFits new

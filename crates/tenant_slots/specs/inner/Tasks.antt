@@ -8,10 +8,10 @@ use Rattle.rig_model.specs.text.Program.{TaskDeclaration, names_of}
 abbrev pub states_in : TaskDeclaration → Valuation → List ℤ
 states_in t ports = values_of ports (own_ports t.name (names_of t.states))
 
--- the ports behind a release: the task's inputs have these values
+-- the ports after a release: the task's inputs have these values
 abbrev pub with_input_values : TaskDeclaration → List ℤ → Valuation → Valuation
 with_input_values t inputs ports = with_values ports (own_ports t.name t.inputs) inputs
 
--- the ports behind an end: its outputs and its states have these values
+-- the ports after the end of a task: its outputs and its states have these values
 abbrev pub with_results : TaskDeclaration → List ℤ → List ℤ → Valuation → Valuation
 with_results t outputs states ports = with_values (with_values ports t.outputs outputs) (own_ports t.name (names_of t.states)) states

@@ -26,7 +26,7 @@ is_due-requires c =
     let all = updates_positive c.args.checked.now c.program-program.ensures.fits c.args.mode _ c.updates-update-items.ensures.there c.updates-update-items.ensures.none in
     subst (λ (e : SlotUpdate). 0 < e.interval) (sym c.update-item.is) (all_at (λ (e : SlotUpdate). 0 < e.interval) _ c.loop-update.update-index _ c.loop-update-test.true all)
 
--- how many sensors and actuators the code has
+-- the code has as many sensors and actuators as the program declares
 sensors_counted : (c : goal.After-slot_value-value) → length c.sensors-first.result.now ≡ length c.args.checked.now.sensors
 sensors_counted c = sym (length-map c.sensors-first.result.now sensor_of) ∙ ap length (c.sensors-first.ensures ∙ ap (λ (q : GiottoProgram). q.sensors) c.program-program.ensures.tree)
 

@@ -13,7 +13,7 @@ use Rattle.rig_model.specs.Ports.{value_of_port}
 use Rattle.tenant_slots.proofs.ReadLines.{copied_at}
 use Rattle.tenant_slots.proofs.names.port_value.Goals as goal
 
--- the value of a port that has a slot stands there
+-- the value of a port is at its slot
 value_there : (p : GiottoProgram) → ProgramFits p → (values : List ℤ) (task : Option Name) (x : Name) (k : ℕ) → slot_of p task x ≡ Some k
     → value_of_port p (valuation_of p values) task x ≡ slice_get values k
 value_there p fits values task x k at =

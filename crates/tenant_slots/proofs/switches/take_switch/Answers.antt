@@ -37,7 +37,7 @@ returns-in_err-exit-clause-ports c = λ m at.
 pub returns-in_err-exit-clause-missing : goal.returns-in_err-exit-clause-missing
 returns-in_err-exit-clause-missing c = λ past. (c.from_residual.ensures, refl)
 
--- one is
+-- a switch is taken
 
 pub give-requires-clause-there : goal.give-requires-clause-there
 give-requires-clause-there c =
