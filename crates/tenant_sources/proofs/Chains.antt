@@ -1,4 +1,4 @@
--- Going along links from a tenant to a source of it.
+-- Following links from a tenant to one of its sources.
 use Rattle.std.proofs.Common.{◌≡◌, ◌⊎◌, ◌<◌, ◌-◌, ◌^◌, ℕ, true, ◌==◌, List, [], ◌∷◌, ◌++◌, length, Option, Some, None, is_some, inl, inr, sym, ap, subst, ◌∙◌, arith}
 use Rattle.std.proofs.lemmas.Bool.{or_right}
 use Rattle.std.proofs.lemmas.Bool.Decides.{nat_tests}
@@ -13,7 +13,7 @@ use Rattle.rig_model.specs.Base.{Setting}
 use Rattle.tenant_sources.proofs.FirstLinks.{leads, none_to_itself, own_source, source_is_linked, tick_fits}
 
 module _ (setting : Setting) (past : List Event) (u : ℕ) where
-  -- these links lead from t to `at`, from where links at ticks before this one lead on to u
+  -- these links connect t to `at`, and links at ticks before this one connect `at` to u
   pub record IsWalked (t at before : ℕ) (links : List Link) : Type 0 where
     pub chained : (rest : List Link) → IsChain setting past before at u rest → IsChain setting past (2 ^ 64 - 1) t u (links ++ rest)
     pub within : at < length setting.config.tenants

@@ -1,4 +1,5 @@
--- There is a first link from a tenant to each other one that is its source, and it leads on to the source at an earlier tick.
+-- There is a first link from a tenant to each other tenant that is its source. Its supplier is the source, or has a first link to the
+-- source at an earlier tick.
 use Rattle.std.proofs.Common.{◌≡◌, ◌⊎◌, ◌<◌, ◌+◌, ◌-◌, ◌^◌, ℕ, Bool, true, false, cond, ◌||◌, ◌==◌, nat_lt, ℤ, List, [], ◌∷◌, ◌++◌, length, take, drop, slice_get, find, filter_map, Option, Some, None, is_some, option_map, inl, inr, refl, sym, ap, subst, ◌∙◌, arith}
 use Rattle.std.specs.List.{list_any, cons_option}
 use Rattle.std.specs.Option.{option_and_then, option_or}
@@ -31,7 +32,7 @@ abbrev pub Placed : Type 0
 Placed = Name × ℕ × Name
 
 module _ (roster : List Name) where
-  -- a test of suppliers holds of one just where it holds of a bind's
+  -- a test holds of some supplier exactly if it holds of the supplier of some bind
   any_placed : (q : ℕ → Bool) (bs : List Bind) → list_any q (filter_map (λ (b : Bind). place_in roster b.tenant) bs) ≡ list_any (λ (b : Placed). q b.1) (filter_map (with_place roster) bs)
   any_placed q [] = refl
   any_placed q (b ∷ bs) = by (place_in roster b.tenant) (any_placed q bs)
@@ -42,7 +43,7 @@ module _ (roster : List Name) where
       by None ih = ih
       by (Some u) ih = ap (λ x. q u || x) ih
 
-  -- what is found passes, and its supplier is in the roster
+  -- the bind that is found passes the test, and its supplier is in the roster
   pub found_placed : (q : ℕ → Bool) (bs : List Bind) (x : Placed) → find (λ (b : Placed). q b.1) (filter_map (with_place roster) bs) ≡ Some x → (q x.1 ≡ true) × (x.1 < length roster)
   found_placed q [] x e = absurd (cc)
   found_placed q (b ∷ bs) x e = by (place_in roster b.tenant) refl (found_placed q bs x) e
@@ -58,7 +59,7 @@ module _ (roster : List Name) where
               (ap q (sym same) ∙ s, subst (λ n. n < length roster) same (position-Some (λ n. same_name n b.tenant) roster v [] at).0)
           test false s e = rest e
 
-  -- two tests that agree on the roster find the same
+  -- two tests that agree on the roster find the same bind
   pub same_found : (p q : ℕ → Bool) → ((v : ℕ) → v < length roster → p v ≡ q v) → (bs : List Bind)
       → find (λ (b : Placed). p b.1) (filter_map (with_place roster) bs) ≡ find (λ (b : Placed). q b.1) (filter_map (with_place roster) bs)
   same_found p q same [] = refl
@@ -72,7 +73,7 @@ module _ (roster : List Name) where
           ap (λ c. cond c (Some (b.sensor, v, b.actuator)) (find (λ (b : Placed). p b.1) (filter_map (with_place roster) bs))) (same v (position-Some (λ n. same_name n b.tenant) roster v [] at).0)
           ∙ ap (λ (o : Option Placed). cond (q v) (Some (b.sensor, v, b.actuator)) o) rest
 
-  -- a search among the first binds, with one more
+  -- a search among the first binds, with one more bind
   pub found_next : (q : ℕ → Bool) (bs : List Bind) (i : ℕ) (x : Placed) → find (λ (b : Placed). q b.1) (filter_map (with_place roster) (take i bs)) ≡ None → i < length bs → bind_at roster bs i ≡ Some x
       → find (λ (b : Placed). q b.1) (filter_map (with_place roster) (take (i + 1) bs)) ≡ cond (q x.1) (Some x) None
   found_next q bs i x none lt e = by (slice_get bs i) refl e
@@ -87,7 +88,7 @@ module _ (roster : List Name) where
           ∙ (ap (λ (o : Option Placed). option_or o (find (λ (b : Placed). q b.1) (filter_map (with_place roster) (b ∷ [])))) none
           ∙ ap (λ (o : Option Placed). find (λ (b : Placed). q b.1) (cons_option o [])) placed)))
 
-  -- what is found among the first binds is found
+  -- a bind that is found among the first binds is found among all
   pub found_before : (q : ℕ → Bool) (bs : List Bind) (i : ℕ) (x : Placed) → find (λ (b : Placed). q b.1) (filter_map (with_place roster) (take i bs)) ≡ Some x
       → find (λ (b : Placed). q b.1) (filter_map (with_place roster) bs) ≡ Some x
   found_before q bs i x e =
@@ -101,7 +102,7 @@ module _ (setting : Setting) where
   abbrev pub found : List Event → ℕ → ℕ → Option Placed
   found past t u = find (λ (b : Placed). is_source_of setting past b.1 u) (placed_binds setting (row_of setting past t))
 
-  -- the sources of a tenant are those that it is linked to, and itself
+  -- the sources of a tenant are those that it is linked to, and the tenant itself
   pub source_is_linked : (past : List Event) (t u : ℕ) → is_source_of setting past t u ≡ (t == u || is_some (first_link setting past t u))
   source_is_linked [] t u = refl
   source_is_linked (Own v c ∷ past) t u = source_is_linked past t u
@@ -127,7 +128,7 @@ module _ (setting : Setting) where
   pub own_source : (past : List Event) (t : ℕ) → is_source_of setting past t t ≡ true
   own_source past t = source_is_linked past t t ∙ or_left (t == t) (is_some (first_link setting past t t)) (grind (arith, nat_tests))
 
-  -- no link leads to the tenant itself
+  -- no link is from a tenant to itself
   pub none_to_itself : (past : List Event) (t : ℕ) → first_link setting past t t ≡ None
   none_to_itself [] t = refl
   none_to_itself (Own v c ∷ past) t = none_to_itself past t
@@ -135,13 +136,13 @@ module _ (setting : Setting) where
   none_to_itself (Tick frame ∷ past) t =
       ap (λ b. cond b (first_link setting past t t) (option_map (link_at (next_tick setting past)) (found past t t))) (own_source past t) ∙ none_to_itself past t
 
-  -- a link stays where it stands
+  -- a link stays in its place
   pub still_linked : (past : List Event) (frame : List ℤ) (t u : ℕ) (link : Link) → first_link setting past t u ≡ Some link → first_link setting (Tick frame ∷ past) t u ≡ Some link
   still_linked past frame t u link e =
       let is : is_source_of setting past t u ≡ true = source_is_linked past t u ∙ or_right (t == u) (is_some (first_link setting past t u)) (ap (λ (o : Option Link). is_some o) e) in
       ap (λ b. cond b (first_link setting past t u) (option_map (link_at (next_tick setting past)) (found past t u))) is ∙ e
 
-  -- where the first link from t to u leads
+  -- the first link from t to u: its supplier is u, or has a first link to u at an earlier tick
   pub record Leads (past : List Event) (u : ℕ) (link : Link) : Type 0 where
     pub within : link.supplier < length setting.config.tenants
     pub early : link.tick < next_tick setting past
@@ -192,7 +193,7 @@ module _ (setting : Setting) where
       by true still earlier e = still e
       by false still earlier e = new (found past t u) refl earlier e
 
-  -- in a legal list each link's tick is below the greatest
+  -- in a legal list each link's tick is below the greatest tick
   pub tick_fits : (past : List Event) (t u : ℕ) (link : Link) → is_legal setting past ≡ true → first_link setting past t u ≡ Some link → link.tick < 2 ^ 64 - 1
   tick_fits [] t u link legal e = absurd (cc)
   tick_fits (Own v c ∷ past) t u link legal e = tick_fits past t u link (and_parts (may_follow setting past (Own v c)) (is_legal setting past) legal).1 e

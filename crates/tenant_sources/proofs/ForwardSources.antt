@@ -1,4 +1,4 @@
--- Sources taken forward: behind a tick a tenant has those that it had before it, and those that its suppliers had.
+-- Sources moved forward: after a tick a tenant has the sources that it had before, and those that its suppliers had.
 use Rattle.std.proofs.Common.{◌≡◌, ℕ, Bool, true, false, ◌||◌, ◌==◌, ℤ, List, [], ◌∷◌, ◌++◌, flat_map, refl, sym, ap, ◌∙◌}
 use Rattle.std.specs.List.{list_any}
 use Rattle.std.proofs.Math.Bool.{or-false}
@@ -32,7 +32,7 @@ module _ (p : ℕ → Bool) where
       ∙ (ap (λ b. list_any p xs || b) (any_flat g xs) ∙ sym (any_either (λ v. list_any p (g v)) xs))
 
 module _ (setting : Setting) where
-  -- the sources of several are the sources of each
+  -- the sources of several tenants are the sources of each
   pub of_each : (later past : List Event) (xs : List ℕ) (u : ℕ)
       → is_source (sources_from setting xs later past) u ≡ list_any (λ v. is_source (sources_from setting (v ∷ []) later past) u) xs
   of_each [] past xs u = ap (λ (f : ℕ → Bool). list_any f xs) (λ k v. sym (or-false (v == u)) k)
@@ -45,7 +45,7 @@ module _ (setting : Setting) where
       λ v. of_each later past ((v ∷ []) ++ flat_map brings (v ∷ [])) u ∙ (any_grown reaches brings (v ∷ []) ∙ or-false (reaches v || list_any reaches (brings v))) in
       of_each later past (xs ++ flat_map brings xs) u ∙ (any_grown reaches brings xs ∙ ap (λ (f : ℕ → Bool). list_any f xs) (λ k v. sym (one v) k))
 
-  -- behind a tick
+  -- after a tick
   pub behind_tick : (past : List Event) (frame : List ℤ) (t u : ℕ)
       → is_source_of setting (Tick frame ∷ past) t u ≡ (is_source_of setting past t u || list_any (λ v. is_source_of setting past v u) (suppliers_of setting (row_of setting past t)))
   behind_tick past frame t u =

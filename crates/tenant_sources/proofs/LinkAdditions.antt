@@ -1,4 +1,4 @@
--- What an instant adds to a table of links, tenant by tenant and source by source.
+-- The links that an instant adds to a table, tenant by tenant and source by source.
 use Rattle.std.proofs.Common.{◌≡◌, ◌<◌, ◌≤◌, ◌+◌, ℕ, Bool, true, false, cond, ◌&&◌, ◌==◌, nat_lt, List, [], ◌∷◌, ◌++◌, length, get_or, filter_map, find, All, Option, Some, None, option_map, refl, sym, ap, subst, ◌∙◌, arith}
 use Rattle.std.specs.Option.{option_or}
 use Rattle.std.proofs.lemmas.Bool.{and_parts}
@@ -24,15 +24,15 @@ or_none : (o : Option Link) → option_or o None ≡ o
 or_none None = refl
 or_none (Some x) = refl
 
--- of a tenant, to the first sources
+-- the links of a tenant to the first sources
 abbrev pub first_of : New → ℕ → ℕ → ℕ → ℕ → Option Link
 first_of new tenant n t u = cond (t == tenant && nat_lt u n) (new t u) None
 
--- of the first tenants
+-- the links of the first tenants
 abbrev pub first_ones : New → ℕ → ℕ → ℕ → Option Link
 first_ones new n t u = cond (nat_lt t n) (new t u) None
 
--- of one tenant
+-- the links of one tenant
 abbrev pub only_of : New → ℕ → ℕ → ℕ → Option Link
 only_of new tenant t u = cond (t == tenant) (new t u) None
 
@@ -49,7 +49,7 @@ module _ (links : Links) (some more : List Addition) (new : New) where
       let none : (t == tenant && nat_lt u 0) ≡ false = grind (arith, nat_tests) in
       sym (ap (λ b. option_or (link_in (with_links links some) t u) (cond b (new t u) None)) none ∙ or_none (link_in (with_links links some) t u))
 
-  -- one source more, to which no link is added
+  -- one more source, which no link is added for
   pub adds_none : (tenant source : ℕ) → new tenant source ≡ None → Adds links some more (first_of new tenant source) → Adds links some more (first_of new tenant (source + 1))
   adds_none tenant source none adds t u lt lu = adds t u lt lu ∙ ap (λ (o : Option Link). option_or (link_in (with_links links some) t u) o) (by (t == tenant && u == source) refl)
     where
@@ -64,7 +64,7 @@ module _ (links : Links) (some more : List Addition) (new : New) where
           let same : (t == tenant && nat_lt u source) ≡ (t == tenant && nat_lt u (source + 1)) = grind (arith, nat_tests) in
           same_cond _ _ (new t u) same
 
-  -- one link more
+  -- one more link
   pub adds_one : IsSquare links → All (IsPlaceOf links) more → (a : Addition) → IsPlaceOf links a → new a.tenant a.source ≡ Some a.link
       → Adds links some more (first_of new a.tenant a.source) → Adds links some (more ++ a ∷ []) (first_of new a.tenant (a.source + 1))
   adds_one square places a place is adds t u lt lu =
@@ -104,7 +104,7 @@ module _ (links : Links) (new : New) where
       let none : nat_lt t 0 ≡ false = grind (arith, nat_tests) in
       sym (ap (λ b. option_or (link_in links t u) (cond b (new t u) None)) none ∙ or_none (link_in links t u))
 
-  -- one tenant more, that comes to have no source
+  -- one more tenant, which gains no source
   pub tenants_none : (added : List Addition) (tenant : ℕ) → ((u : ℕ) → new tenant u ≡ None) → Adds links [] added (first_ones new tenant) → Adds links [] added (first_ones new (tenant + 1))
   tenants_none added tenant none adds t u lt lu = adds t u lt lu ∙ ap (λ (o : Option Link). option_or (link_in links t u) o) (by (t == tenant) refl)
     where
@@ -117,7 +117,7 @@ module _ (links : Links) (new : New) where
           let same : nat_lt t tenant ≡ nat_lt t (tenant + 1) = grind (arith, nat_tests) in
           same_cond _ _ (new t u) same
 
-  -- one tenant more
+  -- one more tenant
   pub tenants_one : (added more : List Addition) (tenant : ℕ) → Adds links added more (only_of new tenant) → Adds links [] added (first_ones new tenant) → Adds links [] more (first_ones new (tenant + 1))
   tenants_one added more tenant one adds t u lt lu =
       one t u lt lu ∙ (ap (λ (o : Option Link). option_or o (only_of new tenant t u)) (adds t u lt lu) ∙ by (t == tenant) refl)
@@ -139,7 +139,7 @@ pub all_with : (links : Links) (added : List Addition) (a : Addition) → All (I
 all_with links added a places place =
     All-append (IsPlaceOf links) added (a ∷ []) places (λ k d l. let e : k ≡ 0 = omega arith in subst (λ n. IsPlaceOf links (get_or (a ∷ []) n d)) (sym e) place)
 
--- a tenant without binds comes to have no source
+-- a tenant without binds gains no source
 pub none_without_binds : (setting : Setting) (links : Links) (tick : ℕ) (row : Row) (t u : ℕ) → length row.binds ≡ 0 → next_link setting links tick row t u ≡ None
 none_without_binds setting links tick row t u e =
     nothing_else (has_source links t u) (ap (λ (bs : List Bind). option_map (link_at tick) (find (λ (b : Placed). has_source links b.1 u) (filter_map (with_place (roster_of setting.config)) bs))) (empty row.binds e))

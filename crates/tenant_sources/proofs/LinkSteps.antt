@@ -1,4 +1,4 @@
--- The table of links behind an instant, and chains in it.
+-- The table of links after an instant, and chains in it.
 use Rattle.std.proofs.Common.{◌≡◌, ◌<◌, ◌≤◌, ℕ, Bool, true, false, cond, if◌then◌else◌, ◌||◌, ◌==◌, ℤ, List, [], ◌∷◌, length, min, nat_lt, find, Option, Some, None, IfSome, is_some, option_map, refl, sym, ap, subst, ◌∙◌, arith, replicate, get_or, All}
 use Rattle.std.specs.Option.{option_or}
 use Rattle.std.proofs.lemmas.Bool.{or_parts}
@@ -32,7 +32,7 @@ or_none (Some x) = refl
 pub is_among : (setting : Setting) (t : ℕ) → t < length setting.config.tenants → nat_lt t (length setting.config.tenants) ≡ true
 is_among setting t lt = grind (arith, nat_tests)
 
--- the host's row and clock before an instant give the first links behind it
+-- the host's row and clock before an instant give the first links after it
 module _ (setting : Setting) (past : List Event) (links : Links) (table : IsLinkTable setting past links) where
   abbrev pub many : ℕ
   many = length setting.config.tenants
@@ -70,7 +70,7 @@ module _ (setting : Setting) (past : List Event) (links : Links) (table : IsLink
       by true e x = or_none first
       by false e x = nothing first x (or_parts (t == u) (is_some first) (sym e)).1
 
-  -- the table behind the instant
+  -- the table after the instant
   pub table_behind : (frame : List ℤ) (host : HostStanding) (added : List Addition) (square : IsSquare links) (places : All (IsPlaceOf links) added)
       → IsHistory setting past → Stands setting host (host_after setting past) → (n : ℕ) → min (length links) (length host.config.tenants) ≤ n
       → ForEachState host (λ setting state. Adds links [] added (λ t u. if nat_lt t n then next_link setting links state.clock (row_at state t) t u else None))
@@ -92,7 +92,7 @@ module _ (setting : Setting) (past : List Event) (links : Links) (table : IsLink
           let less : t < n = omega (arith, theirs, ours, lt, enough) in
           grind (arith, nat_tests)
 
--- nothing is linked before any event
+-- before any event there is no link
 pub begins : (setting : Setting) (n : ℕ) → length setting.config.tenants ≡ n → (links : Links) → links ≡ replicate n (replicate n None) → IsLinkTable setting [] links
 begins setting n as_many links e = record {
   as_many = ap (λ (ls : Links). length ls) e ∙ (length-replicate n (replicate n None) ∙ sym as_many);
@@ -110,7 +110,7 @@ square_begins n links e = record {
 pub is_within : (setting : Setting) (t : ℕ) → nat_lt t (length setting.config.tenants) ≡ true → t < length setting.config.tenants
 is_within setting t e = grind (arith, nat_tests)
 
--- a link is there where the code has one
+-- there is a link if the code has one
 pub linked_is : {X : Type 0} (o : Option X) (now : X → Link) (link : Option Link) → IfSome o (λ x. link ≡ Some (now x)) → (o ≡ None → link ≡ None) → is_some o ≡ is_some link
 linked_is None now link some none = sym (ap (λ (l : Option Link). is_some l) (none refl))
 linked_is (Some x) now link some none = sym (ap (λ (l : Option Link). is_some l) some)

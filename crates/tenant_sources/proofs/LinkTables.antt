@@ -1,4 +1,4 @@
--- Links put into a table.
+-- Links added to a table.
 use Rattle.std.proofs.Common.{◌≡◌, ◌⊎◌, ◌<◌, ℕ, suc, Bool, true, false, cond, ◌&&◌, ◌==◌, List, [], ◌∷◌, ◌++◌, length, map, set, get_or, All, Vec, Option, Some, None, is_some, inl, inr, refl, sym, ap, subst, ◌∙◌, arith}
 use Rattle.std.specs.Option.{option_or}
 use Rattle.std.specs.Vec.{with_item}
@@ -15,7 +15,7 @@ use Rattle.tenant_sources.specs.Links.{Links, link_in}
 abbrev pub row_in : Links → ℕ → List (Option Link)
 row_in links t = get_or links t []
 
--- the addition is one from t to u
+-- the addition is from t to u
 abbrev pub is_at : Addition → ℕ → ℕ → Bool
 is_at a t u = a.tenant == t && a.source == u
 
@@ -63,7 +63,7 @@ module _ (links : Links) (a : Addition) (square : IsSquare links) (place : IsPla
   if_many true = refl
   if_many false = as_many
 
-  -- a link more: where none stood, and nowhere else
+  -- one more link: in its place if there was none, and nowhere else
   put_if : (b : Bool) → is_some (link_in links a.tenant a.source) ≡ b → (t u : ℕ) → link_in (cond b links (put_in links a)) t u ≡ option_or (link_in links t u) (cond (is_at a t u) (Some a.link) None)
   put_if b e t u = at (is_at a t u) refl b e
     where
@@ -101,7 +101,7 @@ module _ (links : Links) (a : Addition) (square : IsSquare links) (place : IsPla
   pub link_with_link : (t u : ℕ) → link_in (with_link links a) t u ≡ option_or (link_in links t u) (cond (is_at a t u) (Some a.link) None)
   link_with_link t u = put_if (is_some (link_in links a.tenant a.source)) refl t u
 
--- several links more
+-- several more links
 place_behind : (links : Links) (a b : Addition) → IsSquare links → IsPlaceOf links a → IsPlaceOf links b → IsPlaceOf (with_link links a) b
 place_behind links a b square place other =
     let many = with_link_many links a square place in
@@ -126,7 +126,7 @@ pub with_one_more : (links : Links) (added : List Addition) (a : Addition) → w
 with_one_more links [] a = refl
 with_one_more links (b ∷ rest) a = with_one_more (with_link links b) rest a
 
--- the code's rows
+-- the rows of the code
 abbrev pub CodeRow : Type 0
 CodeRow = Vec (Option Link) Global
 

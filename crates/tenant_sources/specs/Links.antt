@@ -1,4 +1,4 @@
--- The binds through which tenants come to have sources, and a table of them. Lists of events have the newest first.
+-- The binds that give tenants their sources, and a table of them. Lists of events have the newest first.
 use Rattle.std.specs.Prelude.{◌≡◌, ◌<◌, ℕ, Bool, if◌then◌else◌, List, [], ◌∷◌, length, slice_index_or, Option, Some, None, option_map}
 use Rattle.std.specs.List.{filter_map, find}
 use Rattle.giotto_tasks.specs.declared.names.Name.{Name}
@@ -25,7 +25,8 @@ abbrev pub link_in : Links → ℕ → ℕ → Option Link
 link_in links t u = slice_index_or (slice_index_or links t []) u None
 
 module _ (setting : Setting) where
-  -- The tenant at place u is a source of t somewhere in this list: at its beginning, since a source at one place is one at each earlier place.
+  -- The tenant at place u is a source of t somewhere in this list. It is then one at its beginning, since a source at one place is a source
+  -- at each earlier place.
   abbrev pub is_source_of : List Event → ℕ → ℕ → Bool
   is_source_of past t u = is_source (sources_of setting t past []) u
 
@@ -33,8 +34,8 @@ module _ (setting : Setting) where
   abbrev pub placed_binds : Row → List (Name × ℕ × Name)
   placed_binds row = filter_map (with_place (roster_of setting.config)) row.binds
 
-  -- The first link from t to u: at the first tick behind which u is a source of t, the first of t's binds just before it to a supplier that
-  -- has u as its source there.
+  -- The first link from t to u, at the first tick after which u is a source of t. It is the first of t's binds just before that tick whose
+  -- supplier has u as a source there.
   abbrev pub first_link : List Event → ℕ → ℕ → Option Link
   first_link [] t u = None
   first_link (Own v c ∷ past) t u = first_link past t u
@@ -43,13 +44,13 @@ module _ (setting : Setting) where
       if is_source_of past t u then first_link past t u
       else option_map (link_at (next_tick setting past)) (find (λ (b : Name × ℕ × Name). is_source_of past b.1 u) (placed_binds (row_of setting past t)))
 
-  -- A chain of links from t to u, at ticks before this one: none where they are the same. Else the first link from t to u, and behind it a
-  -- chain from its supplier to u at ticks before its own.
+  -- A chain of links from t to u, at ticks before this one. It is empty if t is u. Else it is the first link from t to u, and then a chain
+  -- from that link's supplier to u at ticks before the link's own.
   abbrev pub IsChain : List Event → ℕ → ℕ → ℕ → List Link → Type 0
   IsChain past tick t u [] = t ≡ u
   IsChain past tick t u (link ∷ rest) = (first_link past t u ≡ Some link) × (link.tick < tick) × IsChain past link.tick link.supplier u rest
 
--- a table of the first link from each tenant to each other one that is its source
+-- a table of the first link from each tenant to each other tenant that is its source
 pub record IsLinkTable (setting : Setting) (past : List Event) (links : Links) : Type 0 where
   pub as_many : length links ≡ length setting.config.tenants
   pub each : (t u : ℕ) → t < length setting.config.tenants → u < length setting.config.tenants → link_in links t u ≡ first_link setting past t u

@@ -1,7 +1,7 @@
-//! The sources of all tenants: whose commands and completions each one's answers can depend on.
+//! The sources of all tenants: for each, the tenants whose commands and completions its answers can depend on.
 //!
-//! A [`tables::SourceTable`] is taken on from instant to instant, by the host just before each. `specs/Links.antt` says what it
-//! has, and what a chain of binds is; what a source is stands in `Sources.antt` of the crate `rig_model`.
+//! A [`tables::SourceTable`] moves forward from instant to instant, given the host just before each. `specs/Links.antt` defines its
+//! content and chains of binds. `Sources.antt` of the crate `rig_model` defines sources.
 #![tactic(auto)]
 
 pub mod tables;

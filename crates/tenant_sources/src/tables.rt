@@ -1,4 +1,4 @@
-//! The sources of all tenants, taken forward tick by tick.
+//! The sources of all tenants, moved forward tick by tick.
 
 ghost use Rattle.std.specs.Prelude.{◌≡◌, ◌<◌, ◌==◌, ◌||◌, ℕ, ℤ, true, if◌then◌else◌, is_some, None, Some, [], ◌∷◌, List, length, replicate, IfOk, IfSome, OnOk, IsOk};
 ghost use Rattle.std.specs.List.{All, list_any};
@@ -21,10 +21,10 @@ use rig_model::config::TenantId;
 use std::alloc::{AllocError, Global};
 use std::marker::Model;
 
-/// A bind through which a tenant came to have a source.
+/// A bind that gave a tenant a source.
 #[derive(Drop)]
 pub struct Link {
-    /// The number of the instant just before which it stood.
+    /// The number of the instant just before which the bind existed.
     pub tick: u64,
     pub sensor: Name,
     pub supplier: TenantId,
@@ -32,7 +32,7 @@ pub struct Link {
 }
 
 impl Link {
-    /// An equal link. Takes no memory.
+    /// An equal link. Allocates nothing.
     pub fn copy(&self) -> Link
         ensures { result ≡ self.now }
     {
@@ -45,7 +45,7 @@ impl Link {
     }
 }
 
-/// A source that a tenant comes to have, and through which bind.
+/// A source that a tenant gains, and the bind that gives it.
 #[derive(Drop)]
 pub struct Addition {
     tenant: TenantId,
@@ -53,7 +53,7 @@ pub struct Addition {
     link: Link,
 }
 
-/// For each tenant the first link to each other one that is its source. Contracts see it as a table of links.
+/// For each tenant the first link to each other tenant that is its source. Contracts see it as a table of links.
 #[derive(Drop)]
 pub struct SourceTable {
     rows: Vec<Vec<Option<Link>>>,
@@ -73,10 +73,10 @@ impl Model for SourceTable {
 }
 
 impl SourceTable {
-    /// That of this many tenants before any instant: each is its own source alone.
+    /// The table of this many tenants before any instant: each tenant is its only source.
     ///
     /// # Errors
-    /// Want of memory.
+    /// Out of memory.
     pub fn new(alloc: Global, tenants: usize) -> Result<SourceTable, AllocError>
         ensures { IfOk result (λ table. (setting : Setting) → length setting.config.tenants ≡ tenants → IsLinkTable setting [] table) }
     {
@@ -87,10 +87,10 @@ impl SourceTable {
         Ok(SourceTable { rows })
     }
 
-    /// What the instant that comes next adds, by the host just before it.
+    /// The links that the next instant adds, given the host just before it.
     ///
     /// # Errors
-    /// Want of memory.
+    /// Out of memory.
     pub fn additions(&self, alloc: Global, host: &Host) -> Result<Vec<Addition>, AllocError>
         ensures added { IfOk result (λ added. AreAdded self.now host.now added.items) }
         ensures places { IfOk result (λ added. All (IsPlaceOf self.now) added.items) }
@@ -106,7 +106,7 @@ impl SourceTable {
         Ok(added)
     }
 
-    // Adds what the next instant adds to a tenant's sources.
+    // Appends the links that the next instant adds to a tenant's sources.
     fn add_of(
         &self,
         host: &Host,
@@ -133,7 +133,8 @@ impl SourceTable {
         Ok(())
     }
 
-    // The link that the next instant adds from a tenant to a source, if it adds one: the first of its binds whose supplier has the source.
+    // The link that the next instant adds from a tenant to a source, if it adds one: the first of the tenant's binds whose supplier has the
+    // source.
     fn next_link(&self, host: &Host, tenant: TenantId, source: TenantId) -> Option<Link>
         requires { tenant < length host.now.config.tenants }
         ensures { ForEachState host.now (λ setting state. result ≡ next_link setting self.now state.clock (row_at state tenant) tenant source) }
@@ -157,7 +158,7 @@ impl SourceTable {
         None
     }
 
-    /// Adds these, in their order, each where no link stands. Takes no memory.
+    /// Adds these links, in their order, each unless there is already a link in its place. Allocates nothing.
     pub fn add(&mut self, added: &[Addition])
         requires { All (IsPlaceOf self.old) added.now }
         ensures { self.new ≡ with_links self.old added.now }
@@ -167,7 +168,7 @@ impl SourceTable {
         }
     }
 
-    // Adds one where no link stands.
+    // Adds a link, unless there is already one in its place.
     fn put(&mut self, addition: &Addition)
         requires { IsPlaceOf self.old addition.now }
         ensures put { self.new ≡ with_link self.old addition.now }
@@ -180,7 +181,7 @@ impl SourceTable {
         row[addition.source] = Some(addition.link.copy());
     }
 
-    // The link from a tenant to a source, if one stands.
+    // The link from a tenant to a source, if there is one.
     fn link(&self, tenant: TenantId, source: TenantId) -> Option<&Link>
         ensures some { IfSome result (λ link. link_in self.now tenant source ≡ Some link.now) }
         ensures none { result ≡ None → link_in self.now tenant source ≡ None }
@@ -188,7 +189,7 @@ impl SourceTable {
         self.rows.get(tenant)?.get(source)?.as_ref()
     }
 
-    /// Whether `source` is a source of `tenant`; each is its own. Takes no memory.
+    /// Whether `source` is a source of `tenant`. Each tenant is its own source. Allocates nothing.
     pub fn is_source(&self, tenant: TenantId, source: TenantId) -> bool
         ensures links { result ≡ has_source self.now tenant source }
         ensures sources { (setting : Setting) (past : List Event) → IsLinkTable setting past self.now → is_tenant setting.config tenant ≡ true → is_tenant setting.config source ≡ true
@@ -200,11 +201,11 @@ impl SourceTable {
         self.link(tenant, source).is_some()
     }
 
-    /// The links that lead from `tenant` to `source`, the tenant's own first, each at an earlier tick than the one in front of it. None where
-    /// it is no source, or the tenant itself.
+    /// The links from `tenant` to `source`, beginning with the tenant's own. Each is at an earlier tick than the one before it. Empty if
+    /// `source` is no source of `tenant`, or is `tenant` itself.
     ///
     /// # Errors
-    /// Want of memory, only where there is a link.
+    /// Out of memory, only if there is a link.
     pub fn chain(
         &self,
         alloc: Global,
@@ -243,8 +244,8 @@ fn no_links(alloc: Global, tenants: usize) -> Result<Vec<Option<Link>>, AllocErr
     Ok(row)
 }
 
-/// A tenant's sources are itself and those to which it has a link. Behind an instant they are those before it, and those that its
-/// suppliers had. For each tenant, and list of events, the newest first.
+/// A tenant's sources are itself and the tenants that it has a link to. After an instant they are those before it, and those that its
+/// suppliers had. This holds for each tenant and each list of events, the newest first.
 pub fn links_lead_to_sources()
     ensures linked { (setting : Setting) (past : List Event) (t u : ℕ) → is_source_of setting past t u ≡ (t == u || is_some (first_link setting past t u)) }
     ensures forward { (setting : Setting) (past : List Event) (frame : List ℤ) (t u : ℕ) → is_source_of setting (Event.Tick frame ∷ past) t u

@@ -1,4 +1,4 @@
--- What a tick adds to a table of links, as the code adds it.
+-- The links that a tick adds to a table, as the code adds them.
 use Rattle.std.specs.Prelude.{◌<◌, ℕ, Bool, ◌==◌, ◌||◌, if◌then◌else◌, ℤ, List, [], ◌∷◌, length, is_some, slice_index_or, slice_set, Some}
 use Rattle.rig_model.specs.declared.events.Event.{Event}
 use Rattle.rig_model.specs.declared.events.Event.TheVariants.{Tick}
@@ -9,15 +9,15 @@ use Rattle.rig_model.specs.Legal.{IsHistory}
 use Rattle.rig_model.specs.Base.{Setting}
 use Rattle.tenant_sources.specs.Links.{Links, link_in, IsLinkTable}
 
--- u is a source of t by its links; each tenant is its own
+-- u is a source of t by its links; each tenant is its own source
 abbrev pub has_source : Links → ℕ → ℕ → Bool
 has_source links t u = t == u || is_some (link_in links t u)
 
--- the table has a place for it
+-- the table has a place for this addition
 abbrev pub IsPlaceOf : Links → Addition → Type 0
 IsPlaceOf links a = (a.tenant < length links) × (a.source < length links)
 
--- one link more, where none stands
+-- the table with this link, unless there is already one in its place
 abbrev pub with_link : Links → Addition → Links
 with_link links a = if is_some (link_in links a.tenant a.source) then links else slice_set links a.tenant (slice_set (slice_index_or links a.tenant []) a.source (Some a.link))
 
@@ -25,7 +25,7 @@ abbrev pub with_links : Links → List Addition → Links
 with_links links [] = links
 with_links links (a ∷ rest) = with_links (with_link links a) rest
 
--- These links are what an instant adds, if it comes next: behind it the table with them is the table of all events.
+-- These links are what an instant adds, if it comes next: the table with them is the table after the instant.
 abbrev pub AreAdded : Links → HostStanding → List Addition → Type 0
 AreAdded links host added = (setting : Setting) (past : List Event) (frame : List ℤ) → IsHistory setting past → Stands setting host (host_after setting past)
     → IsLinkTable setting past links → IsLinkTable setting (Tick frame ∷ past) (with_links links added)
