@@ -37,7 +37,7 @@ module _ (p : GiottoProgram) {S : Type 0} (v : S → TaskBody) where
   abbrev IsThere : List (Option S) → Active → Type 0
   IsThere shares a = is_some (get_or shares a.task None) ≡ true
 
-  -- the tasks that are left are different, and the share of each is at hand
+  -- the tasks that are left are different, and the share of each is available
   pub record AreLeft (shares : List (Option S)) (active : List Active) : Type 0 where
     pub different : all_different (map named active) ≡ true
     pub there : AllByRecursion (IsThere shares) active
@@ -62,7 +62,7 @@ module _ (p : GiottoProgram) {S : Type 0} (v : S → TaskBody) where
       let other : a.task ≢ k = λ e. false≢true (sym both.0 ∙ ap (λ j. same_name (named a) (name_of_task p j)) (sym e) ∙ same_name_self (named a)) in
       (ap is_some (get_or-set_other shares k a.task None None other) ∙ there.0, still_there shares k rest both.1 there.1)
 
-  -- one that is left takes its share
+  -- the next task that is left takes its share
   pub left_more : (shares : List (Option S)) (a : Active) (rest : List Active) → AreLeft shares (a ∷ rest) → AreLeft (set shares a.task None) rest
   left_more shares a rest left =
       let both = and_parts (not (is_among (map named rest) (named a))) (all_different (map named rest)) left.different in
@@ -85,7 +85,7 @@ module _ (p : GiottoProgram) {S : Type 0} (v : S → TaskBody) where
       } in
       rw same (there, computable, each_at IsShareOf p.tasks (map (option_map v) shares) a.task t (Some (v share)) each its.1 found ∙ sym body)
 
--- those of one instant among the tasks that are left, from the next on
+-- the tasks of one instant among those that are left, from the next one on
 module _ (n : ℕ) (xs : List Active) (i : ℕ) (a : Active) (lt : i < length xs) (at : a ≡ get_or xs i a) where
   next_released : (b : Bool) → nat_eq a.release n ≡ b → released_in n (drop i xs) ≡ cond b (a ∷ released_in n (drop (i + 1) xs)) (released_in n (drop (i + 1) xs))
   next_released b is = ap (released_in n) (from_place xs i a lt at) ∙ ap (λ c. cond c (a ∷ released_in n (drop (i + 1) xs)) (released_in n (drop (i + 1) xs))) is

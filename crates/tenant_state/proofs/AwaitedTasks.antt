@@ -18,7 +18,7 @@ found_here test [] i x lt at h = absurd (omega (arith, lt))
 found_here test (y ∷ ys) zero x lt at h = ap (λ b. cond b (Some y) (find test ys)) (ap test (sym at) ∙ h)
 found_here test (y ∷ ys) (suc i) x lt at h = found_here test ys i x (omega (arith, lt)) at h
 
--- what stands from a place on
+-- the elements from a place on
 pub from_place : {X : Type 0} (xs : List X) (i : ℕ) (x : X) → i < length xs → x ≡ get_or xs i x → drop i xs ≡ x ∷ drop (i + 1) xs
 from_place xs i x lt at = drop_more xs i x lt ∙ ap (λ y. y ∷ drop (i + 1) xs) (sym at)
 
@@ -32,7 +32,7 @@ find-map f test (x ∷ xs) = at_head (test (f x)) (find-map f test xs)
     at_head true rest = refl
     at_head false rest = rest
 
--- a job of another tenant is no task's of this one
+-- no task of this tenant has a job of another tenant
 module _ (t : ℕ) (j : JobId) (apart : j.tenant ≡ t → ⊥) where
   other_tenants : (a : ActiveTask) → same_job (job_of t a) j ≡ false
   other_tenants a = ap (λ b. (b && (a.release == j.tick)) && same_name a.task j.task) (ne_eqb t j.tenant (λ e. apart (sym e)))
@@ -62,7 +62,7 @@ different_drop zero xs h = h
 different_drop (suc k) [] h = refl
 different_drop (suc k) (x ∷ xs) h = different_drop k xs (and_parts (list_all (is_another x) xs) (all_different_releases xs) h).1
 
--- of releases that differ one alone has its job
+-- if all releases differ, only one has its job
 pub alone : (t : ℕ) (tasks : List ActiveTask) (i : ℕ) (a : ActiveTask) → i < length tasks → a ≡ get_or tasks i a → all_different_releases tasks ≡ true
     → AllByRecursion (λ b. same_job (job_of t a) (job_of t b) ≡ true → b ≡ a) tasks
 alone t [] i a lt at different = tt

@@ -50,7 +50,7 @@ module _ (p : GiottoProgram) (a : Active) (t : Task) (task : slice_get p.tasks a
 pub so_there : (tasks : List Active) (i : ℕ) (a : Active) → i < length tasks → a ≡ get_or tasks i a → (P : Active → Type 0) → AllByRecursion P tasks → P a
 so_there tasks i a lt at P all = subst P (sym at) (all_at P tasks i a lt all)
 
--- no completion of a job is awaited that isn't there
+-- if there is no such job, no completion is awaited
 pub none_awaited : (has : Bool) (o : Option JobValue) → o ≡ None → cond has None o ≡ None
 none_awaited true o e = refl
 none_awaited false o e = e
@@ -69,7 +69,7 @@ module _ (p : GiottoProgram) (t : ℕ) (j : JobId) (tasks : List Active) where
   name_here : (i : ℕ) (a : Active) → i < length tasks → a ≡ get_or tasks i a → find named tasks ≡ slice_get tasks i → job_of t (active_of p a) ≡ j
   name_here i a lt at found = same_job_is (job_of t (active_of p a)) j (find_passes named tasks a (found ∙ slice_get_read tasks (length tasks) i a refl lt at))
 
-  -- no completion is awaited where the result came
+  -- if the result came, no completion is awaited
   pub not_awaited : (entries : List TableEntry) (i : ℕ) (a : Active) → i < length tasks → a ≡ get_or tasks i a → find named tasks ≡ slice_get tasks i
       → has_result entries (job_of t (active_of p a)) ≡ true → cond (has_result entries j) None job_found ≡ None
   not_awaited entries i a lt at found came = ap (λ b. cond b None job_found) (ap (has_result entries) (sym (name_here i a lt at found)) ∙ came)
@@ -89,7 +89,7 @@ module _ (p : GiottoProgram) (t : ℕ) (j : JobId) (tasks : List Active) where
         ap (option_map (job_in p t)) (find-map (active_of p) (λ a. same_job (job_of t a) j) tasks ∙ ap (option_map (active_of p)) found_is)
         ∙ λ k. Some (record { id = name k; body = body k; inputs = a.inputs; states = a.states })
 
-    -- its completion is awaited where its result didn't come
+    -- if its result didn't come, its completion is awaited
     pub awaited_now : (entries : List TableEntry) → has_result entries (job_of t (active_of p a)) ≡ false → cond (has_result entries j) None job_found ≡ Some own_job
     awaited_now entries none = ap (λ b. cond b None job_found) (ap (has_result entries) (sym (name_here i a lt at found)) ∙ none) ∙ job_is
 
@@ -99,11 +99,11 @@ module _ (p : GiottoProgram) (t : ℕ) (j : JobId) (tasks : List Active) where
       λ e. let same = some_same own_job v (sym job_is ∙ e) in (ap (λ (j : JobValue). j.body) same, ap (λ (j : JobValue). j.inputs) same, ap (λ (j : JobValue). j.states) same),
     )
 
--- those of these tasks without a result
+-- the tasks without a result
 abbrev pub left_of : ℕ → List TableEntry → List ActiveTask → List ActiveTask
 left_of t entries tasks = filter (λ a. not (has_result entries (job_of t a))) tasks
 
--- with one task more behind the others
+-- with one more task at the end
 module _ (t : ℕ) (entries : List TableEntry) (tasks : List ActiveTask) (a : ActiveTask) where
   pub left_with : has_result entries (job_of t a) ≡ false → left_of t entries (tasks ++ a ∷ []) ≡ left_of t entries tasks ++ a ∷ []
   left_with none = filter-append (λ b. not (has_result entries (job_of t b))) tasks (a ∷ []) ∙ ap (λ b. left_of t entries tasks ++ cond (not b) (a ∷ []) []) none
@@ -123,7 +123,7 @@ some_left t entries (a ∷ rest) (suc i) d lt none = by (not (has_result entries
     by false some = some
 
 module _ (p : GiottoProgram) (t : ℕ) where
-  -- the result that came for the task's job, if one did, is that of the job
+  -- the result that came for the task's job, if any, is that of the job
   abbrev IsRight : List TableEntry → ActiveTask → Type 0
   IsRight entries a = IfSome (result_in entries (job_of t a)) (λ r. r ≡ result_of (job_in p t a))
 
@@ -195,7 +195,7 @@ module _ (p : GiottoProgram) (t : ℕ) where
       others = λ j none. still_other j none ∙ is.others j none;
     }
 
-    -- one fewer is left, if it had none
+    -- one task fewer is left, if this one had no result
     pub left_fewer : length (left_of t now (drop i tasks)) ≡ length (left_of t new (drop (i + 1) tasks)) + cond done 1 0
     left_fewer =
         let others = (and_parts (list_all (is_another a) rest) (all_different_releases rest) (subst (λ bs. all_different_releases bs ≡ true) here (different_drop i tasks different))).0 in
@@ -207,7 +207,7 @@ module _ (p : GiottoProgram) (t : ℕ) where
         by true = omega arith
         by false = omega arith
 
--- the task at a place, among those that stand for these
+-- the task at a place, among those that these represent
 pub stands_there : (p : GiottoProgram) (tasks : List Active) (i : ℕ) (a : Active) → a ≡ get_or tasks i a → active_of p a ≡ get_or (map (active_of p) tasks) i (active_of p a)
 stands_there p tasks i a at = ap (active_of p) at ∙ sym (get_or-map (active_of p) tasks i a)
 

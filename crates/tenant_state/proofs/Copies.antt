@@ -1,4 +1,4 @@
--- What a copy of a tenant has.
+-- The copy of a tenant.
 use Rattle.std.proofs.Common.{◌≡◌, ℕ, ℤ, ◌&&◌, List, is_some, Option, Some, None, refl, sym, ap, subst, ◌∙◌}
 use Rattle.std.specs.Arc.{arc_value}
 use Rattle.std.specs.List.{list_all}
@@ -16,7 +16,7 @@ use Rattle.tenant_state.specs.inner.Copies.{AreCopied}
 use Rattle.tenant_state.specs.inner.Tenants.{FitsWaiting}
 use Rattle.tenant_state.proofs.Shares.{shared_map}
 
--- a copy of a program that waits fits where that one does
+-- the copy of a waiting program fits if the waiting program does
 pub fits_copied : (o : Option GiottoProgram) (waiting copy : Option Waiting) → AreCopied waiting copy → FitsWaiting o waiting → FitsWaiting o copy
 fits_copied o None copy same fits = subst (FitsWaiting o) (sym same) tt
 fits_copied o (Some w) None same fits = absurd same
@@ -35,7 +35,7 @@ program_copied None copy same = ap (option_map (λ (w : Waiting). w.program)) sa
 program_copied (Some w) None same = absurd same
 program_copied (Some w) (Some copy) same = ap (λ p. Some p) same.program
 
--- and has a share of each body where that one has
+-- it has a share of each body exactly if the waiting program has
 pub shared_copied : (waiting copy : Option Waiting) → AreCopied waiting copy → is_shared copy ≡ is_shared waiting
 shared_copied None copy same = ap is_shared same
 shared_copied (Some w) None same = absurd same

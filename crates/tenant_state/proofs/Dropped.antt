@@ -1,4 +1,4 @@
--- What a filter in place leaves behind what passes it: each element that doesn't pass, in any order.
+-- What a filter in place leaves after the elements that pass: each element that doesn't pass, in any order.
 use Rattle.std.proofs.Common.{◌≡◌, ℕ, ◌+◌, ◌-◌, ◌<◌, ◌≤◌, Bool, true, false, not, cond, ◌||◌, List, [], ◌∷◌, ◌++◌, filter, length, take, drop, get_or, set, refl, sym, ap, ◌∙◌, arith}
 use Rattle.std.specs.List.{list_any, SwappedAt}
 use Rattle.std.proofs.lemmas.List.{drop-append-le, drop-set-lt, drop-take, drop_all, drop_more, get_or-take, length-take-le, append-nil, length-set, take_more, take-set-le}
@@ -8,7 +8,7 @@ use Rattle.std.proofs.lemmas.List.Folds.{list_any-append}
 use Rattle.giotto_tasks.proofs.cited.TestLemmas.{or_turned}
 
 module _ {X : Type 0} (due : X → Bool) (xs ys : List X) (k i : ℕ) where
-  -- between the first k of ys and its place i stand those of the first i of xs that are due
+  -- the elements of `ys` from place `k` up to `i` are those of the first `i` of `xs` that are due
   abbrev pub AreBehind : Type 0
   AreBehind = (test : X → Bool) → list_any test (drop k (take i ys)) ≡ list_any test (filter due (take i xs))
 
@@ -21,7 +21,7 @@ module _ {X : Type 0} (due : X → Bool) (xs ys : List X) (k i : ℕ) (x : X) (h
       let same : get_or xs i x ≡ x = sym (ap (λ l. get_or l 0 x) (sym (drop_more ys i x lt) ∙ h.rest ∙ drop_more xs i x lt_old)) ∙ sym is in
       filter_more due xs i x lt_old ∙ (λ j. filter due (take i xs) ++ cond (due (same j)) (same j ∷ []) []) ∙ ap (λ c. filter due (take i xs) ++ cond c (x ∷ []) []) e
 
-  -- the next is due
+  -- the next element is due
   pub behind_more : due x ≡ true → AreBehind due xs ys k (i + 1)
   behind_more e = λ test.
       let within : k ≤ length (take i ys) = omega (arith, h.behind, length-take-le i ys (omega (arith, lt))) in
@@ -32,14 +32,14 @@ module _ {X : Type 0} (due : X → Bool) (xs ys : List X) (k i : ℕ) (x : X) (h
   same_due : due x ≡ false → (test : X → Bool) → list_any test (filter due (take i xs)) ≡ list_any test (filter due (take (i + 1) xs))
   same_due e test = sym (ap (list_any test) (one_more false e ∙ append-nil (filter due (take i xs))))
 
-  -- the next stays where it is
+  -- the next element stays where it is
   pub behind_here : due x ≡ false → k ≡ i → AreBehind due xs ys (k + 1) (i + 1)
   behind_here e same = λ test.
       ap (list_any test) (drop_all (k + 1) (take (i + 1) ys) (omega (arith, same, length-take-le (i + 1) ys (omega (arith, lt)))))
       ∙ sym (ap (list_any test) (drop_all k (take i ys) (omega (arith, same, length-take-le i ys (omega (arith, lt))))))
       ∙ behind test ∙ same_due e test
 
-  -- the next is moved up, and the first that is due stands in its place
+  -- the next element is moved up, and the first due element takes its place
   pub behind_swap : {zs : List X} → due x ≡ false → k < i → SwappedAt ys zs k i → AreBehind due xs zs (k + 1) (i + 1)
   behind_swap {zs} e less s = λ test.
       let v : X = get_or ys k x in
@@ -62,6 +62,6 @@ module _ {X : Type 0} (due : X → Bool) (xs ys : List X) (k i : ℕ) (x : X) (h
       only true b = refl
       only false b = refl
 
--- at the end
+-- the result, at the end
 pub all_behind : {X : Type 0} (due : X → Bool) (xs ys : List X) (k i : ℕ) → AreBehind due xs ys k i → k ≤ i → (test : X → Bool) → list_any test (take (i - k) (drop k ys)) ≡ list_any test (filter due (take i xs))
 all_behind due xs ys k i behind le test = let whole : k + (i - k) ≡ i = omega (arith, le) in ap (list_any test) (sym (drop-take k (i - k) ys) ∙ ap (λ n. drop k (take n ys)) whole) ∙ behind test

@@ -42,7 +42,7 @@ pub any_wider : {X : Type 0} (p q : X → Bool) → ((x : X) → p x ≡ true �
 any_wider p q wider [] h = h
 any_wider p q wider (x ∷ xs) h = ⊎_elim (λ e. or_left _ _ (wider x e)) (λ e. or_right (q x) _ (any_wider p q wider xs e)) (or_cases _ _ h)
 
--- where just those that pass a test are told apart by another as this says
+-- if `d` says whether the elements that pass a test are due, a due element passes exactly if `d` holds and an element passes
 any_told : {X : Type 0} (test due : X → Bool) (d : Bool) (xs : List X) → AllByRecursion (λ x. test x ≡ true → due x ≡ d) xs → list_any test (filter due xs) ≡ (d && list_any test xs)
 any_told test due d [] all = sym (and_false d)
 any_told {X = X} test due d (x ∷ xs) all = by (test x) refl (due x) all.0 (any_told test due d xs all.1)
@@ -54,7 +54,7 @@ any_told {X = X} test due d (x ∷ xs) all = by (test x) refl (due x) all.0 (any
     by false is true same rest = ap (λ t. t || list_any test (filter due xs)) is ∙ rest
     by false is false same rest = rest
 
--- of what passes a test, what is due is all but what stays, where it is all due or none of it
+-- then a due element passes exactly if an element passes, and none of those that stay passes
 pub any_parted : {X : Type 0} (test due : X → Bool) (d : Bool) (xs : List X) → AllByRecursion (λ x. test x ≡ true → due x ≡ d) xs
     → list_any test (filter due xs) ≡ (list_any test xs && not (list_any test (filter (λ x. not (due x)) xs)))
 any_parted test due d xs all =
@@ -76,7 +76,7 @@ distributed true false false = refl
 distributed false b c = refl
 
 module _ (m : ModeDeclaration) (time : ℕ) (active : List ActiveTask) where
-  -- the active tasks of an invocation's name, where it is due
+  -- the active tasks of an invocation's name, if the invocation is due
   abbrev pub group : TaskInvocation → List ActiveTask
   group i = filter (λ (a : ActiveTask). same_name a.task i.task && is_due_at time m i.frequency) active
 
@@ -91,7 +91,7 @@ module _ (m : ModeDeclaration) (time : ℕ) (active : List ActiveTask) where
       any-filter_same test _ (same_name x i.task && is_due_at time m i.frequency) (λ a e. ap (λ y. same_name y i.task && is_due_at time m i.frequency) (named a e)) active
 
   module _ (test : ActiveTask → Bool) where
-    -- the names of those of the due tasks that pass a test
+    -- the names of the due tasks that pass a test
     pub names_due : (is : List TaskInvocation) (x : Name)
         → is_among (names_of_tasks (filter test (flat_map group is))) x ≡ (ends is x && list_any (λ (a : ActiveTask). same_name a.task x && test a) active)
     names_due [] x = refl
@@ -125,18 +125,18 @@ module _ (m : ModeDeclaration) (time : ℕ) (active : List ActiveTask) where
           (ap not (among_due a.task (within a.task (or_left _ _ (and_from _ _ (same_name_self a.task) refl)))), along xs (λ x h. within x (or_right (same_name a.task x && true) _ h)))
 
   module _ (completed : ActiveTask → Bool) where
-    -- an active task of this name isn't completed
+    -- whether an active task of this name isn't completed
     abbrev pub is_unfinished : Name → Bool
     is_unfinished x = list_any (λ (a : ActiveTask). same_name a.task x && not (completed a)) active
 
-    -- a task of this invocation is due and not completed
+    -- whether a task of this invocation is due and not completed
     abbrev pub is_open : TaskInvocation → Bool
     is_open i = is_due_at time m i.frequency && is_unfinished i.task
 
     abbrev pub open_names : List ActiveTask → List Name
     open_names tasks = map (λ (a : ActiveTask). a.task) (filter (λ a. not (completed a)) tasks)
 
-    -- a name of an open task: its task is due, and not completed
+    -- whether a name is that of an open task: its task is due, and not completed
     open_is : (is : List TaskInvocation) (x : Name) → is_among (open_names (flat_map group is)) x ≡ (ends is x && is_unfinished x)
     open_is is x = names_due (λ a. not (completed a)) is x
 
@@ -154,7 +154,7 @@ module _ (m : ModeDeclaration) (time : ℕ) (active : List ActiveTask) where
             let named = and_parts _ _ both.0 in
             false≢true (sym opens ∙ and_from _ _ named.1 (subst (λ y. is_unfinished y ≡ true) (same_name_is x i.task named.0) both.1))))
 
-    -- where no invocation is open, no due task is
+    -- if no invocation is open, no due task is
     pub none_open : (is : List TaskInvocation) → find is_open is ≡ None → filter (is_among (open_names (flat_map group is))) (names_of_tasks (flat_map group is)) ≡ []
     none_open is e = none_passes _ _ (all_of (λ x. open_is is x ∙ ends_open is x e) (names_of_tasks (flat_map group is)))
 

@@ -1,4 +1,4 @@
--- What the code does in a first half, by places and slots, and the first half of the row for which the tenant stands.
+-- The first half in the code, by places and slots, and the first half of the row that the tenant represents.
 use Rattle.std.proofs.Common.{take, ◌≡◌, ℕ, ◌<◌, ◌+◌, ◌%◌, ◌==◌, nat_eq, Bool, true, false, not, cond, ◌&&◌, ◌||◌, ⊎_elim, ℤ, List, [], ◌∷◌, ◌++◌, map, filter, length, drop, get_or, Option, Some, None, sym, refl, ap, subst, ◌∙◌, arith}
 use Rattle.std.specs.Prelude.{IsSomeAnd, slice_get}
 use Rattle.std.specs.List.{list_any, list_all, find, flat_map, AllByRecursion}
@@ -53,7 +53,7 @@ use Rattle.rig_model.specs.trace.Trace.{LastRecords, with_happenings}
 use Rattle.rig_model.specs.trace.cited.Noted.{noted}
 use Rattle.rig_model.proofs.of_trace.Kept.{noted_behind}
 
--- a tenant that stays as it is, where none had ended, has none that end
+-- if a tenant is unchanged and none of its tasks had ended, none ends
 pub none_ended : (s : Standing) → s.ready.ended ≡ [] → AreEnded s s
 none_ended s e j = ap (λ l. has_job s.tenancy.owner.place l j) e ∙ neither (has_active s j)
   where
@@ -71,7 +71,7 @@ any_alike R f g same [] (y ∷ ys) all = absurd all
 any_alike R f g same (x ∷ xs) [] all = absurd all
 any_alike R f g same (x ∷ xs) (y ∷ ys) all = ap (λ b. b || list_any f xs) (same x y all.0) ∙ ap (λ b. g y || b) (any_alike R f g same xs ys all.1)
 
--- what is found in the one is at the place of what is found in the other
+-- what is found in one list corresponds to what is found in the other
 abbrev FoundAlike : {X Y : Type 0} → (X → Y → Type 0) → Option X → Option Y → Type 0
 FoundAlike R None None = Unit
 FoundAlike R None (Some y) = ⊥
@@ -88,7 +88,7 @@ find_alike R f g same (x ∷ xs) (y ∷ ys) all = subst (λ b. FoundAlike R (con
     by true rest = all.0
     by false rest = rest
 
--- what is found among those that are left, one step on
+-- what is found among the remaining elements, one step further
 pub found_from : {X : Type 0} (test : X → Bool) (xs : List X) (k : ℕ) (x : X) (b : Bool) → k < length xs → x ≡ get_or xs k x → test x ≡ b → find test (drop k xs) ≡ cond b (Some x) (find test (drop (k + 1) xs))
 found_from test xs k x b lt is e = ap (find test) (drop_more xs k x lt ∙ ap (λ y. y ∷ drop (k + 1) xs) (sym is)) ∙ ap (λ c. cond c (Some x) (find test (drop (k + 1) xs))) e
 
@@ -96,7 +96,7 @@ found_from test xs k x b lt is e = ap (find test) (drop_more xs k x lt ∙ ap (�
 abbrev pub kept : ℕ → List SlotInvocation → List Active → List Active
 kept time es items = filter (λ a. not (is_among_due time a.task es)) items
 
--- nothing is found among those that are left, one step on
+-- nothing is found among the remaining elements, one step further
 pub left_none : {X : Type 0} (test : X → Bool) (xs : List X) (k : ℕ) (x : X) → k < length xs → find test (drop k xs) ≡ None → find test (drop (k + 1) xs) ≡ None
 left_none test xs k x lt e = by (test (get_or xs k x)) (sym (ap (find test) (drop_more xs k x lt)) ∙ e)
   where
@@ -104,7 +104,7 @@ left_none test xs k x lt e = by (test (get_or xs k x)) (sym (ap (find test) (dro
     by true e = absurd (cc)
     by false e = e
 
--- what is found nowhere isn't the next of those that are left
+-- if nothing is found, the next of the remaining elements isn't it
 pub not_here : {X : Type 0} (test : X → Bool) (xs : List X) (k : ℕ) (x : X) → k < length xs → x ≡ get_or xs k x → find test (drop k xs) ≡ None → test x ≡ false
 not_here test xs k x lt is e = by (test x) (sym (found_from test xs k x (test x) lt is refl) ∙ e)
   where
@@ -112,7 +112,7 @@ not_here test xs k x lt is e = by (test x) (sym (found_from test xs k x (test x)
     by true e = absurd (cc)
     by false e = refl
 
--- where all are done none is open
+-- if all tasks are done, none is open
 pub all_closed : (time : ℕ) (done : Active → Bool) (active : List Active) → AllByRecursion (λ a. done a ≡ true) active → (es : List SlotInvocation) → find (is_left_open time done active) es ≡ None
 all_closed time done active h [] = refl
 all_closed time done active h (e ∷ es) =
@@ -132,7 +132,7 @@ pub map_some : {A B : Type 0} (f : A → B) (o : Option A) (y : B) → Some y �
 map_some f None y e = absurd (cc)
 map_some f (Some x) y e = let same : f x ≡ y = cc in (x, refl, same)
 
--- the result that came for an active task, where it is that of its job, is what its declaration's body computes
+-- if the result that came for an active task is that of its job, it is what the body of its declaration computes
 pub result_here : (p : GiottoProgram) → ProgramFits p → (place : ℕ) (a : Active) (t : TaskDeclaration) → slice_get p.tasks a.task ≡ Some t → (r : JobResult) → r ≡ result_of (job_in p place (active_of p a))
     → (r.outputs ≡ outputs_of (body_of t) a.inputs a.states) × (r.states ≡ states_of (body_of t) a.inputs a.states) × (length r.states ≡ length t.states)
 result_here p fits place a t at r is =
@@ -140,14 +140,14 @@ result_here p fits place a t at r is =
     let states = ap (λ (r : JobResult). r.states) is ∙ ap (λ b. states_of b a.inputs a.states) body in
     (ap (λ (r : JobResult). r.outputs) is ∙ ap (λ b. outputs_of b a.inputs a.states) body, states, ap length states ∙ length-map (names_of t.states) _ ∙ length-map t.states _)
 
--- the task at the place of a name has it
+-- the task at the place of a name has that name
 pub name_of_place : (p : GiottoProgram) (x : Name) (k : ℕ) → place_of_task p x ≡ Some k → name_of_task p k ≡ x
 name_of_place p x k place =
     let found = passes_there (λ (t : TaskDeclaration). same_name t.name x) 0 p.tasks k place in
     let here : found.0 ≡ k = omega (arith, found.2) in
     ap (name_of_task p) (sym here) ∙ ap (λ o. option_map_or (λ (t : TaskDeclaration). t.name) o []) found.3 ∙ same_name_is found.1.name x found.4
 
--- what ends make of ports and of a trace, task by task
+-- the ports and the trace after tasks end, task by task
 pub ended_one_by_one : (p : GiottoProgram) (xs ys : List ActiveTask) (ports : Valuation) → all_ended p (xs ++ ys) ports ≡ all_ended p ys (all_ended p xs ports)
 ended_one_by_one p [] ys ports = refl
 ended_one_by_one p (x ∷ xs) ys ports = ended_one_by_one p xs ys _
@@ -162,7 +162,7 @@ ends_are_noted p n [] t = refl
 ends_are_noted p n (x ∷ xs) t = ends_are_noted p n xs _ ∙ sym (noted_behind n (option_map_or (outputs_of_end x) (task_named p x.task) []) (ends_happened p xs) t)
 
 module _ (p : GiottoProgram) (fits : ProgramFits p) (m : ModeDeclaration) (time : ℕ) where
-  -- an active task has the name of an invocation's task where it has its place
+  -- an active task has the name of an invocation's task exactly if it has that task's place
   same_place : (a : Active) (i : TaskInvocation) (e : SlotInvocation) → IsActiveOf p a → IsInvocation p m i e → same_name (name_of_task p a.task) i.task ≡ nat_eq a.task e.task
   same_place a i e is entry = let there = some_of (slice_get p.tasks a.task) is in same_task p fits a.task e.task there.0 i.task there.1 entry.task
 
@@ -196,7 +196,7 @@ module _ (p : GiottoProgram) (fits : ProgramFits p) (m : ModeDeclaration) (time 
   goes is es each items all place j = λ xs. all_map (IsActiveOf p) _ xs (λ a is_of h.
       sym (ends_alike is es each items a is_of) ∙ ap (ends m time (map (active_of p) items) is) (same_name_is (name_of_task p a.task) j.task (and_parts _ _ h).1))
 
-  -- a job is one of the tasks that end, where it is active and doesn't stay
+  -- a job is that of a task that ends exactly if the job is active and doesn't stay
   ended_alike : (is : List TaskInvocation) (es : List SlotInvocation) → AreEach (IsInvocation p m) is es → (items : List Active) → AllByRecursion (IsActiveOf p) items → (place : ℕ) (j : JobId)
       → list_any (λ a. same_job (job_of place (active_of p a)) j) (filter (λ a. is_among_due time a.task es) items)
       ≡ (list_any (λ a. same_job (job_of place (active_of p a)) j) items && not (list_any (λ a. same_job (job_of place (active_of p a)) j) (kept time es items)))
@@ -209,14 +209,14 @@ module _ (p : GiottoProgram) (fits : ProgramFits p) (m : ModeDeclaration) (time 
       let has : (xs : List Active) → has_job place (map (active_of p) xs) j ≡ list_any (λ a. same_job (job_of place (active_of p a)) j) xs = any_map (λ (a : ActiveTask). same_job (job_of place a) j) (active_of p) in
       has gone ∙ told _ ∙ ended_alike is es each items all place j ∙ sym (λ k. has items k && not ((ap (λ xs. has_job place (map (active_of p) xs) j) stay ∙ has (kept time es items)) k))
 
-  -- the tasks of one invocation end, or none where it isn't due
+  -- the tasks of one invocation end, or none if it isn't due
   module _ (items : List Active) (all : AllByRecursion (IsActiveOf p) items) (is : List TaskInvocation) (i : TaskInvocation) (e : SlotInvocation) (k : ℕ) (here : drop k is ≡ i ∷ drop (k + 1) is) (entry : IsInvocation p m i e) where
     group_alike : (b : Bool) → (time % e.interval == 0) ≡ b → group m time (map (active_of p) items) i ≡ map (active_of p) (filter (λ a. nat_eq a.task e.task && b) items)
     group_alike b due =
         filter-map (active_of p) _ _ items
         (all_map _ _ items (λ a is_of. ap (λ c. c && is_due_at time m i.frequency) (same_place a i e is_of entry) ∙ ap (λ c. nat_eq a.task e.task && c) (sym (invocation_due p fits time m i e entry) ∙ due)) all)
 
-    -- whatever the ends make of something, task by task
+    -- anything that changes as tasks end, task by task
     module _ {S : Type 0} (by_ends : List ActiveTask → S → S) (one_by_one : (xs ys : List ActiveTask) (s : S) → by_ends (xs ++ ys) s ≡ by_ends ys (by_ends xs s)) where
       end_step : (b : Bool) → (time % e.interval == 0) ≡ b → (start after whole : S) → after ≡ by_ends (map (active_of p) (filter (λ a. nat_eq a.task e.task && b) items)) start
           → by_ends (flat_map (group m time (map (active_of p) items)) (drop k is)) start ≡ whole → by_ends (flat_map (group m time (map (active_of p) items)) (drop (k + 1) is)) after ≡ whole
@@ -246,7 +246,7 @@ tasks_within p m (i ∷ is) (e ∷ es) each = let within = place_within (λ (t :
 pub its_mode : (p : GiottoProgram) (k : ℕ) → k < length p.modes → (m : ModeDeclaration) × (slice_get p.modes k ≡ Some m)
 its_mode p k lt = ⊎_elim (λ found. (found.0, found.2)) (λ past. absurd (omega (arith, past.0, lt))) (slice_get_cases p.modes k).1
 
--- a running tenant with this program, as its fields stand
+-- a running tenant with this program, by its fields
 pub record IsRunning (tenant : Standing) (grants : GrantRows) (p : GiottoProgram) (mode time next : ℕ) (active ended : List Active) (values : List ℤ) (shares : List (Option TaskBody)) (waiting : Option Waiting) (trace : LastRecords) (next_tick : ℕ) : Type 0 where
   pub row : tenant.row ≡ row_of grants states.Running (Some p) mode time active values waiting trace next_tick
   pub fits : FitsProgram p mode time next active ended values shares next_tick
@@ -268,7 +268,7 @@ as_running {p = p} {grants = grants} {mode = mode} {time = time} {next = next} {
       there = m.1;
     }
 
--- what holds of each image holds of what it is made from
+-- what holds of each image holds of the element that it is made from
 pub all_unmapped : {X Y : Type 0} (P : Y → Type 0) (f : X → Y) (xs : List X) → AllByRecursion P (map f xs) → AllByRecursion (λ x. P (f x)) xs
 all_unmapped P f [] all = tt
 all_unmapped P f (x ∷ xs) all = (all.0, all_unmapped P f xs all.1)
@@ -295,7 +295,7 @@ declared_is p a = by (slice_get p.tasks a.task)
         certain true h = refl
         certain false h = absurd (h refl)
 
--- entries that pass just the tests that others pass are of the program, as those are
+-- if entries pass exactly the tests that entries of the program pass, they are entries of the program too
 pub each_among : (p : GiottoProgram) (xs ys : List Active) → ((test : Active → Bool) → list_any test ys ≡ list_any test xs) → AllByRecursion (IsActiveOf p) xs → AllByRecursion (IsActiveOf p) ys
 each_among p xs ys same all =
     let strange : Active → Bool = λ a. not (is_declared p a) in
@@ -318,7 +318,7 @@ different_filter p test (x ∷ xs) h =
     others : (ys : List Active) → list_all (is_another (active_of p x)) (map (active_of p) ys) ≡ true → list_all (is_another (active_of p x)) (later ys) ≡ true
     others ys h = list_all-map (is_another (active_of p x)) (active_of p) (filter test ys) ∙ list_all-filter (λ y. is_another (active_of p x) (active_of p y)) test ys (sym (list_all-map (is_another (active_of p x)) (active_of p) ys) ∙ h)
 
--- a running tenant, and a row for which it stands
+-- a running tenant, and a row that it represents
 module _ (grants : GrantRows) (p : GiottoProgram) (fits : ProgramFits p) (m : ModeDeclaration) (mode time : ℕ) (items : List Active) (values : List ℤ) (waiting : Option Waiting) (trace : LastRecords) (count most : ℕ)
     (at : slice_get p.modes mode ≡ Some m) (completed : ActiveTask → Bool) (row : Row) (st : row_of grants states.Running (Some p) mode time items values waiting trace count ≡ with_last most row) where
   runs : Runs row p m

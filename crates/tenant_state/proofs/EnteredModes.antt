@@ -17,7 +17,7 @@ use Rattle.rig_model.specs.Row.{ActiveTask}
 use Rattle.rig_model.specs.SecondHalf.{entry_time}
 use Rattle.tenant_state.specs.inner.Tenants.{IsEntered}
 
--- where none is due none is taken
+-- if no switch is due, none is taken
 pub none_taken : (m : ModeDeclaration) (time : ℕ) (ports : Valuation) (switches : List ModeSwitch) → AllByRecursion (λ (s : ModeSwitch). is_due_at time m s.frequency ≡ false) switches
     → find (λ (s : ModeSwitch). is_due_at time m s.frequency && holds s.guard ports) switches ≡ None
 none_taken m time ports [] none = refl
@@ -25,12 +25,12 @@ none_taken m time ports (s ∷ switches) none =
     ap (λ b. cond (b && holds s.guard ports) (Some s) (find (λ (s : ModeSwitch). is_due_at time m s.frequency && holds s.guard ports) switches)) none.0
     ∙ none_taken m time ports switches none.1
 
--- it leads to a mode of the program
+-- a switch that is taken enters a mode of the program
 pub target_within : (p : GiottoProgram) (o : Option ModeSwitch) (k : ℕ) → Some k ≡ option_and_then (λ (s : ModeSwitch). place_of_mode p s.target) o → k < length p.modes
 target_within p None k e = absurd (cc)
 target_within p (Some s) k e = let within = place_within (λ (m : ModeDeclaration). same_name m.name s.target) 0 p.modes k (sym e) in omega (arith, within)
 
--- so it does, as none is taken at a place without a mode
+-- so does a switch at any place, because none is taken at a place without a mode
 pub entered_within : (p : GiottoProgram) (mode time : ℕ) (ports : Valuation) (k : ℕ)
     → ((m : ModeDeclaration) → slice_get p.modes mode ≡ Some m → Some k ≡ option_and_then (λ (s : ModeSwitch). place_of_mode p s.target) (switch_taken m time ports))
     → (length p.modes ≤ mode → Some k ≡ None) → k < length p.modes

@@ -10,7 +10,7 @@ use Rattle.tenant_state.specs.inner.EntryTable.{IsTableOf, is_task_open}
 use Rattle.tenant_state.specs.declared.tenants.Active.{Active}
 use Rattle.tenant_slots.specs.declared.due.TheConstants.{TABLED_TASKS}
 
--- one entry more, of a task that has none yet
+-- one more entry, of a task that has none yet
 pub table_more : (items : List Active) (i : ℕ) (d : Active) (table : List ℕ) → i < length items → length table ≡ TABLED_TASKS → (get_or items i d).task < TABLED_TASKS → get_or table (get_or items i d).task 0 ≡ 0
     → IsTableOf i items table → IsTableOf (i + 1) items (set table (get_or items i d).task (i + 1))
 table_more items i d table lt long small free before t small_t = by (nat_eq a.task t) refl

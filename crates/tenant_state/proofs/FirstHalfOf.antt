@@ -33,18 +33,18 @@ module _ (row : Row) (p : GiottoProgram) (m : ModeDeclaration) (h : Runs row p m
   abbrev by_tasks : List ActiveTask → Row
   by_tasks tasks = first_half_with (filter (is_among (open_names m row.mode_time row.active completed tasks)) (names_of_tasks tasks)) row
 
-  -- where no due task is left open
+  -- if no due task is left open
   pub goes_on : find (is_open m row.mode_time row.active completed) m.invocations ≡ None → first_half_of (unfinished_tasks completed row) row ≡ completed_in_mode p m row
   goes_on e =
       ap by_tasks due_are ∙ ap (λ names. first_half_with names row) (none_open m row.mode_time row.active completed m.invocations e)
       ∙ ap (λ s. cond (is_running_state s) (in_mode completed_in_mode row) row) h.state
       ∙ ap (λ o. where_some (λ p. where_some (completed_in_mode p) (mode_named p row.mode)) o row) h.program ∙ ap (λ o. where_some (completed_in_mode p) o row) h.mode
 
-  -- the first that is left open stops the tenant
+  -- the first task that is left open stops the tenant
   pub stops : (i : TaskInvocation) → find (is_open m row.mode_time row.active completed) m.invocations ≡ Some i → first_half_of (unfinished_tasks completed row) row ≡ stopped_with (overrun i.task) row
   stops i e = ap by_tasks due_are ∙ ap (λ names. first_half_with names row) (first_open m row.mode_time row.active completed m.invocations i e).1
 
-  -- where nothing is due nothing happens
+  -- if nothing is due, nothing happens
   module _ (quiet : IsQuietAt m row.mode_time) where
     none_due : (is : List TaskInvocation) → AllByRecursion (λ (i : TaskInvocation). is_due_at row.mode_time m i.frequency ≡ false) is
         → (find (is_open m row.mode_time row.active completed) is ≡ None) × (flat_map (group m row.mode_time row.active) is ≡ [])

@@ -1,4 +1,4 @@
--- The greatest of some numbers, the first taken apart.
+-- The greatest of some numbers, with the first one separate.
 use Rattle.std.proofs.Common.{◌≡◌, ℕ, List, [], ◌∷◌, max, arith}
 use Rattle.std.specs.List.{fold}
 use Rattle.rig_model.specs.rules.Costs.{greatest}

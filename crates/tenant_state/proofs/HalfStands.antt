@@ -1,4 +1,4 @@
--- What a tenant stands for behind its second half, and the tasks that it released.
+-- The row that a tenant represents after its second half, and the tasks that it released.
 use Rattle.std.proofs.Common.{◌≡◌, ℕ, ◌+◌, ◌%◌, ◌≤◌, Bool, true, false, cond, ℤ, List, [], ◌∷◌, ◌++◌, length, map, filter, take, drop, Option, Some, None, refl, ap, sym, subst, ◌∙◌, arith}
 use Rattle.std.specs.Prelude.{option_to_list, slice_get}
 use Rattle.std.specs.List.{AllByRecursion}
@@ -35,7 +35,7 @@ use Rattle.rig_model.specs.trace.Trace.{LastRecords, with_happenings}
 use Rattle.tenant_state.proofs.SecondHalfSteps.{in_its_mode, running_half, placed, IsBehindSwitch}
 
 module _ (p : GiottoProgram) (m : ModeDeclaration) (time n : ℕ) where
-  -- what each invocation keeps, whether it releases its task or not, holds of all that are released
+  -- what holds after each invocation, whether it releases its task or not, holds of all tasks that are released
   pub released_by : (P : List TaskInvocation → List ActiveTask → Type 0) → P [] [] → ((i : TaskInvocation) (is : List TaskInvocation) (later : List ActiveTask) → P is later → P (i ∷ is) later)
       → ((i : TaskInvocation) (is : List TaskInvocation) (later : List ActiveTask) (ports : Valuation) (t : TaskDeclaration) → is_due_at time m i.frequency ≡ true → task_named p i.task ≡ Some t
       → P is later → P (i ∷ is) (released n i ports t ∷ later))
@@ -49,11 +49,11 @@ module _ (p : GiottoProgram) (m : ModeDeclaration) (time n : ℕ) where
       first true None h e on = stay i is _ on
       first true (Some t) h e on = more i is _ ports t (and_parts _ _ h).0 e on
 
-  -- each task that an instant releases has its number
+  -- each task that an instant releases has the instant's number
   pub new_releases : (is : List TaskInvocation) (ports : Valuation) → AllByRecursion (λ (a : ActiveTask). a.release ≡ n) (all_released p m time n is ports)
   new_releases = released_by (λ is new. AllByRecursion (λ (a : ActiveTask). a.release ≡ n) new) tt (λ i is later all. all) (λ i is later ports t due e all. (refl, all))
 
-  -- they are no more than what is due
+  -- the released tasks are no more than the due invocations
   few_released : (is : List TaskInvocation) (ports : Valuation) → length (all_released p m time n is ports) ≤ length (filter (λ (i : TaskInvocation). is_due_at time m i.frequency) is)
   few_released =
       released_by (λ is new. length new ≤ length (filter (λ (i : TaskInvocation). is_due_at time m i.frequency) is)) (omega arith)
@@ -63,19 +63,19 @@ module _ (p : GiottoProgram) (m : ModeDeclaration) (time n : ℕ) where
       no_shorter true i others k le = omega (arith, le)
       no_shorter false i others k le = le
 
-  -- where nothing is due nothing is invoked
+  -- if nothing is due, nothing is invoked
   pub none_due : (is : List TaskInvocation) (ports : Valuation) → AllByRecursion (λ (i : TaskInvocation). is_due_at time m i.frequency ≡ false) is
       → (all_released p m time n is ports ≡ []) × (all_invoked p m time is ports ≡ ports)
   none_due [] ports all = (refl, refl)
   none_due (i ∷ is) ports all = rw all.0 (none_due is ports all.1)
 
--- a step that is told for each list of records, of which a tenant keeps the last
+-- a step that holds for each list of records holds for the tenant, which keeps the last of them
 stands_behind : (readings : Readings) (granted : Valuation) (old new : Standing) → ((rs : List Record) → old.row.records ≡ take old.tenancy.budgets.trace rs → with_last new.tenancy.budgets.trace (second_half_of readings granted (record old.row { records = rs })) ≡ new.row)
     → (row : Row) → StandsFor old row → StandsFor new (second_half_of readings granted row)
 stands_behind readings granted old new behind row stands =
     sym (behind row.records (ap (λ (r : Row). r.records) stands)) ∙ (λ k. with_last new.tenancy.budgets.trace (second_half_of readings granted (record (stands k) { records = row.records })))
 
--- the ports behind the sensors' readings
+-- the ports after the sensors' readings
 abbrev pub sensed_ports : GiottoProgram → List ℤ → Readings → Valuation → Valuation
 sensed_ports p values readings granted = with_values (valuation_of p values) (sensor_names p) (map (reading_taken readings granted) p.sensors)
 
@@ -87,7 +87,7 @@ module _ (budgets : Budgets) (grants : GrantRows) (p : GiottoProgram) (kept : Pr
   after to later room new written told = standing_of budgets grants Running (Some p) to later new gone room written shares waiting told (n + 1)
 
   module _ (at_mode : slice_get p.modes mode ≡ Some m) where
-    -- the most that the instant can release
+    -- the most tasks that the instant can release
     most_due : IsSettled before.row → most_released before.row ≡ most_at p m time
     most_due settled = ap most_in_mode (settled before.row.records) ∙ ap (λ o. option_map_or (λ (m : ModeDeclaration). most_at p m time) o 0) (mode_here p kept mode m at_mode)
 
@@ -105,7 +105,7 @@ module _ (budgets : Budgets) (grants : GrantRows) (p : GiottoProgram) (kept : Pr
         fresh : AllByRecursion (λ (a : ActiveTask). a.release ≡ n) news
         fresh = new_releases p is.new at n is.new.invocations (valuation_of p given)
 
-        -- the row behind the step, where it had these records
+        -- the row after the step, if it had these records
         row_behind : IsSettled before.row → trace.most ≡ budgets.trace → (rs : List Record) → trace.records ≡ take budgets.trace rs
             → with_last budgets.trace (second_half_of readings granted (record before.row { records = rs })) ≡ (after to ((at + 1) % period) room new written told).row
         row_behind settled same rs last =
@@ -125,7 +125,7 @@ module _ (budgets : Budgets) (grants : GrantRows) (p : GiottoProgram) (kept : Pr
         pub half_stands : IsSettled before.row → trace.most ≡ budgets.trace → (row : Row) → StandsFor before row → StandsFor (after to ((at + 1) % period) room new written told) (second_half_of readings granted row)
         half_stands settled same row stands = stands_behind readings granted before (after to ((at + 1) % period) room new written told) (row_behind settled same) row stands
 
-        -- what it released
+        -- the tasks that it released
         pub half_released : IsSettled before.row → AreReleased before.row (after to ((at + 1) % period) room new written told).row
         half_released settled = let olds : List ActiveTask = map (active_of p) old in record {
           older = ap (take (length olds)) happened.tasks ∙ take-append_seam olds news;

@@ -1,4 +1,4 @@
--- What stands before an installation.
+-- What holds before an installation.
 use Rattle.std.proofs.Common.{ℕ, ◌+◌, ℤ, cond, List, [], ◌∷◌, length, take, drop, map, filter, ap, sym, subst, ◌∙◌, arith, inr, ◌≡◌, Bool, true, false, Option, Some, None, refl, is_some}
 use Rattle.std.specs.Prelude.{◌&&◌}
 use Rattle.std.specs.List.{AllByRecursion, flat_map}
@@ -43,20 +43,20 @@ running_is (states.Stopped reason) e = absurd (false≢true e)
 
 module _ (budgets : Budgets) (grants : GrantRows) (state : code.State) (program : Option GiottoProgram) (mode time next : ℕ) (active ended : List Active) (room : ℕ) (values : List ℤ) (shares : List (Option TaskBody)) (waiting : Option Waiting) (trace : LastRecords) (next_tick : ℕ)
     (tenant : Standing) (view : standing_of budgets grants state program mode time active ended room values shares waiting trace next_tick ≡ tenant) where
-  -- where nothing is due at mode time 0, no task is active
+  -- if nothing is due at mode time 0, no task is active
   pub none_left : IsTenant (state_of state) program mode time next active ended values shares next_tick → is_running tenant.row ≡ true → (p : GiottoProgram) → program ≡ Some p → ProgramFits p → due_tasks tenant.row ≡ [] → tenant.row.mode_time ≡ 0
       → tenant.row.active ≡ []
   none_left known runs p has fits none begins =
       let run = as_running waiting trace view known (running_is state (ap (λ (t : Standing). is_running t.row) view ∙ runs)) has in
       ap (λ (r : Row). r.active) run.row ∙ ap (map (active_of p)) (no_task_left run fits none (ap (λ (r : Row). r.mode_time) (sym run.row) ∙ begins))
 
-  -- a tenant stands for its own row
+  -- a tenant represents its own row
   pub stands_for_itself : IsTraceOf budgets.trace trace → StandsFor tenant tenant.row
   stands_for_itself kept =
       let own : Standing = standing_of budgets grants state program mode time active ended room values shares waiting trace next_tick in
       subst (λ (t : Standing). StandsFor t t.row) view (λ k. record own.row { records = sym kept.few k })
 
--- where no task is active, none is due
+-- if no task is active, none is due
 pub nothing_due : (row : Row) → row.active ≡ [] → due_tasks row ≡ []
 nothing_due row e = ap (λ active. due_tasks (record row { active = active })) e ∙ by (is_running row) row.program
   where
@@ -74,7 +74,7 @@ nothing_due row e = ap (λ active. due_tasks (record row { active = active })) e
     by true None = refl
     by true (Some p) = in_it (mode_named p row.mode)
 
--- a running tenant before an installation, behind it, and behind the second half that goes on from there
+-- a running tenant before an installation, after it, and after the second half that goes on from there
 module _ (before middle after : Standing) (tenancy : middle.tenancy ≡ before.tenancy) (next : middle.row.next_tick ≡ before.row.next_tick) where
   pub half_behind : (frame : List ℤ) (granted : List (Option ℤ)) → is_running before.row ≡ true → IsBehind before replaced_if_due middle → before.row.active ≡ []
       → middle.row.offers ≡ before.row.offers → middle.row.binds ≡ before.row.binds → IsSecondHalf frame granted middle after → IsSecondHalf frame granted before after

@@ -44,7 +44,7 @@ use Rattle.tenant_state.proofs.TenantFacts.{none_stand}
 abbrev is_of : Name → TaskInvocation → Bool
 is_of x i = same_name i.task x
 
--- a mode invokes a task where one of its invocations is of it
+-- a mode invokes a task if one of its invocations is of the task
 period_if_found : (m : ModeDeclaration) (x : Name) → is_some (period_of_task m x) ≡ is_some (find (is_of x) m.invocations)
 period_if_found m x = by (find (is_of x) m.invocations) refl
   where
@@ -63,7 +63,7 @@ among_invoked : (m : ModeDeclaration) (x : Name) → is_among (invoked_tasks m) 
 among_invoked m x there =
     period_if_found m x ∙ find_is_any (is_of x) m.invocations ∙ sym (any_map (λ y. same_name y x) (λ (i : TaskInvocation). i.task) m.invocations) ∙ any_is_among (invoked_tasks m) x ∙ there
 
--- what a mode's invocations release it invokes
+-- the tasks that a mode's invocations release are tasks that it invokes
 
 abbrev names_of : List TaskInvocation → List Name
 names_of is = map (λ (i : TaskInvocation). i.task) is
@@ -88,7 +88,7 @@ invoked_behind p m time n ports old new values ran all =
     let released = all_map (λ (a : ActiveTask). is_among (invoked_tasks m) a.task ≡ true) Its news (λ a h. among_invoked m a.task h) (released_among p m time n m.invocations ports) in
     all_unmapped Its (active_of p) new (subst (AllByRecursion Its) (sym ran.tasks) (all_append Its (map (active_of p) old) news (all_mapped Its (active_of p) old all) released))
 
--- where no task is due
+-- if no task is due
 
 -- the invocation of this task isn't due
 abbrev pub IsWaiting : ModeDeclaration → ℕ → Name → Type 0
@@ -141,7 +141,7 @@ module _ (row : Row) (p : GiottoProgram) (m : ModeDeclaration) (runs : Runs row 
   pub each_waits : AllByRecursion (λ (a : ActiveTask). IsWaiting m row.mode_time a.task) row.active
   each_waits = all_wait m row.mode_time row.active (sym (due_are row p m runs (λ a. true)) ∙ none)
 
-  -- at mode time 0 no task is active, where each is one that the mode invokes
+  -- at mode time 0 no task is active, if the mode invokes each active task
   pub none_at_zero : row.mode_time ≡ 0 → AllByRecursion (λ (a : ActiveTask). IsSome (period_of_task m a.task)) row.active → row.active ≡ []
   none_at_zero begins its = none_of_mode m row.active its (subst (λ t. AllByRecursion (λ (a : ActiveTask). IsWaiting m t a.task) row.active) begins each_waits)
 
@@ -192,7 +192,7 @@ module _ (p : GiottoProgram) (keeps : KeepsRules p) (fits : ProgramFits p) (m : 
       has_one None k e = absurd (false≢true e)
       has_one (Some n) k e = refl
 
--- the mode that a switch enters invokes each task that is active still
+-- the mode that a switch enters invokes each task that is still active
 pub entered_invokes : (p : GiottoProgram) (keeps : KeepsRules p) (fits : ProgramFits p) (m : ModeDeclaration) (mode : ℕ) (at : slice_get p.modes mode ≡ Some m) (time : ℕ) (old : List Active) (tasks : List ActiveTask) (ports : Valuation)
     (entry : Entry) (values : List ℤ) → IsEntered p m time tasks ports entry values → (to : ℕ) (o : ModeDeclaration) → to ≡ entry.mode → slice_get p.modes to ≡ Some o
     → AllByRecursion (IsInvokedIn p m) old → AllByRecursion (λ (a : ActiveTask). IsWaiting m time a.task) (map (active_of p) old) → AllByRecursion (IsInvokedIn p o) old

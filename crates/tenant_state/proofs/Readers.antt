@@ -1,4 +1,4 @@
--- What a host reads of a tenant's row, over what the tenant's code keeps.
+-- What a host reads of a tenant's row, by the tenant's fields.
 use Rattle.std.proofs.Common.{◌≡◌, ℕ, zero, suc, ◌+◌, ◌<◌, ◌%◌, ◌==◌, nat_eq, Bool, true, false, cond, ◌&&◌, ℤ, List, [], ◌∷◌, ◌++◌, map, filter, find, length, is_some, Option, Some, None, refl, sym, ap, ◌∙◌, append_assoc, arith}
 use Rattle.std.specs.Prelude.{slice_get, option_and_then, option_map}
 use Rattle.std.specs.List.{list_any, flat_map, position_from, AllByRecursion}
@@ -43,7 +43,7 @@ use Rattle.tenant_state.proofs.DueTasks.{group, ends, names_of_tasks}
 use Rattle.tenant_state.proofs.EndedTasks.{any_alike, some_of}
 use Rattle.tenant_state.proofs.FirstHalfOf.{Runs, due_are}
 
--- a job of the tenant's is active
+-- whether a job of the tenant is active
 pub job_active : (p : GiottoProgram) (t : ℕ) (j : JobId) → j.tenant ≡ t → (items : List Active) → list_any (is_of_job p j) items ≡ has_job t (map (active_of p) items) j
 job_active p t j own [] = refl
 job_active p t j own (a ∷ items) =
@@ -65,14 +65,14 @@ module _ (p : GiottoProgram) (x : Name) where
       let names = actuator_names p in
       sym (any_is_among names x) ∙ sym (find_is_any (λ n. same_name n x) names) ∙ sym (place_if_found (λ n. same_name n x) 0 names) ∙ ap is_some is_placed
 
-  -- its value, where the program has it
+  -- its value, if the program has it
   abbrev value_in : Valuation → Option ℤ
   value_in ports = cond (is_among (actuator_names p) x) (value_at ports x) None
 
   pub no_value : (ports : Valuation) → None ≡ place → None ≡ value_in ports
   no_value ports none = sym (ap (λ b. cond b (value_at ports x) None) (is_declared ∙ ap is_some (sym none)))
 
-  -- its slot is behind those of the sensors
+  -- its slot comes after those of the sensors
   module _ (ss : List Sensor) (sensors : map sensor_of ss ≡ p.sensors) (k : ℕ) (here : Some k ≡ place) where
     abbrev slot : ℕ
     slot = length ss + k
@@ -123,7 +123,7 @@ due_named row p m runs x =
 
 -- a tenant that runs its program, and its due tasks by places
 module _ (p : GiottoProgram) (fits : ProgramFits p) (m : ModeDeclaration) (mode time : ℕ) (items : List Active) (at : slice_get p.modes mode ≡ Some m) (x : Name) (grants : GrantRows) where
-  -- its row, as far as it tells what is due
+  -- the part of its row that says what is due
   abbrev row : Row
   row = (standing_of no_budgets grants states.Running (Some p) mode time items [] 0 [] [] None (record { most = 0; records = [] }) 0).row
 
@@ -158,7 +158,7 @@ module _ (p : GiottoProgram) (fits : ProgramFits p) (m : ModeDeclaration) (mode 
       m.invocations es each in
       sym (named_due (Some a) found ∙ and_true is_ended ∙ alike)
 
--- the name of the actuator that drives a line, among these that are the program's
+-- the name of the actuator that drives a line, among the program's actuators
 pub named_driver : (p : GiottoProgram) (k : ℕ) (as' : List Actuator) → map actuator_of as' ≡ p.actuators
     → option_map (λ (d : ActuatorDeclaration). d.name) (driver_of k p) ≡ option_map (λ (a : Actuator). a.name) (find (λ (a : Actuator). drives k a.line) as')
 named_driver p k as' are = ap (λ (ds : List ActuatorDeclaration). option_map (λ (d : ActuatorDeclaration). d.name) (find (λ (d : ActuatorDeclaration). drives k d.line) ds)) (sym are) ∙ through as'

@@ -22,7 +22,7 @@ use Rattle.rig_model.specs.SecondHalf.{is_invoked, released, with_inputs, all_in
 use Rattle.tenant_state.specs.Tenants.{active_of}
 use Rattle.tenant_state.specs.declared.tenants.Active.{Active}
 
--- the invocation and the task for which the entry at a place stands
+-- the invocation and the task that the entry at a place represents
 pub record Entry (p : GiottoProgram) (m : ModeDeclaration) (k : ℕ) (e : SlotInvocation) : Type 0 where
   pub invocation : TaskInvocation
   pub task : TaskDeclaration
@@ -59,7 +59,8 @@ module _ (p : GiottoProgram) (fits : ProgramFits p) (mode k : ℕ) (es : List Sl
 abbrev due_of : ModeDeclaration → ℕ → List TaskInvocation → List TaskInvocation
 due_of m time is = filter (λ (i : TaskInvocation). is_due_at time m i.frequency) is
 
--- what the rest of a mode's invocations release and write, behind what was, is what all do, and there is room for the rest
+-- with what the rest of a mode's invocations release and write, the tasks and ports so far are those after all invocations. There
+-- is space for the rest.
 pub record IsInvokedTo (p : GiottoProgram) (m : ModeDeclaration) (time n : ℕ) (old : List Active) (before : Valuation) (rest : List TaskInvocation) (active : TaskList) (now : Valuation) : Type 0 where
   pub tasks : map (active_of p) active.items ++ all_released p m time n rest now ≡ map (active_of p) old ++ all_released p m time n m.invocations before
   pub ports : all_invoked p m time rest now ≡ all_invoked p m time m.invocations before

@@ -1,4 +1,4 @@
--- Whether a program that waits is installed, and what an installation leaves.
+-- Whether a waiting program is installed, and the row after an installation.
 use Rattle.std.proofs.Common.{◌≡◌, ℕ, ◌⊎◌, ◌<◌, arith, Bool, true, false, cond, ℤ, List, [], ◌∷◌, Option, Some, None, refl, ap, sym, ◌∙◌, ⊎_elim, inl, inr}
 use Rattle.std.specs.Prelude.{◌==◌, is_some, slice_get}
 use Rattle.std.proofs.lemmas.Bool.{eq-eqb, ne_eqb, false≢true}
@@ -29,7 +29,7 @@ use Rattle.tenant_state.proofs.Records.{recorded_behind}
 use Rattle.tenant_state.proofs.SecondHalfSteps.{none_waits}
 use Rattle.tenant_state.proofs.Stops.{row_of}
 
--- the row with a program installed, where it has one
+-- the row with a new program installed in place of the old one
 abbrev in_place : GiottoProgram → GiottoProgram → Row → Row
 in_place old new row = recorded (happening.Replaced new.start) (record row {
   program = Some new;
@@ -46,11 +46,11 @@ installed_is old new row e = ap (λ o. where_some (λ old row. in_place old new 
 not_installed : (new : GiottoProgram) (row : Row) → row.program ≡ None → installed new row ≡ row
 not_installed new row e = ap (λ o. where_some (λ old row. in_place old new row) o row) e
 
--- where it is due
+-- if an installation is due
 pub due_is : (new : GiottoProgram) (row : Row) → row.mode_time ≡ 0 → row.waiting ≡ Some new → replaced_if_due row ≡ installed new row
 due_is new row begins waits = ap (λ b. cond b (where_some installed row.waiting row) row) (eq-eqb row.mode_time 0 begins) ∙ ap (λ w. where_some installed w row) waits
 
--- no program is installed in mid-round, where none waits, and where there is none
+-- no program is installed in mid-round, or if none waits, or if there is no program to replace
 pub settled_later : (row : Row) → (row.mode_time ≡ 0 → ⊥) → IsSettled row
 settled_later row later rs = ap (λ b. cond b (where_some installed row.waiting (record row { records = rs })) (record row { records = rs })) (ne_eqb row.mode_time 0 later)
 
@@ -66,7 +66,7 @@ settled_unloaded row none rs =
     by None = refl
     by (Some new) = not_installed new (record row { records = rs }) none
 
--- a program is installed, or the row stays
+-- a program is installed, or the row is unchanged
 abbrev WasInstalled : Row → Type 0
 WasInstalled row = (old : GiottoProgram) × (new : GiottoProgram) × (row.program ≡ Some old) × (replaced_if_due row ≡ installed new row)
 
@@ -85,7 +85,7 @@ either row = by (row.mode_time == 0) refl row.waiting refl row.program refl
 pub replaced_runs : (row : Row) → is_running (replaced_if_due row) ≡ is_running row
 replaced_runs row = ⊎_elim (λ e. ap is_running e) (λ was. ap is_running (was.3 ∙ installed_is was.0 was.1 row was.2)) (either row)
 
--- an installation leaves none to install
+-- after an installation there is none left to install
 pub replaced_twice : (row : Row) → replaced_if_due (replaced_if_due row) ≡ replaced_if_due row
 replaced_twice row = ⊎_elim (λ e. ap replaced_if_due e)
     (λ was.
@@ -93,7 +93,7 @@ replaced_twice row = ⊎_elim (λ e. ap replaced_if_due e)
     ap replaced_if_due here ∙ none_waits (in_place was.0 was.1 row) refl ∙ sym here)
     (either row)
 
--- the second half goes on from the row behind the installation
+-- the second half goes on from the row after the installation
 pub installed_first : (readings : Readings) (granted : Valuation) (row : Row) → is_running row ≡ true → second_half_of readings granted (replaced_if_due row) ≡ second_half_of readings granted row
 installed_first readings granted row runs =
     goes_on (replaced_if_due row) (replaced_runs row ∙ runs)
@@ -106,7 +106,7 @@ installed_first readings granted row runs =
     goes_on : (r : Row) → is_running r ≡ true → second_half_of readings granted r ≡ counted (rest (replaced_if_due r))
     goes_on r e = ap (λ b. counted (cond b (second_half_running readings granted r) r)) e
 
--- what can be released goes by the program, the mode, its time and what waits
+-- what can be released depends on the program, the mode, its time and the waiting program
 most_kept : (row : Row) (active : List ActiveTask) (ports : Valuation) (records : List Record)
     → most_in_mode (replaced_if_due (record row { active = active; ports = ports; records = records })) ≡ most_in_mode (replaced_if_due row)
 most_kept row active ports records = by (row.mode_time == 0) row.waiting row.program
@@ -123,7 +123,7 @@ pub released_as_before : (row : Row) (active : List ActiveTask) (ports : Valuati
     → most_released (record row { active = active; ports = ports; records = records }) ≡ most_released row
 released_as_before row active ports records = ap (λ n. cond (is_running row) n 0) (most_kept row active ports records)
 
--- what an installation leaves can release just as much
+-- the row after an installation can release exactly as much
 pub released_behind : (row : Row) → is_running row ≡ true → most_released (replaced_if_due row) ≡ most_released row
 released_behind row runs =
     ap (λ b. cond b (most_in_mode (replaced_if_due (replaced_if_due row))) 0) (replaced_runs row ∙ runs) ∙ ap most_in_mode (replaced_twice row)
@@ -140,7 +140,7 @@ released_is_loaded row some = by row.program refl
         let all = ap most_in_mode (settled_unloaded row e row.records) ∙ none in
         absurd (omega (arith, some, ap (λ n. cond (is_running row) n 0) all, cond-same {X = ℕ} (is_running row) 0))
 
--- what is due in the program that is installed
+-- the most tasks that can be released are those of the program that is installed
 pub most_installed : (new : GiottoProgram) (fits : ProgramFits new) (row : Row) → is_running row ≡ true → is_some row.program ≡ true → row.mode_time ≡ 0 → row.waiting ≡ Some new
     → (start : ℕ) (m : ModeDeclaration) → slice_get new.modes start ≡ Some m → m.name ≡ new.start → most_at new m 0 ≡ most_released row
 most_installed new fits row runs loaded begins waits start m at starts = sym (by row.program refl loaded)
@@ -154,7 +154,7 @@ most_installed new fits row runs loaded begins waits start m at starts = sym (by
         ap (λ b. cond b (most_in_mode (replaced_if_due row)) 0) runs ∙ ap most_in_mode (due_is new row begins waits ∙ installed_is old new row e)
         ∙ ap (λ o. option_map_or (λ m. most_at new m 0) o 0) named
 
--- the row that a tenant's fields stand for behind an installation
+-- the row that a tenant's fields represent after an installation
 pub stands_installed : (grants : GrantRows) (old new : GiottoProgram) (mode time : ℕ) (active : List Active) (values : List ℤ) (waiting : Option Waiting) (trace : LastRecords) (count most : ℕ) (row : Row) (start : ℕ) (written : List ℤ) (told : LastRecords)
     → trace.most ≡ most → row_of grants Running (Some old) mode time active values waiting trace count ≡ with_last most row → name_of_mode new start ≡ new.start
     → valuation_of new written ≡ carried_ports (valuation_of old values) old new → told ≡ noted count (happening.Replaced new.start ∷ []) trace

@@ -1,4 +1,4 @@
--- The second half of a running tenant for whom no program waits, and the mode that stands behind its switch.
+-- The second half of a running tenant without a waiting program, and the mode after its switch.
 use Rattle.std.proofs.Common.{◌≡◌, ℕ, ◌<◌, ◌≤◌, ◌^◌, Bool, true, false, cond, ℤ, List, [], ◌∷◌, ◌++◌, length, map, filter, Some, None, refl, ap, sym, ◌∙◌, arith}
 use Rattle.std.specs.Prelude.{◌==◌, ◌&&◌, slice_get}
 use Rattle.std.specs.List.{find, filter_map, AllByRecursion}
@@ -40,7 +40,7 @@ in_its_mode step row p m e f = ap (λ o. where_some (λ p. where_some (step p) (
 pub none_waits : (row : Row) → row.waiting ≡ None → replaced_if_due row ≡ row
 none_waits row e = ap (λ o. cond (row.mode_time == 0) (where_some installed o row) row) e ∙ cond-same (row.mode_time == 0) row
 
--- up to the switch
+-- the half, up to the switch
 pub running_half : (readings : Readings) (granted : Valuation) (row : Row) (p : GiottoProgram) (m : ModeDeclaration) → row.state ≡ running → row.program ≡ Some p → mode_named p row.mode ≡ Some m → replaced_if_due row ≡ row
     → second_half_of readings granted row ≡ counted (in_mode (λ p m row. moved_on m (invoked_in_mode p m row)) (switched p m (sensed readings granted p row)))
 running_half readings granted row p m runs program mode settled =
@@ -54,20 +54,20 @@ running_half readings granted row p m runs program mode settled =
 abbrev pub placed : Row → Name → ℕ → List ActiveTask → Valuation → List Record → Row
 placed row x time active ports records = record row { mode = x; mode_time = time; active = active; ports = ports; records = records }
 
--- the mode at place `to` stands behind the switch of mode m: it was entered, or it is m, and no switch was taken
+-- `to` is the place of the mode after the switch of mode `m`: the mode that was entered, or `m` if no switch was taken
 pub record IsBehindSwitch (p : GiottoProgram) (m : ModeDeclaration) (mode time : ℕ) (active : List ActiveTask) (ports : Valuation) (to at next : ℕ) (values : List ℤ) (n : ℕ) (trace told : LastRecords) : Type 0 where
   pub new : ModeDeclaration
   pub there : slice_get p.modes to ≡ Some new
   pub quiet : (m : ModeDeclaration) → slice_get p.modes to ≡ Some m → IsQuietUntil m at next
   pub short : at < 2 ^ 32
   pub few : length (filter (λ (i : TaskInvocation). is_due_at at new i.frequency) new.invocations) ≤ most_at p m time
-  -- what the trace records of it
+  -- what the trace records of the switch
   pub happened : List Happening
   pub noted : told ≡ noted n happened trace
   pub step : (row : Row) (rs : List Record)
       → switched p m (placed row (name_of_mode p mode) time active ports rs) ≡ placed row (name_of_mode p to) at active (valuation_of p values) (with_happenings row.next_tick happened rs)
 
--- what passes both tests first is no more than the greatest of what passes one
+-- the value of the first element that passes both tests is no more than the greatest value of those that pass one
 found_within : {X : Type 0} (f : X → ℕ) (one other : X → Bool) (xs : List X) (x : X) → find (λ y. one y && other y) xs ≡ Some x → f x ≤ greatest (map f (filter one xs))
 found_within f one other [] x e = absurd (cc)
 found_within f one other (y ∷ ys) x e = at_head (one y) (other y) e (found_within f one other ys x)
@@ -116,7 +116,7 @@ module _ (p : GiottoProgram) (kept : ProgramFits p) (m : ModeDeclaration) (mode 
       ap (λ o. option_map_or (λ (m : ModeDeclaration). m.name) o []) is.there
       ∙ same_name_is is.target.name is.switch.target (find_passes (λ (m : ModeDeclaration). same_name m.name is.switch.target) p.modes is.target is.named)
 
-  -- the target has no more due than it invokes, and its switch is one of those that are due
+  -- no more tasks are due in the target than it invokes, and its switch is one of those that are due
   few_there : (entry : Entry) (is : IsEntered p m time active ports entry values)
       → length (filter (λ (i : TaskInvocation). is_due_at entry.time is.target i.frequency) is.target.invocations) ≤ most_at p m time
   few_there entry is =
@@ -142,7 +142,7 @@ module _ (p : GiottoProgram) (kept : ProgramFits p) (m : ModeDeclaration) (mode 
         ∙ (λ k. placed row (sym (target_named entry is) k) (sym is.begins k) active (sym is.given k) more);
   })
 
--- the entries of an instant: those of older instants are of other numbers
+-- the tasks of an instant: those of older instants have other numbers
 all_of_new : (n : ℕ) (new : List ActiveTask) → AllByRecursion (λ (a : ActiveTask). a.release ≡ n) new → filter (λ (a : ActiveTask). a.release == n) new ≡ new
 all_of_new n [] all = refl
 all_of_new n (a ∷ rest) all =

@@ -44,7 +44,7 @@ use Rattle.tenant_state.specs.inner.Tenants.{IsShareOf, FitsProgram, FitsIts, Is
 pub task_at : (tasks : List Task) (declared : List TaskDeclaration) (k : ℕ) (t : Task) → map trees.task_of tasks ≡ declared → k < length tasks → slice_get declared k ≡ Some (trees.task_of (get_or tasks k t))
 task_at tasks declared k t same lt = ap (λ ts. slice_get ts k) (sym same) ∙ slice_get-map trees.task_of tasks k ∙ ap (option_map trees.task_of) (slice_get-get_or tasks k t lt)
 
--- a share at a place gives way to one of the same task
+-- a share at a place may be replaced by one of the same task
 pub share_set : {S : Type 0} (f : S → Option TaskBody) (tasks : List TaskDeclaration) (shares : List S) (k : ℕ) (s : S)
     → ((t : TaskDeclaration) → slice_get tasks k ≡ Some t → IsShareOf t (f s)) → AreEach IsShareOf tasks (map f shares) → AreEach IsShareOf tasks (map f (set shares k s))
 share_set f [] [] k s is all = all
@@ -53,7 +53,7 @@ share_set f (t ∷ tasks) [] k s is all = absurd all
 share_set f (t ∷ tasks) (x ∷ shares) zero s is all = (is t refl, all.1)
 share_set f (t ∷ tasks) (x ∷ shares) (suc k) s is all = (all.0, share_set f tasks shares k s is all.1)
 
--- a share made behind those at hand
+-- one more share is made, after those that are available
 pub share_made : {A : Type 0} (v : A → TaskBody) (tasks : List Task) (shares new : List (Option A)) (k : ℕ) (t : Task) (share : A) → k < length shares → k < length tasks
     → v share ≡ arc_value (get_or tasks k t).body → new ≡ set shares k (Some share) → AreEach IsShareOf (map trees.task_of tasks) (map (option_map v) shares) → list_all is_some (take k shares) ≡ true
     → AreEach IsShareOf (map trees.task_of tasks) (map (option_map v) new) × (list_all is_some (take (k + 1) new) ≡ true)
@@ -80,7 +80,7 @@ due_each R due test same (x ∷ xs) (e ∷ es) each = ap (λ b. length (cond b (
     by true rest = ap suc rest
     by false rest = rest
 
--- as many tasks are invoked in the mode of a name as its place has entries
+-- the mode of a name invokes as many tasks as there are entries at its place
 pub invoked_there : (p : GiottoProgram) (x : Name) (k : ℕ) (es : List SlotInvocation) → place_of_mode p x ≡ Some k → ((m : ModeDeclaration) → slice_get p.modes k ≡ Some m → AreEach (IsInvocation p m) m.invocations es)
     → length es ≡ invoked_in p x
 invoked_there p x k es place there = by (mode_named p x) refl (place_if_found is_named 0 p.modes)
@@ -95,7 +95,7 @@ invoked_there p x k es place there = by (mode_named p x) refl (place_if_found is
         let here : k ≡ at.0 = omega (arith, at.1) in
         sym (each_long (IsInvocation p m) m.invocations es (there m (ap (slice_get p.modes) here ∙ at.2)))
 
--- those of these switches that are due
+-- the switches of these that are due
 abbrev switches_due : ModeDeclaration → ℕ → List ModeSwitch → List ModeSwitch
 switches_due m time ss = filter (λ (s : ModeSwitch). is_due_at time m s.frequency) ss
 
@@ -103,7 +103,7 @@ switches_due m time ss = filter (λ (s : ModeSwitch). is_due_at time m s.frequen
 abbrev most_invoked : GiottoProgram → List ModeSwitch → ℕ
 most_invoked p ss = greatest (map (λ (s : ModeSwitch). invoked_in p s.target) ss)
 
--- the most tasks of a mode to which one of these switches is due
+-- the most tasks of a mode that one of these switches enters, if it is due
 abbrev pub most_entered : GiottoProgram → ModeDeclaration → ℕ → List ModeSwitch → ℕ
 most_entered p m time ss = most_invoked p (switches_due m time ss)
 

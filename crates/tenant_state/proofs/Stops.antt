@@ -1,4 +1,4 @@
--- What a stop leaves, over what a tenant's code keeps.
+-- What a stop leaves, by the tenant's fields.
 use Rattle.std.proofs.Common.{◌≡◌, ℕ, ℤ, List, [], ◌∷◌, take, Option, Some, None, refl, sym, ap, ◌∙◌}
 use Rattle.std.specs.Option.{option_map_or}
 use Rattle.giotto_tasks.specs.Names.{Valuation}
@@ -19,11 +19,11 @@ use Rattle.tenant_state.proofs.Records.{last_noted}
 use Rattle.rig_model.specs.trace.Trace.{LastRecords}
 use Rattle.rig_model.specs.trace.cited.Noted.{noted}
 
--- the ports behind a stop; as they are where there is no program
+-- the ports after a stop; unchanged if there is no program
 abbrev pub reset_in : Option GiottoProgram → Valuation → Valuation
 reset_in o ports = option_map_or (λ p. actuators_reset p ports) o ports
 
--- the row behind a stop
+-- the row after a stop
 abbrev stopped_row : StopReason → Row → Row
 stopped_row reason row = recorded (happening_of reason) (record row { state = stopped reason; active = []; waiting = None; ports = reset_in row.program row.ports })
 
@@ -34,12 +34,12 @@ is_stopped reason row = by row.program
     by None = refl
     by (Some p) = refl
 
--- no entry, no active task
+-- without entries there is no active task
 pub none_active : (o : Option GiottoProgram) → tasks_in o [] ≡ []
 none_active None = refl
 none_active (Some p) = refl
 
--- the row that a tenant's fields stand for
+-- the row that a tenant's fields represent
 abbrev pub row_of : GrantRows → code.State → Option GiottoProgram → ℕ → ℕ → List Active → List ℤ → Option Waiting → LastRecords → ℕ → Row
 row_of grants state program mode time active values waiting trace count = (standing_of no_budgets grants state program mode time active [] 0 values [] waiting trace count).row
 

@@ -1,4 +1,4 @@
--- The entries that tasks get in the table, and that leave it with them.
+-- The entries that tasks get in the table.
 use Rattle.std.proofs.Common.{◌≡◌, ℕ, ◌+◌, ◌<◌, ◌≤◌, Bool, true, false, ◌||◌, cond, List, ◌∷◌, length, take, drop, get_or, is_some, Some, None, refl, sym, ap, ◌∙◌, subst, arith}
 use Rattle.std.specs.List.{list_all, AllByRecursion}
 use Rattle.std.proofs.lemmas.Bool.{and_parts, false_from_ne_true}
@@ -14,7 +14,7 @@ use Rattle.rig_model.specs.Row.{ActiveTask}
 use Rattle.tenant_state.specs.Standing.{is_another, all_different_releases}
 use Rattle.tenant_state.proofs.AwaitedTasks.{from_place, another_job, different_drop}
 
--- none of these tasks is entered
+-- none of these tasks has an entry
 abbrev pub AreNew : ℕ → List TableEntry → List ActiveTask → Type 0
 AreNew t entries tasks = AllByRecursion (λ a. is_entered entries (job_of t a) ≡ false) tasks
 
@@ -25,7 +25,7 @@ module _ (t : ℕ) (tasks : List ActiveTask) (i : ℕ) (a : ActiveTask) (lt : i 
   here : drop i tasks ≡ a ∷ rest
   here = from_place tasks i a lt at
 
-  -- what is put for one task, and will be for the rest, is what is put for all that are left
+  -- what is put for one task and then for the rest is what is put for all that are left
   pub put_more : {E : Type 0} (e was now : E) (j : JobId) → now ≡ cond (same_job (job_of t a) j) e was → cond (has_job t (drop (i + 1) tasks) j) e now ≡ cond (has_job t (drop i tasks) j) e was
   put_more e was now j put = ap (cond (has_job t rest j) e) put ∙ both (same_job (job_of t a) j) (has_job t rest j) ∙ ap (λ bs. cond (has_job t bs j) e was) (sym here)
     where
@@ -50,7 +50,7 @@ module _ (t : ℕ) (tasks : List ActiveTask) (i : ℕ) (a : ActiveTask) (lt : i 
         ap is_some (entries (job_of t b) ∙ ap (λ s. cond s (Some (record { id = job_of t b; result = None })) (entry_in now (job_of t b))) (false_from_ne_true _ (λ h. another_job t a b other (same_job_is (job_of t a) (job_of t b) h)))) ∙ none)
         rest (all_pass _ (is_another a) (λ b h. h) rest others) (subst (AreNew t now) here new).1
 
--- the entry at a place among the first
+-- the entry at a place is one of the first
 pub among_first : (items first : List Active) (n i : ℕ) (a : Active) → take n items ≡ first → i < n → n ≤ length items → a ≡ get_or items i a → (i < length first) × (a ≡ get_or first i a)
 among_first items first n i a are lt few at = (
   omega (arith, length-take n items, ap length are, lt, few),

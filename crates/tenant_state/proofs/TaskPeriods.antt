@@ -24,7 +24,7 @@ use Rattle.tenant_state.specs.Tenants.{active_of}
 use Rattle.tenant_slots.proofs.cited.CommonMultiples.{is_divided, least_is, of_more, of_one}
 use Rattle.tenant_slots.proofs.cited.InvokedPeriods.{period_divides}
 
--- the periods of those of the tasks that the mode invokes
+-- the periods of the tasks that the mode invokes
 abbrev pub periods_of : ModeDeclaration → List ActiveTask → List ℕ
 periods_of m tasks = filter_map (λ (a : ActiveTask). period_of_task m a.task) tasks
 
@@ -45,7 +45,7 @@ common_within p m fits tasks l is = by (periods_of m tasks) is (periods_common p
     by [] is e = absurd (cc)
     by (k ∷ ks) is e = (is.positive, is.least m.period fits.positive e)
 
--- one task more
+-- one more task
 pub with_none : (ks : List ℕ) (o : Option ℕ) → IsCommonPeriod ks o → IsCommonPeriod (ks ++ []) o
 with_none ks o is = subst (λ ns. IsCommonPeriod ns o) (sym (append-nil ks)) is
 
@@ -64,7 +64,7 @@ periods_more p m active i a lt is =
     ∙ ap (periods_of m) (map-append (active_of p) (take i active) (a ∷ []))
     ∙ filter_map-append (λ (a : ActiveTask). period_of_task m a.task) (map (active_of p) (take i active)) (active_of p a ∷ [])
 
--- the mode time behind a switch, by the common period
+-- the mode time after a switch, by the common period
 pub before_end_none : (m t : ModeDeclaration) (time : ℕ) (ks : List ℕ) → IsCommonPeriod ks None → time_before_end m t time ks ≡ 0
 before_end_none m t time [] is = refl
 before_end_none m t time (k ∷ ks) is = absurd is
@@ -73,7 +73,7 @@ pub before_end : (m t : ModeDeclaration) (time : ℕ) (ks : List ℕ) (l : ℕ) 
 before_end m t time [] l some e is = absurd (cc)
 before_end m t time (k ∷ ks) l some e is = ap (λ n. t.period - (n - time % n)) (least_is m.period (k ∷ ks) l is (is.least m.period some e))
 
--- a common period and one more are positive, and small
+-- a common period and one more period are positive, and their product is small
 pub small_product : (p : GiottoProgram) (fits : ProgramFits p) (mode : ℕ) (tasks : List ActiveTask) (x : Name) (l k : ℕ) → (length p.modes ≤ mode → ⊥)
     → ((m : ModeDeclaration) → slice_get p.modes mode ≡ Some m → IsCommonPeriod (periods_of m tasks) (Some l)) → ((m : ModeDeclaration) → slice_get p.modes mode ≡ Some m → Some k ≡ period_of_task m x)
     → (0 < l) × (0 < k) × (l * k < 2 ^ 64)
@@ -92,7 +92,7 @@ pub common_positive : (p : GiottoProgram) (fits : ProgramFits p) (mode : ℕ) (t
 common_positive p fits mode tasks l common there =
     ⊎_elim (λ found. (common_within p found.0 (mode_fits_at p fits mode found.0 found.2) tasks l (common found.0 found.2)).0) (λ past. absurd (there past.0)) (slice_get_cases p.modes mode).1
 
--- what stands at a place of the images
+-- the element at a place of the images
 pub mapped_there : {X Y : Type 0} (f : X → Y) (xs : List X) (k : ℕ) (d : X) (y : Y) → slice_get (map f xs) k ≡ Some y → f (get_or xs k d) ≡ y
 mapped_there f [] k d y at = absurd (cc)
 mapped_there f (x ∷ xs) zero d y at = some_same _ _ at

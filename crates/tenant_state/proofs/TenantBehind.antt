@@ -1,4 +1,4 @@
--- What is known of a tenant behind the second half of an instant.
+-- What is known of a tenant after the second half of an instant.
 use Rattle.std.proofs.Common.{◌≡◌, ℕ, ◌+◌, ◌%◌, ◌<◌, ◌≤◌, Bool, true, false, cond, not, nat_eq, ◌&&◌, ℤ, List, [], ◌∷◌, ◌++◌, length, map, filter, drop, Option, Some, None, refl, ap, sym, subst, ◌∙◌, arith}
 use Rattle.std.specs.Prelude.{◌==◌, slice_get, slice_index_or}
 use Rattle.std.specs.Option.{option_map, option_map_or}
@@ -42,11 +42,11 @@ use Rattle.giotto_tasks.proofs.cited.ListLemmas.{all_of, all_wider, all_map, all
 other_by_release : (a b : ActiveTask) → (a.release ≡ b.release → ⊥) → is_another a b ≡ true
 other_by_release a b apart = ap not (ap (λ same. same_name a.task b.task && same) (ne_eqb a.release b.release apart) ∙ and_false _)
 
--- an active task stays one at the next instant
+-- an active task is still one at the next instant
 pub active_later : (p : GiottoProgram) (n : ℕ) (xs : List Active) → AllByRecursion (IsActiveIn p n) xs → AllByRecursion (IsActiveIn p (n + 1)) xs
 active_later p n xs = all_map (IsActiveIn p n) (IsActiveIn p (n + 1)) xs (λ a is. record { early = omega (arith, is.early); declared = is.declared })
 
--- older releases and those of this instant
+-- older releases and those of this instant differ
 other_joined : (n : ℕ) (older new : List ActiveTask) → AllByRecursion (λ (a : ActiveTask). a.release < n) older → AllByRecursion (λ (a : ActiveTask). a.release ≡ n) new
     → all_different_releases older ≡ true → all_different_releases new ≡ true → all_different_releases (older ++ new) ≡ true
 other_joined n [] new before now h k = k
@@ -56,13 +56,13 @@ other_joined n (a ∷ rest) new before now h k =
     let apart : list_all (is_another a) new ≡ true = all_that (is_another a) (λ (b : ActiveTask). b.release ≡ n) (λ b at. other_by_release a b (λ e. absurd (omega (arith, early, e, at)))) new now in
     and_from (list_all (is_another a) (rest ++ new)) (all_different_releases (rest ++ new)) (list_all-append (is_another a) rest new ∙ and_from _ _ both.0 apart) (other_joined n rest new before.1 now both.1 k)
 
--- names differ either way
+-- if two names differ, they differ in either order
 other_name : (x y : Name) → same_name x y ≡ false → same_name y x ≡ false
 other_name x y e = false_from_ne_true _ (λ same.
     let one : y ≡ x = same_name_is y x same in
     false≢true (sym e ∙ ap (same_name x) one ∙ same_name_self x))
 
--- what a mode's invocations release is of different tasks
+-- the tasks that a mode's invocations release are different
 abbrev tasks_of : List TaskInvocation → List Name
 tasks_of is = map (λ (i : TaskInvocation). i.task) is
 
@@ -90,7 +90,7 @@ module _ (p : GiottoProgram) (kept : ProgramFits p) (mode : ℕ) where
       sym (ap (λ ms. slice_get ms mode) same) ∙ slice_get-map tree.mode_of modes mode ∙ ap (option_map tree.mode_of) (slice_get-get_or modes mode d (omega (arith, lt, ap length (sym same) ∙ length-map modes tree.mode_of)))
 
   module _ (m : ModeDeclaration) (at : slice_get p.modes mode ≡ Some m) where
-    -- an instant at which the mode's tasks are released, whatever mode stood before it
+    -- an instant at which the mode's tasks are released, whatever the mode before it was
     pub tenant_behind : (from before time next since later period n : ℕ) (ports : Valuation) (old new gone : List Active) (values written : List ℤ) (shares : List (Option TaskBody)) → period ≡ m.period → IsTenant running (Some p) from before since old gone values shares n
         → AreInvoked p m time n ports old new written → ((o : ModeDeclaration) → slice_get p.modes mode ≡ Some o → IsQuietUntil o time next) → ((o : ModeDeclaration) → slice_get p.modes mode ≡ Some o → IsQuietUntil o time next → IsQuietUntil o ((time + 1) % period) later)
         → AllByRecursion (IsInvokedIn p m) old

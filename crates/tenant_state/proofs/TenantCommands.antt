@@ -1,4 +1,4 @@
--- What a tenant's commands do, over what its code keeps.
+-- What a tenant's commands do, by the tenant's fields.
 use Rattle.std.proofs.Common.{◌≡◌, ℕ, ℤ, List, [], ◌∷◌, map, Option, Some, None, refl, ap}
 use Rattle.giotto_tasks.specs.Syntax.{TaskBody}
 use Rattle.rig_model.specs.text.Program.{GiottoProgram, TaskDeclaration}
@@ -20,7 +20,7 @@ use Rattle.tenant_state.proofs.Stops.{row_of}
 use Rattle.rig_model.specs.trace.Trace.{LastRecords}
 use Rattle.tenant_state.specs.inner.Tenants.{IsShareOf}
 
--- what stands after a program was put at its beginning
+-- the row after a program was put in place, at its beginning
 pub stands_at_beginning : (grants : GrantRows) (state : code.State) (program : Option GiottoProgram) (mode time : ℕ) (active : List Active) (values : List ℤ) (waiting : Option Waiting) (trace : LastRecords) (count most : ℕ) (row : Row) (next : code.State) (p : GiottoProgram) (start : ℕ) (new : List ℤ)
     → row_of grants state program mode time active values waiting trace count ≡ with_last most row → name_of_mode p start ≡ p.start → valuation_of p new ≡ initial_ports p
     → row_of grants next (Some p) start 0 [] new None trace count ≡ with_last most (at_beginning (state_of next) p row)
@@ -38,12 +38,12 @@ stands_at_beginning grants state program mode time active values waiting trace c
   next_tick = (stands k).next_tick;
 }
 
--- no share is at hand
+-- no share is available
 pub none_shared : (tasks : List TaskDeclaration) → AreEach IsShareOf tasks (map (λ t. None) tasks)
 none_shared [] = tt
 none_shared (t ∷ rest) = (tt, none_shared rest)
 
--- as many as there are tasks
+-- there are as many empty places as tasks
 pub none_of_each : (tasks : List Task) → map {B = Option TaskBody} (λ t. None) tasks ≡ map {B = Option TaskBody} (λ t. None) (map task_of tasks)
 none_of_each [] = refl
 none_of_each (t ∷ rest) = ap (λ (shares : List (Option TaskBody)). None ∷ shares) (none_of_each rest)

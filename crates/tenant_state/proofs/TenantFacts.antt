@@ -22,12 +22,12 @@ use Rattle.giotto_tasks.proofs.cited.ListLemmas.{all_map, all_mapped}
 abbrev pub AreEarly : ℕ → List ActiveTask → Type 0
 AreEarly count tasks = AllByRecursion (λ (a : ActiveTask). a.release < count) tasks
 
--- no tasks stand for none
+-- no entries represent no tasks
 none_in : (o : Option GiottoProgram) → tasks_in o [] ≡ []
 none_in None = refl
 none_in (Some p) = refl
 
--- where no tasks stand for some, there are none
+-- if entries represent no tasks, there are none
 pub none_stand : (p : GiottoProgram) (tasks : List Active) → map (active_of p) tasks ≡ [] → tasks ≡ []
 none_stand p [] e = refl
 none_stand p (a ∷ tasks) e = absurd (omega (arith, ap length e))

@@ -1,4 +1,4 @@
--- Which commands of a tenant take memory, and so can be refused for want of it.
+-- Which commands of a tenant take memory, and so can be refused for lack of it.
 use Rattle.std.specs.Prelude.{length, Bool, true, false, nat_lt, Option, Some, None}
 use Rattle.rig_model.specs.text.Program.{GiottoProgram}
 use Rattle.rig_model.specs.rules.Ports.{ports_of}
@@ -10,13 +10,14 @@ use Rattle.rig_model.specs.declared.lines.commands.Command.TheVariants as comman
 use Rattle.rig_model.specs.Row.{Row}
 use Rattle.rig_model.specs.Commands.{grant_rows}
 
--- a program, with one port at least
+-- whether there is a program with at least one port
 abbrev pub has_port : Option GiottoProgram → Bool
 has_port None = false
 has_port (Some p) = nat_lt 0 (length (ports_of p))
 
--- whether a command takes memory, and so can be refused for want of it: `load` and `replace` for their program; `show all` for the list of all values,
--- where the tenant has a program with a port; `trace` for the list of records, where there is one; and those about grants that do
+-- whether a command takes memory, and so can be refused for lack of it: `load` and `replace` for their program, `show all` for
+-- the list of all values if the tenant has a program with a port, `trace` for the list of records if there is a record, and the
+-- commands about grants that take memory
 abbrev pub takes_memory : Owner → Command → Row → Bool
 takes_memory owner (Load text) row = true
 takes_memory owner (Replace text) row = true

@@ -1,16 +1,15 @@
 //! One tenant: its program, its active tasks, its commands, and its part of an instant.
 //!
-//! A [`tenants::Tenant`] goes from row to row: by a command, by the first half of an instant, and by its second half. The
-//! results of its jobs stand in the table of the active tasks of all tenants, which is lent to it. The rows and steps stand
-//! in the crate `rig_model`: `Row.antt` first, then `Commands.antt`, `FirstHalf.antt` and `SecondHalf.antt`. Here `specs/` says
-//! for which rows a tenant stands, in `Standing.antt` and `Tenants.antt`, which jobs its active tasks are, in `Jobs.antt`, and
-//! which commands take memory, in `Commands.antt`.
+//! A command, the first half of an instant, and its second half each take a [`tenants::Tenant`] from one row to the next. The
+//! results of its jobs are in the table of the active tasks of all tenants, which the caller passes. The crate `rig_model`
+//! defines the rows and the steps: start with `Row.antt`, then read `Commands.antt`, `FirstHalf.antt` and `SecondHalf.antt`. In
+//! this crate, `specs/` defines which rows a tenant represents, in `Standing.antt` and `Tenants.antt`, which jobs its active
+//! tasks have, in `Jobs.antt`, and which commands take memory, in `Memory.antt`.
 //!
-//! A tenant has one list of the values of its ports, by the slots of its checked program, and its tasks and its mode by
-//! their places in it. An instant goes down the timetables of the mode, by the steps of `tenant_slots`.
+//! A tenant keeps the values of its ports in one list, by the slots of its checked program. It keeps its tasks and its mode by
+//! their places in the program. An instant goes through the timetables of the mode, with the steps of `tenant_slots`.
 //!
-//! The commands and the replies are those of `tenant_lines`, and the jobs and their table those of `tenant_jobs`; they have their names
-//! here too.
+//! Commands and replies come from `tenant_lines`, and jobs and their table from `tenant_jobs`. Both are re-exported here.
 #![tactic(auto)]
 
 pub mod tenants;

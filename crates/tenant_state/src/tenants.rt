@@ -1,4 +1,4 @@
-//! A tenant: its program and what the program is at.
+//! A tenant: its program, and the program's state.
 
 ghost use Rattle.std.specs.Prelude.{◌≡◌, ◌≤◌, length, IfOk};
 ghost use Rattle.tenant_state.specs.Standing.{empty_standing, IsKnown};
@@ -36,9 +36,9 @@ use tenant_jobs::jobs::Key;
 /// Why a tenant was stopped.
 #[derive(Drop)]
 pub enum Reason {
-    /// By its own command.
+    /// The tenant asked for it, by a command.
     Asked,
-    /// This task was due, and its computation not completed.
+    /// This task was due, and its computation wasn't completed.
     Overrun(Name),
 }
 
@@ -58,9 +58,9 @@ pub(crate) struct Active {
     pub(crate) task: usize,
     /// The number of the instant that released it.
     pub(crate) release: u64,
-    /// Where its entry stands in the table of active tasks.
+    /// The key of its entry in the table of active tasks.
     pub(crate) key: Key,
-    /// What the task was given at its release.
+    /// The task's inputs and states at its release.
     pub(crate) inputs: Values,
     pub(crate) states: Values,
 }
@@ -81,7 +81,7 @@ pub struct Tenant {
     pub(crate) active: ActiveTasks,
     /// The value of each port, by its slot.
     pub(crate) values: Vec<i64>,
-    /// For each task a share of its body, where one is at hand.
+    /// For each task a share of its body, if one is available.
     pub(crate) shares: Vec<Option<Arc<Body, Global>>>,
     /// A program that replaces the running one when its mode's period ends.
     pub(crate) waiting: Option<Waiting>,
@@ -159,11 +159,11 @@ impl Model for Tenant {
 }
 
 impl Tenant {
-    /// The tenant with these budgets, whose rows of grants these are, without a program. Its first instant has this number. It has room
-    /// for as many records as its budget says.
+    /// Makes a tenant with these budgets and these rows of grants, without a program. `first_tick` is the number of its first
+    /// instant. The tenant has capacity for as many trace records as its budget says.
     ///
     /// # Errors
-    /// Want of memory.
+    /// Out of memory.
     pub fn new(
         alloc: Global,
         budgets: Budgets,
@@ -191,7 +191,8 @@ impl Tenant {
         })
     }
 
-    /// The number of the tenant's next instant. Each active task was released before it, and it has no more binds than it may have.
+    /// The number of the tenant's next instant. Each active task was released before it, and the tenant has no more binds than it
+    /// may have.
     pub fn next_tick(&self) -> u64
         ensures number { result ≡ self.now.row.next_tick }
         ensures known { IsKnown self.now.tenancy self.now.row }
@@ -201,7 +202,7 @@ impl Tenant {
         self.next_tick
     }
 
-    /// Opens what is known of the type, for a proof; does nothing.
+    /// Makes the invariants of the type available to a proof. Does nothing at run time.
     #[inline(always)]
     pub fn known(&self)
         ensures row { IsKnown self.now.tenancy self.now.row }

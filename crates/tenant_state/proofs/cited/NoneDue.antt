@@ -1,4 +1,4 @@
--- Behind a first half no task is due any longer.
+-- After a first half no task is due any longer.
 use Rattle.std.proofs.Common.{◌≡◌, ℕ, false, not, ◌&&◌, List, [], ◌∷◌, ◌++◌, filter, Option, Some, None, refl, ap, ◌∙◌}
 use Rattle.std.specs.List.{flat_map, AllByRecursion}
 use Rattle.std.specs.Option.{option_map_or}
@@ -14,7 +14,7 @@ use Rattle.rig_model.specs.Row.{StopReason, TenantState, empty, loaded, running,
 use Rattle.tenant_state.proofs.DueTasks.{all_pass, ends, group, names_of_tasks, none_passes, stay}
 
 module _ (m : ModeDeclaration) (time : ℕ) where
-  -- no task is due among those of which none ends
+  -- no task is due if none of the active tasks ends
   none_among : (active : List ActiveTask) (is : List TaskInvocation) → AllByRecursion (λ (a : ActiveTask). ends m time active is a.task ≡ false) active → flat_map (group m time active) is ≡ []
   none_among active [] none = refl
   none_among active (i ∷ is) none =
@@ -22,7 +22,7 @@ module _ (m : ModeDeclaration) (time : ℕ) where
       none_passes _ active (all_map _ (λ (a : ActiveTask). (same_name a.task i.task && is_due_at time m i.frequency) ≡ false) active (λ a e. (or_parts _ _ e).0) none) in
       ap (λ g. g ++ flat_map (group m time active) is) first ∙ none_among active is (all_map _ (λ (a : ActiveTask). ends m time active is a.task ≡ false) active (λ a e. (or_parts _ _ e).1) none)
 
-  -- nor among those that stay active
+  -- no task is due among those that stay active
   none_stays : (active : List ActiveTask) (is : List TaskInvocation) → flat_map (group m time (filter (λ (a : ActiveTask). not (ends m time active is a.task)) active)) is ≡ []
   none_stays active is =
       let left : List ActiveTask = filter (λ (a : ActiveTask). not (ends m time active is a.task)) active in
@@ -35,7 +35,7 @@ none_stopped reason row = by row.program
     by None = refl
     by (Some p) = refl
 
--- behind a half in which no due task is left open
+-- after a half in which no due task is left open
 module _ (row : Row) where
   abbrev runs : GiottoProgram → Row
   runs p = record row { state = running; program = Some p }
@@ -60,7 +60,7 @@ module _ (row : Row) where
   in_its_state running = in_its_program row.program
   in_its_state (stopped reason) = refl
 
--- whichever of the due tasks were not completed
+-- the same, whichever due tasks were not completed
 pub none_due_behind : (unfinished : List Name) (row : Row) → due_tasks (first_half_of unfinished row) ≡ []
 none_due_behind unfinished row = by (filter (is_among unfinished) (names_due row))
   where

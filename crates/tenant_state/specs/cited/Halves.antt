@@ -1,4 +1,4 @@
--- A tenant before and behind the two halves of an instant.
+-- A tenant before and after the two halves of an instant.
 use Rattle.std.specs.Prelude.{◌≡◌, ◌⊎◌, ◌+◌, ℤ, List, Option, [], ℕ}
 use Rattle.tenant_jobs.specs.Finished.{TableEntry, has_result}
 use Rattle.rig_model.specs.Granted.{granted_along}
@@ -10,11 +10,11 @@ use Rattle.rig_model.specs.SecondHalf.{second_half_of}
 use Rattle.tenant_state.specs.Standing.{Standing, StandsFor}
 use Rattle.tenant_state.specs.cited.Standing.{AreEnded}
 
--- the first half of the row of the tenant at this place, where just the tasks with a result in this table are completed
+-- the first half of the row of the tenant at this place, if exactly the tasks with a result in this table are completed
 abbrev pub first_half_by : List TableEntry → ℕ → Row → Row
 first_half_by entries place row = first_half_of (unfinished_tasks (λ a. has_result entries (job_of place a)) row) row
 
--- a tenant before and behind its first half: whatever row it stood for, it stands for that behind the half
+-- a tenant before and after its first half: whatever row it represented, it now represents that row after the half
 pub record IsFirstHalf (entries : List TableEntry) (before after : Standing) : Type 0 where
   pub step : (row : Row) → StandsFor before row → StandsFor after (first_half_by entries before.tenancy.owner.place row)
   pub next_tick : after.row.next_tick ≡ before.row.next_tick
@@ -24,7 +24,8 @@ pub record IsFirstHalf (entries : List TableEntry) (before after : Standing) : T
   pub binds : after.row.binds ≡ before.row.binds
   pub ended : AreEnded before after
 
--- a tenant before and behind its second half, at which its program stays or it had no active task: it reads the lines that it may read, and takes what is granted along its binds
+-- a tenant before and after its second half. It reads the lines that it may read, and takes what is granted through its binds.
+-- Its program stays, or it had no active task.
 pub record IsSecondHalf (frame : List ℤ) (granted : List (Option ℤ)) (before after : Standing) : Type 0 where
   pub step : (row : Row) → StandsFor before row → StandsFor after (second_half_of (readings_within before.tenancy.budgets.reads frame) (granted_along before.row.binds granted) row)
   pub next_tick : after.row.next_tick ≡ before.row.next_tick + 1

@@ -1,4 +1,4 @@
--- What a command and an instant leave a tenant with, what it has to have ready, and what the table of active tasks has to have.
+-- A tenant after a command or an instant, what it must have ready, and what the table of active tasks must have.
 use Rattle.std.specs.Prelude.{[], ◌≡◌, ◌&&◌, not, Bool, ◌≤◌, ◌<◌, true, ◌+◌, List, Some, IfSome, length, take, drop}
 use Rattle.rig_model.specs.text.Program.{GiottoProgram}
 use Rattle.rig_model.specs.declared.lines.replies.Reply.{Reply}
@@ -15,24 +15,24 @@ use Rattle.rig_model.specs.declared.trace.records.Record.{Record}
 use Rattle.rig_model.specs.declared.lines.replies.Refusal.{Refusal}
 use Rattle.std.specs.List.{AllByRecursion}
 
--- a command's outcome: this reply was given, and this is what is left
+-- a command's outcome: this reply was given, and the tenant represents the row after it
 pub record IsOutcome (outcome : CommandOutcome) (reply : Reply) (standing : Standing) : Type 0 where
   pub same_reply : reply ≡ outcome.reply
   pub stands : StandsFor standing outcome.row
 
--- this holds of each row for which the tenant stands
+-- this holds of each row that the tenant represents
 abbrev pub HoldsOfRow : Standing → (Row → Type 0) → Type 0
 HoldsOfRow standing P = (row : Row) → StandsFor standing row → P row
 
--- whatever row the tenant stood for, now it stands for the row behind this step
+-- whatever row the tenant represented, it now represents the row after this step
 abbrev pub IsBehind : Standing → (Row → Row) → Standing → Type 0
 IsBehind before step after = HoldsOfRow before (λ row. StandsFor after (step row))
 
--- whatever row the tenant stood for, this reply is that of the step, and now it stands for the row behind the step
+-- whatever row the tenant represented, this is the reply of the step, and the tenant now represents the row after the step
 abbrev pub IsAnswered : Standing → (Row → CommandOutcome) → Reply → Standing → Type 0
 IsAnswered before step reply after = HoldsOfRow before (λ row. IsOutcome (step row) reply after)
 
--- whatever row the tenant stands for, the step refuses it so
+-- whatever row the tenant represents, the step is refused with this reason
 abbrev pub IsRefused : Standing → (Row → CommandOutcome) → Refusal → Type 0
 IsRefused standing step r = HoldsOfRow standing (λ row. step row ≡ refused row r)
 
@@ -40,11 +40,11 @@ IsRefused standing step r = HoldsOfRow standing (λ row. step row ≡ refused ro
 abbrev pub has_active : Standing → JobId → Bool
 has_active s j = has_job s.tenancy.owner.place s.row.active j
 
--- the active tasks and the program stay as they were
+-- the active tasks and the program are unchanged
 abbrev pub AreTasksKept : Standing → Standing → Type 0
 AreTasksKept before after = (after.row.active ≡ before.row.active) × (after.row.program ≡ before.row.program)
 
--- just those tasks that were active before and aren't behind are told as ended
+-- exactly the tasks that were active before, and aren't active after, are reported as ended
 abbrev pub AreEnded : Standing → Standing → Type 0
 AreEnded before after = (j : JobId) → has_job after.tenancy.owner.place after.ready.ended j ≡ (has_active before j && not (has_active after j))
 
@@ -52,7 +52,7 @@ AreEnded before after = (j : JobId) → has_job after.tenancy.owner.place after.
 abbrev pub without_ended : Standing → Standing
 without_ended s = record s { ready = record s.ready { ended = [] } }
 
--- room for the most tasks that the next instant can release
+-- there is space for the most tasks that the next instant can release
 abbrev pub HasRoom : Standing → Type 0
 HasRoom s = most_released s.row ≤ s.ready.room
 
@@ -60,11 +60,11 @@ HasRoom s = most_released s.row ≤ s.ready.room
 abbrev pub IsSettled : Row → Type 0
 IsSettled row = (rs : List Record) → replaced_if_due (record row { records = rs }) ≡ record row { records = rs }
 
--- a share of each body that the next instant can need
+-- there is a share of each body that the next instant can need
 abbrev pub HasShares : Standing → Type 0
 HasShares s = 0 < most_released s.row → s.ready.shared ≡ true
 
--- the tasks that an instant made active, behind those of before: no more than it can release, and of its number
+-- the tasks that an instant made active come after those of before. They are no more than it can release, and have its number.
 pub record AreReleased (before after : Row) : Type 0 where
   pub older : take (length before.active) after.active ≡ before.active
   pub newer : AllByRecursion (λ (a : ActiveTask). a.release ≡ before.next_tick) (drop (length before.active) after.active)

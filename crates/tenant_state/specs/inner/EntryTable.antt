@@ -18,28 +18,28 @@ use Rattle.tenant_slots.specs.declared.due.TheConstants.{TABLED_TASKS}
 abbrev pub entries_at : ℕ → List Active → List Active
 entries_at task active = filter (λ (a : Active). nat_eq a.task task) active
 
--- of the first entries each task has at most one: the table has its number from 1, or 0 where there is none
+-- each task has at most one of the first `count` entries. The table has the number of this entry, from 1, or 0 if there is none.
 abbrev pub IsTableOf : ℕ → List Active → List ℕ → Type 0
 IsTableOf count active table =
     (t : ℕ) → t < TABLED_TASKS → (get_or table t 0 ≤ count) × (entries_at t (take count active) ≡ take (get_or table t 0 - (get_or table t 0 - 1)) (drop (get_or table t 0 - 1) active))
 
--- whether an active entry of the task at this place isn't done
+-- whether the task at this place has an active entry that isn't done
 abbrev pub is_task_open : (Active → Bool) → List Active → ℕ → Bool
 is_task_open done active task = list_any (λ (a : Active). nat_eq a.task task && not (done a)) active
 
--- whether the invocation's task is due, and left open
+-- whether the invocation's task is due and has an active entry that isn't done
 abbrev pub is_left_open : ℕ → (Active → Bool) → List Active → SlotInvocation → Bool
 is_left_open time done active i = (time % i.interval == 0) && is_task_open done active i.task
 
--- the values in the slots before and behind the ends of those of these entries that are due in the mode at this mode time
+-- the values in the slots before and after the ends of the entries that are due in the mode at this mode time
 abbrev pub AreDueEnded : GiottoProgram → ModeDeclaration → ℕ → List Active → List ℤ → List ℤ → Type 0
 AreDueEnded p m time active before after = valuation_of p after ≡ all_ended p (due_among (map (active_of p) active) m time) (valuation_of p before)
 
--- a trace behind the ends of these tasks at instant n
+-- a trace after the ends of these tasks at instant n
 abbrev pub ends_noted : GiottoProgram → ℕ → List ActiveTask → LastRecords → LastRecords
 ends_noted p n [] t = t
 ends_noted p n (a ∷ rest) t = ends_noted p n rest (noted n (option_map_or (outputs_of_end a) (task_named p a.task) []) t)
 
--- the trace before and behind the ends of those of these entries that are due in the mode at this mode time
+-- the trace before and after the ends of the entries that are due in the mode at this mode time
 abbrev pub AreEndsNoted : GiottoProgram → ModeDeclaration → ℕ → ℕ → List Active → LastRecords → LastRecords → Type 0
 AreEndsNoted p m time n active before after = after ≡ ends_noted p n (due_among (map (active_of p) active) m time) before

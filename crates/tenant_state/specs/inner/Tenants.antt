@@ -1,4 +1,4 @@
--- What is true of a tenant's fields at any time, and of the steps of an instant in them.
+-- What is true of a tenant's fields at any time, and of the steps of an instant on them.
 use Rattle.std.specs.Prelude.{true, nat_eq, Bool, ◌&&◌, List, [], ◌∷◌, ◌≡◌, length, IsSomeAnd, slice_get, ◌<◌, ℕ, ◌+◌, ℤ, false, ◌++◌, filter, map, Some, Option, None, IfSome, ◌^◌, take}
 use Rattle.tenant_jobs.specs.Finished.{TableEntry, result_in, has_result}
 use Rattle.tenant_jobs.specs.Jobs.{JobValue}
@@ -36,11 +36,11 @@ use Rattle.rig_model.specs.declared.trace.records.Happening.TheVariants as happe
 use Rattle.rig_model.specs.trace.Trace.{LastRecords}
 use Rattle.tenant_state.specs.inner.Invoked.{IsInvokedIn}
 
--- whether it is the job's of this name: the job's task, of the job's release
+-- whether the active task is that of the job: it has the job's task and the job's release
 abbrev pub is_of_job : GiottoProgram → JobId → Active → Bool
 is_of_job p j a = nat_eq a.release j.tick && same_name (name_of_task p a.task) j.task
 
--- the name of its job, where it is a task of the tenant at this place
+-- the name of its job, if it is a task of the tenant at this place
 abbrev pub its_name : ℕ → GiottoProgram → Active → JobId
 its_name place p a = job_of place (active_of p a)
 
@@ -48,7 +48,7 @@ its_name place p a = job_of place (active_of p a)
 abbrev pub its_job : ℕ → GiottoProgram → Active → JobValue
 its_job place p a = job_in p place (active_of p a)
 
--- those of these active tasks that the instant of number n released
+-- the active tasks that the instant of number n released
 abbrev pub released_in : ℕ → List Active → List Active
 released_in n active = filter (λ (a : Active). nat_eq a.release n) active
 
@@ -60,7 +60,7 @@ is_done entries place p a = has_result entries (its_name place p a)
 abbrev pub its_result : ℕ → GiottoProgram → Active → JobResult
 its_result place p a = result_of (its_job place p a)
 
--- the result that came for its job, if one did, is that of the job
+-- the result that came for its job, if any, is that of the job
 abbrev pub IsResultRight : List TableEntry → ℕ → GiottoProgram → Active → Type 0
 IsResultRight entries place p a = IfSome (result_in entries (its_name place p a)) (λ r. r ≡ its_result place p a)
 
@@ -69,7 +69,7 @@ pub record IsActiveAs (a : Active) (t : TaskDeclaration) : Type 0 where
   pub inputs_fit : length a.inputs ≡ length t.inputs
   pub states_fit : length a.states ≡ length t.states
 
--- an active task of the program: it is declared at its place, and as it is declared
+-- an active task of the program: its task is declared at its place, and fits its declaration
 abbrev pub IsActiveOf : GiottoProgram → Active → Type 0
 IsActiveOf p a = IsSomeAnd (slice_get p.tasks a.task) (IsActiveAs a)
 
@@ -78,14 +78,14 @@ pub record IsActiveIn (p : GiottoProgram) (next_tick : ℕ) (a : Active) : Type 
   pub early : a.release < next_tick
   pub declared : IsActiveOf p a
 
--- the mode's invocations happened: behind the older tasks stand those that were released, and the values are those behind all drivers
+-- the mode's invocations happened: the released tasks come after the older ones, and the values are those after all drivers
 pub record AreInvoked (p : GiottoProgram) (m : ModeDeclaration) (time n : ℕ) (sensed : Valuation) (old new : List Active) (values : List ℤ) : Type 0 where
   pub tasks : map (active_of p) new ≡ map (active_of p) old ++ all_released p m time n m.invocations sensed
   pub ports : valuation_of p values ≡ all_invoked p m time m.invocations sensed
   pub each : AllByRecursion (IsActiveIn p (n + 1)) new
   pub long : length values ≡ slots_of p
 
--- a switch of the mode is taken: the mode that it enters, the mode time there, and the values behind it
+-- a switch of the mode is taken: the mode that it enters, the mode time there, and the values after it
 pub record IsEntered (p : GiottoProgram) (m : ModeDeclaration) (time : ℕ) (active : List ActiveTask) (ports : Valuation) (entry : Entry) (values : List ℤ) : Type 0 where
   pub switch : ModeSwitch
   pub target : ModeDeclaration
@@ -100,18 +100,18 @@ abbrev pub IsSwitched : GiottoProgram → ModeDeclaration → ℕ → List Activ
 IsSwitched p m time active ports None values = (switch_taken m time ports ≡ None) × (valuation_of p values ≡ ports)
 IsSwitched p m time active ports (Some entry) values = IsEntered p m time active ports entry values
 
--- what a trace records of it
+-- what a trace records of a switch
 abbrev pub entry_happened : GiottoProgram → Option Entry → List Happening
 entry_happened p None = []
 entry_happened p (Some entry) = happening.Mode (name_of_mode p entry.mode) ∷ []
 
--- a share of the body of this task, where one is at hand
+-- a share, if there is one, is of the body of this task
 abbrev pub IsShareOf : TaskDeclaration → Option TaskBody → Type 0
 IsShareOf t share = IfSome share (λ b. b ≡ body_of t)
 
--- a tenant with this program: its values are as many as the program has ports, its mode is one of the program's, in which nothing is
--- due before `next`, its active tasks and those that ended are tasks of it, the active ones invoked by the mode, and the shares are of its
--- bodies, in their order
+-- a tenant with this program. It has as many values as the program has ports. Its mode is one of the program's, and nothing is
+-- due in the mode before `next`. Its active tasks, and those that ended, are tasks of the program, and the mode invokes the
+-- active ones. The shares are of the program's bodies, in their order.
 pub record FitsProgram (p : GiottoProgram) (mode time next : ℕ) (active ended : List Active) (values : List ℤ) (shares : List (Option TaskBody)) (next_tick : ℕ) : Type 0 where
   pub long : length values ≡ slots_of p
   pub mode_there : mode < length p.modes
@@ -121,20 +121,20 @@ pub record FitsProgram (p : GiottoProgram) (mode time next : ℕ) (active ended 
   pub each_ended : AllByRecursion (IsActiveOf p) ended
   pub share_each : AreEach IsShareOf p.tasks shares
 
--- the tenant fits its program, or it has none and nothing is active
+-- the tenant fits its program, or it has no program and no active task
 abbrev pub FitsIts : Option GiottoProgram → ℕ → ℕ → ℕ → List Active → List Active → List ℤ → List (Option TaskBody) → ℕ → Type 0
 FitsIts None mode time next active ended values shares next_tick = active ≡ []
 FitsIts (Some p) mode time next active ended values shares next_tick = FitsProgram p mode time next active ended values shares next_tick
 
--- what is known of a tenant at any time: its mode time is small, only while its program runs has it active tasks, its releases differ, and
--- the rest fits its program
+-- what is known of a tenant at any time. Its mode time is small. It has active tasks only while its program runs, and their
+-- releases differ. The rest fits its program.
 pub record IsTenant (state : TenantState) (program : Option GiottoProgram) (mode time next : ℕ) (active ended : List Active) (values : List ℤ) (shares : List (Option TaskBody)) (next_tick : ℕ) : Type 0 where
   pub short_time : time < 2 ^ 32
   pub rests : is_running_state state ≡ false → active ≡ []
   pub different : all_different_releases (tasks_in program active) ≡ true
   pub fits : FitsIts program mode time next active ended values shares next_tick
 
--- what is known of a trace of the last records, of which so many are kept
+-- what is known of a trace that keeps the last `most` records
 pub record IsTraceOf (most : ℕ) (trace : LastRecords) : Type 0 where
   pub same_most : trace.most ≡ most
   pub few : take most trace.records ≡ trace.records
@@ -145,11 +145,11 @@ pub record IsBeginning (p : GiottoProgram) (b : Beginning) : Type 0 where
   pub initial : valuation_of p b.values.items ≡ initial_ports p
   pub share_each : AreEach IsShareOf p.tasks (map (option_map arc_value) b.shares.items)
 
--- a program waits to replace the one that stands: it has what it begins with, and the table of what it keeps
+-- a program waits to replace the tenant's program. It has what it begins with, and the table of the values that it keeps.
 pub record IsWaitingFor (o : Option GiottoProgram) (w : Waiting) : Type 0 where
   pub begins : IsBeginning w.program w.beginning
   pub keeps : IfSome o (λ p. IsCarryTable p w.program w.carried.items)
 
--- what waits, if something does, waits to replace the program that stands
+-- a waiting program, if there is one, waits to replace the tenant's program
 abbrev pub FitsWaiting : Option GiottoProgram → Option Waiting → Type 0
 FitsWaiting o waiting = IfSome waiting (IsWaitingFor o)

@@ -1,4 +1,4 @@
-//! Active tasks, in entries that are used again.
+//! Active tasks, in entries that are reused.
 
 ghost use Rattle.std.specs.Prelude.{◌≡◌, ◌≤◌, ◌+◌, [], length, IfOk, OnOk};
 
@@ -8,14 +8,14 @@ use std::alloc::{AllocError, Global};
 use std::marker::Model;
 use tenant_jobs::jobs::Key;
 
-/// The active tasks of a tenant, in the order of their release, those that ended since, and entries that wait to be used again.
+/// The active tasks of a tenant, in the order of their release. Also the tasks that ended since, and spare entries.
 #[derive(Drop)]
 pub(crate) struct ActiveTasks {
-    /// First those of the active tasks, then those of the tasks that ended.
+    /// First the entries of the active tasks, then those of the tasks that ended, then spare ones.
     pub(crate) entries: Vec<Active>,
     /// How many tasks are active.
     pub(crate) count: usize,
-    /// How many ended, and have their entries in the table of active tasks still.
+    /// How many tasks ended and still have their entries in the table of active tasks.
     pub(crate) ended: usize,
 }
 
@@ -31,7 +31,7 @@ impl Model for ActiveTasks {
 }
 
 impl ActiveTasks {
-    /// No task, and room for none.
+    /// An empty list without capacity.
     pub(crate) fn new(alloc: Global) -> ActiveTasks
         ensures { result ≡ record { items = []; ended = []; room = 0 } }
     {
@@ -42,7 +42,7 @@ impl ActiveTasks {
         }
     }
 
-    /// Equal tasks.
+    /// Makes an equal list.
     ///
     /// # Errors
     /// Out of memory.
@@ -77,7 +77,7 @@ impl ActiveTasks {
         &self.entries[self.count..self.count + self.ended]
     }
 
-    /// All active tasks end, and nothing is known any longer of those that ended before.
+    /// Ends all active tasks, and forgets those that ended before.
     pub(crate) fn end_all(&mut self)
         ensures items { self.new.items ≡ [] }
         ensures ended { self.new.ended ≡ self.old.items }
@@ -87,7 +87,7 @@ impl ActiveTasks {
         self.count = 0;
     }
 
-    /// Nothing is known any longer of the tasks that ended. Their entries wait.
+    /// Forgets the tasks that ended. Their entries become spare.
     pub(crate) fn forget_ended(&mut self)
         ensures items { self.new.items ≡ self.old.items }
         ensures ended { self.new.ended ≡ [] }
@@ -96,10 +96,10 @@ impl ActiveTasks {
         self.ended = 0;
     }
 
-    /// Makes room for so many tasks more, where there is less.
+    /// Reserves capacity for this many more tasks, if there is less.
     ///
     /// # Errors
-    /// Want of memory.
+    /// Out of memory.
     pub(crate) fn reserve(&mut self, more: usize) -> Result<(), AllocError>
         ensures items { self.new.items ≡ self.old.items }
         ensures ended { self.new.ended ≡ self.old.ended }
@@ -114,7 +114,7 @@ impl ActiveTasks {
     }
 }
 
-// An entry that is no task's yet.
+// A spare entry, which belongs to no task yet.
 fn unused() -> Active {
     Active {
         task: 0,

@@ -27,7 +27,7 @@ use tenant_slots::beginning::reset_ports;
 use tenant_slots::names::{mode_name, start_place};
 
 impl Tenant {
-    /// Carries out a command, as `carry_out`. Its text, if it has one, is read first.
+    /// Carries out a command, as `carry_out` does, after reading its text, if it has one.
     pub fn command(&mut self, command: Command) -> Reply
         requires rest { self.old.ready.ended ≡ [] }
         ensures memory { result ≡ Reply.Refused Refusal.Memory → self.new ≡ self.old }
@@ -43,10 +43,11 @@ impl Tenant {
         self.carry_out(prepared, &mut left)
     }
 
-    /// Carries out a command that is prepared. The program whose place is taken, or which isn't taken itself, is left in `left`, so that who
-    /// carries it out under a lock may drop it behind that; what stood there is dropped. A refusal changes nothing, want of memory included. Only `load`, `replace`, `show all` of a program with a
-    /// port, `trace` where there is a record, `offer` and `bind` where the row may be made, and `rows` where there is one, take memory;
-    /// nothing else is refused for it.
+    /// Carries out a prepared command. Leaves in `left` the program that was replaced, or a new one that is refused, so that a
+    /// caller that holds a lock can drop it after releasing the lock. What `left` held before is dropped then. A refusal changes
+    /// nothing, also one for lack of memory. Memory is only taken by `load`, `replace`, `show all` of a program with a port,
+    /// `trace` if there is a record, `offer` and `bind` if the row may be made, and `rows` if there is a row. No other command is
+    /// refused for lack of memory.
     pub fn carry_out(&mut self, prepared: Prepared, left: &mut Option<Checked>) -> Reply
         requires rest { self.old.ready.ended ≡ [] }
         ensures memory { result ≡ Reply.Refused Refusal.Memory → self.new ≡ self.old }
@@ -98,7 +99,8 @@ impl Tenant {
         matches!(self.state, State::Running)
     }
 
-    // Takes the program that the text spells, where this is what it reads as. All that takes memory is made before the first change.
+    // Loads the program that the text spells. `reading` is the result of reading the text. All memory is taken before the first
+    // change.
     fn load(
         &mut self,
         text: &str,
@@ -126,7 +128,7 @@ impl Tenant {
         }
     }
 
-    // What a program that may be loaded begins with, whose text has so many bytes.
+    // What a program begins with, if it may be loaded. `bytes` is the length of its text.
     fn beginning(&self, bytes: usize, program: &Checked) -> Result<Beginning, Refusal>
         ensures refused { IfErr result (λ r. r ≢ Refusal.Memory → IsRefused self.now (load_kept self.now.tenancy.budgets bytes program.now) r) }
         ensures loaded { OnOk result ((row : Row) → StandsFor self.now row
@@ -143,7 +145,7 @@ impl Tenant {
         beginning_of(self.alloc, program)
     }
 
-    // Puts a program in place, at its beginning. The one that stood there.
+    // Puts a program in place, at its beginning. Returns the program that was there.
     fn install(&mut self, program: Checked, beginning: Beginning) -> Option<Checked>
         requires begins { IsBeginning program beginning }
         ensures tenancy { self.new.tenancy ≡ self.old.tenancy }
@@ -164,7 +166,7 @@ impl Tenant {
         self.program.replace(program)
     }
 
-    // Runs the program from its beginning. Takes no memory.
+    // Starts the program from its beginning. Takes no memory.
     fn start(&mut self) -> Result<(), Refusal>
         ensures unchanged { OnErr result (self.new ≡ self.old) }
         ensures tenancy { self.new.tenancy ≡ self.old.tenancy }
@@ -193,7 +195,7 @@ impl Tenant {
         Ok(())
     }
 
-    // Stops the running program, as its tenant asks.
+    // Stops the running program, at its tenant's command.
     fn stop(&mut self) -> Result<(), Refusal>
         ensures unchanged { OnErr result (self.new ≡ self.old) }
         ensures tenancy { self.new.tenancy ≡ self.old.tenancy }

@@ -46,10 +46,11 @@ impl Tenant {
         is_of_release(declared(checked, active), active, done.job())
     }
 
-    /// The job of this name, where its completion is awaited: its task is active with the job's release, and has no result in this table.
+    /// The job of this name, if its completion is awaited: its task is active with the job's release, and has no result in this
+    /// table.
     ///
     /// # Errors
-    /// A share of the task's body is refused, which is asked for only where the completion is awaited.
+    /// A share of the task's body is refused. The share is only asked for if the completion is awaited.
     pub fn job(&self, id: &JobId, finished: &Finished) -> Result<Option<Job>, AllocError>
         ensures job { IfOk result (λ job. job ≡ awaited_job self.now finished.now.entries id.now) }
         ensures never_refused { awaited_job self.now finished.now.entries id.now ≡ None → IsOk result }
@@ -71,7 +72,8 @@ impl Tenant {
         Ok(Some(Job::new(id.copy(), body, inputs, states, active.key.copy())))
     }
 
-    /// Computes the job of each active task that has no result in this table, and puts the results there. How many they were. Takes no memory.
+    /// Computes the jobs of all active tasks that have no result in this table, and puts the results there. Returns how many
+    /// there were. Takes no memory.
     pub fn complete_all(&self, finished: &mut Finished) -> usize
         requires entries { HasItsEntries self.now finished.old.entries }
         ensures number { result ≡ length (outstanding_tasks self.now finished.old.entries) }
@@ -93,10 +95,10 @@ impl Tenant {
         number
     }
 
-    /// Puts the names of the jobs of active tasks without a result in this table behind the others, in the order of the tasks.
+    /// Appends the names of the jobs of all active tasks that have no result in this table, in the order of the tasks.
     ///
     /// # Errors
-    /// Want of memory, only where there is such a task.
+    /// Out of memory, only if there is such a task.
     pub fn add_outstanding(
         &self,
         finished: &Finished,
@@ -118,7 +120,7 @@ impl Tenant {
     }
 }
 
-// Computes the job of an active task, if it has no result yet. Whether it had none.
+// Computes the job of an active task, if it has no result yet. Returns whether it had none.
 fn compute(checked: &Checked, tenant: TenantId, active: &Active, finished: &mut Finished) -> bool
     requires active { IsActiveOf checked.now active.now }
     requires entered { is_entered finished.old.entries (its_name tenant checked.now active.now) ≡ true }
@@ -132,7 +134,7 @@ fn compute(checked: &Checked, tenant: TenantId, active: &Active, finished: &mut 
     finished.compute(&id, &active.key, &task.body, &active.inputs, &active.states)
 }
 
-// The task of an active task.
+// The program's task that is active.
 #[inline(always)]
 pub(crate) fn declared<'a>(checked: &'a Checked, active: &Active) -> &'a Task
     requires { IsActiveOf checked.now active.now }

@@ -17,7 +17,7 @@ use std::sync::Arc;
 use tenant_slots::replacement::Carried;
 
 impl Tenant {
-    /// An equal tenant. It shares its program, one that waits, and the bodies of their tasks.
+    /// Makes an equal tenant. The two share the program, a waiting program, and the bodies of their tasks.
     ///
     /// # Errors
     /// Out of memory, or a share is refused.
@@ -76,7 +76,7 @@ fn copied_tasks(active: &ActiveTasks, trace: &Trace) -> Result<(ActiveTasks, Tra
     Ok((active, trace.copy()?))
 }
 
-// The same program, and the same one that waits, where there are such.
+// Shares of the program and of the waiting program, if there are any.
 fn copied_programs(
     alloc: Global,
     program: &Option<Checked>,
@@ -97,7 +97,7 @@ fn copied_programs(
 }
 
 impl Waiting {
-    // The same program, with all that its installation needs.
+    // A share of the same program, with all that its installation needs.
     fn copy(&self, alloc: Global) -> Result<Waiting, AllocError>
         ensures { IfOk result (IsCopied self.now) }
     {
@@ -146,7 +146,7 @@ fn copied_beginning(
     })
 }
 
-// A share of the same body, where there is one.
+// A share of the same body, if there is one.
 fn copied_share(share: &Option<Arc<Body, Global>>) -> Result<Option<Arc<Body, Global>>, AllocError>
     ensures { IfOk result (λ copy. option_map arc_value copy ≡ option_map arc_value share.now) }
 {

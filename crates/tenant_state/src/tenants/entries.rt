@@ -20,7 +20,7 @@ use rig_model::config::TenantId;
 use tenant_jobs::finished::Finished;
 
 impl Tenant {
-    /// Takes the entries of the tasks that ended out of the table. Nothing is known of them any longer.
+    /// Removes the entries of the tasks that ended from the table, and forgets these tasks.
     pub fn leave(&mut self, finished: &mut Finished)
         ensures entries { (j : JobId) → entry_in finished.new.entries j
             ≡ (if has_job self.old.tenancy.owner.place self.old.ready.ended j then None else entry_in finished.old.entries j) }
@@ -37,7 +37,8 @@ impl Tenant {
         self.active.forget_ended();
     }
 
-    /// Enters the active tasks from this place on, the oldest at 0, and notes the keys of their entries. Takes no memory.
+    /// Adds entries for the active tasks from place `from` on, and notes the keys of these entries. The oldest active task is at
+    /// place 0. Takes no memory.
     pub fn enter(&mut self, from: usize, finished: &mut Finished)
         requires room { length (drop from self.old.row.active) ≤ finished.old.room }
         requires new { AllByRecursion (λ (a : ActiveTask). is_entered finished.old.entries (job_of self.old.tenancy.owner.place a) ≡ false) (drop from self.old.row.active) }
@@ -53,7 +54,7 @@ impl Tenant {
     }
 }
 
-// Enters these active tasks from this place on, and notes the keys of their entries.
+// Adds entries for these active tasks from place `from` on, and notes the keys of these entries.
 fn enter_each(
     checked: &Checked,
     tenant: TenantId,
@@ -75,7 +76,7 @@ fn enter_each(
     }
 }
 
-// Enters an active task, and notes the key of its entry.
+// Adds an entry for an active task, and notes the entry's key.
 fn enter_one(checked: &Checked, tenant: TenantId, active: &mut Active, finished: &mut Finished)
     requires active { IsActiveOf checked.now active.old }
     requires room { 0 < finished.old.room }

@@ -34,9 +34,9 @@ use tenant_slots::names::task_name;
 use tenant_slots::tasks::write_results;
 
 impl Tenant {
-    /// The first half of an instant. The due tasks write their results, which are in this table, and the due actuators are updated; or
-    /// the tenant is stopped where a due task has no result. Its trace records what happens. No task is due any longer then. Takes no
-    /// memory.
+    /// Carries out the first half of an instant. If all due tasks have their results in this table, they write them, and the due
+    /// actuators are updated. If a due task has no result, the tenant is stopped. The trace records what happens. Afterwards no
+    /// task is due any longer. Takes no memory.
     pub fn phase_one(&mut self, finished: &Finished)
         requires rest { self.old.ready.ended ≡ [] }
         requires entries { HasItsEntries self.old finished.now.entries }
@@ -51,7 +51,7 @@ impl Tenant {
         self.first_half(finished);
     }
 
-    // The first half of an instant.
+    // The first half of an instant, as `phase_one`.
     #[inline(always)]
     fn first_half(&mut self, finished: &Finished)
         requires rest { self.old.ready.ended ≡ [] }
@@ -114,7 +114,7 @@ struct Ending<'a> {
     tick: u64,
 }
 
-// Whether an active task at this place of the program has no result.
+// Whether the task at this place of the program is active without a result.
 fn is_unfinished(ending: &Ending, active: &[Active], task: usize) -> bool
     requires { AllByRecursion (IsActiveOf ending.now.checked.now) active.now }
     ensures { result ≡ is_task_open (is_done ending.now.finished.now.entries ending.now.tenant ending.now.checked.now) active.now task }
@@ -129,10 +129,11 @@ fn is_unfinished(ending: &Ending, active: &[Active], task: usize) -> bool
     false
 }
 
-// Fewer active tasks than this are looked through at once.
+// If fewer tasks than this are active, they are searched one by one, without a table.
 const FEW: usize = 4;
 
-// The number of each task's one active entry, from 1, or 0 where it has none. It isn't whole where a task has two, or there are few, or many.
+// For each task, the number of its only active entry, from 1, or 0 if it has none. The table isn't whole if a task has two active
+// entries, or if few or many tasks are active.
 #[derive(Drop)]
 struct EntryTable {
     numbers: [u8; TABLED_TASKS],
@@ -140,7 +141,7 @@ struct EntryTable {
 }
 
 impl EntryTable {
-    // Is that of these entries from now on.
+    // Makes this the table of these entries.
     fn fill(&mut self, active: &[Active])
         requires { self.old.is_whole ≡ false }
         ensures { self.new.is_whole ≡ true → IsTableOf (length active.now) active.now self.new.numbers }
@@ -160,7 +161,7 @@ impl EntryTable {
     }
 }
 
-// Active entries, among which are all of the task at this place. By the table only these.
+// Active entries that include all those of the task at this place. If the table has the task, only these.
 fn entries_of<'a>(active: &'a [Active], table: &EntryTable, task: usize) -> &'a [Active]
     requires { table.now.is_whole ≡ true → IsTableOf (length active.now) active.now table.now.numbers }
     ensures { (result.now ≡ active.now) ⊎ (result.now ≡ entries_at task active.now) }
@@ -201,7 +202,7 @@ fn first_unfinished(
     None
 }
 
-// The due tasks end, in the order of these invocations.
+// Ends the due tasks, in the order of these invocations.
 fn end_due(
     ending: &Ending,
     invocations: &[SlotInvocation],
@@ -234,7 +235,7 @@ fn end_due(
     }
 }
 
-// Each active task at this place of the program ends.
+// Ends each active task at this place of the program.
 fn end_each(ending: &Ending, active: &[Active], task: usize, values: &mut [i64], trace: &mut Trace)
     requires there { task < length ending.now.checked.now.tasks }
     requires values { length values.old ≡ slots_of ending.now.checked.now }
@@ -252,7 +253,7 @@ fn end_each(ending: &Ending, active: &[Active], task: usize, values: &mut [i64],
     }
 }
 
-// A task ends: its outputs and its states get the values of its computation.
+// Ends a task: its outputs and its states get the values of its computation.
 fn end(ending: &Ending, active: &Active, values: &mut [i64], trace: &mut Trace)
     requires values { length values.old ≡ slots_of ending.now.checked.now }
     requires active { IsActiveOf ending.now.checked.now active.now }
@@ -277,7 +278,7 @@ fn end(ending: &Ending, active: &Active, values: &mut [i64], trace: &mut Trace)
     );
 }
 
-// The due tasks end. Those that go on keep their order; one is moved up where another ends before it.
+// Ends the due tasks. The others keep their order, and move up over those that ended before them.
 fn drop_due(invocations: &[SlotInvocation], time: u64, active: &mut ActiveTasks)
     requires positive { AllByRecursion (λ i. 0 < i.interval) invocations.now }
     ensures items { active.new.items ≡ filter (λ a. not (is_among_due time a.task invocations.now)) active.old.items }
@@ -300,7 +301,7 @@ fn drop_due(invocations: &[SlotInvocation], time: u64, active: &mut ActiveTasks)
     active.count = kept;
 }
 
-// Marks the tasks that are due, where there are many active ones. Whether it did.
+// Marks the tasks that are due, if many tasks are active. Returns whether it did.
 #[inline(always)]
 fn mark_many(
     invocations: &[SlotInvocation],
@@ -318,7 +319,7 @@ fn mark_many(
     true
 }
 
-// Whether the task at this place is due, by the marks where there are some.
+// Whether the task at this place is due. Uses the marks if there are any.
 #[inline(always)]
 fn is_ending(
     invocations: &[SlotInvocation],

@@ -35,9 +35,10 @@ use tenant_jobs::jobs::{Job, JobId, Jobs};
 use tenant_slots::due::due_behind;
 
 impl Tenant {
-    /// The second half of an instant whose number is below the greatest, with the jobs of the tasks that it releases. Each due task ended
-    /// in the first half. `frame` has the input value of each line, and `granted` what is granted through each bind, if something is, by
-    /// the bind's place: at most 64, as a tenant has. The jobs are added to `jobs`, which has space for them. Takes no memory.
+    /// Carries out the second half of an instant, and adds the jobs of the tasks that it releases to `jobs`, which has space for
+    /// them. The number of the instant is less than 2^64 - 1. Each due task ended in the first half. `frame` has the input value
+    /// of each line. `granted` has the value that is granted through each bind, if any, by the bind's place. It has at most 64
+    /// places, as a tenant has at most 64 binds. Takes no memory.
     pub fn phase_two(&mut self, frame: &[i64], granted: &[Option<i64>], jobs: &mut Jobs)
         requires few { length granted.now ≤ 64 }
         requires rest { self.old.ready.ended ≡ [] }
@@ -57,11 +58,11 @@ impl Tenant {
         self.add_jobs(tick, jobs);
     }
 
-    /// The second half of an instant whose number is below the greatest: sensors are read, tasks are released, and the mode time moves on.
-    /// Each due task ended in the first half. `frame` has the input value of each line, and `granted` what is granted through each bind,
-    /// if something is, by the bind's place; where a bind's sensor was found is noted there. It releases no more tasks than `ready` told.
-    /// Takes no memory.
-    // Inlined, so that a tenant that isn't running costs its host no call.
+    /// Carries out the second half of an instant: sensors are read, tasks are released, and the mode time advances. The number of
+    /// the instant is less than 2^64 - 1. Each due task ended in the first half. `frame` has the input value of each line.
+    /// `granted` has the value that is granted through each bind, if any, by the bind's place. The place where a bind's sensor
+    /// was found is noted there. Releases no more tasks than `ready` returned. Takes no memory.
+    // Inlined, so a tenant that isn't running costs its host no call.
     #[inline(always)]
     pub fn second_half(&mut self, frame: &[i64], granted: &mut [Granted])
         requires rest { self.old.ready.ended ≡ [] }
@@ -80,8 +81,9 @@ impl Tenant {
         self.go_on(frame, granted);
     }
 
-    /// Adds the jobs of the active tasks that the instant of this number released, in the order of their release, to `jobs`, which has room
-    /// for them. Each carries the key of its task's entry, and takes the share of its body that was made ready. Takes no memory.
+    /// Adds the jobs of the active tasks that the instant of this number released to `jobs`, which has space for them. The jobs
+    /// are in the order of their release. Each carries the key of its task's entry, and takes the share of its body that `ready`
+    /// made. Takes no memory.
     pub fn add_jobs(&mut self, tick: u64, jobs: &mut Jobs)
         requires shares { 0 < length (released_at self.old.tenancy.owner.place tick self.old.row) → self.old.ready.shared ≡ true }
         requires room { length (released_at self.old.tenancy.owner.place tick self.old.row) ≤ jobs.old.room }
@@ -97,7 +99,7 @@ impl Tenant {
         add_jobs(checked, self.grants.own(), tick, active, shares, jobs);
     }
 
-    // The second half where no program is installed.
+    // The second half of an instant at which no program is installed.
     #[inline(always)]
     fn go_on(&mut self, frame: &[i64], granted: &mut [Granted])
         requires rest { self.old.ready.ended ≡ [] }
@@ -147,7 +149,7 @@ impl Tenant {
     }
 }
 
-// Adds the jobs of those of these active tasks that the instant of this number released, in their order. They are of different tasks, and
+// Adds the jobs of the active tasks that the instant of this number released, in their order. They are of different tasks, and
 // each takes the share of its body.
 fn add_jobs(
     checked: &Checked,
@@ -177,7 +179,7 @@ fn add_jobs(
     }
 }
 
-// The job of an active task with this body, which is its task's.
+// The job of an active task. `body` is the body of its task.
 fn job_for(program: &Program, tenant: TenantId, active: &Active, body: Arc<Body, Global>) -> Job
     requires there { active.now.task < length program.now.tasks }
     requires computable { IsComputable (job_in program.now tenant (active_of program.now active.now)) }

@@ -1,4 +1,4 @@
-//! What a host asks its tenants.
+//! What a host reads of its tenants.
 
 ghost use Rattle.std.specs.Prelude.{◌≡◌, ◌<◌, ◌%◌, ◌==◌, ◌&&◌, nat_eq, length};
 ghost use Rattle.std.specs.List.{find, list_any, position_from, AllByRecursion};
@@ -24,7 +24,7 @@ use tenant_slots::due::ends_at;
 use tenant_slots::names::is_task_named;
 
 impl Tenant {
-    /// Whether the task of this name is active and ends at the next instant. Nothing is due where no program runs. Takes no memory.
+    /// Whether the task of this name is active and ends at the next instant. Nothing is due if no program runs. Takes no memory.
     pub fn due(&self, task: &str) -> bool
         ensures { result ≡ is_among (names_due self.now.row) task.now }
     {
@@ -34,7 +34,7 @@ impl Tenant {
         let Some(checked) = &self.program else {
             return false;
         };
-        // Its frequencies are positive.
+        // Frequencies are positive.
         checked.known();
         let Some(place) = active_place(checked, self.active.as_slice(), task) else {
             return false;
@@ -42,7 +42,7 @@ impl Tenant {
         ends_at(checked.invocations(self.mode), self.mode_time, place)
     }
 
-    /// Whether this is a job of the tenant's whose task is active, with the job's release. Takes no memory.
+    /// Whether this is a job of the tenant, and its task is active with the job's release. Takes no memory.
     pub fn is_active(&self, id: &JobId) -> bool
         ensures { result ≡ has_active self.now id.now }
     {
@@ -62,8 +62,8 @@ impl Tenant {
         self.active.len()
     }
 
-    /// The value of the actuator of this name, and its place in the program's text, counted from 0; `None` where the tenant's program has
-    /// no such actuator. It is looked for at `hint` first, where it may have been found before. Takes no memory.
+    /// The place of the actuator of this name in the program's text, from 0, and its value. `None` if the tenant has no program
+    /// with such an actuator. Looks at `hint` first, which may be a place where the actuator was found before. Takes no memory.
     #[inline(always)]
     pub fn actuator_from(&self, name: &Name, hint: usize) -> Option<(usize, i64)>
         ensures { option_map (λ a. a.1) result ≡ actuator_value self.now.row name.now }
@@ -77,7 +77,7 @@ impl Tenant {
         Some((place, values[slot]))
     }
 
-    /// The value of the actuator of this name, or `None` where the tenant's program has no such actuator. Takes no memory.
+    /// The value of the actuator of this name. `None` if the tenant has no program with such an actuator. Takes no memory.
     pub fn actuator(&self, name: &Name) -> Option<i64>
         ensures { result ≡ actuator_value self.now.row name.now }
     {
@@ -85,7 +85,8 @@ impl Tenant {
         Some(value)
     }
 
-    /// The value of the actuator that drives this line, or `None` where the tenant's program has no such actuator. Takes no memory.
+    /// The value of the actuator that drives this line. `None` if the tenant has no program with such an actuator. Takes no
+    /// memory.
     pub fn line(&self, line: usize) -> Option<i64>
         ensures { result ≡ line_value self.now.row line }
     {

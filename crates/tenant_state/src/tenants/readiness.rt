@@ -1,4 +1,4 @@
-//! What an instant needs, made before it begins.
+//! What an instant needs. It is made before the instant begins.
 
 ghost use Rattle.std.specs.Prelude.{◌≡◌, map, is_some, true, Some, IsOk, IfNone, IfOk, IfSome, OnOk};
 ghost use Rattle.std.specs.Arc.{arc_value};
@@ -23,11 +23,11 @@ use tenant_slots::due::Due;
 use tenant_slots::names::start_place;
 
 impl Tenant {
-    /// Makes what the next instant needs: places for the tasks that become active, and shares of their bodies. How many jobs
-    /// it can release at most. The row stays as it was.
+    /// Makes what the next instant needs: space for the tasks that become active, and shares of their bodies. Returns how many
+    /// jobs the instant can release at most. The row is unchanged.
     ///
     /// # Errors
-    /// Want of memory, or a share of a task's body is refused. Never where the next instant can release nothing.
+    /// Out of memory, or a share of a task's body is refused. Never if the next instant can release nothing.
     pub fn ready(&mut self) -> Result<usize, AllocError>
         ensures most { IfOk result (λ n. n ≡ most_released self.old.row) }
         ensures never_refused { most_released self.old.row ≡ 0 → IsOk result }
@@ -68,7 +68,7 @@ impl Tenant {
         most_at(checked, self.mode, self.mode_time)
     }
 
-    // The program that the next instant installs.
+    // The waiting program, if the next instant installs it.
     fn installs(&self) -> Option<&Waiting>
         ensures due { IfSome result (λ w. (self.now.row.mode_time ≡ 0) × (self.now.row.waiting ≡ Some w.now.program)) }
         ensures none { IfNone result (IsSettled self.now.row) }
@@ -80,7 +80,7 @@ impl Tenant {
         }
     }
 
-    // Makes each share that isn't at hand, of the program's bodies and of those of one that waits.
+    // Makes each missing share of the program's bodies, and of those of a waiting program.
     fn share_all(&mut self) -> Result<(), AllocError>
         ensures shared { OnOk result (is_some self.old.row.program ≡ true → self.new.ready.shared ≡ true) }
         ensures tenancy { self.new.tenancy ≡ self.old.tenancy }
@@ -100,11 +100,11 @@ impl Tenant {
     }
 }
 
-// The most tasks that an instant in the mode at this place can release.
+// The most tasks that an instant in the mode at this place can release at this mode time.
 fn most_at(checked: &Checked, mode: usize, time: u64) -> usize
     ensures { (m : ModeDeclaration) → IsModeAt checked.now mode m → result ≡ most_at checked.now m time }
 {
-    // Its frequencies are positive, and its switches go to modes.
+    // Frequencies are positive, and switches go to modes of the program.
     checked.known();
     let mut due = Due::at(time);
     let mut most: usize = 0;
@@ -121,7 +121,7 @@ fn most_at(checked: &Checked, mode: usize, time: u64) -> usize
     most
 }
 
-// Makes each share that isn't at hand.
+// Makes each share that is missing.
 pub(crate) fn share_bodies(
     tasks: &[Task],
     shares: &mut [Option<Arc<Body, Global>>],

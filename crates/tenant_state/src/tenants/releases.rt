@@ -20,8 +20,8 @@ use tenant_slots::drivers::holds;
 use tenant_slots::due::Due;
 use tenant_slots::tasks::{argument_values, state_values, write_inputs};
 
-// The invocations of the mode at this place that are due, in text order: where its guard holds, its task becomes active. None is due
-// before mode time `next`.
+// Carries out the invocations of the mode at this place that are due, in text order. If the guard of an invocation holds, its
+// task becomes active. No invocation is due before mode time `next`.
 pub(crate) fn invoke_due(
     checked: &Checked,
     mode: usize,
@@ -53,7 +53,7 @@ pub(crate) fn invoke_due(
     }
 }
 
-// Makes a task active, in the next entry that waits. Its inputs take the values of the arguments.
+// Makes a task active, in the next spare entry. Its inputs take the values of the arguments.
 fn add_release(
     checked: &Checked,
     invocation: &SlotInvocation,
@@ -84,7 +84,7 @@ fn add_release(
     active.count += 1;
 }
 
-// Makes an entry that of a task which becomes active. Its inputs take the values of the arguments.
+// Fills an entry for a task that becomes active. Its inputs take the values of the arguments.
 #[tactic(auto, using(std::proofs::lemmas::Option::slice_get_within))]
 fn activate(
     checked: &Checked,

@@ -18,7 +18,7 @@ use tenant_programs::shown::port_values;
 use tenant_slots::names::port_value;
 
 impl Tenant {
-    // What it is doing.
+    // What the tenant is doing.
     pub(crate) fn status(&self) -> Status
         ensures { (row : Row) → StandsFor self.now row → result ≡ status_of row }
     {
@@ -35,11 +35,11 @@ impl Tenant {
         }
     }
 
-    /// The value of a port of the program: an input or a state of a task, if one is named, and else a sensor, an actuator or an output.
-    /// Takes no memory.
+    /// The value of a port of the program. If a task is named, the port is one of its inputs or states, else a sensor, an
+    /// actuator or an output. Takes no memory.
     ///
     /// # Errors
-    /// `NotLoaded` where the tenant has no program, else `NoPort` where the program has no such port.
+    /// `NotLoaded` if the tenant has no program. `NoPort` if the program has no such port.
     #[inline(always)]
     pub fn port_value(&self, port: &PortName) -> Result<i64, Refusal>
         ensures room { result ≢ Err Refusal.Memory }
@@ -61,7 +61,7 @@ impl Tenant {
         }
     }
 
-    // The values of all ports of the program. Takes no memory where there is none, or no port.
+    // The values of all ports of the program. Takes no memory if there is no program, or if it has no port.
     pub(crate) fn all_values(&self) -> Result<List<PortValue>, Refusal>
         ensures room { has_port self.now.row.program ≡ false → result ≢ Err Refusal.Memory }
         ensures refused { IfErr result (λ r. r ≢ Refusal.Memory → IsRefused self.now (λ row. show_all row row.program) r) }

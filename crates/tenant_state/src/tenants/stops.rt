@@ -1,4 +1,4 @@
-//! A stop: of a tenant that asks for it, or of one whose due task isn't completed.
+//! Stops: of a tenant that asks for it, and of a tenant with a due task that isn't completed.
 
 ghost use Rattle.std.specs.Prelude.{◌≡◌, ◌≤◌, [], true};
 ghost use Rattle.rig_model.specs.FirstHalf.{happening_of, stopped_with};
@@ -11,7 +11,7 @@ use rig_model::trace::records::Happening;
 use tenant_slots::actuators::reset_actuators;
 
 impl Tenant {
-    // Stops the tenant: its actuators are initial, no task is active, and no program waits.
+    // Stops the tenant. Its actuators get their initial values, no task is active, and no program waits.
     pub(crate) fn stop_with(&mut self, reason: Reason)
         ensures step { IsBehind self.old (stopped_with (reason_of reason)) self.new }
         ensures active { self.new.row.active ≡ [] }

@@ -46,7 +46,8 @@ pub(crate) struct Instant<'a> {
     pub(crate) tick: u64,
 }
 
-// Takes the first switch of the instant's mode that is due and whose guard holds, and says where it leads; the trace records it.
+// Takes the first switch of the instant's mode that is due and whose guard holds. Returns where it leads, and records it in the
+// trace.
 pub(crate) fn switch(
     at: &Instant,
     active: &[Active],
@@ -71,8 +72,8 @@ pub(crate) fn switch(
     })
 }
 
-// The mode time behind a switch from the mode at one place to that at another: 0, or as far from its end as the tasks that are
-// active are from their next common deadline.
+// The mode time after a switch, given the places of the old and the new mode. It is 0 if the old mode invokes none of the active
+// tasks. Otherwise it is as far from the end of the new mode as these tasks are from their next common deadline.
 fn entry_time(checked: &Checked, from: usize, target: usize, time: u64, active: &[Active]) -> u64
     requires target { target < length checked.now.modes }
     requires active { AllByRecursion (IsActiveOf checked.now) active.now }
@@ -88,14 +89,14 @@ fn entry_time(checked: &Checked, from: usize, target: usize, time: u64, active: 
     }
 }
 
-// The least common multiple of these tasks' periods in the mode at this place, in ticks; none where it invokes none of them.
+// The least common multiple of these tasks' periods in the mode at this place, in ticks. `None` if the mode invokes none of them.
 fn common_period(checked: &Checked, mode: usize, active: &[Active]) -> Option<u64>
     requires active { AllByRecursion (IsActiveOf checked.now) active.now }
     ensures there { (m : ModeDeclaration) → IsModeAt checked.now mode m
         → IsCommonPeriod (filter_map (λ (a : ActiveTask). period_of_task m a.task) (map (active_of checked.now) active.now)) result }
     ensures none { length checked.now.modes ≤ mode → result ≡ None }
 {
-    // It is well-formed.
+    // The program is well-formed.
     checked.known();
     let mut common: Option<u64> = None;
     for a in active {

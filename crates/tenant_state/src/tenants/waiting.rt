@@ -39,18 +39,18 @@ pub(crate) struct Beginning {
     pub(crate) shares: Vec<Option<Arc<Body, Global>>>,
 }
 
-/// A program that waits, with all that its installation needs.
+/// A waiting program, with all that its installation needs.
 #[derive(Drop)]
 pub(crate) struct Waiting {
     pub(crate) program: Checked,
     pub(crate) beginning: Beginning,
-    /// The ports that keep their values, from the running program's slots to its own.
+    /// The ports that keep their values, with their slots in the running program and in this one.
     pub(crate) carried: Vec<Carried>,
 }
 
 impl Tenant {
-    // Keeps the program that the text spells, where this is what it reads as, until it is installed, in place of one that waited. All
-    // that takes memory, then and at the installation, is made before the first change.
+    // Keeps the program that the text spells until it is installed, in place of one that waited. `reading` is the result of
+    // reading the text. All memory, also that for the installation, is taken before the first change.
     pub(crate) fn replace(
         &mut self,
         text: &str,
@@ -83,7 +83,7 @@ impl Tenant {
         }
     }
 
-    // What a program needs that may replace the running one, and whose text has so many bytes.
+    // What a program needs to replace the running one, if it may. `bytes` is the length of its text.
     fn needs(&self, bytes: usize, program: &Checked) -> Result<(Beginning, Vec<Carried>), Refusal>
         ensures refused { IfErr result (λ r. r ≢ Refusal.Memory → IsRefused self.now (replace_kept self.now.tenancy.budgets bytes program.now) r) }
         ensures kept { OnOk result ((row : Row) → StandsFor self.now row
@@ -113,7 +113,7 @@ impl Tenant {
         }
     }
 
-    // A program waits from now on, and no other. The one that waited.
+    // Makes a program wait, in place of one that waited. Returns the one that waited.
     fn wait(&mut self, waiting: Waiting) -> Option<Checked>
         requires fits { IsWaitingFor self.old.row.program waiting }
         ensures step { IsBehind self.old (λ row. record row { waiting = Some waiting.program }) self.new }
@@ -126,7 +126,7 @@ impl Tenant {
         Some(before.program)
     }
 
-    // Installs the program that waits, if one does, where the mode's period has ended. Takes no memory.
+    // Installs the waiting program, if there is one, at the end of the mode's period. Takes no memory.
     pub(crate) fn install_waiting(&mut self)
         requires begins { self.old.row.mode_time ≡ 0 }
         requires running { is_running self.old.row ≡ true }
@@ -149,9 +149,9 @@ impl Tenant {
         let Some(old) = &self.program else {
             return;
         };
-        // Its frequencies are positive.
+        // Frequencies are positive.
         old.known();
-        // Mostly none waits, and then nothing is moved.
+        // Usually no program waits, and then nothing has to be moved.
         if self.waiting.is_none() {
             return;
         }
@@ -161,7 +161,7 @@ impl Tenant {
         self.put_in_place(waiting);
     }
 
-    // A program that waited is the tenant's, at its beginning.
+    // Makes a program that waited the tenant's program, at its beginning.
     fn put_in_place(&mut self, waiting: Waiting)
         requires fits { IsWaitingFor self.old.row.program waiting }
         requires loaded { is_some self.old.row.program ≡ true }
@@ -205,7 +205,7 @@ impl Tenant {
 }
 
 impl Waiting {
-    // Makes each share that isn't at hand.
+    // Makes each share that is missing.
     pub(crate) fn share(&mut self) -> Result<(), AllocError>
         requires { AreEach IsShareOf self.old.program.tasks (map (option_map arc_value) self.old.beginning.shares.items) }
         ensures shared { OnOk result (list_all is_some self.new.beginning.shares.items ≡ true) }

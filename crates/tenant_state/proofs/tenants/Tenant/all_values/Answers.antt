@@ -12,7 +12,7 @@ none_of : (row : Row) (ports : List ProgramPort) → length ports ≡ 0 → map 
 none_of row [] none = refl
 none_of row (x ∷ xs) none = absurd (omega (arith, none))
 
--- a program without a port shows none
+-- a program without a port shows no values
 none_shown : (s : Standing) (row : Row) (p : GiottoProgram) → s.row.program ≡ Some p → StandsFor s row → length (ports_of p) ≡ 0
     → show_all row row.program ≡ record { row = row; reply = All [] }
 none_shown s row p is stands none =

@@ -6,7 +6,7 @@ use Rattle.tenant_state.specs.Tenants.{tasks_in}
 use Rattle.tenant_state.proofs.Stops.{none_active}
 use Rattle.tenant_state.proofs.tenants.Tenant.beginning.Goals as goal
 
--- what holds anyway holds of an answer that is Ok
+-- what always holds also holds if the result is `Ok`
 anyway : {A B P : Type 0} (r : Result A B) → P → OnOk r P
 anyway (Ok x) holds = holds
 anyway (Err e) holds = tt

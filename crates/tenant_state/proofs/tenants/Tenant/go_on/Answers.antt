@@ -72,7 +72,7 @@ module _ (c : After-modes) where
             none_taken p c.program.ensures.fits its.0 s.mode s.mode_time s.next_due _ _ _ s.next_tick s.trace _ _ _ _ ((c.switch.ensures.noted ∙ ap (λ o. noted s.next_tick (entry_happened p o) s.trace) w.in_default-switch.is)) w.mode-is w.time-is w.next-is its.1 is.fits.quiet is.short_time none
       ]
 
-  -- its mode invokes the tasks of before
+  -- the mode after the switch invokes the older tasks
   its_tasks : (m : ModeDeclaration) → slice_get c.in-Some.checked.modes c.match-switch.mode ≡ Some m → AllByRecursion (IsInvokedIn c.in-Some.checked m) c.self.inside.active.items
   its_tasks m there =
       let p = c.in-Some.checked in
@@ -105,7 +105,7 @@ invoke_due-requires c =
 pub overflow_add-behind : goal.overflow_add-behind
 overflow_add-behind c = let new = behind (goal.at.overflow_add-behind c).After-modes in omega (arith, new.short)
 
--- the mode is there where the code reads it
+-- the mode exists where the code reads it
 within : (c : After-modes) → c.match-switch.mode < length c.modes.result.now
 within c =
     let p = c.in-Some.checked in

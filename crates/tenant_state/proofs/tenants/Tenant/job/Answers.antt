@@ -43,7 +43,7 @@ returns-clause-job c =
     rw (← c.self.view_is, c.in-Some.is, c.new.ensures, c.copy.ensures, c.in_ok-body.ensures, c.copy-inputs.ensures, c.copy-states.ensures)
     (sym (awaited_now c.in-Some.checked _ _ _ _ _ within (rw c.as_slice-2.ensures at c.index-as_slice-place.is) found c.declared.ensures.fits c.declared.result.now c.declared.ensures.task c.args.finished.now.entries none))
 
--- a share is asked for where the completion is awaited
+-- a share is asked for only if the completion is awaited
 pub returns-in_err-body-clause-never_refused : goal.returns-in_err-body-clause-never_refused
 returns-in_err-body-clause-never_refused c = λ none.
     let within = rw c.as_slice.ensures at c.in-Some-place_of.ensures.within in

@@ -6,7 +6,7 @@ use Rattle.tenant_state.specs.cited.Standing.{AreReleased}
 use Rattle.tenant_state.proofs.tenants.Tenant.phase_two.Goals as goal
 use Rattle.tenant_state.proofs.tenants.Tenant.phase_two.Goals.{After-second_half}
 
--- the jobs that it adds, by the number that it had before
+-- the jobs that it adds are those of the number that the instant had
 same_jobs : (c : After-second_half) → released_at c.second_half.new.self.tenancy.owner.place c.next_tick-tick.result c.second_half.new.self.row
     ≡ released_at c.args.self.now.tenancy.owner.place c.args.self.now.row.next_tick c.second_half.new.self.row
 same_jobs c = λ k. released_at (c.second_half.ensures.half.tenancy k).owner.place (c.next_tick-tick.ensures.number k) c.second_half.new.self.row
