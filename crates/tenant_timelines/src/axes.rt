@@ -5,21 +5,21 @@ use crate::scales::{Scale, part, width_of};
 use crate::sheets::Sheet;
 use std::alloc::{AllocError, Global};
 
-// Where the numbers stand, and the lines below them begin.
+// Where the numbers are, and where the lines below them begin.
 const NUMBERS: u64 = 58;
 
 const TOP: u64 = 64;
 
-// How many ticks lie between two numbers: the first of these that leaves room for them.
+// The possible numbers of ticks from one number to the next. The first that leaves space for the numbers is taken.
 const STEPS: [u64; 19] = [
     1, 2, 5, 10, 20, 50, 100, 200, 500, 1000, 2000, 5000, 10000, 20000, 50000, 100000, 200000,
     500000, 1000000,
 ];
 
-/// The numbers of the ticks.
+/// Draws the numbers of the ticks.
 ///
 /// # Errors
-/// Want of memory.
+/// Out of memory.
 pub fn draw_axis(
     alloc: Global,
     sheet: &mut Sheet,
@@ -43,10 +43,10 @@ pub fn draw_axis(
     Ok(())
 }
 
-/// A line below each number, and lighter ones below the other ticks where there is room.
+/// Draws a line below each number, and lighter lines below the other ticks if there is space.
 ///
 /// # Errors
-/// Want of memory.
+/// Out of memory.
 pub fn draw_grid(
     alloc: Global,
     sheet: &mut Sheet,
@@ -67,7 +67,7 @@ pub fn draw_grid(
     Ok(())
 }
 
-// How many ticks lie between two numbers.
+// How many ticks there are from one number to the next.
 fn step_of(alloc: Global, scale: Scale, instants: u64) -> Result<u64, AllocError> {
     let last = format!(in alloc; "{instants}")?;
     let room = width_of(last.as_str()).saturating_add(14);

@@ -13,13 +13,13 @@ const TOP: u64 = 86;
 
 const HEIGHT: u64 = 24;
 
-// Where the marks stand, and where their lines begin.
+// Where the marks are, and where their lines begin.
 const MARKS: u64 = 75;
 
-/// The bands of modes and states.
+/// Draws the bands of modes and states.
 ///
 /// # Errors
-/// Want of memory.
+/// Out of memory.
 pub fn draw_bands(
     alloc: Global,
     sheet: &mut Sheet,
@@ -46,7 +46,7 @@ pub fn draw_bands(
     Ok(())
 }
 
-// One band, with its words where there is room.
+// Draws one band, with its words if they fit.
 fn draw_band(
     alloc: Global,
     sheet: &mut Sheet,
@@ -71,7 +71,7 @@ fn draw_band(
     Ok(())
 }
 
-// The begin of a round, below the band.
+// Draws the beginning of a round, below the band.
 fn draw_round(sheet: &mut Sheet, scale: Scale, place: Place) -> Result<(), AllocError> {
     sheet.upright("round", scale.x(place), 105, 110)
 }
@@ -87,7 +87,7 @@ fn words_of(alloc: Global, doing: &Doing) -> Result<String, AllocError> {
     }
 }
 
-// How a band looks: each mode has a colour, and the ninth that of the first.
+// The look of a band. Each mode has a colour; the ninth has that of the first.
 fn class_of(alloc: Global, modes: &[Name], doing: &Doing) -> Result<String, AllocError> {
     match doing {
         Doing::Empty | Doing::Loaded(_) => String::from_str(alloc, "idle"),
@@ -100,7 +100,7 @@ fn class_of(alloc: Global, modes: &[Name], doing: &Doing) -> Result<String, Allo
     }
 }
 
-// The modes in which the tenant runs, in the order in which they come first.
+// The modes in which the tenant runs, in the order in which they first appear.
 fn modes_of(alloc: Global, bands: &[Band]) -> Result<Vec<Name>, AllocError> {
     let mut modes: Vec<Name> = Vec::new(alloc);
     for band in bands {
@@ -113,27 +113,27 @@ fn modes_of(alloc: Global, bands: &[Band]) -> Result<Vec<Name>, AllocError> {
     Ok(modes)
 }
 
-/// Where a mark stands in the picture.
+/// A mark and where it is in the picture.
 #[derive(Clone, Copy)]
 pub struct PlacedMark {
     pub mark: Mark,
     x: u64,
-    // Where the next one stands.
+    // Where the next mark is, or where the picture ends.
     end: u64,
 }
 
 impl PlacedMark {
-    /// Whether there is room for its word.
+    /// Whether there is space for its word.
     pub fn has_room(self) -> bool {
         let words = width_of(self.mark.as_str());
         self.x.saturating_add(words).saturating_add(18) <= self.end
     }
 }
 
-/// The marks of a run, beside one another.
+/// The marks of a run, next to one another.
 ///
 /// # Errors
-/// Want of memory.
+/// Out of memory.
 pub fn placed_marks(
     alloc: Global,
     scale: Scale,
@@ -156,10 +156,10 @@ pub fn placed_marks(
     Ok(placed)
 }
 
-/// The marks, with their words where there is room.
+/// Draws the marks, with their words if they fit.
 ///
 /// # Errors
-/// Want of memory.
+/// Out of memory.
 pub fn draw_marks(sheet: &mut Sheet, marks: &[PlacedMark]) -> Result<(), AllocError> {
     for placed in marks {
         draw_mark(sheet, placed.mark, placed.x, MARKS)?;
@@ -170,10 +170,10 @@ pub fn draw_marks(sheet: &mut Sheet, marks: &[PlacedMark]) -> Result<(), AllocEr
     Ok(())
 }
 
-/// The figure of a mark, round this point.
+/// Draws the figure of a mark around this point.
 ///
 /// # Errors
-/// Want of memory.
+/// Out of memory.
 pub fn draw_mark(sheet: &mut Sheet, mark: Mark, x: u64, y: u64) -> Result<(), AllocError> {
     let commands = match mark {
         Mark::Start => "m-4 -5l9 5l-9 5z",
@@ -185,10 +185,10 @@ pub fn draw_mark(sheet: &mut Sheet, mark: Mark, x: u64, y: u64) -> Result<(), Al
     sheet.figure(mark.as_str(), x, y, commands)
 }
 
-/// A line below each mark.
+/// Draws a line below each mark.
 ///
 /// # Errors
-/// Want of memory.
+/// Out of memory.
 pub fn draw_mark_lines(
     sheet: &mut Sheet,
     scale: Scale,

@@ -1,4 +1,4 @@
-//! A timeline, drawn: its parts from top to bottom.
+//! Draws a timeline: its parts from top to bottom.
 
 use crate::axes::{draw_axis, draw_grid};
 use crate::bands::{draw_bands, draw_mark_lines, draw_marks, placed_marks};
@@ -16,7 +16,7 @@ const TOP: u64 = 122;
 /// The picture of a timeline.
 ///
 /// # Errors
-/// Want of memory.
+/// Out of memory.
 pub fn draw(alloc: Global, name: &str, timeline: &Timeline) -> Result<String, AllocError> {
     let scale = Scale::new(timeline.instants, names_of(timeline));
     let mut lanes = Sheet::new(alloc);
@@ -36,7 +36,7 @@ pub fn draw(alloc: Global, name: &str, timeline: &Timeline) -> Result<String, Al
     Ok(sheet.into_text())
 }
 
-// The lanes of tasks, sensors and actuators, and where they end.
+// Draws the lanes of tasks, sensors and actuators. Returns where they end.
 fn draw_lanes(
     alloc: Global,
     sheet: &mut Sheet,
@@ -62,7 +62,7 @@ fn draw_lanes(
     )
 }
 
-// Whose run it is.
+// Draws the title, which says whose run it is.
 fn draw_title(
     alloc: Global,
     sheet: &mut Sheet,
@@ -85,7 +85,7 @@ fn note_of(alloc: Global, instants: u64) -> Result<String, AllocError> {
     }
 }
 
-// How wide the names beside the lanes are.
+// The width of the names next to the lanes.
 fn names_of(timeline: &Timeline) -> u64 {
     let mut widest = width_of("actuators");
     for task in &timeline.tasks {

@@ -8,9 +8,9 @@ use std::alloc::{AllocError, Global};
 #[derive(Drop)]
 pub struct TaskLane {
     pub name: Name,
-    /// Those that ended.
+    /// The jobs that have ended.
     pub jobs: Vec<JobBar>,
-    /// The one that has no end yet.
+    /// The job that hasn't ended yet.
     pub open: Option<JobBar>,
 }
 
@@ -41,7 +41,7 @@ pub struct JobBar {
     pub inputs: PortTexts,
     /// The names of the task's outputs.
     pub outputs: Vec<Name>,
-    /// Where it was worked, if it was.
+    /// Where the job was worked, if it was.
     pub worked: Option<Place>,
     pub end: Option<End>,
 }
@@ -53,14 +53,14 @@ pub struct End {
     pub outcome: Outcome,
 }
 
-/// What comes of a job.
+/// The outcome of a job.
 #[derive(Drop)]
 pub enum Outcome {
-    /// Its task ends at its deadline. The outputs with their values behind that instant.
+    /// Its task ends at its deadline. These are the outputs with their values after that instant.
     Written(PortTexts),
     /// It wasn't completed when its task was due.
     Missed,
-    /// It is dropped where the tenant is stopped.
+    /// It is dropped when the tenant is stopped.
     Dropped,
 }
 
@@ -74,7 +74,7 @@ pub struct PortTexts {
 }
 
 impl PortTexts {
-    /// Of no port.
+    /// The texts of no ports.
     pub fn new(alloc: Global) -> PortTexts {
         PortTexts {
             named: String::new(alloc),
@@ -82,10 +82,10 @@ impl PortTexts {
         }
     }
 
-    /// Adds a port, where it has a value.
+    /// Adds a port, if it has a value.
     ///
     /// # Errors
-    /// Want of memory.
+    /// Out of memory.
     pub fn add(&mut self, name: &Name, value: Option<i64>) -> Result<(), AllocError> {
         let Some(value) = value else {
             return Ok(());
@@ -101,7 +101,7 @@ impl PortTexts {
 }
 
 impl JobBar {
-    /// What comes of it: its outputs with their values, `late`, `dropped`, or nothing yet.
+    /// The result of the job: its outputs with their values, `late`, `dropped`, or nothing yet.
     pub(crate) fn result(&self) -> &str {
         match &self.end {
             None => "",
@@ -113,7 +113,7 @@ impl JobBar {
         }
     }
 
-    /// The same with the values alone.
+    /// The result in its shortest form: the values alone, `late`, or nothing.
     pub(crate) fn bare_result(&self) -> &str {
         match &self.end {
             None => "",

@@ -7,23 +7,23 @@ use crate::scales::{Scale, width_of};
 use crate::sheets::{Area, Sheet};
 use std::alloc::{AllocError, Global};
 
-// How high a lane is, and what stands above a group of lanes.
+// The heights of lanes, and of the head above a group of lanes.
 const TASK: u64 = 34;
 
 const PORT: u64 = 44;
 
 const HEAD: u64 = 22;
 
-// How wide a job is at least where a point is drawn on it.
+// The least width of a job on which a point is drawn.
 const NARROW: u64 = 14;
 
-// How high the steps of a port are.
+// The height of a port's steps.
 const STEPS: u64 = 18;
 
-/// A lane for each task, from y on, and where they end.
+/// Draws a lane for each task, from `y` on. Returns where the lanes end.
 ///
 /// # Errors
-/// Want of memory.
+/// Out of memory.
 pub fn draw_tasks(
     alloc: Global,
     sheet: &mut Sheet,
@@ -50,10 +50,10 @@ pub fn draw_tasks(
     Ok(y)
 }
 
-/// A lane for each port of this kind, from y on, and where they end.
+/// Draws a lane for each port of this kind, from `y` on. Returns where the lanes end.
 ///
 /// # Errors
-/// Want of memory.
+/// Out of memory.
 pub fn draw_ports(
     alloc: Global,
     sheet: &mut Sheet,
@@ -90,18 +90,18 @@ fn class_of(kind: Kind) -> &'static str {
     }
 }
 
-// What stands above a group of lanes.
+// Draws the head above a group of lanes.
 fn draw_head(sheet: &mut Sheet, scale: Scale, head: &str, y: u64) -> Result<(), AllocError> {
     sheet.level("rule", y, 16, scale.right())?;
     sheet.words("head", 16, y.saturating_add(15), head)
 }
 
-// The name of a lane.
+// Draws the name of a lane.
 fn draw_name(sheet: &mut Sheet, scale: Scale, name: &str, y: u64) -> Result<(), AllocError> {
     sheet.words("name", scale.left().saturating_sub(12), y, name)
 }
 
-// A job, from its release to its end.
+// Draws a job, from its release to its end.
 fn draw_job(
     alloc: Global,
     sheet: &mut Sheet,
@@ -134,7 +134,7 @@ fn draw_job(
     Ok(())
 }
 
-// How a job looks, by what comes of it.
+// The look of a job, by its outcome.
 fn look_of(job: &JobBar) -> &'static str {
     match &job.end {
         None => "open",
@@ -146,7 +146,7 @@ fn look_of(job: &JobBar) -> &'static str {
     }
 }
 
-// What a job was given and what comes of it, where there is room: with the ports' names, without, or what comes of it alone.
+// Draws a job's inputs and result, as far as they fit: with the ports' names, without them, or the result alone.
 fn draw_values(
     sheet: &mut Sheet,
     job: &JobBar,
@@ -175,7 +175,7 @@ fn draw_values(
     Ok(())
 }
 
-// How much room a job needs for these words.
+// The width that a job needs for these words.
 fn room_of(inputs: &str, outcome: &str) -> u64 {
     let words = width_of(inputs).saturating_add(width_of(outcome));
     let gap = if inputs.is_empty() || outcome.is_empty() {
@@ -186,7 +186,7 @@ fn room_of(inputs: &str, outcome: &str) -> u64 {
     words.saturating_add(gap)
 }
 
-// All that is known of a job.
+// The title of a job, which has all that is known of it.
 fn title_of(alloc: Global, task: &str, job: &JobBar) -> Result<String, AllocError> {
     let tick = job.tick;
     let deadline = job.deadline;
@@ -203,7 +203,7 @@ fn title_of(alloc: Global, task: &str, job: &JobBar) -> Result<String, AllocErro
     Ok(title)
 }
 
-// A port: its name, and its values. Where there is no room for one of them, the least and the greatest stand below the name.
+// Draws a port: its name and its values. If one of the values doesn't fit, the least and the greatest are drawn below the name.
 fn draw_port(
     alloc: Global,
     sheet: &mut Sheet,
@@ -226,7 +226,7 @@ fn draw_port(
     Ok(())
 }
 
-// The values of a port: a line of steps, and above it each value where there is room. Whether there was for all.
+// Draws the values of a port: a line of steps, and above it each value that fits. Returns whether all fit.
 fn draw_steps(
     alloc: Global,
     sheet: &mut Sheet,
@@ -274,7 +274,7 @@ fn add_step(
     }
 }
 
-// A value where it begins, where there is room. Whether there was.
+// Draws a value where it begins, if it fits. Returns whether it fits.
 fn draw_value(
     alloc: Global,
     sheet: &mut Sheet,

@@ -1,4 +1,4 @@
-//! What the figures of a picture mean, where no word beside them says so.
+//! The legend: what figures of a picture mean that have no word next to them.
 
 use crate::bands::{PlacedMark, draw_mark};
 use crate::marks::Mark;
@@ -7,10 +7,10 @@ use crate::sheets::{Area, Sheet};
 use crate::timelines::Timeline;
 use std::alloc::AllocError;
 
-/// The legend, below the lanes.
+/// Draws the legend, below the lanes.
 ///
 /// # Errors
-/// Want of memory.
+/// Out of memory.
 pub fn draw_legend(
     sheet: &mut Sheet,
     scale: Scale,
@@ -25,7 +25,7 @@ pub fn draw_legend(
     draw_mark_words(sheet, marks, x, y)
 }
 
-// What the boxes and points of tasks mean, and where that ends.
+// Draws what the boxes and points of tasks mean. Returns where that ends.
 fn draw_jobs(sheet: &mut Sheet, timeline: &Timeline, y: u64) -> Result<u64, AllocError> {
     if !timeline.tasks.iter().any(|it| it.has_jobs()) {
         return Ok(20);
@@ -44,7 +44,7 @@ fn draw_jobs(sheet: &mut Sheet, timeline: &Timeline, y: u64) -> Result<u64, Allo
     Ok(475)
 }
 
-// What the short lines below the modes mean, and where that ends.
+// Draws what the short lines below the modes mean. Returns where that ends.
 fn draw_round(sheet: &mut Sheet, timeline: &Timeline, x: u64, y: u64) -> Result<u64, AllocError> {
     if timeline.rounds.is_empty() {
         return Ok(x);
@@ -54,7 +54,7 @@ fn draw_round(sheet: &mut Sheet, timeline: &Timeline, x: u64, y: u64) -> Result<
     Ok(x.saturating_add(185))
 }
 
-// The words of the marks of which one has no room for its own.
+// Draws each kind of mark with its word, if a mark of this kind has no space for its own.
 fn draw_mark_words(
     sheet: &mut Sheet,
     marks: &[PlacedMark],

@@ -6,8 +6,8 @@
 //! let picture = draw(alloc, "alpha", &timeline)?;
 //! ```
 //!
-//! A [`timelines::Timeline`] has what is drawn: bands and [`marks`], the [`jobs`] of tasks, the values of [`ports`], each with its
-//! [`places`]. [`draw`] makes a picture in SVG of it, on a [`sheets::Sheet`].
+//! A [`timelines::Timeline`] has what is drawn: bands and [`marks`], the [`jobs`] of tasks, and the values of [`ports`], each with
+//! its [`places`]. [`draw`] makes an SVG picture of it, on a [`sheets::Sheet`].
 #![tactic(auto)]
 
 mod axes;

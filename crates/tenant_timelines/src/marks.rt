@@ -6,7 +6,7 @@ ghost use Rattle.tenant_timelines.specs.inner.Marks.{mark_between};
 use crate::places::Place;
 use giotto_tasks::names::Name;
 
-/// What a tenant is doing: as `show mode` tells it, without the mode time.
+/// What a tenant is doing, as `show mode` reports it, without the mode time.
 #[derive(PartialEq, Drop)]
 pub enum Doing {
     Empty,
@@ -46,7 +46,7 @@ pub struct Marked {
 }
 
 impl Mark {
-    /// What happens between a line and the next, by what the tenant did before and does now.
+    /// What happens between one line and the next, by what the tenant did before and does now.
     pub(crate) fn between(before: &Doing, now: &Doing) -> Option<Mark>
         ensures { result ≡ mark_between before.now now.now }
     {

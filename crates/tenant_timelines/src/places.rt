@@ -1,10 +1,10 @@
-//! Places of a run: each instant, and between any two what commands do there.
+//! The places of a run: each instant, and the commands between any two instants.
 
 ghost use Rattle.std.specs.Prelude.{◌≡◌, ◌+◌, ◌*◌, ◌-◌, ◌^◌, min};
 
 use std::marker::Model;
 
-/// A place of a run, in half ticks: instant N is at `2 N + 1`, and what commands do before it is half a tick earlier.
+/// A place of a run, in half ticks. Instant N is at `2 N + 1`; the commands before it are half a tick earlier.
 #[derive(Clone, Copy, Debug, PartialEq, Eq)]
 pub struct Place(u64);
 
@@ -26,21 +26,21 @@ impl Place {
         Place(0)
     }
 
-    /// That of the instant of this number.
+    /// The place of the instant of this number.
     pub fn of_instant(number: u64) -> Place
         ensures { result ≡ min (min (2 * number) (2 ^ 64 - 1) + 1) (2 ^ 64 - 1) }
     {
         Place(number.saturating_mul(2).saturating_add(1))
     }
 
-    /// That of the commands before the instant of this number.
+    /// The place of the commands before the instant of this number.
     pub fn before_instant(number: u64) -> Place
         ensures { result ≡ min (2 * number) (2 ^ 64 - 1) }
     {
         Place(number.saturating_mul(2))
     }
 
-    /// How many half ticks it is behind the begin.
+    /// The number of half ticks since the beginning.
     pub(crate) fn half_ticks(self) -> u64
         ensures { result ≡ self }
     {

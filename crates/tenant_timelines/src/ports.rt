@@ -5,7 +5,7 @@ use crate::scales::part;
 use giotto_tasks::names::Name;
 use std::alloc::{AllocError, Global};
 
-/// What kind of port it is.
+/// The kind of a port.
 #[derive(Clone, Copy, Debug, PartialEq, Eq)]
 pub enum Kind {
     Sensor,
@@ -20,7 +20,7 @@ pub struct PortLane {
     pub steps: Vec<Step>,
 }
 
-/// The value of a port from a place on; none where the tenant's program has no such port.
+/// The value of a port from a place on; `None` if the tenant's program has no such port.
 #[derive(Clone, Copy, Debug, PartialEq, Eq)]
 pub struct Step {
     pub from: Place,
@@ -37,10 +37,10 @@ impl PortLane {
         }
     }
 
-    /// Notes the value at a place, if it changed; of several at one place the last counts.
+    /// Notes the value at a place, if it changed. Of several values at one place, the last counts.
     ///
     /// # Errors
-    /// Want of memory.
+    /// Out of memory.
     pub fn note(&mut self, place: Place, value: Option<i64>) -> Result<(), AllocError> {
         if value == self.last() {
             return Ok(());
@@ -57,7 +57,7 @@ impl PortLane {
         self.steps.as_slice().last()?.value
     }
 
-    /// The range of all values, where there is one.
+    /// The range of all values, if there are any.
     pub(crate) fn range(&self) -> Option<Range> {
         let mut range = None;
         for step in &self.steps {
@@ -75,14 +75,14 @@ pub(crate) struct Range {
 }
 
 impl Range {
-    /// How high a value lies, where the least lies at 0 and the greatest as high as this; in the middle where they are the same.
+    /// The height of a value. The least value is at 0, and the greatest is at `highest`; if they are equal, the value is in the middle.
     pub(crate) fn height(self, value: i64, highest: u64) -> u64 {
         let range = self.greatest.abs_diff(self.least);
         let above = value.abs_diff(self.least);
         if range == 0 {
             return highest / 2;
         }
-        // so that no product is too large
+        // The shift keeps the product from being too large.
         if range > u64::from(u32::MAX) {
             part((above >> 32).saturating_mul(highest), range >> 32)
         } else {
@@ -91,7 +91,7 @@ impl Range {
     }
 }
 
-// A range with one value more.
+// The range with one more value.
 fn widened(range: Option<Range>, value: Option<i64>) -> Option<Range> {
     match (range, value) {
         (Some(Range { least, greatest }), Some(value)) => Some(Range {

@@ -1,12 +1,12 @@
-//! Sheets: pictures in SVG as they are written, element by element.
+//! Sheets: SVG pictures, written element by element.
 //!
-//! What is written are numbers, words of this crate, and names of tenants, modes, tasks and ports, which have letters, digits and `_`
-//! alone: nothing of it means anything in SVG.
+//! A sheet has only numbers, words of this crate, and names of tenants, modes, tasks and ports. Names have only letters, digits and
+//! `_`. So nothing has to be escaped for SVG.
 
 use crate::scales::WIDTH;
 use std::alloc::{AllocError, Global};
 
-// How each class of elements looks.
+// The look of each class of elements.
 const STYLE: &str = "\
 <style>
 text{font:12px ui-monospace,Menlo,Consolas,'DejaVu Sans Mono',monospace;fill:#1f2937}
@@ -54,7 +54,7 @@ text{font:12px ui-monospace,Menlo,Consolas,'DejaVu Sans Mono',monospace;fill:#1f
 </style>
 ";
 
-/// A box of a picture: its left upper corner, its width and its height.
+/// A box of a picture: its upper left corner, its width and its height.
 #[derive(Clone, Copy)]
 pub struct Area {
     pub x: u64,
@@ -63,24 +63,24 @@ pub struct Area {
     pub height: u64,
 }
 
-/// What is written of a picture.
+/// The written part of a picture.
 #[derive(Drop)]
 pub struct Sheet {
     text: String,
 }
 
 impl Sheet {
-    /// With nothing on it.
+    /// An empty sheet.
     pub fn new(alloc: Global) -> Sheet {
         Sheet {
             text: String::new(alloc),
         }
     }
 
-    /// The begin of a picture that is this high.
+    /// Begins a picture of this height.
     ///
     /// # Errors
-    /// Want of memory.
+    /// Out of memory.
     pub fn begin(&mut self, height: u64) -> Result<(), AllocError> {
         writeln!(
             self.text,
@@ -92,26 +92,26 @@ impl Sheet {
             .push_str("<rect width=\"100%\" height=\"100%\" fill=\"#fff\"/>\n")
     }
 
-    /// The end of a picture.
+    /// Ends the picture.
     ///
     /// # Errors
-    /// Want of memory.
+    /// Out of memory.
     pub fn end(&mut self) -> Result<(), AllocError> {
         self.text.push_str("</svg>\n")
     }
 
-    /// What is on the other sheet.
+    /// Adds what is on the other sheet.
     ///
     /// # Errors
-    /// Want of memory.
+    /// Out of memory.
     pub fn add(&mut self, other: &Sheet) -> Result<(), AllocError> {
         self.text.push_str(other.text.as_str())
     }
 
-    /// A box, with a text that is shown where one points at it.
+    /// Draws a box, with a title that is shown while the pointer is on it.
     ///
     /// # Errors
-    /// Want of memory.
+    /// Out of memory.
     pub fn area(&mut self, class: &str, area: Area, title: &str) -> Result<(), AllocError> {
         let Area {
             x,
@@ -126,10 +126,10 @@ impl Sheet {
         writeln!(self.text, "<title>{title}</title></rect>")
     }
 
-    /// Words.
+    /// Writes words.
     ///
     /// # Errors
-    /// Want of memory.
+    /// Out of memory.
     pub fn words(&mut self, class: &str, x: u64, y: u64, words: &str) -> Result<(), AllocError> {
         writeln!(
             self.text,
@@ -137,10 +137,10 @@ impl Sheet {
         )
     }
 
-    /// A line from top to bottom.
+    /// Draws a line from top to bottom.
     ///
     /// # Errors
-    /// Want of memory.
+    /// Out of memory.
     pub fn upright(
         &mut self,
         class: &str,
@@ -154,10 +154,10 @@ impl Sheet {
         )
     }
 
-    /// A line from left to right.
+    /// Draws a line from left to right.
     ///
     /// # Errors
-    /// Want of memory.
+    /// Out of memory.
     pub fn level(&mut self, class: &str, y: u64, left: u64, right: u64) -> Result<(), AllocError> {
         writeln!(
             self.text,
@@ -165,10 +165,10 @@ impl Sheet {
         )
     }
 
-    /// A line by the commands of its path, and nothing where there are none.
+    /// Draws a line, given the commands of its path. Draws nothing if there are none.
     ///
     /// # Errors
-    /// Want of memory.
+    /// Out of memory.
     pub fn line(&mut self, class: &str, commands: &str) -> Result<(), AllocError> {
         if commands.is_empty() {
             return Ok(());
@@ -176,10 +176,10 @@ impl Sheet {
         writeln!(self.text, "<path class=\"{class}\" d=\"{commands}\"/>")
     }
 
-    /// A figure round this point, by the commands of its path behind the first.
+    /// Draws a figure around this point. `commands` are the commands of its path after the first.
     ///
     /// # Errors
-    /// Want of memory.
+    /// Out of memory.
     pub fn figure(
         &mut self,
         class: &str,
@@ -193,10 +193,10 @@ impl Sheet {
         )
     }
 
-    /// A point.
+    /// Draws a point, with a title that is shown while the pointer is on it.
     ///
     /// # Errors
-    /// Want of memory.
+    /// Out of memory.
     pub fn point(&mut self, class: &str, x: u64, y: u64, title: &str) -> Result<(), AllocError> {
         writeln!(
             self.text,

@@ -10,7 +10,7 @@ use std::alloc::{AllocError, Global};
 /// What is drawn of a tenant's run.
 #[derive(Drop)]
 pub struct Timeline {
-    /// How many instants there were.
+    /// The number of instants so far.
     pub instants: u64,
     /// What the tenant is doing, in the order of the places.
     pub bands: Vec<Band>,
@@ -23,10 +23,10 @@ pub struct Timeline {
 }
 
 impl Timeline {
-    /// Of a tenant without a program.
+    /// The timeline of a tenant without a program.
     ///
     /// # Errors
-    /// Want of memory.
+    /// Out of memory.
     pub fn new(alloc: Global) -> Result<Timeline, AllocError> {
         let mut bands = Vec::new(alloc);
         bands.push(Band {
@@ -43,10 +43,10 @@ impl Timeline {
         })
     }
 
-    /// A lane for a task, where it has none yet.
+    /// Adds a lane for a task, if it has none yet.
     ///
     /// # Errors
-    /// Want of memory.
+    /// Out of memory.
     pub fn add_task(&mut self, alloc: Global, name: &Name) -> Result<(), AllocError> {
         if !self.tasks.iter().any(|it| it.name == *name) {
             self.tasks.push(TaskLane::new(alloc, name))?;
@@ -54,10 +54,10 @@ impl Timeline {
         Ok(())
     }
 
-    /// A lane for a port, where it has none yet.
+    /// Adds a lane for a port, if it has none yet.
     ///
     /// # Errors
-    /// Want of memory.
+    /// Out of memory.
     pub fn add_port(&mut self, alloc: Global, kind: Kind, name: &Name) -> Result<(), AllocError> {
         if !self
             .ports
@@ -69,11 +69,11 @@ impl Timeline {
         Ok(())
     }
 
-    /// Notes what the tenant is doing from a place on, and what happened to it there: by what it did before, or that a program was
-    /// installed.
+    /// Notes what the tenant is doing from a place on, and marks what happened to it there. The mark is that of a replacement if a
+    /// program was installed; otherwise it follows from what the tenant did before.
     ///
     /// # Errors
-    /// Want of memory.
+    /// Out of memory.
     pub fn note(
         &mut self,
         place: Place,

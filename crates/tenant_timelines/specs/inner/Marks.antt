@@ -1,4 +1,4 @@
--- What happens to a tenant between a line of a script and the next.
+-- What happens to a tenant between one line of a script and the next.
 use Rattle.std.specs.Prelude.{Option, Some, None, if◌then◌else◌}
 use Rattle.giotto_tasks.specs.Names.{same_name}
 use Rattle.tenant_timelines.specs.declared.marks.Doing.{Doing}
@@ -6,7 +6,7 @@ use Rattle.tenant_timelines.specs.declared.marks.Doing.TheVariants.{Empty, Loade
 use Rattle.tenant_timelines.specs.declared.marks.Mark.{Mark}
 use Rattle.tenant_timelines.specs.declared.marks.Mark.TheVariants.{Start, Switch, Stop, Overrun}
 
--- what happened, by what the tenant did before and does now: who goes on in another mode took a switch
+-- what happened, by what the tenant did before and does now; a tenant that runs on in another mode took a switch
 abbrev pub mark_between : Doing → Doing → Option Mark
 mark_between (Running m) (Running n) = if same_name m n then None else Some Switch
 mark_between (Running m) StoppedAsked = Some Stop
