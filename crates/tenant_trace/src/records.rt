@@ -1,4 +1,4 @@
-//! What a trace records of a tenant.
+//! What a trace records about a tenant.
 
 ghost use Rattle.std.specs.Prelude.{◌≡◌};
 
@@ -17,7 +17,7 @@ pub enum Happening {
     Out(Name, i64),
     /// The tenant was stopped by its own command.
     Asked,
-    /// The tenant was stopped since this task was due and its computation not completed.
+    /// The tenant was stopped because this task was due and its computation wasn't completed.
     Overrun(Name),
     /// A new program was installed, in this mode.
     Replaced(Name),
@@ -26,7 +26,7 @@ pub enum Happening {
 /// A trace record.
 #[derive(Drop)]
 pub struct Record {
-    /// The number of the running instant, or of the next one where a command made the record.
+    /// The number of the running instant, or of the next one if a command made the record.
     pub tick: u64,
     pub happening: Happening,
 }

@@ -10,7 +10,7 @@ use giotto_tasks::lists::List;
 use std::alloc::{AllocError, Global};
 use std::marker::Model;
 
-/// The last records of a tenant. Contracts see it as how many records it keeps at most and those that it has, the newest first.
+/// The last records of a tenant. Contracts see it as the most records that it may keep, and the records, the newest first.
 #[derive(Drop)]
 pub struct Trace {
     alloc: Global,
@@ -29,10 +29,10 @@ impl Model for Trace {
 }
 
 impl Trace {
-    /// A trace without records, which keeps at most so many.
+    /// A trace without records that keeps at most `most` records.
     ///
     /// # Errors
-    /// Want of memory.
+    /// Out of memory.
     pub fn new(alloc: Global, most: usize) -> Result<Trace, AllocError>
         ensures { IfOk result (λ trace. trace ≡ record { most = most; records = [] }) }
     {
@@ -40,7 +40,7 @@ impl Trace {
         Ok(Trace { alloc, ring })
     }
 
-    /// Adds a record. One that is full gives up its oldest for it. Takes no memory.
+    /// Adds a record. A full trace drops its oldest record for it. Takes no memory.
     pub fn push(&mut self, latest: Record)
         ensures { self.new ≡ pushed latest self.old }
     {
@@ -57,7 +57,7 @@ impl Trace {
     /// The records, the oldest first.
     ///
     /// # Errors
-    /// Out of memory, only where there is a record.
+    /// Out of memory. Never if there are no records.
     pub fn list(&self) -> Result<List<Record>, AllocError>
         ensures records { IfOk result (λ records. records ≡ reverse self.now.records) }
         ensures memory { IsErr result → 0 < length self.now.records }
@@ -99,7 +99,7 @@ fn put_copies(ring: &mut HeapCircularBuffer<Record, Global>, records: &[Record])
     }
 }
 
-// Adds a copy of each of these records.
+// Appends a copy of each of these records.
 fn add_copies(records: &mut Vec<Record>, others: &[Record]) -> Result<(), AllocError>
     ensures added { OnOk result (records.new.items ≡ records.old.items ++ others.now) }
     ensures memory { IsErr result → 0 < length others.now }

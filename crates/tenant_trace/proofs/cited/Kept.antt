@@ -8,7 +8,7 @@ use Rattle.tenant_trace.specs.declared.records.Record.{Record}
 use Rattle.tenant_trace.specs.Trace.{LastRecords, with_happenings}
 use Rattle.tenant_trace.specs.cited.Noted.{noted, pushed}
 
--- the last n of a list, the last first, are the first n of the list turned round
+-- the last n of a list, the last first, are the first n of the reversed list
 pub last_first : {X : Type 0} (n : ℕ) (xs : List X) → reverse (drop (length xs - n) xs) ≡ take n (reverse xs)
 last_first n xs = ⊎_elim some all (cases_lt n (length xs))
   where
@@ -27,7 +27,7 @@ last_first n xs = ⊎_elim some all (cases_lt n (length xs))
         ∙ (λ i. take (long i) (reverse (drop k xs) ++ reverse (take k xs)))
         ∙ ap (take n) (sym (reverse-append (take k xs) (drop k xs)) ∙ ap reverse (take-append-drop k xs))
 
--- what was kept before is all that matters
+-- only what was kept before matters
 take_pushed : {X : Type 0} (n : ℕ) (x : X) (xs : List X) → take n (x ∷ take n xs) ≡ take n (x ∷ xs)
 take_pushed zero x xs = refl
 take_pushed (suc n) x xs = ap (λ ys. x ∷ ys) (take-take n (suc n) xs (omega arith))
@@ -40,7 +40,7 @@ last_of_all most n (h ∷ hs) all =
     let r : Record = record { tick = n; happening = h } in
     ap (λ rs. noted n hs (record { most = most; records = rs })) (take_pushed most r all) ∙ last_of_all most n hs (r ∷ all)
 
--- one list of happenings behind another
+-- one list of happenings after another
 pub noted_behind : (n : ℕ) (hs later : List Happening) (t : LastRecords) → noted n (hs ++ later) t ≡ noted n later (noted n hs t)
 noted_behind n [] later t = refl
 noted_behind n (h ∷ hs) later t = noted_behind n hs later (pushed (record { tick = n; happening = h }) t)
