@@ -39,7 +39,7 @@ no_lf_before (c ∷ cs) = by (c == 10) refl (no_lf_before cs)
 no_lf : (xs : List ℕ) → length xs ≤ first_lf xs → lf_count xs ≡ 0
 no_lf xs none = subst (λ ys. lf_count ys ≡ 0) (take_all (first_lf xs) xs none) (no_lf_before xs)
 
--- an LF parts the bytes
+-- an LF divides the bytes
 parted_at_lf : (xs : List ℕ) → first_lf xs < length xs → xs ≡ take (first_lf xs) xs ++ 10 ∷ drop (first_lf xs + 1) xs
 parted_at_lf [] h = absurd (omega arith)
 parted_at_lf (c ∷ cs) h = by (c == 10) refl (parted_at_lf cs)
@@ -54,7 +54,7 @@ parted_at_lf (c ∷ cs) h = by (c == 10) refl (parted_at_lf cs)
         let found : 1 + n < suc (length cs) = rw e at h in
         rw (e, on, past) (ap (λ ys. c ∷ ys) (rest (omega arith)))
 
--- some bytes have a line at their front
+-- if there are bytes, there is a line at their front
 pub some_line : (xs : List ℕ) → 0 < length xs → HasFirstLine xs (λ line. Unit {0})
 some_line [] some = absurd (omega arith)
 some_line (c ∷ cs) some = by (c == 10) refl
@@ -89,7 +89,7 @@ cut_at_lf (c ∷ cs) h = by (c == 10) refl (cut_at_lf cs)
         let found : 1 + n < suc (length cs) = rw e at h in
         rw (e, on, past, rest (omega arith)) refl
 
--- with none
+-- without an LF
 cut_without_lf : (xs : List ℕ) → length xs ≤ first_lf xs → 0 < length xs → cut xs ≡ xs ∷ []
 cut_without_lf [] h some = absurd (omega arith)
 cut_without_lf (c ∷ cs) h some = by (c == 10) refl (cut_without_lf cs)
@@ -117,14 +117,14 @@ without_cr-cons c d cs =
     by true = refl
     by false = refl
 
--- one CR is taken off in the same way
+-- the codec removes one CR in the same way
 pub without_cr_same : (xs : List ℕ) → without_carriage_return xs ≡ without_last_cr xs
 unfolding without_carriage_return
 without_cr_same [] = refl
 without_cr_same (c ∷ []) = refl
 without_cr_same (c ∷ d ∷ cs) = without_cr-cons c d cs ∙ ap (λ l. c ∷ l) (without_cr_same (d ∷ cs))
 
--- the bytes are those with CR at the end, or with no CR
+-- a CR at the end was removed, or nothing was
 cr_or_same : (xs : List ℕ) → (xs ≡ without_last_cr xs ++ 13 ∷ []) ⊎ (xs ≡ without_last_cr xs)
 cr_or_same [] = inr refl
 cr_or_same (c ∷ []) = by (c == 13) refl
@@ -141,7 +141,7 @@ cr_is_text = IsUtf8-from_ascii (13 ∷ []) low
     low zero = lit< tt
     low (suc i) = lit< tt
 
--- a line is text where it is without its CR
+-- a line is UTF-8 if it is UTF-8 without its CR
 is_text_with_cr : (xs : List ℕ) → IsUtf8 (without_last_cr xs) → IsUtf8 xs
 is_text_with_cr xs u =
     elim (cr_or_same xs) [
@@ -210,14 +210,14 @@ scanned xs =
           ]
     ]
 
--- the first line of xs is the text, or no text of a line, and ys is what follows it
+-- the first line of xs has the text, and ys follows it; after an error, the line is bad, or memory ran out for it
 abbrev pub Cuts : List ℕ → Result (String Global) LinesCodecError → LinesCodec → List ℕ → Type 0
 Cuts xs (Ok text) t ys =
     (t ≡ at_line_start MAX_LINE) × (raw : List ℕ) × (cut xs ≡ raw ∷ cut ys) × (text_of_line raw ≡ Some (string_bytes text)) × (lf_count raw ≡ 0) × (xs ≡ raw ++ 10 ∷ ys)
 Cuts xs (Err e) t ys =
     (IsOutOfMemory {T = ℕ} (Err e) × HasFirstLine xs (λ line. Unit {0})) ⊎ (¬ IsOutOfMemory {T = ℕ} (Err e) × HasFirstLine xs (λ line. text_of_line line ≡ None))
 
--- the same where the input ends: nothing is answered for nothing and for a CR alone
+-- the same at the end of the input: the codec finds no line if there are no bytes, or a CR alone
 abbrev pub CutsLast : List ℕ → Result (Option (String Global)) LinesCodecError → LinesCodec → List ℕ → Type 0
 CutsLast xs (Ok None) t ys = (t ≡ at_line_start MAX_LINE) × (ys ≡ xs) × ((xs ≡ []) ⊎ (xs ≡ 13 ∷ []))
 CutsLast xs (Ok (Some text)) t ys = (t ≡ at_line_start MAX_LINE) × (raw : List ℕ) × (cut xs ≡ raw ∷ cut ys) × (text_of_line raw ≡ Some (string_bytes text)) × (ys ≡ [])
@@ -291,7 +291,7 @@ last_cuts xs r t ys h = by (read_line MAX_LINE 0 xs) r (scanned xs) h
           | inr b ↦ inl (b.0, b.2 ∙ s.1)
         ]
 
--- what the codec finds in bytes without a whole line, and in such as are too long: all of them
+-- the codec drops nothing of bytes without a whole line, and nothing of bytes that are too long
 unfinished_is : (max from : ℕ) (xs : List ℕ) (dropped : Bool) (kept : List ℕ) → read_line max from xs ≡ unfinished dropped kept → dropped ≡ false
 unfolding read_line
 unfinished_is max from xs dropped kept e = by (nat_lt (newline_from from xs) (length xs) && nat_le (newline_from from xs) max) (nat_lt max (length xs)) e
@@ -331,7 +331,7 @@ line_is_shorter max from xs text rest e = by (nat_lt (newline_from from xs) (len
     by false f b true e = absurd (cc)
     by false f b false e = absurd (cc)
 
--- an unfinished line has no LF from where it was searched on
+-- an unfinished line has no LF after the place where the search began
 unfinished_has_none : (max from : ℕ) (xs : List ℕ) → IsUnfinished (read_line max from xs) → length xs ≤ newline_from from xs
 unfinished_has_none max from xs h =
     elim (cases_lt (newline_from from xs) (length xs)) [
@@ -342,7 +342,7 @@ unfinished_has_none max from xs h =
       | inr missing ↦ missing
     ]
 
--- bytes that are no LF
+-- bytes that aren't LF
 abbrev letters : ℕ → List ℕ
 letters n = replicate n 97
 
@@ -378,7 +378,7 @@ newline_is : (from : ℕ) (xs : List ℕ) → newline_from from xs ≡ from + fi
 unfolding newline_from
 newline_is from xs = refl
 
--- with letters behind it, it goes on to their end
+-- if letters follow, the search goes on to their end
 searched_on : (from : ℕ) (xs : List ℕ) (n : ℕ) → length xs ≤ newline_from from xs → length xs + n ≤ newline_from from (xs ++ letters n)
 searched_on from xs n missing =
     let before : length (drop from xs) ≡ length xs - from = length-drop from xs in
@@ -396,13 +396,13 @@ searched_on from xs n missing =
     both : {a b : ℕ} → a ≡ 0 → b ≡ 0 → a + b ≡ 0
     both e f = omega (arith, e, f)
 
--- A codec that has found no line, and goes on as one at the start of a line would with these bytes, has just these bytes, and is in no
--- line that was too long.
+-- A codec that has found no line, and goes on as a codec at the start of a line would with these bytes, has exactly these bytes, and
+-- isn't in a line that was too long.
 module _ (now : List ℕ) (t : LinesCodec) (ys : List ℕ) (goes_on : Resumes gives_lines (at_line_start MAX_LINE) now t ys) where
   discards_nothing : IsSettled t ys → t.is_discarding ≡ false
   discards_nothing settled = by t.is_discarding refl
     where
-      -- one that drops the rest of a line has nothing left
+      -- a codec that drops the rest of a line has nothing left
       dropped_all : (b : Bool) → nat_lt (newline_from 0 ys) (length ys) ≡ b → skip_line t.max_length ys ≡ unfinished true ys → ys ≡ []
       dropped_all true e is =
           let found : newline_from 0 ys < length ys = grind (arith, nat_tests, e) in
@@ -467,7 +467,7 @@ module _ (now : List ℕ) (t : LinesCodec) (ys : List ℕ) (goes_on : Resumes gi
           by (too_long rest) e a = a.2 ∙ too_long_is MAX_LINE 0 (now ++ letters n) rest e
           by (unfinished dropped kept) e a = absurd a
 
--- no LF was read where it found no line
+-- if the codec found no line, no LF was read
 pub no_whole_line : (now : List ℕ) → gives_lines (at_line_start MAX_LINE) now partial → lf_count now ≡ 0
 no_whole_line now h = by (read_line MAX_LINE 0 now) (scanned now) h
   where
@@ -476,7 +476,7 @@ no_whole_line now h = by (read_line MAX_LINE 0 now) (scanned now) h
     by (too_long rest) s a = absurd a
     by (unfinished dropped kept) s a = s.4
 
--- a line that was found takes bytes
+-- a line that was found uses up bytes
 pub line_takes : (codec : LinesCodec) (now : List ℕ) (text : String Global) (t : LinesCodec) (ys : List ℕ) → codec.is_discarding ≡ false → gives_lines codec now (decoded (Ok text) t ys) → length ys < length now
 line_takes codec now text t ys goes h = by (read_line codec.max_length codec.next_index now) refl (rw goes at h)
   where

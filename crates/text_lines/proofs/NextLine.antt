@@ -1,4 +1,4 @@
--- What the codec answers over what was read is the next line of the whole stream.
+-- What the codec finds in the bytes that were read is the next line of the whole stream.
 use Rattle.std.proofs.Common.{◌≡◌, ◌≢◌, ℕ, ◌<◌, ◌≤◌, ◌+◌, ◌-◌, ◌*◌, ◌⊎◌, Bool, true, List, [], ◌∷◌, ◌++◌, length, Option, Some, None, IsSomeAnd, IfSome, Result, Ok, Err, String, Global, string_bytes, refl, sym, ap, ◌∙◌, subst, inl, inr, lit≤, append-nil, length-append, append_assoc, arith}
 use Rattle.std.proofs.lemmas.Str.{IsUtf8-nil}
 use Rattle.std.specs.Io.KnownBytes.{Keeps}
@@ -29,7 +29,7 @@ pub reading_starts : (codec : LinesCodec) (now : List ℕ) → codec ≡ at_line
 reading_starts codec now is =
     (λ behind next found. subst (λ (c : LinesCodec). gives_lines c (now ++ behind) next) is found, ap (λ (c : LinesCodec). c.is_discarding) is)
 
--- the codec has found no line, and goes on with just what it had
+-- the codec has found no line, and goes on with exactly what it had
 pub reading_resumes : (codec : LinesCodec) (now : List ℕ) (t : LinesCodec) (ys : List ℕ) → IsReading codec now → Resumes gives_lines codec now t ys → IsSettled t ys → IsReading t ys × (ys ≡ now)
 reading_resumes codec now t ys reading again settled =
     let goes_on : Resumes gives_lines (at_line_start MAX_LINE) now t ys = λ behind next found. reading.0 behind next (again behind next found) in
@@ -44,14 +44,14 @@ reading_further codec now page reading = (
   reading.1,
 )
 
--- what is found over what was read, carried to the whole stream
+-- what is found in the bytes that were read is found in the whole stream
 carried : (bytes : List ℕ) (codec : LinesCodec) (now more : List ℕ) (r : Result (String Global) LinesCodecError) (t : LinesCodec) (ys : List ℕ)
     → IsReading codec now → bytes ≡ now ++ more → gives_lines codec now (decoded r t ys) → gives_lines (at_line_start MAX_LINE) bytes (decoded r t (ys ++ more))
 carried bytes codec now more r t ys reading is found =
     subst (λ l. gives_lines (at_line_start MAX_LINE) l (decoded r t (ys ++ more))) (sym is)
     (reading.0 more (decoded r t (ys ++ more)) (lines_stable codec now r t ys more found))
 
--- the same at the end of the stream, where all was read
+-- the same at the end of the stream, when all was read
 carried_last : (bytes : List ℕ) (codec : LinesCodec) (now more : List ℕ) (r : Result (Option (String Global)) LinesCodecError) (t : LinesCodec) (ys : List ℕ)
     → IsReading codec now → more ≡ [] → bytes ≡ now ++ more → gives_lines codec now (at_end r t ys) → gives_lines (at_line_start MAX_LINE) bytes (at_end r t ys)
 carried_last bytes codec now more r t ys reading none is found =
@@ -95,7 +95,7 @@ cr_next bytes codec now (Some more) t ys cleared text reading h found some none 
       | inr cr ↦ (13 ∷ [], [], (ap cut cr, inr (refl, refl)), text_of_short (13 ∷ []) (lit≤ tt) IsUtf8-nil ∙ ap (λ l. Some l) (sym blank), (c.0, (h.0, left)))
     ]
 
--- what `unread` makes of an error
+-- what `unread` returns for an error
 abbrev pub IsUnread : Result Line LinesFault → LinesCodecError → Type 0
 IsUnread r e = (IsOutOfMemory {T = ℕ} (Err e) → r ≡ Err Memory) × (¬ IsOutOfMemory {T = ℕ} (Err e) → r ≡ Ok Bad)
 
@@ -149,7 +149,7 @@ unfilled bytes codec now (Some more) ended ended_now new Memory Left reading non
     let all = length-append now more in
     some_line bytes (subst (λ (l : List ℕ). 0 < length l) (sym h.1) (omega (arith, all, some)))
 
--- a line that was given takes bytes, and another one begins
+-- a line that was given uses up bytes, and another one begins
 pub line_further : (codec : LinesCodec) (now : List ℕ) (text : String Global) (t : LinesCodec) (ys : List ℕ) → IsReading codec now → gives_lines codec now (decoded (Ok text) t ys)
     → (t ≡ at_line_start MAX_LINE) × (length ys < length now)
 line_further codec now text t ys reading found =
@@ -168,7 +168,7 @@ cr_further codec now t ys reading found = (last_cuts now (Ok None) t ys (carried
 pub fewer_left : (reads before after : ℕ) → after < before → (MAX_READS - reads) * (PAGE + 1) + after < (MAX_READS - reads) * (PAGE + 1) + before
 fewer_left reads before after fewer = omega (arith, fewer)
 
--- less than before is less than what stood before that
+-- if less is left than at `mid`, less is left than at `old`
 pub further_from : (old mid : Lines) (r : Result Line LinesFault) (new : Lines) → left_at_most mid ≤ left_at_most old → IsFurther mid r new → IsFurther old r new
 further_from old mid (Ok (Whole text)) new fewer h = let less = h.1 in (h.0, omega (arith, fewer, less))
 further_from old mid (Ok Bad) new fewer h = tt

@@ -11,10 +11,10 @@ pub enum LinesFault {
     /// The writer couldn't be flushed before a read.
     #[error("writing a reply failed")]
     Write,
-    /// 1,048,576 reads gave bytes, and none of them found the end.
+    /// 1,048,576 reads gave bytes, and the end wasn't found.
     #[error("the input had not ended after 1048576 reads")]
     Turns,
-    /// Want of memory for the next line, of which bytes came.
+    /// Out of memory for the next line, of which bytes were read.
     #[error("no memory for a line")]
     Memory,
 }

@@ -1,4 +1,4 @@
-//! Lines of a reader: at most 16,384 bytes before each LF, one CR at the end taken off, and UTF-8.
+//! Lines of a reader: UTF-8, at most 16,384 bytes before each LF, with one CR at the end removed.
 
 ghost use Rattle.std.specs.Prelude.{◌≡◌, ◌≢◌, ◌<◌, ◌≤◌, ◌+◌, ℕ, true, false, List, [], ◌∷◌, ◌++◌, length, map, string_bytes, Option, Some, IfErr, IfSome, OnOk, OnErr, Ok, Err};
 ghost use Rattle.std.specs.Io.KnownBytes.{Keeps};
@@ -17,10 +17,10 @@ use std::io;
 use std::io::{Read, Write};
 use tokio_util::codec::{Decoder, LinesCodec, LinesCodecError};
 
-/// How many bytes a read may give.
+/// The most bytes that a read may give.
 pub const PAGE: usize = 4096;
 
-/// How many lines `Lines::next_lines` gives at most.
+/// The most lines that `Lines::next_lines` gives.
 pub const MOST_LINES: usize = 32;
 
 /// What the next line is.
@@ -28,30 +28,30 @@ pub const MOST_LINES: usize = 32;
 pub enum Line {
     /// A line, without its LF and without one CR before it.
     Whole(String),
-    /// The line is longer than 16,384 bytes, or no UTF-8.
+    /// The line is longer than 16,384 bytes, or isn't UTF-8.
     Bad,
     /// The input has ended.
     End,
 }
 
-/// What stands behind lines that were given.
+/// What follows the lines that were given.
 #[derive(Clone, Copy, Debug, PartialEq, Eq)]
 pub enum Behind {
-    /// Lines may come.
+    /// More lines may come.
     More,
-    /// A line that is longer than 16,384 bytes, or no UTF-8.
+    /// A line that is longer than 16,384 bytes, or isn't UTF-8.
     Bad,
     /// The end of the input.
     End,
 }
 
-/// The lines of a reader, which is lent to each call.
+/// The lines of a reader. Each call borrows the reader.
 #[derive(Drop)]
 pub struct Lines {
     alloc: Global,
     codec: LinesCodec,
     buffer: BytesMut,
-    // What a read gave. It stands here so that none is made for each read.
+    // What a read gave. It is kept here so that no page is made for each read.
     page: [u8; PAGE],
     reads: u32,
     at_end: bool,
@@ -74,19 +74,20 @@ impl Lines {
         }
     }
 
-    /// How many reads gave bytes so far: at most 1,048,576.
+    /// The number of reads that gave bytes so far: at most 1,048,576.
     pub fn reads(&self) -> u32
         ensures { result ≡ reads_of self.now }
     {
         self.reads
     }
 
-    /// The next line. What the reader has is read only where no line is left of what was read before, and the writer is flushed before
-    /// each read. A read that gives bytes is counted, and nothing else; the last one that may come is the 1,048,576th.
+    /// The next line. Reads from the reader only if no line is left of what was read before, and flushes the writer before each read.
+    /// Only reads that give bytes are counted. The 1,048,576th is the last that may come.
     ///
     /// # Errors
-    /// `Read` where a read failed, `Write` where a flush failed, and `Turns` where 1,048,576 reads gave bytes and none of them found the
-    /// end: then all lines were given whose LF was read. `Memory` where there is no memory for the next line.
+    /// - `Read` if a read failed, and `Write` if a flush failed.
+    /// - `Turns` if 1,048,576 reads gave bytes and the end wasn't found. All lines whose LF was read were given by then.
+    /// - `Memory` if there is no memory for the next line.
     #[inline(always)]
     pub fn next_line<R: Read, W: Write>(
         &mut self,
@@ -120,11 +121,11 @@ impl Lines {
         }
     }
 
-    /// The next lines, in place of those in `texts`: the next one, as `next_line` gives it, and behind it those that were read with it,
-    /// 32 at most. What stands behind them.
+    /// Puts the next lines into `texts`, in place of what was there, and returns what follows them. The lines are the next one, as
+    /// `next_line` gives it, and those after it that were read with it, at most 32 in all.
     ///
     /// # Errors
-    /// As those of `next_line`; the lines before the fault are in `texts`.
+    /// Those of `next_line`. The lines before the fault are in `texts`.
     pub fn next_lines<R: Read, W: Write>(
         &mut self,
         reader: &mut R,
@@ -147,7 +148,7 @@ impl Lines {
         self.add_lines(first, texts)
     }
 
-    // Adds this line to the texts, and those behind it that were read with it. What stands behind them.
+    // Adds this line to the texts, and those after it that were read with it. Returns what follows them.
     fn add_lines(&mut self, first: Line, texts: &mut Vec<String>) -> Result<Behind, LinesFault>
         requires { length texts.old.items ≡ 0 }
         ensures few { length texts.new.items ≤ MOST_LINES }
@@ -175,7 +176,7 @@ impl Lines {
         }
     }
 
-    // The next line, if all of it was read. `Memory` where there is no memory for it.
+    // The next line, if all of it was read. `Memory` if there is no memory for it.
     fn at_hand(&mut self) -> Result<Option<Line>, LinesFault>
         ensures line { (remaining : Option (List ℕ)) (bytes : List ℕ) → IsLeft self.old remaining bytes
             → IsAtHand bytes result remaining (has_ended self.new) (IsLeft self.new remaining) }
@@ -187,7 +188,7 @@ impl Lines {
         match self.codec.decode(&mut self.buffer) {
             Ok(Some(text)) => Ok(Some(Line::Whole(text))),
             Ok(None) => {
-                // Its bytes so far are looked through again with those that come.
+                // Its bytes so far are searched again, together with those that come.
                 self.codec = LinesCodec::new_with_max_length(MAX_LINE);
                 Ok(None)
             }
@@ -195,7 +196,7 @@ impl Lines {
         }
     }
 
-    // The next line where the reader has ended.
+    // The next line, after the reader has ended.
     fn last_line(&mut self) -> Result<Line, LinesFault>
         requires { self.old.at_end ≡ true }
         ensures line { (remaining : Option (List ℕ)) (bytes : List ℕ) → IsReading self.old.codec self.old.buffer.items → AreAhead self.old remaining bytes
@@ -267,7 +268,7 @@ fn add_text(texts: &mut Vec<String>, text: String) -> Result<(), LinesFault>
     }
 }
 
-// What a line that the codec refuses is.
+// What the codec's error about a line means: a bad line, or out of memory.
 fn unread(error: LinesCodecError) -> Result<Line, LinesFault>
     ensures fault { IfErr result (λ fault. fault ≡ LinesFault.Memory) }
     ensures memory { IsOutOfMemory {T = ℕ} (Err error) → result ≡ Err LinesFault.Memory }

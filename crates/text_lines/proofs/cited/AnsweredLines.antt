@@ -1,4 +1,4 @@
--- How far a script has come: what was written is what the lines so far are answered.
+-- How far a script has come: what was written is the replies to the lines so far.
 use Rattle.std.proofs.Common.{◌≡◌, ◌≢◌, ℕ, suc, ◌==◌, ◌⊎◌, Bool, true, false, take, List, [], ◌∷◌, ◌++◌, Option, Some, None, Result, Ok, Err, OnOk, IfSome, IsSome, IsSomeAnd, All, refl, sym, ap, ◌∙◌, subst, inl, inr, append_assoc, append-nil, arith}
 use Rattle.std.proofs.lemmas.List.Elements.{All-head, All-tail}
 use Rattle.std.proofs.KnownBytes.{Appends-trans, Appends-kept}
@@ -14,7 +14,7 @@ appends_nothing : (w : Option (List ℕ)) → Appends w w []
 appends_nothing None = tt
 appends_nothing (Some xs) = sym (append-nil xs)
 
--- these lines came whole with these bytes, whatever stands behind
+-- these lines came whole with these bytes, whatever follows them
 abbrev pub AreOf : List (List ℕ) → List ℕ → Type 0
 AreOf before taken = (xs : List ℕ) → whole_lines (taken ++ xs) ≡ before ++ whole_lines xs
 
@@ -36,7 +36,7 @@ whole_behind line xs none =
 no_whole_lines : (xs : List ℕ) → lf_count xs ≡ 0 → whole_lines xs ≡ []
 no_whole_lines xs none = ap (λ n. take n (cut xs)) none
 
--- the lines so far came whole with the bytes before `rest`, and so do they with one line more, but for the last one
+-- if the lines so far came whole with the bytes before `rest`, so do they with one more line, unless the reader has ended
 taken_further : (bytes : List ℕ) (before : List (List ℕ)) (rest : List ℕ) (ended : Bool) (line later : List ℕ) (ended_now : Bool)
     → ((taken : List ℕ) × (bytes ≡ taken ++ rest) × AreOf before taken) ⊎ (ended ≡ true) → IsFirstLine line later rest ended_now → (ended ≡ true → ended_now ≡ true)
     → ((taken : List ℕ) × (bytes ≡ taken ++ later) × AreOf (before ++ line ∷ []) taken) ⊎ (ended_now ≡ true)
@@ -57,7 +57,7 @@ taken_further bytes before rest ended line later ended_now (inl h) first stays =
     )
 
 module _ {S : Type 0} (reply : S → List ℕ → List ℕ) (after : S → List ℕ → S) where
-  -- one more line, behind lines that are text
+  -- one more line, after lines that have a text
   answered_more : (s : S) (before : List (List ℕ)) (line text : List ℕ) → AllByRecursion IsText before → text_of_line line ≡ Some text
       → answered reply after s (before ++ line ∷ []) ≡ answered reply after s before ++ reply (state_after reply after s before) text
   answered_more s [] line text all e = rw e (append-nil (reply s text))
@@ -81,14 +81,14 @@ module _ {S : Type 0} (reply : S → List ℕ → List ℕ) (after : S → List 
   text_more [] line text all e = (rw e refl, tt)
   text_more (l ∷ ls) line text all e = (all.0, text_more ls line text all.1 e)
 
-  -- What was said is the replies to the first lines of these bytes, each of which is text. They came whole with the bytes before `rest`,
-  -- but for the last one where the reader has ended.
+  -- What was said is the replies to the first lines of these bytes, each of which has a text. They came whole with the bytes before
+  -- `rest`, except for the last one if the reader has ended.
   abbrev HasSaid : S → List ℕ → S → List ℕ → Bool → List ℕ → Type 0
   HasSaid s bytes t rest ended said =
       (before : List (List ℕ)) × (cut bytes ≡ before ++ cut rest) × AllByRecursion IsText before × (said ≡ answered reply after s before) × (t ≡ state_after reply after s before)
       × (((taken : List ℕ) × (bytes ≡ taken ++ rest) × AreOf before taken) ⊎ (ended ≡ true))
 
-  -- from the state s and the writer w on, with these bytes, to the state t and the writer v, with `rest` still to come
+  -- from the state s and the writer w, with these bytes, to the state t and the writer v, with `rest` still to come
   abbrev pub HasCome : S → List ℕ → Option (List ℕ) → S → List ℕ → Bool → Option (List ℕ) → Type 0
   HasCome s bytes w t rest ended v =
       (said : List ℕ) × Appends w v said × (answered reply after s (cut bytes) ≡ said ++ answered reply after t (cut rest))
@@ -97,7 +97,7 @@ module _ {S : Type 0} (reply : S → List ℕ → List ℕ) (after : S → List 
   pub come_nowhere : (s : S) (bytes : List ℕ) (w : Option (List ℕ)) (ended : Bool) → HasCome s bytes w s bytes ended w
   come_nowhere s bytes w ended = ([], appends_nothing w, refl, refl, ([], refl, tt, refl, refl, inl ([], refl, λ xs. refl)))
 
-  -- the same where the reader has ended since
+  -- the same if the reader has ended since
   pub come_ended : (s : S) (bytes : List ℕ) (w : Option (List ℕ)) (t : S) (rest : List ℕ) (ended ended_now : Bool) (v : Option (List ℕ)) → HasCome s bytes w t rest ended v → (ended ≡ true → ended_now ≡ true) → HasCome s bytes w t rest ended_now v
   come_ended s bytes w t rest ended ended_now v come stays = (
     come.0,
@@ -118,7 +118,7 @@ module _ {S : Type 0} (reply : S → List ℕ → List ℕ) (after : S → List 
   )
 
   module _ (s : S) (bytes : List ℕ) (w : Option (List ℕ)) (t : S) (rest : List ℕ) (ended : Bool) (v : Option (List ℕ)) (come : HasCome s bytes w t rest ended v) (flushed : Option (List ℕ)) (kept : Keeps v flushed) where
-    -- one line more
+    -- one more line
     pub come_further : (line later text : List ℕ) (u : S) (ended_now : Bool) (written : Option (List ℕ)) → IsFirstLine line later rest ended_now → (ended ≡ true → ended_now ≡ true) → text_of_line line ≡ Some text → u ≡ after t text
         → Appends flushed written (reply t text) → HasCome s bytes w u later ended_now written
     come_further line later text u ended_now written first stays is_text next grown =
@@ -142,7 +142,7 @@ module _ {S : Type 0} (reply : S → List ℕ → List ℕ) (after : S → List 
           ),
         )
 
-    -- where no line more came whole, just those that did were answered
+    -- if no other line came whole, exactly those that did were answered
     pub all_answered : (remaining : Option (List ℕ)) → ended ≢ true → HasNoWholeLine rest remaining → AreAllAnswered reply after s bytes remaining (Appends w flushed)
     all_answered None more none = absurd none
     all_answered (Some left) more none = by come.4.5
@@ -157,7 +157,7 @@ module _ {S : Type 0} (reply : S → List ℕ → List ℕ) (after : S → List 
               subst (Appends w flushed) (come.4.3 ∙ ap (answered reply after s) (sym whole)) (Appends-kept w v flushed come.0 come.1 kept),
             )
 
-    -- where the next line found no memory, those before it were answered
+    -- if memory ran out for the next line, those before it were answered
     pub answered_before : HasFirstLine rest (λ line. Unit {0}) → AreAnsweredBefore reply after s bytes (λ said line. Appends w flushed said)
     answered_before first = (
       come.4.0,
@@ -168,7 +168,7 @@ module _ {S : Type 0} (reply : S → List ℕ → List ℕ) (after : S → List 
       subst (Appends w flushed) come.4.3 (Appends-kept w v flushed come.0 come.1 kept),
     )
 
-    -- where the reply to the next line found no memory, those before it were answered, and behind them that
+    -- if memory ran out for the reply to the next line, those before it were answered, and then this was reported
     pub refused_behind : (refused : List ℕ → List ℕ) (line later text : List ℕ) (ended_now : Bool) (written : Option (List ℕ)) → IsFirstLine line later rest ended_now → text_of_line line ≡ Some text → Appends flushed written (refused text)
         → AreAnsweredBefore reply after s bytes (λ said line. IsSomeAnd (text_of_line line) (λ text. Appends w written (said ++ refused text)))
     refused_behind refused line later text ended_now written first is_text grown = (
@@ -189,7 +189,7 @@ module _ {S : Type 0} (reply : S → List ℕ → List ℕ) (after : S → List 
     pub state_at_end : rest ≡ [] → state_after reply after s (cut bytes) ≡ t
     state_at_end none = come.3 ∙ ap (λ l. state_after reply after t (cut l)) none
 
-    -- a line that is no text
+    -- a line without a text: it is too long, or isn't UTF-8
     pub bye_written : (written : Option (List ℕ)) → HasFirstLine rest (λ line. text_of_line line ≡ None) → Appends flushed written bye_bad_line → Appends w written (answered reply after s (cut bytes))
     bye_written written bad grown =
         let here : answered reply after t (cut rest) ≡ bye_bad_line = rw (bad.2, bad.3) refl in
@@ -198,7 +198,7 @@ module _ {S : Type 0} (reply : S → List ℕ → List ℕ) (after : S → List 
     pub state_at_bye : HasFirstLine rest (λ line. text_of_line line ≡ None) → state_after reply after s (cut bytes) ≡ t
     state_at_bye bad = let here : state_after reply after t (cut rest) ≡ t = rw (bad.2, bad.3) refl in come.3 ∙ here
 
--- where all lines are text, those still to come are
+-- if all lines have a text, those still to come have one
 module _ (lines rest : List (List ℕ)) (texts : All IsText lines → All IsText rest) (line : List ℕ) (later : List (List ℕ)) (front : rest ≡ line ∷ later) where
   pub texts_further : All IsText lines → All IsText later
   texts_further all = All-tail IsText line later (subst (All IsText) front (texts all))
@@ -214,7 +214,7 @@ pub on_ok_then : {T E : Type 0} (r : Result T E) (P Q : Type 0) → OnOk r P →
 on_ok_then (Ok x) P Q h f = f h
 on_ok_then (Err e) P Q h f = tt
 
--- what follows of the bytes that a reader is known to have
+-- what follows for the bytes that a reader is known to have
 pub if_known : (known : Option (List ℕ)) (P Q : List ℕ → Type 0) → IfSome known P → ((bytes : List ℕ) → P bytes → Q bytes) → IfSome known Q
 if_known None P Q h f = tt
 if_known (Some bytes) P Q h f = f bytes h
