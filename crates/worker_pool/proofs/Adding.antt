@@ -1,4 +1,4 @@
--- What is added at the end of a list that is known or not.
+-- What is added at the end of a list, whether it is known or not.
 use Rattle.std.proofs.Common.{sym, ap, ◌∙◌, ◌++◌, [], List, Option, None, Some}
 use Rattle.std.proofs.lemmas.List.{append-nil, append_assoc}
 use Rattle.host_core.specs.Adding.{Adds}

@@ -1,4 +1,4 @@
--- What a worker is handed may move to its thread.
+-- What a worker is given may move to its thread.
 use denote.Param.Send.{IsSend, sendable}
 use Rattle.std.proofs.Crossing.{crosses}
 use Rattle.locked_book.proofs.cited.Crossing.{job_send}

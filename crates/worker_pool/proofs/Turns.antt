@@ -1,4 +1,4 @@
--- The turns in which jobs are sent.
+-- The iterations in which jobs are sent.
 use Rattle.std.proofs.Common.{arith, refl, sym, ap, subst, ◌∙◌, ◌≡◌, ◌+◌, ◌<◌, ◌∷◌, ◌++◌, ℕ, [], Bool, true, false, List, Option, length, drop, get_or}
 use Rattle.std.proofs.lemmas.List.{append-nil, append_assoc, drop_more, drop_all, length-append, length-drop}
 use Rattle.tenant_jobs.specs.Jobs.{JobValue}
@@ -6,7 +6,7 @@ use Rattle.worker_pool.proofs.Adding.{adds_more, adds_nothing}
 use Rattle.host_core.specs.Adding.{Adds}
 use Rattle.worker_pool.specs.Unsent.{AreSent, sent_of, unsent_of}
 
--- after some turns: the jobs that are left, then those that weren't sent; the others were added to those taken before
+-- after some iterations: the jobs that are left, then those that weren't sent; the others were added to those taken before
 abbrev pub IsUnderway : ℕ → Option (List JobValue) → Option (List JobValue) → List JobValue → List JobValue → Type 0
 IsUnderway turns before after now jobs =
     (told : List Bool) × (length told ≡ turns) × Adds before after (sent_of told jobs) × (now ≡ drop turns jobs ++ unsent_of told jobs)
@@ -18,7 +18,7 @@ pub ended : (turns : ℕ) (before after : Option (List JobValue)) (now jobs : Li
 ended turns before after now jobs (told, count, adds, is) all =
     (told, count ∙ all, adds, is ∙ ap (λ xs. xs ++ unsent_of told jobs) (drop_all turns jobs (omega (arith, all))))
 
--- a turn more says just of the next job whether it was sent
+-- one more iteration says only of the next job whether it was sent
 sent_more : (told : List Bool) (jobs rest : List JobValue) (job : JobValue) (sent : Bool) → drop (length told) jobs ≡ job ∷ rest
     → sent_of (told ++ sent ∷ []) jobs ≡ sent_of told jobs ++ sent_of (sent ∷ []) (job ∷ [])
 sent_more [] [] rest job sent e = absurd (cc)
@@ -37,13 +37,13 @@ unsent_more (b ∷ told) [] rest job sent e = absurd (cc)
 unsent_more (true ∷ told) (j ∷ jobs) rest job sent e = unsent_more told jobs rest job sent e
 unsent_more (false ∷ told) (j ∷ jobs) rest job sent e = ap (λ xs. j ∷ xs) (unsent_more told jobs rest job sent e)
 
--- before the last turn there is a job
+-- before the last iteration there is a job
 pub there : (turns : ℕ) (before after : Option (List JobValue)) (now jobs : List JobValue) → IsUnderway turns before after now jobs → turns < length jobs → 0 < length now
 there turns before after now jobs (told, count, adds, is) less =
     let e = ap length is in
     omega (arith, length-append (drop turns jobs) (unsent_of told jobs), length-drop turns jobs)
 
--- a turn: the first job is taken, and either sent or put after the others
+-- an iteration: the first job is taken, and either sent or put after the others
 turn : (turns : ℕ) (before between after : Option (List JobValue)) (now jobs : List JobValue) (job : JobValue) (sent : Bool)
     → IsUnderway turns before between (job ∷ now) jobs → turns < length jobs → Adds between after (sent_of (sent ∷ []) (job ∷ []))
     → IsUnderway (turns + 1) before after (now ++ unsent_of (sent ∷ []) (job ∷ [])) jobs

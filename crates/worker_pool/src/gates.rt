@@ -4,9 +4,9 @@ use std::sync::Wait;
 use std::time::Clock;
 use tenant_jobs::jobs::JobId;
 
-/// Asked by a worker before it computes a job, outside the desk's lock. While it waits, that worker waits, and nobody else.
+/// Asked by a worker before it computes a job, outside the desk's lock. While the gate waits, only that worker waits.
 pub trait Gate {
-    /// Comes back when the job of this name may be computed.
+    /// Returns when the job of this name may be computed.
     fn enter<R: Wait + Clock>(&self, rt: &R, id: &JobId);
 }
 

@@ -1,4 +1,4 @@
-//! Outboxes: jobs are sent to be run, or come back.
+//! Outboxes: they take jobs to be run, or give them back.
 
 ghost use Rattle.std.specs.Prelude.{◌≡◌, [], ◌∷◌, List, Option, None, IfErr, OnOk};
 ghost use Rattle.tenant_jobs.specs.Jobs.{JobValue};
@@ -10,7 +10,7 @@ use tenant_jobs::jobs::{Job, Jobs};
 
 /// Takes jobs, to have them run.
 pub trait Outbox {
-    // the jobs that it took, the first one first, where they are known
+    // the jobs that it took, the first one first, if they are known
     ghost taken: { Self → Option (List JobValue) } = { λ _. None };
 
     /// Takes a job.
@@ -22,7 +22,7 @@ pub trait Outbox {
         ensures refused { IfErr result (λ back. (back ≡ job) × Adds (taken self.old) (taken self.new) []) };
 }
 
-/// Puts jobs into an outbox, the first one first. Returns those that it didn't take, in their order. Takes no memory but the outbox's.
+/// Puts jobs into an outbox, the first one first. Returns those that it didn't take, in their order. Takes no memory except the outbox's.
 pub fn send_all<R: Wait, O: Outbox>(rt: &R, outbox: &mut O, jobs: Jobs) -> Jobs
     ensures { AreSent (O.taken outbox.old) (O.taken outbox.new) result.jobs jobs.jobs }
 {

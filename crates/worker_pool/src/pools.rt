@@ -16,7 +16,7 @@ use std::thread::{JoinHandle, Scope, Threads};
 use std::time::Clock;
 use tenant_jobs::jobs::{Job, Jobs};
 
-// What a worker is told.
+// An order to a worker.
 #[derive(Drop)]
 enum Order {
     Run(Job),
@@ -47,7 +47,7 @@ impl<'a> Outbox for Orders<'a> {
     }
 }
 
-/// Workers that run the jobs sent to them, each in a thread of its own. Contracts see it as the number of its workers.
+/// Workers that run the jobs sent to them, each in a separate thread. Contracts see it as the number of its workers.
 ///
 /// A pool that is dropped closes its channel: each worker still runs what was sent, and then ends.
 #[derive(Drop)]
@@ -68,7 +68,7 @@ impl Pool {
     /// Starts this number of workers, 1 to 64, for a desk, with this gate.
     ///
     /// # Errors
-    /// Want of memory, or of a thread. No worker is left then.
+    /// Out of memory, or a thread can't be started. No worker is left then.
     pub fn start<'s, N: Naming + Send + Sync, E, R: Threads + Wait + Clock + Sync, G: Gate + Sync>(
         rt: &'s R,
         alloc: Global,
@@ -95,7 +95,7 @@ impl Pool {
         Ok(pool)
     }
 
-    // One worker more.
+    // Starts one more worker.
     fn add<'s, N: Naming + Send + Sync, E, R: Threads + Wait + Clock + Sync, G: Gate + Sync>(
         &mut self,
         rt: &'s R,
@@ -119,7 +119,8 @@ impl Pool {
         }
     }
 
-    /// Sends jobs to the workers, the first one first. Returns those that couldn't be sent, in their order: with ample memory none.
+    /// Sends jobs to the workers, the first one first. Returns those that couldn't be sent, in their order. With ample memory there
+    /// are none.
     pub fn send(&self, rt: &impl Wait, jobs: Jobs) -> Jobs
         ensures { AreUnsent result.jobs jobs.jobs }
     {
@@ -132,7 +133,7 @@ impl Pool {
         )
     }
 
-    /// Stops the workers after all that was sent, and waits until each has ended.
+    /// Stops the workers after they have run all that was sent, and waits until each has ended.
     pub fn stop(self, rt: &(impl Threads + Wait)) {
         let Pool { orders, workers } = self;
         for _worker in 0..workers.len() {
@@ -145,7 +146,7 @@ impl Pool {
     }
 }
 
-// Runs jobs until it is told to stop, or the channel is closed.
+// Runs jobs until the order to stop comes, or the channel is closed.
 fn work<N: Naming, R: Wait + Clock, G: Gate>(rt: &R, inbox: Inbox, desk: &Desk<N>, gate: &G) {
     let mut worker = DeskWorker { desk, gate };
     for _ in rt.forever() {

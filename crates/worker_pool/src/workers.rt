@@ -19,13 +19,13 @@ use tenant_jobs::jobs::{Done, Job, JobId, run_job};
 
 /// Can do what a job needs.
 pub trait Worker {
-    // what it did, the oldest first, where that is known
+    // what it did, the oldest first, if that is known
     ghost did: { Self → Option (List Work) } = { λ _. None };
 
     // what is known of the answer to the completion of the job of this name
     ghost answers: { JobId → Counted → ℕ → Type 0 };
 
-    /// Comes back when the job of this name may be computed.
+    /// Returns when the job of this name may be computed.
     fn enter<R: Wait + Clock>(&mut self, rt: &R, id: &JobId)
         ensures { Adds (did self.old) (did self.new) (entered id.now ∷ []) };
 
@@ -34,13 +34,13 @@ pub trait Worker {
         ensures done { result ≡ job }
         ensures did { Adds (did self.old) (did self.new) (computed job ∷ []) };
 
-    /// Takes a completion. Whether it counts, and its place in the log, which is 0 if it doesn't.
+    /// Takes a completion. Returns whether it counts, and its place in the log, which is 0 if it doesn't.
     fn hand_in<R: Wait>(&mut self, rt: &R, done: Done) -> (Counted, u128)
         ensures did { Adds (did self.old) (did self.new) (handed_in done result.0 result.1 ∷ []) }
         ensures answer { answers done.id result.0 result.1 };
 }
 
-/// Has a worker do all for one job: it enters, computes the job, and then hands in its completion. Returns the answer to that.
+/// Has a worker do everything for one job: it enters, computes the job, and then hands in its completion. Returns the answer to that.
 pub fn work_off<R: Wait + Clock, W: Worker>(rt: &R, worker: &mut W, job: Job) -> (Counted, u128)
     ensures did { Adds (W.did worker.old) (W.did worker.new) (work_for job result.0 result.1) }
     ensures answer { W.answers job.id result.0 result.1 }
